@@ -1,0 +1,28 @@
+//! Log records: their types, their one spelling as bytes, and what a list of them means.
+#![tactic(auto)]
+
+// Where a record stands in the log.
+mod lsn;
+// Who wrote a record.
+mod trans_id;
+// What a record writes to.
+mod key;
+// What a key has, before or after.
+mod image;
+// One write of redo.
+mod change;
+// The rows of a primary's checkpoint.
+mod rows;
+// A record and what it says.
+mod record;
+// Why bytes are no record.
+mod fault;
+
+pub use change::Change;
+pub use fault::Fault;
+pub use image::{Image, Value};
+pub use key::Key;
+pub use lsn::Lsn;
+pub use record::{Body, Record};
+pub use rows::{LoggedPage, LoggedTransaction, PageRows, TransactionRows};
+pub use trans_id::TransId;
