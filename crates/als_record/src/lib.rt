@@ -17,9 +17,15 @@ mod rows;
 mod record;
 // Why bytes are no record.
 mod fault;
+// The header of a log text.
+mod header;
+// Bytes to records.
+mod decoding;
 
 pub use change::Change;
+pub use decoding::decode;
 pub use fault::Fault;
+pub use header::LogHeader;
 pub use image::{Image, Value};
 pub use key::Key;
 pub use lsn::Lsn;

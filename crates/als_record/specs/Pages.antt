@@ -1,0 +1,44 @@
+-- What the records of a log make of a page: history repeated, as ARIES redo does.
+use Rattle.std.specs.Prelude.{◌≡◌, ℕ, Bool, List, [], ◌∷◌, Option, Some, None, nat_lt, nat_le, ◌==◌, if◌then◌else◌, slice_set, replicate, filter}
+use Rattle.std.specs.List.{fold, filter_map}
+use Rattle.als_record.specs.declared.change.Change.{Change}
+use Rattle.als_record.specs.declared.record.Body.{Body}
+use Rattle.als_record.specs.declared.record.Body.TheVariants.{Update, Compensation, Commit, Rollback, End, BeginCheckpoint, EndCheckpoint}
+use Rattle.als_record.specs.declared.record.Record.{Record}
+use Rattle.als_record.specs.Spelling.{Image}
+
+-- what redo does for a record: an update and a compensation write their after image, the others nothing
+abbrev pub change_in : Record → Body → Option Change
+change_in r (Update key before after) = Some (record { lsn = r.lsn; key = key; after = after })
+change_in r (Compensation undo_next key after) = Some (record { lsn = r.lsn; key = key; after = after })
+change_in r Commit = None
+change_in r Rollback = None
+change_in r End = None
+change_in r BeginCheckpoint = None
+change_in r (EndCheckpoint transactions pages) = None
+
+abbrev pub change_of : Record → Option Change
+change_of r = change_in r r.body
+
+-- a page's content: its page_LSN (0: none), and the images of its 15 slots
+pub record PageState : Type 0 where
+  pub lsn : ℕ
+  pub slots : List Image
+
+abbrev pub empty_page : PageState
+empty_page = record { lsn = 0; slots = replicate 15 None }
+
+-- a page after one change of it
+abbrev pub redone : PageState → Change → PageState
+redone page change = record { lsn = change.lsn.0; slots = slice_set page.slots change.key.slot change.after }
+
+-- the changes of a page that a log holds, in order
+unfoldable pub changes_on : ℕ → List Record → List Change
+changes_on page log = filter (λ change. change.key.page == page) (filter_map change_of log)
+
+-- the page with each change up to an LSN, and the changes above it
+unfoldable pub page_at : List Record → ℕ → ℕ → PageState
+page_at log page lsn = fold redone empty_page (filter (λ change. nat_le change.lsn.0 lsn) (changes_on page log))
+
+unfoldable pub changes_above : List Record → ℕ → ℕ → List Change
+changes_above log page lsn = filter (λ change. nat_lt lsn change.lsn.0) (changes_on page log)
