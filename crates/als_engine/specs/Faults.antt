@@ -1,0 +1,43 @@
+-- The numbers and names of faults, as programs print them.
+use Rattle.std.specs.Prelude.{ℕ, List, codes}
+use Rattle.als_record.specs.declared.fault.Fault.{Fault as RecordFault}
+use Rattle.als_record.specs.declared.fault.Fault.TheVariants as record_fault
+use Rattle.als_engine.specs.declared.fault.Fault.{Fault}
+use Rattle.als_engine.specs.declared.fault.Fault.TheVariants.{BadHeader, BadLength, BadType, BadReserved, WrongLsn, BadKey, BadValue, NothingToDo, Memory, Backlog, BadConfig}
+
+abbrev pub number_of : Fault → ℕ
+number_of BadHeader = 1
+number_of BadLength = 2
+number_of BadType = 3
+number_of BadReserved = 4
+number_of WrongLsn = 5
+number_of BadKey = 6
+number_of BadValue = 7
+number_of NothingToDo = 27
+number_of Memory = 32
+number_of Backlog = 36
+number_of BadConfig = 37
+
+abbrev pub name_of : Fault → List ℕ
+name_of BadHeader = codes "BadHeader"
+name_of BadLength = codes "BadLength"
+name_of BadType = codes "BadType"
+name_of BadReserved = codes "BadReserved"
+name_of WrongLsn = codes "WrongLsn"
+name_of BadKey = codes "BadKey"
+name_of BadValue = codes "BadValue"
+name_of NothingToDo = codes "NothingToDo"
+name_of Memory = codes "Memory"
+name_of Backlog = codes "Backlog"
+name_of BadConfig = codes "BadConfig"
+
+-- the same fault, as the engine answers it
+abbrev pub from_record : RecordFault → Fault
+from_record record_fault.BadHeader = BadHeader
+from_record record_fault.BadLength = BadLength
+from_record record_fault.BadType = BadType
+from_record record_fault.BadReserved = BadReserved
+from_record record_fault.WrongLsn = WrongLsn
+from_record record_fault.BadKey = BadKey
+from_record record_fault.BadValue = BadValue
+from_record record_fault.Memory = Memory

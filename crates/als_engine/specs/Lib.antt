@@ -1,0 +1,5 @@
+pub mod Config
+pub mod Faults
+pub mod Warm
+pub mod Machine
+pub mod Runs

@@ -1,0 +1,57 @@
+-- A page in memory and the changes that wait for it.
+use Rattle.std.specs.Prelude.{◌≡◌, ℕ, suc, ◌+◌, ◌<◌, ◌≤◌, ◌⊎◌, List, [], ◌∷◌, ◌++◌, length, Some, slice_get}
+use Rattle.std.specs.List.{sum_by, fold}
+use Rattle.als_record.specs.declared.change.Change.{Change}
+use Rattle.als_record.specs.declared.record.Record.{Record}
+use Rattle.als_record.specs.Pages.{PageState, page_at, changes_above, redone}
+use Rattle.als_record.specs.declared.lsn.Lsn.{Lsn}
+use Rattle.als_page.specs.declared.page.Page.{Page}
+use Rattle.als_page.specs.Page.{state_of}
+
+-- what callers see of a page: its number, its content, and the changes that are not redone yet, in order
+pub record Warm : Type 0 where
+  pub id : ℕ
+  pub state : PageState
+  pub pending : List Change
+
+-- changes of a page in rising order, each above an LSN: redo can take them one after another
+abbrev pub AreNext : ℕ → ℕ → List Change → Type 0
+AreNext id lsn [] = Unit {0}
+AreNext id lsn (change ∷ rest) = (change.key.page ≡ id) × (change.key.slot ≤ 14) × (16 ≤ change.lsn.0) × (lsn < change.lsn.0) × AreNext id change.lsn.0 rest
+
+-- this is the page as it is now
+abbrev pub IsShown : Warm → Page → Type 0
+IsShown w page = (page.id ≡ w.id) × (state_of page ≡ w.state)
+
+-- the first change that waits is redone
+pub record RedoesOne (old new : Warm) (lsn : Lsn) : Type 0 where
+  pub change : Change
+  pub rest : List Change
+  pub waits : old.pending ≡ change ∷ rest
+  pub lsn_is : lsn ≡ change.lsn
+  pub after : new ≡ record old { state = redone old.state change; pending = rest }
+
+-- the first changes that wait are redone, at most 64
+pub record Redoes (old new : Warm) (lsn : Lsn) : Type 0 where
+  pub front : List Change
+  pub last : Change
+  pub rest : List Change
+  pub waits : old.pending ≡ (front ++ last ∷ []) ++ rest
+  pub most : length front < 64
+  pub all : (length front ≡ 63) ⊎ (rest ≡ [])
+  pub lsn_is : lsn ≡ last.lsn
+  pub after : new ≡ record old { state = fold redone old.state (front ++ last ∷ []); pending = rest }
+
+-- how many changes wait, over all pages
+abbrev pub waiting : List Warm → ℕ
+waiting pages = sum_by (λ w. length w.pending) pages
+
+-- the page is history repeated up to its page_LSN, and what waits are exactly its changes above it
+pub record IsPageOf (log : List Record) (w : Warm) : Type 0 where
+  pub content : w.state ≡ page_at log w.id w.state.lsn
+  pub pending : w.pending ≡ changes_above log w.id w.state.lsn
+
+-- so it is with every page, and each stands at its number
+pub record ArePagesOf (log : List Record) (pages : List Warm) : Type 0 where
+  pub numbered : (p : ℕ) (w : Warm) → slice_get pages p ≡ Some w → w.id ≡ p
+  pub each : (p : ℕ) (w : Warm) → slice_get pages p ≡ Some w → IsPageOf log w

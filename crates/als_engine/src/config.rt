@@ -1,0 +1,27 @@
+/// What an engine is made with. Numbers out of range are refused when it is made.
+#[derive(Clone, Copy, Debug, PartialEq, Eq)]
+pub struct Config {
+    /// Pages of the database, 1 to 4,096.
+    pub pages: u64,
+    /// Frames of the buffer pool, 1 to 4,096.
+    pub frames: u64,
+    /// From how many pending changes on feed is refused, 1 to 1,000,000.
+    pub pending: u64,
+    /// Readers, 1 to 8.
+    pub readers: u64,
+}
+
+impl Config {
+    ghost use Rattle.std.specs.Prelude.{IsTrue, ◌↔◌};
+    ghost use Rattle.als_engine.specs.Config.{IsConfig};
+
+    /// Each number is in its range.
+    pub fn is_valid(&self) -> bool
+        ensures { IsTrue result ↔ IsConfig self.now }
+    {
+        (1..=4096).contains(&self.pages)
+            && (1..=4096).contains(&self.frames)
+            && (1..=1_000_000).contains(&self.pending)
+            && (1..=8).contains(&self.readers)
+    }
+}

@@ -1,0 +1,118 @@
+ghost use Rattle.std.specs.Prelude.{◌≡◌};
+ghost use Rattle.als_engine.specs.declared.fault.Fault.TheVariants.{Memory as OutOfMemory};
+ghost use Rattle.als_engine.specs.Faults.{number_of, name_of, from_record};
+
+use als_record::Fault as RecordFault;
+use std::alloc::{AllocError, AllocFailed};
+use thiserror::Error;
+
+/// Why an event is refused. The numbers are common to all crates.
+#[derive(Clone, Copy, Debug, PartialEq, Eq, Error)]
+pub enum Fault {
+    /// The log's header is damaged.
+    #[error("1 BadHeader")]
+    BadHeader,
+    /// A record's length is out of its type's range, or not what its fields make it.
+    #[error("2 BadLength")]
+    BadLength,
+    /// There is no such type of record.
+    #[error("3 BadType")]
+    BadType,
+    /// A byte that must be zero is not.
+    #[error("4 BadReserved")]
+    BadReserved,
+    /// A record names another LSN than that of the place where it stands.
+    #[error("5 WrongLsn")]
+    WrongLsn,
+    /// A page at or past the database's page count, or a slot above 14.
+    #[error("6 BadKey")]
+    BadKey,
+    /// A value of more than 31 bytes.
+    #[error("7 BadValue")]
+    BadValue,
+    /// There is nothing for the event to do.
+    #[error("27 NothingToDo")]
+    NothingToDo,
+    /// A growth was refused.
+    #[error("32 Memory")]
+    Memory,
+    /// As many changes are pending as the limit allows.
+    #[error("36 Backlog")]
+    Backlog,
+    /// A number of the configuration is out of its range.
+    #[error("37 BadConfig")]
+    BadConfig,
+}
+
+impl Fault {
+    /// The fault's number.
+    pub fn number(self) -> u32
+        ensures { result ≡ number_of self }
+    {
+        match self {
+            Fault::BadHeader => 1,
+            Fault::BadLength => 2,
+            Fault::BadType => 3,
+            Fault::BadReserved => 4,
+            Fault::WrongLsn => 5,
+            Fault::BadKey => 6,
+            Fault::BadValue => 7,
+            Fault::NothingToDo => 27,
+            Fault::Memory => 32,
+            Fault::Backlog => 36,
+            Fault::BadConfig => 37,
+        }
+    }
+
+    /// The fault's name, as programs print it.
+    pub fn name(self) -> &'static str
+        ensures { result.now ≡ name_of self }
+    {
+        match self {
+            Fault::BadHeader => "BadHeader",
+            Fault::BadLength => "BadLength",
+            Fault::BadType => "BadType",
+            Fault::BadReserved => "BadReserved",
+            Fault::WrongLsn => "WrongLsn",
+            Fault::BadKey => "BadKey",
+            Fault::BadValue => "BadValue",
+            Fault::NothingToDo => "NothingToDo",
+            Fault::Memory => "Memory",
+            Fault::Backlog => "Backlog",
+            Fault::BadConfig => "BadConfig",
+        }
+    }
+}
+
+impl From<RecordFault> for Fault {
+    ghost from_gives = { λ f e. e ≡ from_record f };
+
+    fn from(fault: RecordFault) -> Fault {
+        match fault {
+            RecordFault::BadHeader => Fault::BadHeader,
+            RecordFault::BadLength => Fault::BadLength,
+            RecordFault::BadType => Fault::BadType,
+            RecordFault::BadReserved => Fault::BadReserved,
+            RecordFault::WrongLsn => Fault::WrongLsn,
+            RecordFault::BadKey => Fault::BadKey,
+            RecordFault::BadValue => Fault::BadValue,
+            RecordFault::Memory => Fault::Memory,
+        }
+    }
+}
+
+impl From<AllocError> for Fault {
+    ghost from_gives = { λ _ e. e ≡ OutOfMemory };
+
+    fn from(_e: AllocError) -> Fault {
+        Fault::Memory
+    }
+}
+
+impl<T: Drop> From<AllocFailed<T>> for Fault {
+    ghost from_gives = { λ _ e. e ≡ OutOfMemory };
+
+    fn from(_e: AllocFailed<T>) -> Fault {
+        Fault::Memory
+    }
+}

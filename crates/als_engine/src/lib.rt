@@ -1,0 +1,22 @@
+//! The standby's engine: each event is one step of a small machine over the held log.
+#![tactic(auto)]
+
+// What an engine is made with.
+mod config;
+// Why an event is refused.
+mod fault;
+// What the engine tells of itself.
+mod status;
+// What feed answers.
+mod fed;
+// A page and the changes that it waits for.
+mod warm_page;
+// One step of a run, and its reply.
+mod step;
+
+pub use config::Config;
+pub use fault::Fault;
+pub use fed::{Fed, FeedFault};
+pub use status::{State, Status};
+pub use step::{Reply, Step};
+pub use warm_page::WarmPage;

@@ -1,0 +1,25 @@
+use crate::fault::Fault;
+use crate::fed::{Fed, FeedFault};
+use als_record::Lsn;
+
+/// One step of a run.
+#[derive(Clone, Copy, Debug)]
+pub enum Step<'a> {
+    /// A piece of the primary's log.
+    Feed(&'a [u8]),
+    /// Drops the partial record, and takes the log again after a refusal.
+    Resync,
+    /// Redoes the first changes that a page waits for, at most 64.
+    Apply(u32),
+}
+
+/// What a step answers.
+#[derive(Clone, Copy, Debug, PartialEq, Eq)]
+pub enum Reply {
+    Fed(Fed),
+    FeedRefused(FeedFault),
+    Done,
+    /// The page's page_LSN after redo.
+    Applied(Lsn),
+    Refused(Fault),
+}

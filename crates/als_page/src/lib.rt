@@ -1,0 +1,6 @@
+//! A page.
+#![tactic(auto)]
+
+mod page;
+
+pub use page::Page;
