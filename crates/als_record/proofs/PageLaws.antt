@@ -1,5 +1,5 @@
 -- Laws of pages as history repeated, over logs whose records follow one another.
-use Rattle.std.proofs.Common.{◌≡◌, ℕ, zero, suc, ◌+◌, ◌<◌, ◌≤◌, Bool, true, inl, inr, List, [], ◌∷◌, ◌++◌, length, get_or, Option, IfSome, Some, None, nat_lt, nat_le, ◌==◌, IsTrue, Contains, refl, ap, sym, ◌∙◌, subst, arith, fold, filter, filter_map, sum_by, append_assoc, append-nil, length-set, le-leb, lt-ltb, le-ltb, eq-eqb, ne_eqb, eqb-true}
+use Rattle.std.proofs.Common.{◌≡◌, ℕ, zero, suc, ◌+◌, ◌<◌, ◌≤◌, ◌^◌, replicate, slice_set, Bool, true, inl, inr, List, [], ◌∷◌, ◌++◌, length, get_or, Option, IfSome, Some, None, nat_lt, nat_le, ◌==◌, IsTrue, Contains, refl, ap, sym, ◌∙◌, subst, arith, fold, filter, filter_map, sum_by, append_assoc, append-nil, length-set, le-leb, lt-ltb, le-ltb, eq-eqb, ne_eqb, eqb-true}
 use Rattle.std.proofs.lemmas.Bool.{cases_lt, cases_Bool, cond-true, cond-false, lt-leb, and_parts, and_from}
 use Rattle.std.proofs.lemmas.List.Elements.{filter_map-append, filter-append}
 use Rattle.std.proofs.lemmas.List.Sums.{sum_by-cons, sum_by-append}
@@ -9,9 +9,9 @@ use Rattle.als_record.specs.declared.change.Change.{Change}
 use Rattle.als_record.specs.declared.record.Body.{Body}
 use Rattle.als_record.specs.declared.record.Body.TheVariants.{Update, Compensation, Commit, Rollback, End, BeginCheckpoint, EndCheckpoint}
 use Rattle.als_record.specs.declared.record.Record.{Record}
-use Rattle.als_record.specs.Spelling.{record_len, IsBody, IsRecord}
-use Rattle.als_record.specs.LogText.{end_of, follow_from}
-use Rattle.als_record.specs.Pages.{change_in, change_of, PageState, empty_page, redone, changes_on, page_at, changes_above, lsn_after, IsChangeAbove, IsFittingChange}
+use Rattle.als_record.specs.Spelling.{Image, IsImage, record_len, IsBody, IsRecord}
+use Rattle.als_record.specs.LogText.{end_of, follow_from, IsLog}
+use Rattle.als_record.specs.Pages.{change_in, change_of, PageState, empty_page, redone, changes_on, page_at, changes_above, lsn_after, IsChangeAbove, IsFittingChange, IsPageState}
 
 -- ---- changes in rising order
 
@@ -464,14 +464,14 @@ all-filter P keep (c ∷ cs) h =
     ]
 
 -- the change of a record of a database with this many pages fits it
-change_in-fits : (pages : ℕ) (r : Record) (body : Body) → IsBody pages body → IfSome (change_in r body) (IsFittingChange pages)
-change_in-fits pages r (Update key before after) h = record { key = h.0; after = h.2 }
-change_in-fits pages r (Compensation undo_next key after) h = record { key = h.1; after = h.2 }
-change_in-fits pages r Commit h = tt
-change_in-fits pages r Rollback h = tt
-change_in-fits pages r End h = tt
-change_in-fits pages r BeginCheckpoint h = tt
-change_in-fits pages r (EndCheckpoint transactions rows) h = tt
+change_in-fits : (pages : ℕ) (r : Record) (body : Body) → r.lsn.0 < 2 ^ 64 → IsBody pages body → IfSome (change_in r body) (IsFittingChange pages)
+change_in-fits pages r (Update key before after) lsn h = record { width = lsn; key = h.0; after = h.2 }
+change_in-fits pages r (Compensation undo_next key after) lsn h = record { width = lsn; key = h.1; after = h.2 }
+change_in-fits pages r Commit lsn h = tt
+change_in-fits pages r Rollback lsn h = tt
+change_in-fits pages r End lsn h = tt
+change_in-fits pages r BeginCheckpoint lsn h = tt
+change_in-fits pages r (EndCheckpoint transactions rows) lsn h = tt
 
 all-cons : (P : Change → Type 0) (o : Option Change) (cs : List Change) → IfSome o P → AllByRecursion P cs → AllByRecursion P (cons_option o cs)
 all-cons P None cs h all = all
@@ -479,7 +479,7 @@ all-cons P (Some c) cs h all = (h, all)
 
 all-fit : (pages : ℕ) (log : List Record) → AllByRecursion (IsRecord pages) log → AllByRecursion (IsFittingChange pages) (filter_map change_of log)
 all-fit pages [] h = tt
-all-fit pages (r ∷ log) h = all-cons (IsFittingChange pages) (change_of r) (filter_map change_of log) (change_in-fits pages r r.body h.0.body) (all-fit pages log h.1)
+all-fit pages (r ∷ log) h = all-cons (IsFittingChange pages) (change_of r) (filter_map change_of log) (change_in-fits pages r r.body h.0.lsn h.0.body) (all-fit pages log h.1)
 
 -- each change above an LSN fits the database, where the records do
 pub changes_above-fit : (pages : ℕ) (log : List Record) (page lsn : ℕ) → AllByRecursion (IsRecord pages) log
@@ -496,3 +496,47 @@ changes_above-head log page lsn c rest h e =
     let all : AllByRecursion (IsChangeAbove page lsn (end_of log)) (c ∷ rest)
     = subst (λ cs. AllByRecursion (IsChangeAbove page lsn (end_of log)) cs) e (changes_above-each log page lsn h) in
     all.0
+
+-- ---- what a page can be
+
+pub IsPageState-empty : IsPageState empty_page
+IsPageState-empty = record { width = omega arith; count = refl; images = absent 15; nothing = λ _. refl }
+  where
+    absent : (n : ℕ) → AllByRecursion IsImage (replicate n None)
+    absent zero = tt
+    absent (suc n) = (record { size = omega arith; bytes = tt }, absent n)
+
+images-set : (images : List Image) (slot : ℕ) (image : Image) → AllByRecursion IsImage images → IsImage image → AllByRecursion IsImage (slice_set images slot image)
+images-set [] slot image h i = tt
+images-set (x ∷ xs) zero image h i = (i, h.1)
+images-set (x ∷ xs) (suc slot) image h i = (h.0, images-set xs slot image h.1 i)
+
+-- a change by a record keeps a page a page
+pub IsPageState-redone : (page : PageState) (change : Change) → IsPageState page → 16 ≤ change.lsn.0 → change.lsn.0 < 2 ^ 64 → IsImage change.after
+    → IsPageState (redone page change)
+IsPageState-redone page change h from width image = record {
+  width = width;
+  count = length-set page.slots change.key.slot change.after ∙ h.count;
+  images = images-set page.slots change.key.slot change.after h.images image;
+  nothing = λ below. absurd (omega (arith, from, below));
+}
+
+states-fold : (pages low high : ℕ) (page : PageState) (cs : List Change) → 16 ≤ low → IsRising low high cs → AllByRecursion (IsFittingChange pages) cs
+    → IsPageState page → IsPageState (fold redone page cs)
+states-fold pages low high page [] from h fit state = state
+states-fold pages low high page (c ∷ cs) from h fit state =
+    let first : 16 ≤ c.lsn.0 = omega (arith, h.0) in
+    let next : 16 ≤ c.lsn.0 + 1 = omega arith in
+    states-fold pages (c.lsn.0 + 1) high (redone page c) cs next h.2 fit.1 (IsPageState-redone page c state first fit.0.width fit.0.after)
+
+-- what a log makes of a page is what a page can be
+pub IsPageState-page_at : (pages : ℕ) (log : List Record) (page lsn : ℕ) → IsLog pages log → IsPageState (page_at log page lsn)
+unfolding page_at changes_on
+IsPageState-page_at pages log page lsn h =
+    let keep : Change → Bool = λ change. nat_le change.lsn.0 lsn in
+    let from : 16 ≤ 16 = omega arith in
+    states-fold pages 16 (end_of log) empty_page (up_to lsn (changes_on page log)) from
+    (rising-filter keep 16 (end_of log) (changes_on page log) (changes_on-rises page log h.laid_out))
+    (all-filter (IsFittingChange pages) keep (changes_on page log)
+    (all-filter (IsFittingChange pages) (λ change. change.key.page == page) (filter_map change_of log) (all-fit pages log h.records)))
+    IsPageState-empty

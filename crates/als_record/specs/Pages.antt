@@ -1,6 +1,6 @@
 -- What the records of a log make of a page: history repeated, as ARIES redo does.
-use Rattle.std.specs.Prelude.{◌≡◌, ℕ, ◌<◌, ◌≤◌, List, Option, Some, None, nat_lt, nat_le, ◌==◌, slice_set, replicate, filter}
-use Rattle.std.specs.List.{fold, filter_map}
+use Rattle.std.specs.Prelude.{◌≡◌, ℕ, ◌<◌, ◌≤◌, ◌^◌, List, length, Option, Some, None, nat_lt, nat_le, ◌==◌, slice_set, replicate, filter}
+use Rattle.std.specs.List.{fold, filter_map, AllByRecursion}
 use Rattle.als_record.specs.declared.change.Change.{Change}
 use Rattle.als_record.specs.declared.record.Body.{Body}
 use Rattle.als_record.specs.declared.record.Body.TheVariants.{Update, Compensation, Commit, Rollback, End, BeginCheckpoint, EndCheckpoint}
@@ -54,7 +54,15 @@ pub record IsChangeAbove (page lsn end : ℕ) (change : Change) : Type 0 where
   pub first : 16 ≤ change.lsn.0
   pub last : change.lsn.0 < end
 
--- a change of a database with this many pages: its key is in range, and its image has at most 31 bytes
+-- a change of a database with this many pages: its LSN fits, its key is in range, and its image has at most 31 bytes
 pub record IsFittingChange (pages : ℕ) (change : Change) : Type 0 where
+  pub width : change.lsn.0 < 2 ^ 64
   pub key : IsKey pages change.key
   pub after : IsImage change.after
+
+-- what a page can be: 15 slots of images, and a page_LSN at which a record can stand, if it is not the empty page
+pub record IsPageState (page : PageState) : Type 0 where
+  pub width : page.lsn < 2 ^ 64
+  pub count : length page.slots ≡ 15
+  pub images : AllByRecursion IsImage page.slots
+  pub nothing : page.lsn < 16 → page ≡ empty_page
