@@ -1,1 +1,2 @@
 pub mod Redoing
+pub mod PageLists

@@ -39,7 +39,7 @@ redone_more old now new count None lsn so_far one =
       count_is = omega (arith, so_far.0);
       lsn_is = one.lsn_is;
       after = one.after ∙ ap (λ (w : Warm). record w { state = redone w.state one.change; pending = one.rest }) same
-        ∙ page_after old (redone old.state one.change) one.rest new.pending (sym rest-is);
+          ∙ page_after old (redone old.state one.change) one.rest new.pending (sym rest-is);
     }
 redone_more old now new count (Some before) lsn so_far one =
     let rest-is : new.pending ≡ one.rest = ap (λ (w : Warm). w.pending) one.after in
@@ -53,7 +53,7 @@ redone_more old now new count (Some before) lsn so_far one =
       count_is = omega (arith, so_far.count_is, length-append so_far.front (so_far.last ∷ []));
       lsn_is = one.lsn_is;
       after = one.after ∙ made now.id old.id (redone now.state one.change) (fold redone old.state (done ++ one.change ∷ [])) one.rest new.pending id-is
-        (ap (λ (s : PageState). redone s one.change) state-is ∙ sym (fold-append redone old.state done (one.change ∷ []))) (sym rest-is);
+          (ap (λ (s : PageState). redone s one.change) state-is ∙ sym (fold-append redone old.state done (one.change ∷ []))) (sym rest-is);
     }
 
 -- nothing waits any more, or 64 are redone

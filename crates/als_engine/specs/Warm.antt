@@ -1,9 +1,10 @@
 -- A page in memory and the changes that wait for it.
-use Rattle.std.specs.Prelude.{◌≡◌, ℕ, suc, ◌+◌, ◌<◌, ◌≤◌, ◌⊎◌, List, [], ◌∷◌, ◌++◌, length, Some, slice_get}
+use Rattle.std.specs.Prelude.{◌≡◌, ℕ, zero, suc, ◌+◌, ◌<◌, ◌≤◌, ◌⊎◌, List, [], ◌∷◌, ◌++◌, length, Option, Some, None, slice_get, slice_set}
 use Rattle.std.specs.List.{sum_by, fold}
 use Rattle.als_record.specs.declared.change.Change.{Change}
 use Rattle.als_record.specs.declared.record.Record.{Record}
-use Rattle.als_record.specs.Pages.{PageState, page_at, changes_above, redone}
+use Rattle.als_record.specs.LogText.{end_of}
+use Rattle.als_record.specs.Pages.{PageState, empty_page, page_at, changes_above, redone}
 use Rattle.als_record.specs.declared.lsn.Lsn.{Lsn}
 use Rattle.als_page.specs.declared.page.Page.{Page}
 use Rattle.als_page.specs.Page.{state_of}
@@ -43,11 +44,49 @@ pub record Redoes (old new : Warm) (lsn : Lsn) : Type 0 where
   pub after : new ≡ record old { state = fold redone old.state (front ++ last ∷ []); pending = rest }
 
 -- how many changes wait, over all pages
-abbrev pub waiting : List Warm → ℕ
-waiting pages = sum_by (λ w. length w.pending) pages
+abbrev pub total_waiting : List Warm → ℕ
+total_waiting pages = sum_by (λ w. length w.pending) pages
+
+-- the count of all changes that wait; there are at most 4,096 pages
+pub record IsCounted (pages : List Warm) (count : ℕ) : Type 0 where
+  pub total : count ≡ total_waiting pages
+  pub limit : length pages ≤ 4096
+
+-- empty pages, numbered from here on
+abbrev pub fresh_from : ℕ → ℕ → List Warm
+fresh_from id zero = []
+fresh_from id (suc count) = record { id = id; state = empty_page; pending = [] } ∷ fresh_from (suc id) count
+
+-- a change can go behind those that its page waits for
+abbrev pub CanRoute : List Warm → Change → Type 0
+CanRoute pages change = (w : Warm) × (slice_get pages change.key.page ≡ Some w) × AreNext w.id w.state.lsn (w.pending ++ change ∷ [])
+
+-- the pages, where a change went behind those that its page waits for
+pub record IsRouted (old : List Warm) (change : Change) (new : List Warm) : Type 0 where
+  pub w : Warm
+  pub found : slice_get old change.key.page ≡ Some w
+  pub after : new ≡ slice_set old change.key.page (record w { pending = w.pending ++ change ∷ [] })
+
+-- the first changes that a page waits for are redone, at most 64
+pub record AppliesAt (old : List Warm) (page : ℕ) (new : List Warm) (lsn : Lsn) : Type 0 where
+  pub w : Warm
+  pub w' : Warm
+  pub found : slice_get old page ≡ Some w
+  pub redoes : Redoes w w' lsn
+  pub after : new ≡ slice_set old page w'
+
+-- no change waits for a page, or there is no such page
+abbrev pub NothingWaits : List Warm → ℕ → Type 0
+NothingWaits pages page = (w : Warm) → slice_get pages page ≡ Some w → w.pending ≡ []
+
+-- the first page from a number on for which changes wait
+abbrev pub WaitsFirst : List Warm → ℕ → Option ℕ → Type 0
+WaitsFirst pages from None = (page : ℕ) → from ≤ page → NothingWaits pages page
+WaitsFirst pages from (Some page) = (from ≤ page) × ((w : Warm) × (slice_get pages page ≡ Some w) × (w.pending ≡ [] → ⊥)) × ((other : ℕ) → from ≤ other → other < page → NothingWaits pages other)
 
 -- the page is history repeated up to its page_LSN, and what waits are exactly its changes above it
 pub record IsPageOf (log : List Record) (w : Warm) : Type 0 where
+  pub below : w.state.lsn < end_of log
   pub content : w.state ≡ page_at log w.id w.state.lsn
   pub pending : w.pending ≡ changes_above log w.id w.state.lsn
 

@@ -11,6 +11,8 @@ mod status;
 mod fed;
 // A page and the changes that it waits for.
 mod warm_page;
+// All pages.
+mod warm_pages;
 // One step of a run, and its reply.
 mod step;
 
@@ -20,3 +22,4 @@ pub use fed::{Fed, FeedFault};
 pub use status::{State, Status};
 pub use step::{Reply, Step};
 pub use warm_page::WarmPage;
+pub use warm_pages::WarmPages;
