@@ -1,2 +1,3 @@
 pub mod Redoing
 pub mod PageLists
+pub mod HeldPages

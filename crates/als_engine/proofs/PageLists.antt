@@ -80,3 +80,16 @@ nothing_from pages from to end before page le =
         inl below ↦ before page le below
       | inr above ↦ let past : length pages ≤ page = omega arith in nothing_past pages page past
     ]
+
+-- what stands in a list after a write
+pub get-set_here : {A : Type 0} (xs : List A) (i : ℕ) (x y : A) → slice_get xs i ≡ Some x → slice_get (slice_set xs i y) i ≡ Some y
+get-set_here [] i x y h = absurd cc
+get-set_here (z ∷ zs) zero x y h = refl
+get-set_here (z ∷ zs) (suc i) x y h = get-set_here zs i x y h
+
+pub get-set_other : {A : Type 0} (xs : List A) (i j : ℕ) (y : A) → (j ≡ i → ⊥) → slice_get (slice_set xs i y) j ≡ slice_get xs j
+get-set_other [] i j y ne = refl
+get-set_other (z ∷ zs) zero zero y ne = absurd (ne refl)
+get-set_other (z ∷ zs) zero (suc j) y ne = refl
+get-set_other (z ∷ zs) (suc i) zero y ne = refl
+get-set_other (z ∷ zs) (suc i) (suc j) y ne = get-set_other zs i j y (λ e. ne (ap suc e))
