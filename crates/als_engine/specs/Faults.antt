@@ -3,7 +3,7 @@ use Rattle.std.specs.Prelude.{ℕ, List, codes}
 use Rattle.als_record.specs.declared.fault.Fault.{Fault as RecordFault}
 use Rattle.als_record.specs.declared.fault.Fault.TheVariants as record_fault
 use Rattle.als_engine.specs.declared.fault.Fault.{Fault}
-use Rattle.als_engine.specs.declared.fault.Fault.TheVariants.{BadHeader, BadLength, BadType, BadReserved, WrongLsn, BadKey, BadValue, NothingToDo, Memory, Backlog, BadConfig}
+use Rattle.als_engine.specs.declared.fault.Fault.TheVariants.{BadHeader, BadLength, BadType, BadReserved, WrongLsn, BadKey, BadValue, NothingToDo, LogFull, Memory, Backlog, BadConfig}
 
 abbrev pub number_of : Fault → ℕ
 number_of BadHeader = 1
@@ -14,6 +14,7 @@ number_of WrongLsn = 5
 number_of BadKey = 6
 number_of BadValue = 7
 number_of NothingToDo = 27
+number_of LogFull = 29
 number_of Memory = 32
 number_of Backlog = 36
 number_of BadConfig = 37
@@ -27,6 +28,7 @@ name_of WrongLsn = codes "WrongLsn"
 name_of BadKey = codes "BadKey"
 name_of BadValue = codes "BadValue"
 name_of NothingToDo = codes "NothingToDo"
+name_of LogFull = codes "LogFull"
 name_of Memory = codes "Memory"
 name_of Backlog = codes "Backlog"
 name_of BadConfig = codes "BadConfig"

@@ -1,5 +1,6 @@
 pub mod Config
 pub mod Faults
 pub mod Warm
+pub mod Held
 pub mod Machine
 pub mod Runs

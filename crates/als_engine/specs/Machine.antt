@@ -1,80 +1,70 @@
 -- The small machine: what an engine holds, and what one event makes of it. It knows no pages, queues or buffers: a page is
 -- the log's, up to a page_LSN.
-use Rattle.std.specs.Prelude.{◌≡◌, ℕ, suc, ◌+◌, ◌-◌, ◌<◌, ◌≤◌, ◌⊎◌, List, [], ◌∷◌, ◌++◌, length, Option, Some, None, Result, Ok, Err, slice_index, slice_set, replicate}
-use Rattle.als_record.specs.declared.change.Change.{Change}
+use Rattle.std.specs.Prelude.{◌≡◌, ℕ, suc, ◌+◌, ◌-◌, ◌<◌, ◌≤◌, ◌⊎◌, List, [], ◌∷◌, ◌++◌, length, Option, Some, None, Result, Ok, Err, replicate}
 use Rattle.als_record.specs.declared.record.Record.{Record}
 use Rattle.als_record.specs.declared.lsn.Lsn.{Lsn}
 use Rattle.als_record.specs.declared.fault.Fault.{Fault as RecordFault}
 use Rattle.als_record.specs.Reading.{read_record}
 use Rattle.als_record.specs.LogText.{spellings, end_of, IsLog}
-use Rattle.als_record.specs.Pages.{changes_above}
+use Rattle.als_record.specs.Spelling.{record_len}
 use Rattle.als_engine.specs.declared.config.Config.{Config}
 use Rattle.als_engine.specs.declared.fault.Fault.{Fault}
-use Rattle.als_engine.specs.declared.fault.Fault.TheVariants.{BadHeader, BadLength, BadType, BadReserved, WrongLsn, BadKey, BadValue, NothingToDo, Memory, Backlog, BadConfig}
+use Rattle.als_engine.specs.declared.fault.Fault.TheVariants.{BadHeader, BadLength, BadType, BadReserved, WrongLsn, BadKey, BadValue, NothingToDo, LogFull, Memory, Backlog, BadConfig}
 use Rattle.als_engine.specs.declared.fed.Fed.{Fed}
 use Rattle.als_engine.specs.declared.fed.FeedFault.{FeedFault}
 use Rattle.als_engine.specs.declared.status.State.{State}
 use Rattle.als_engine.specs.declared.status.State.TheVariants.{Following, Refusing}
 use Rattle.als_engine.specs.Faults.{from_record}
+use Rattle.als_engine.specs.Held.{Held, log_limit, pending_of, AppliesFirst, IsDry}
 
 pub record Machine : Type 0 where
-  -- the page count, and from how many pending changes on feed is refused
-  pub pages : ℕ
+  -- the held log and its pages
+  pub held : Held
+  -- from how many pending changes on feed is refused
   pub limit : ℕ
-  -- the held log, and the bytes of a record that is not whole yet
-  pub log : List Record
+  -- the bytes of a record that is not whole yet
   pub partial : List ℕ
   -- the kept fault of an engine that refuses
   pub refused : Option Fault
-  -- each page's page_LSN
-  pub applied : List ℕ
 
 -- a standby that was just made
 abbrev pub empty_machine : Config → Machine
-empty_machine config = record { pages = config.pages; limit = config.pending; log = []; partial = []; refused = None; applied = replicate config.pages 0 }
+empty_machine config = record { held = record { pages = config.pages; log = []; applied = replicate config.pages 0 }; limit = config.pending; partial = []; refused = None }
+
+abbrev pub state_from : Option Fault → ℕ → State
+state_from None end = Following
+state_from (Some fault) end = Refusing (record { 0 = end }) fault
 
 abbrev pub state_of : Machine → State
-state_of m = state_from m.refused (end_of m.log) where
-  state_from : Option Fault → ℕ → State
-  state_from None end = Following
-  state_from (Some fault) end = Refusing (record { 0 = end }) fault
+state_of m = state_from m.refused (end_of m.held.log)
 
--- the changes of a page that wait for redo
-abbrev pub waiting_on : Machine → ℕ → List Change
-waiting_on m page = changes_above m.log page (slice_index m.applied page)
-
--- how many changes wait, of the pages from a number on with these page_LSNs
-abbrev pub waiting_from : List Record → ℕ → List ℕ → ℕ
-waiting_from log page [] = 0
-waiting_from log page (lsn ∷ lsns) = length (changes_above log page lsn) + waiting_from log (suc page) lsns
-
-abbrev pub pending_of : Machine → ℕ
-pending_of m = waiting_from m.log 0 m.applied
+abbrev pub with_log : Held → List Record → Held
+with_log h log = record h { log = log }
 
 -- ---- the feed rule
 
 -- the bytes are the spellings of records that the held log goes on with, and then a rest
 pub record Splits (m : Machine) (bytes : List ℕ) (records : List Record) (rest : List ℕ) : Type 0 where
   pub whole : bytes ≡ spellings records ++ rest
-  pub is_log : IsLog m.pages (m.log ++ records)
+  pub is_log : IsLog m.held.pages (m.held.log ++ records)
 
 -- all of the piece is taken: the rest is no whole record yet
 pub record FeedsAll (old : Machine) (piece : List ℕ) (fed : Fed) (new : Machine) : Type 0 where
   pub following : old.refused ≡ None
-  pub room : pending_of old < old.limit
+  pub room : pending_of old.held < old.limit
   pub records : List Record
   pub rest : List ℕ
   pub split : Splits old (old.partial ++ piece) records rest
-  pub waits : read_record old.pages (end_of (old.log ++ records)) rest ≡ Ok None
-  pub after : new ≡ record old { log = old.log ++ records; partial = rest }
+  pub waits : read_record old.held.pages (end_of (old.held.log ++ records)) rest ≡ Ok None
+  pub after : new ≡ record old { held = with_log old.held (old.held.log ++ records); partial = rest }
   pub taken : fed.taken ≡ length piece
   pub count : fed.records ≡ length records
 
--- what the rest is refused for: it begins with a fault, or a growth was refused
+-- the rest begins with a shape fault, with a record for which a log in memory has no room, or a growth was refused
 abbrev pub IsCause : ℕ → ℕ → List ℕ → Fault → Type 0
-IsCause pages at rest fault = (fault ≡ Memory) ⊎ ((f : RecordFault) × (read_record pages at rest ≡ Err f) × (fault ≡ from_record f))
+IsCause pages at rest fault = ((f : RecordFault) × (read_record pages at rest ≡ Err f) × (fault ≡ from_record f)) ⊎ (((r : Record) × (read_record pages at rest ≡ Ok (Some (r, record_len r))) × (log_limit < at + record_len r) × (fault ≡ LogFull)) ⊎ (fault ≡ Memory))
 
--- want of memory is not kept: the bytes may be fed again
+-- want of room and of memory are not kept: the bytes may be fed again
 abbrev pub kept_fault : Fault → Option Fault
 kept_fault BadHeader = Some BadHeader
 kept_fault BadLength = Some BadLength
@@ -84,6 +74,7 @@ kept_fault WrongLsn = Some WrongLsn
 kept_fault BadKey = Some BadKey
 kept_fault BadValue = Some BadValue
 kept_fault NothingToDo = Some NothingToDo
+kept_fault LogFull = None
 kept_fault Memory = None
 kept_fault Backlog = Some Backlog
 kept_fault BadConfig = Some BadConfig
@@ -91,19 +82,19 @@ kept_fault BadConfig = Some BadConfig
 -- whole records in front of a fault are held, and no rest is kept
 pub record FeedsFront (old : Machine) (piece : List ℕ) (refusal : FeedFault) (new : Machine) : Type 0 where
   pub following : old.refused ≡ None
-  pub room : pending_of old < old.limit
+  pub room : pending_of old.held < old.limit
   pub records : List Record
   pub rest : List ℕ
   pub split : Splits old (old.partial ++ piece) records rest
-  pub cause : IsCause old.pages (end_of (old.log ++ records)) rest refusal.fault
-  pub after : new ≡ record old { log = old.log ++ records; partial = []; refused = kept_fault refusal.fault }
+  pub cause : IsCause old.held.pages (end_of (old.held.log ++ records)) rest refusal.fault
+  pub after : new ≡ record old { held = with_log old.held (old.held.log ++ records); partial = []; refused = kept_fault refusal.fault }
   -- the piece's bytes up to the end of the last record held
   pub taken : refusal.taken ≡ length (spellings records) - length old.partial
   pub count : refusal.records ≡ length records
 
 -- nothing is taken
 pub record FeedsNothing (old : Machine) (refusal : FeedFault) (new : Machine) : Type 0 where
-  pub cause : (old.refused ≡ Some refusal.fault) ⊎ ((old.refused ≡ None) × (old.limit ≤ pending_of old) × (refusal.fault ≡ Backlog))
+  pub cause : (old.refused ≡ Some refusal.fault) ⊎ ((old.refused ≡ None) × (old.limit ≤ pending_of old.held) × (refusal.fault ≡ Backlog))
   pub after : new ≡ old
   pub taken : refusal.taken ≡ 0
   pub count : refusal.records ≡ 0
@@ -118,17 +109,6 @@ Feeds old piece (Err refusal) new = FeedsNothing old refusal new ⊎ FeedsFront 
 abbrev pub resynced : Machine → Machine
 resynced m = record m { partial = []; refused = None }
 
--- the first changes that wait, at most 64, are redone
-pub record AppliesFirst (old : Machine) (page : ℕ) (lsn : Lsn) (new : Machine) : Type 0 where
-  pub front : List Change
-  pub last : Change
-  pub rest : List Change
-  pub changes : waiting_on old page ≡ (front ++ last ∷ []) ++ rest
-  pub most : length front < 64
-  pub all : (length front ≡ 63) ⊎ (rest ≡ [])
-  pub lsn_is : lsn ≡ last.lsn
-  pub after : new ≡ record old { applied = slice_set old.applied page last.lsn.0 }
-
 abbrev pub Applies : Machine → ℕ → Result Lsn Fault → Machine → Type 0
-Applies old page (Ok lsn) new = (page < old.pages) × AppliesFirst old page lsn new
-Applies old page (Err fault) new = (fault ≡ NothingToDo) × ((old.pages ≤ page) ⊎ (waiting_on old page ≡ [])) × (new ≡ old)
+Applies old page (Ok lsn) new = (held : Held) × AppliesFirst old.held page lsn held × (new ≡ record old { held = held })
+Applies old page (Err fault) new = (fault ≡ NothingToDo) × IsDry old.held page × (new ≡ old)

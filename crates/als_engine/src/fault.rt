@@ -33,6 +33,9 @@ pub enum Fault {
     /// There is nothing for the event to do.
     #[error("27 NothingToDo")]
     NothingToDo,
+    /// The log has no room for the record.
+    #[error("29 LogFull")]
+    LogFull,
     /// A growth was refused.
     #[error("32 Memory")]
     Memory,
@@ -58,6 +61,7 @@ impl Fault {
             Fault::BadKey => 6,
             Fault::BadValue => 7,
             Fault::NothingToDo => 27,
+            Fault::LogFull => 29,
             Fault::Memory => 32,
             Fault::Backlog => 36,
             Fault::BadConfig => 37,
@@ -77,6 +81,7 @@ impl Fault {
             Fault::BadKey => "BadKey",
             Fault::BadValue => "BadValue",
             Fault::NothingToDo => "NothingToDo",
+            Fault::LogFull => "LogFull",
             Fault::Memory => "Memory",
             Fault::Backlog => "Backlog",
             Fault::BadConfig => "BadConfig",

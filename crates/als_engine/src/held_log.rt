@@ -1,0 +1,141 @@
+ghost use Rattle.std.specs.Prelude.{◌≡◌, ℕ, ◌<◌, ◌≤◌, ◌+◌, ◌^◌, ◌⊎◌, List, [], ◌∷◌, ◌++◌, length, replicate, IfOk, IfErr, IfSome, OnOk, OnErr, IsErrOf, Err};
+ghost use Rattle.std.specs.Option.{option_copied};
+ghost use Rattle.als_record.specs.Spelling.{record_len, IsRecord};
+ghost use Rattle.als_record.specs.LogText.{end_of};
+ghost use Rattle.als_engine.specs.Held.{Held, log_limit, pending_of, AppliesFirst, IsDry, WaitsFrom, ShowsPage, StandsAt};
+
+use crate::fault::Fault;
+use crate::warm_pages::WarmPages;
+use als_page::Page;
+use als_record::{Lsn, Record, change, encoded_len};
+use std::alloc::{AllocError, Global};
+use std::marker::Model;
+
+/// The bytes that a log in memory holds at most: those of the largest log device.
+const LOG_LIMIT: u64 = 1 << 31;
+
+/// The held log and its warm pages.
+#[derive(Drop)]
+pub struct HeldLog {
+    pages: u32,
+    records: Vec<Record>,
+    warm: WarmPages,
+    end: Lsn,
+}
+
+impl Model for HeldLog {
+    ghost use Rattle.als_engine.specs.Held.{Held, IsHeld, applied_of};
+
+    ghost Value = { Held };
+
+    ghost view = { λ h. record { pages = h.pages; log = h.records.items; applied = applied_of h.warm } };
+
+    ghost invariant = { λ h. IsHeld h.pages h.records.items h.warm h.end.0 };
+}
+
+impl HeldLog {
+    /// An empty log, and so many empty pages, at most 4,096.
+    pub fn empty(alloc: Global, pages: u32) -> Result<HeldLog, AllocError>
+        requires { pages ≤ 4096 }
+        ensures { IfOk result (λ h. h ≡ record { pages = pages; log = []; applied = replicate pages 0 }) }
+    {
+        let warm = WarmPages::empty(alloc, pages)?;
+        Ok(HeldLog {
+            pages,
+            records: Vec::new(alloc),
+            warm,
+            end: Lsn(16),
+        })
+    }
+
+    /// The database's page count.
+    pub fn pages(&self) -> u32
+        ensures { result ≡ self.now.pages }
+    {
+        self.pages
+    }
+
+    /// The offset after the last record.
+    pub fn end(&self) -> Lsn
+        ensures end { result.0 ≡ end_of self.now.log }
+        ensures limit { end_of self.now.log ≤ log_limit }
+    {
+        self.end
+    }
+
+    /// How many records are held.
+    pub fn len(&self) -> usize
+        ensures { result ≡ length self.now.log }
+    {
+        self.records.len()
+    }
+
+    /// How many changes wait for redo.
+    pub fn pending(&self) -> usize
+        ensures { result ≡ pending_of self.now }
+    {
+        self.warm.waiting()
+    }
+
+    /// Holds a record that stands at the log's end. It is refused by LogFull where it would end past the limit, and by
+    /// Memory where a growth is refused. An `Err` changes nothing.
+    pub fn admit(&mut self, record: Record) -> Result<(), Fault>
+        requires fits { IsRecord self.old.pages record }
+        requires at { record.lsn.0 ≡ end_of self.old.log }
+        ensures ok { OnOk result (self.new ≡ record self.old { log = self.old.log ++ record ∷ [] }) }
+        ensures err { OnErr result (self.new ≡ self.old) }
+        ensures full { log_limit < end_of self.old.log + record_len record → result ≡ Err Fault.LogFull }
+        ensures cause { IfErr result (λ f. ((f ≡ Fault.LogFull) × (log_limit < end_of self.old.log + record_len record)) ⊎ (f ≡ Fault.Memory)) }
+    {
+        let len = encoded_len(&record) as u64;
+        if self.end.0 + len > LOG_LIMIT {
+            return Err(Fault::LogFull);
+        }
+        self.records.reserve(1)?;
+        if let Some(change) = change(&record) {
+            self.warm.route(change)?;
+        }
+        match self.records.push(record) {
+            Ok(()) => {}
+            Err(_) => unreachable!(),
+        }
+        self.end = Lsn(self.end.0 + len);
+        Ok(())
+    }
+
+    /// Redoes the first changes that a page waits for, at most 64, and answers its page_LSN. NothingToDo: none waits, or
+    /// there is no such page.
+    pub fn apply(&mut self, page: u32) -> Result<Lsn, Fault>
+        ensures ok { IfOk result (λ lsn. AppliesFirst self.old page lsn self.new) }
+        ensures err { IfErr result (λ f. (f ≡ Fault.NothingToDo) × IsDry self.old page × (self.new ≡ self.old)) }
+    {
+        match self.warm.apply(page) {
+            Some(lsn) => Ok(lsn),
+            None => Err(Fault::NothingToDo),
+        }
+    }
+
+    /// The first page from there on for which changes wait.
+    pub fn next_pending(&self, from: u32) -> Option<u32>
+        ensures { WaitsFrom self.now from result }
+    {
+        self.warm.next_waiting(from)
+    }
+
+    /// The page as it is now.
+    pub fn page_now(&self, page: u32) -> Option<&Page>
+        ensures { ShowsPage self.now page (option_copied result) }
+    {
+        match self.warm.get(page) {
+            Some(warm) => Some(warm.page()),
+            None => None,
+        }
+    }
+
+    /// The record that stands at an LSN.
+    pub fn record_at(&self, lsn: Lsn) -> Option<&Record>
+        ensures { StandsAt self.now.log lsn (option_copied result) }
+    {
+        self.records.iter().find(|record| record.lsn == lsn)
+    }
+}

@@ -1,0 +1,5 @@
+//! Receiver.
+#![tactic(auto)]
+
+mod receiver;
+pub use receiver::{Receiver, Refusal};
