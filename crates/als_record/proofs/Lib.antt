@@ -1,0 +1,6 @@
+pub mod RowSteps
+pub mod FieldLaws
+pub mod BodyLaws
+pub mod RowLaws
+pub mod RecordLaws
+pub mod ReadingLaws

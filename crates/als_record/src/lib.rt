@@ -19,6 +19,12 @@ mod record;
 mod fault;
 // The header of a log text.
 mod header;
+// Numbers, keys and images in bytes.
+mod fields;
+// Bytes to the bodies of updates and compensations.
+mod bodies;
+// Bytes to the rows of a checkpoint.
+mod row_reading;
 // Bytes to records.
 mod decoding;
 
