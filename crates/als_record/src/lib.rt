@@ -27,13 +27,23 @@ mod bodies;
 mod row_reading;
 // Bytes to records.
 mod decoding;
+// How many bytes a record has.
+mod lengths;
+// Rows to bytes.
+mod row_writing;
+// Records to bytes.
+mod encoding;
+// What redo does for a record.
+mod changes;
 
 pub use change::Change;
 pub use decoding::decode;
+pub use encoding::encode;
 pub use fault::Fault;
 pub use header::LogHeader;
 pub use image::{Image, Value};
 pub use key::Key;
+pub use lengths::encoded_len;
 pub use lsn::Lsn;
 pub use record::{Body, Record};
 pub use rows::{LoggedPage, LoggedTransaction, PageRows, TransactionRows};
