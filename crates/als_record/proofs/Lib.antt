@@ -1,1 +1,7 @@
 pub mod PageLaws
+pub mod RowSteps
+pub mod FieldLaws
+pub mod BodyLaws
+pub mod RowLaws
+pub mod RecordLaws
+pub mod ReadingLaws

@@ -85,7 +85,7 @@ read_update pages body =
     if not (is_key pages (key_at 0 body)) then Err BadKey
     else if not (is_length_byte before && is_length_byte after) then Err BadValue
     else if not (length body == 7 + len_of_byte before + len_of_byte after) then Err BadLength
-    else Ok (Update (key_at 0 body) (image_of before (take (len_of_byte before) (drop 7 body))) (image_of after (drop (7 + len_of_byte before) body)))
+    else Ok (Update (key_at 0 body) (image_of before (take (len_of_byte before) (drop 7 body))) (image_of after (drop (len_of_byte before) (drop 7 body))))
 
 -- the body of a compensation
 unfoldable pub read_compensation : ℕ → List ℕ → Result Body Fault
@@ -96,16 +96,21 @@ read_compensation pages body =
     else if not (length body == 14 + len_of_byte after) then Err BadLength
     else Ok (Compensation (record { 0 = long_at 0 body }) (key_at 8 body) (image_of after (drop 14 body)))
 
--- as many rows as are counted, from the front
-abbrev pub transactions_at : ℕ → List ℕ → List LoggedTransaction
-transactions_at zero bytes = []
-transactions_at (suc n) bytes =
-    record { trans = record { 0 = word_at 0 bytes }; state = slice_index bytes 4; last = record { 0 = long_at 5 bytes }; undo_next = record { 0 = long_at 13 bytes } }
-    ∷ transactions_at n (drop 21 bytes)
+-- the rows that stand at the front
+abbrev pub transaction_at : List ℕ → LoggedTransaction
+transaction_at bytes = record { trans = record { 0 = word_at 0 bytes }; state = slice_index bytes 4; last = record { 0 = long_at 5 bytes }; undo_next = record { 0 = long_at 13 bytes } }
 
-abbrev pub pages_at : ℕ → List ℕ → List LoggedPage
+abbrev pub page_row_at : List ℕ → LoggedPage
+page_row_at bytes = record { page = word_at 0 bytes; rec_lsn = record { 0 = long_at 4 bytes } }
+
+-- as many rows as are counted, from the front
+unfoldable pub transactions_at : ℕ → List ℕ → List LoggedTransaction
+transactions_at zero bytes = []
+transactions_at (suc n) bytes = transaction_at bytes ∷ transactions_at n (drop 21 bytes)
+
+unfoldable pub pages_at : ℕ → List ℕ → List LoggedPage
 pages_at zero bytes = []
-pages_at (suc n) bytes = record { page = word_at 0 bytes; rec_lsn = record { 0 = long_at 4 bytes } } ∷ pages_at n (drop 12 bytes)
+pages_at (suc n) bytes = page_row_at bytes ∷ pages_at n (drop 12 bytes)
 
 -- the body of an end_chkpt
 unfoldable pub read_checkpoint : List ℕ → Result Body Fault
@@ -113,7 +118,7 @@ read_checkpoint body =
     let n = half_at 0 body in
     let m = half_at 2 body in
     if not (nat_le n 256 && nat_le m 4096 && (length body == 4 + 21 * n + 12 * m)) then Err BadLength
-    else Ok (EndCheckpoint (transactions_at n (drop 4 body)) (pages_at m (drop (4 + 21 * n) body)))
+    else Ok (EndCheckpoint (transactions_at n (drop 4 body)) (pages_at m (drop (21 * n) (drop 4 body))))
 
 -- the body of a record of a type that there is
 unfoldable pub read_body : ℕ → ℕ → List ℕ → Result Body Fault

@@ -1,12 +1,92 @@
-ghost use Rattle.std.specs.Prelude.{◌≡◌, ℕ, ◌<◌, ◌≤◌, ◌+◌, ◌^◌, ◌++◌, List, length, take, Some, None, Ok, Err, IfOk, IfSome};
+ghost use Rattle.std.specs.Prelude.{◌≡◌, ℕ, ◌<◌, ◌≤◌, ◌+◌, ◌-◌, ◌^◌, ◌++◌, List, length, take, drop, slice_index, Some, None, Ok, Err, IfOk, IfErr, IfSome};
 ghost use Rattle.als_record.specs.declared.record.Record.{Record as AnyRecord};
+ghost use Rattle.als_record.specs.declared.fault.Fault.TheVariants.{Memory};
 ghost use Rattle.als_record.specs.Spelling.{spelling, record_len, IsRecord};
-ghost use Rattle.als_record.specs.Reading.{Gives, read_record};
+ghost use Rattle.als_record.specs.Reading.{Gives, is_size, read_body, read_record};
 
+use crate::bodies::{compensation, update};
 use crate::fault::Fault;
+use crate::fields::{long, word};
 use crate::lsn::Lsn;
-use crate::record::Record;
+use crate::record::{Body, Record};
+use crate::row_reading::checkpoint;
+use crate::trans_id::TransId;
 use std::alloc::Global;
+
+/// Is it a length that a record of this type may have?
+#[inline]
+fn may_be(kind: u8, size: usize) -> bool
+    ensures { result ≡ is_size kind size }
+{
+    match kind {
+        1 => 35 <= size && size <= 97,
+        2 => 42 <= size && size <= 73,
+        7 => 32 <= size && size <= 54560,
+        3..=6 => size == 28,
+        _ => 28 <= size && size <= 54560,
+    }
+}
+
+/// The body of a record of a type that there is.
+#[inline]
+#[tactic(auto, unfolding(crate::specs::Reading::read_body))]
+fn body_of(alloc: Global, pages: u32, kind: u8, body: &[u8]) -> Result<Body, Fault>
+    requires kind { 1 ≤ kind }
+    requires update { kind ≡ 1 → 7 ≤ length body.now }
+    requires compensation { kind ≡ 2 → 14 ≤ length body.now }
+    requires checkpoint { 7 ≤ kind → 4 ≤ length body.now }
+    ensures read { Gives (λ b. b) result (read_body pages kind body.now) }
+    ensures memory { IfErr result (λ e. e ≡ Memory → 7 ≤ kind) }
+{
+    match kind {
+        1 => update(pages, body),
+        2 => compensation(pages, body),
+        3 => Ok(Body::Commit),
+        4 => Ok(Body::Rollback),
+        5 => Ok(Body::End),
+        6 => Ok(Body::BeginCheckpoint),
+        _ => checkpoint(alloc, body),
+    }
+}
+
+/// The steps in order, of which the first that applies decides.
+#[inline]
+#[tactic(auto, unfolding(crate::specs::Reading::read_record))]
+fn read(alloc: Global, bytes: &[u8], at: Lsn, pages: u32) -> Result<Option<(Record, usize)>, Fault>
+    ensures exact { Gives (λ o. o) result (read_record pages at.0 bytes.now) }
+    ensures memory { IfErr result (λ e. e ≡ Memory → slice_index bytes.now 4 ≡ 7) }
+{
+    if bytes.len() < 28 {
+        return Ok(None);
+    }
+    let size = word(bytes, 0) as usize;
+    let kind = bytes[4];
+    if !may_be(kind, size) {
+        return Err(Fault::BadLength);
+    }
+    if !(1 <= kind && kind <= 7) {
+        return Err(Fault::BadType);
+    }
+    if !(bytes[5] == 0 && bytes[6] == 0 && bytes[7] == 0) {
+        return Err(Fault::BadReserved);
+    }
+    if long(bytes, 8) != at.0 {
+        return Err(Fault::WrongLsn);
+    }
+    if bytes.len() < size {
+        return Ok(None);
+    }
+    let (whole, _) = bytes.split_at(size);
+    let (_, rest) = whole.split_at(28);
+    let body = body_of(alloc, pages, kind, rest)?;
+    let record = Record {
+        lsn: at,
+        prev: Lsn(long(bytes, 16)),
+        trans: TransId(word(bytes, 24)),
+        body,
+    };
+    Ok(Some((record, size)))
+}
 
 /// The record at the front of the bytes, and its length in bytes, for a log in which it stands at `at` and a database of
 /// `pages` pages. `None`: more bytes are needed. Only an end_chkpt record's rows take memory.
@@ -24,6 +104,8 @@ pub fn decode(
         → Gives (λ o. o) result (Ok (Some (r, record_len r))) }
     // Which fault it is, and when more bytes are needed.
     ensures exact { Gives (λ o. o) result (read_record pages at.0 bytes.now) }
+    // Only an end_chkpt record's rows take memory.
+    ensures memory { IfErr result (λ e. e ≡ Memory → slice_index bytes.now 4 ≡ 7) }
 {
-    Err(Fault::Memory)
+    read(alloc, bytes, at, pages)
 }

@@ -19,15 +19,31 @@ mod record;
 mod fault;
 // The header of a log text.
 mod header;
+// Numbers, keys and images in bytes.
+mod fields;
+// Bytes to the bodies of updates and compensations.
+mod bodies;
+// Bytes to the rows of a checkpoint.
+mod row_reading;
 // Bytes to records.
 mod decoding;
+// How many bytes a record has.
+mod lengths;
+// Rows to bytes.
+mod row_writing;
+// Records to bytes.
+mod encoding;
+// What redo does for a record.
+mod changes;
 
 pub use change::Change;
 pub use decoding::decode;
+pub use encoding::encode;
 pub use fault::Fault;
 pub use header::LogHeader;
 pub use image::{Image, Value};
 pub use key::Key;
+pub use lengths::encoded_len;
 pub use lsn::Lsn;
 pub use record::{Body, Record};
 pub use rows::{LoggedPage, LoggedTransaction, PageRows, TransactionRows};

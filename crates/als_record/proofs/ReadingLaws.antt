@@ -1,0 +1,199 @@
+-- A record that is found is spelled so, and what is spelled so is found; more bytes behind it change nothing.
+use Rattle.std.proofs.Common.{◌≡◌, ℕ, ◌+◌, ◌-◌, ◌^◌, ◌<◌, ◌≤◌, ◌⊎◌, Bool, true, false, cond, eqb, ltb, List, [], ◌∷◌, ◌++◌, length, get_or, take, drop, Option, Some, None, Result, Ok, Err, refl, sym, ap, subst, ◌∙◌, append_assoc, arith, inl, inr}
+use Rattle.std.specs.Prelude.{not, ◌&&◌, if◌then◌else◌, IfOk, IfSome}
+use Rattle.std.specs.Int.{w32, w64}
+use Rattle.std.proofs.lemmas.Bool.{ltb-true, ltb-false, lt-ltb, le-ltb, eqb-true, eq-eqb}
+use Rattle.std.proofs.lemmas.List.{take_at, drop_at, take-append-drop, take-take, take-append-le, length-append, length-take, length-drop, get_or_append_left, append_cancel_left}
+use Rattle.als_record.specs.declared.record.Body.{Body}
+use Rattle.als_record.specs.declared.record.Record.{Record}
+use Rattle.als_record.specs.declared.fault.Fault.{Fault}
+use Rattle.als_record.specs.declared.fault.Fault.TheVariants.{Memory, BadHeader, BadLength, BadType, BadReserved, WrongLsn, BadKey, BadValue}
+use Rattle.als_record.specs.Spelling.{head, spelling, record_len, body_bytes, body_len, type_byte, IsRecord}
+use Rattle.als_record.specs.Reading.{Gives, ◌>>=◌, word_at, long_at, size_at, type_at, is_size, is_type, is_reserved_zero, read_body, read_record}
+use Rattle.als_record.proofs.FieldLaws.{IsBytes, IsBytes-drop, IsBytes-take, wide32, wide64, number_below, number_more}
+use Rattle.als_record.proofs.RecordLaws.{body_found, body_again, size_range, type_byte_is, body_size, length-head, length-body_bytes, length-spelling, record_len-high, head_found, head_again, IsHeadOf}
+
+abbrev Found : Type 0
+Found = Option (Record × ℕ)
+
+abbrev found : Found → Result Found Fault
+found o = Ok o
+
+-- the tests of reading in order, and what stands behind them
+abbrev six : Bool → Bool → Bool → Bool → Bool → Bool → Result Found Fault → Result Found Fault
+six short sized typed zeros placed cut read =
+    if short then Ok None
+    else if not sized then Err BadLength
+    else if not typed then Err BadType
+    else if not zeros then Err BadReserved
+    else if not placed then Err WrongLsn
+    else if cut then Ok None
+    else read
+
+record Passed (short sized typed zeros placed cut : Bool) (read : Result Found Fault) (y : Record × ℕ) : Type 0 where
+  is_long : short ≡ false
+  is_sized : sized ≡ true
+  is_typed : typed ≡ true
+  is_zero : zeros ≡ true
+  is_placed : placed ≡ true
+  is_whole : cut ≡ false
+  gives : read ≡ Ok (Some y)
+
+six_passed : (short sized typed zeros placed cut : Bool) (read : Result Found Fault) (y : Record × ℕ) → six short sized typed zeros placed cut read ≡ Ok (Some y) → Passed short sized typed zeros placed cut read y
+six_passed true sized typed zeros placed cut read y e = absurd cc
+six_passed false false typed zeros placed cut read y e = absurd cc
+six_passed false true false zeros placed cut read y e = absurd cc
+six_passed false true true false placed cut read y e = absurd cc
+six_passed false true true true false cut read y e = absurd cc
+six_passed false true true true true true read y e = absurd cc
+six_passed false true true true true false read y e = record { is_long = refl; is_sized = refl; is_typed = refl; is_zero = refl; is_placed = refl; is_whole = refl; gives = e }
+
+six_pass : (short sized typed zeros placed cut : Bool) (read : Result Found Fault) → short ≡ false → sized ≡ true → typed ≡ true → zeros ≡ true → placed ≡ true → cut ≡ false → six short sized typed zeros placed cut read ≡ read
+six_pass short sized typed zeros placed cut read a b c d e f = rw (a, b, c, d, e, f) refl
+
+-- where a record is cut short, it is a fault of its head, or more bytes are needed
+six_cut : (sized typed zeros placed cut : Bool) (read other : Result Found Fault) → (six false sized typed zeros placed true read ≡ Ok None) ⊎ (six false sized typed zeros placed cut other ≡ six false sized typed zeros placed true read)
+six_cut false typed zeros placed cut read other = inr refl
+six_cut true false zeros placed cut read other = inr refl
+six_cut true true false placed cut read other = inr refl
+six_cut true true true false cut read other = inr refl
+six_cut true true true true cut read other = inl refl
+
+-- a record of these fields, and its length
+abbrev made_of : ℕ → ℕ → ℕ → ℕ → Body → Record × ℕ
+made_of at size prev trans body = (record { lsn = record { 0 = at }; prev = record { 0 = prev }; trans = record { 0 = trans }; body = body }, size)
+
+abbrev body_read : ℕ → ℕ → ℕ → ℕ → ℕ → ℕ → List ℕ → Result Found Fault
+body_read pages at size kind prev trans bytes = read_body pages kind bytes >>= λ body. Ok (Some (made_of at size prev trans body))
+
+-- reading from the fields of a record
+abbrev read_from : ℕ → ℕ → ℕ → ℕ → ℕ → Bool → ℕ → ℕ → ℕ → List ℕ → Result Found Fault
+read_from pages at len size kind zeros lsn prev trans bytes = six (ltb len 28) (is_size kind size) (is_type kind) zeros (eqb lsn at) (ltb len size) (body_read pages at size kind prev trans bytes)
+
+reads_from : (pages at : ℕ) (bytes : List ℕ) → read_record pages at bytes ≡ read_from pages at (length bytes) (size_at bytes) (type_at bytes) (is_reserved_zero bytes) (long_at 8 bytes) (long_at 16 bytes) (word_at 24 bytes) (drop 28 (take (size_at bytes) bytes))
+unfolding read_record
+reads_from pages at bytes = refl
+
+bind_some : (read : Result Body Fault) (f : Body → Record × ℕ) (y : Record × ℕ) → (read >>= λ body. found (Some (f body))) ≡ Ok (Some y) → (body : Body) × (read ≡ Ok body) × (f body ≡ y)
+bind_some (Ok body) f y e = (body, refl, cc)
+bind_some (Err fault) f y e = absurd cc
+
+-- ---- what is found
+
+-- what was found at the front of the bytes
+pub record IsFound (pages at : ℕ) (bytes : List ℕ) (r : Record) (n : ℕ) : Type 0 where
+  pub spelled : take n bytes ≡ spelling r
+  pub len : n ≡ record_len r
+  pub within : n ≤ length bytes
+  pub placed : r.lsn.0 ≡ at
+  pub fits : IsRecord pages r
+
+made_is : (pages at : ℕ) (bytes : List ℕ) (body : Body) → IsBytes bytes → 28 ≤ length bytes → is_size (type_at bytes) (size_at bytes) ≡ true → is_type (type_at bytes) ≡ true → is_reserved_zero bytes ≡ true → long_at 8 bytes ≡ at → size_at bytes ≤ length bytes
+    → read_body pages (type_at bytes) (drop 28 (take (size_at bytes) bytes)) ≡ Ok body
+    → let made = made_of at (size_at bytes) (long_at 16 bytes) (word_at 24 bytes) body in IsFound pages at bytes made.0 made.1
+unfolding spelling record_len
+made_is pages at bytes body fits long sized typed zeros placed whole e =
+    let size = size_at bytes in
+    let kind = type_at bytes in
+    let range = size_range kind size typed sized in
+    let front = take size bytes in
+    let rest = drop 28 front in
+    let front_len : length front ≡ size = omega (arith, length-take size bytes) in
+    let rest_len : 28 + length rest ≡ size = omega (arith, length-drop 28 front, range.0) in
+    let rest_fits = IsBytes-drop 28 front (IsBytes-take size bytes fits) in
+    let b = body_found pages kind rest body rest_fits typed (ap (is_size kind) rest_len ∙ sized) e in
+    let heading = head size kind (long_at 8 bytes) (long_at 16 bytes) (word_at 24 bytes) in
+    let head_is : take 28 bytes ≡ heading = ap (take 28) (head_found bytes fits long zeros) ∙ take_at heading (drop 28 bytes) 28 (length-head size kind (long_at 8 bytes) (long_at 16 bytes) (word_at 24 bytes)) in
+    let head_in : take 28 front ≡ heading = take-take 28 size bytes range.0 ∙ head_is in
+    let len : size ≡ 28 + body_len body = sym rest_len ∙ ap (λ (k : ℕ). 28 + k) b.len in
+    let joined : front ≡ heading ++ body_bytes body = sym (take-append-drop 28 front) ∙ ap (λ (xs : List ℕ). xs ++ rest) head_in ∙ ap (λ (xs : List ℕ). heading ++ xs) b.spelled in
+    let named : heading ≡ head (28 + body_len body) (type_byte body) at (long_at 16 bytes) (word_at 24 bytes) =
+    ap (λ (k : ℕ). head k kind (long_at 8 bytes) (long_at 16 bytes) (word_at 24 bytes)) len
+    ∙ ap (λ (k : ℕ). head (28 + body_len body) k (long_at 8 bytes) (long_at 16 bytes) (word_at 24 bytes)) (sym b.kind_is)
+    ∙ ap (λ (k : ℕ). head (28 + body_len body) (type_byte body) k (long_at 16 bytes) (word_at 24 bytes)) placed in
+    record {
+      spelled = joined ∙ ap (λ (xs : List ℕ). xs ++ body_bytes body) named;
+      len = len;
+      within = whole;
+      placed = refl;
+      fits = record {
+        lsn = subst (λ (k : ℕ). k < 2 ^ 64) placed (number_below w64 (2 ^ 64) wide64 8 bytes fits);
+        prev = number_below w64 (2 ^ 64) wide64 16 bytes fits;
+        trans = number_below w32 (2 ^ 32) wide32 24 bytes fits;
+        body = b.fits;
+      };
+    }
+
+passed : (pages at : ℕ) (bytes : List ℕ) (y : Record × ℕ) → read_record pages at bytes ≡ Ok (Some y)
+    → Passed (ltb (length bytes) 28) (is_size (type_at bytes) (size_at bytes)) (is_type (type_at bytes)) (is_reserved_zero bytes) (eqb (long_at 8 bytes) at) (ltb (length bytes) (size_at bytes))
+    (body_read pages at (size_at bytes) (type_at bytes) (long_at 16 bytes) (word_at 24 bytes) (drop 28 (take (size_at bytes) bytes))) y
+passed pages at bytes y e =
+    six_passed (ltb (length bytes) 28) (is_size (type_at bytes) (size_at bytes)) (is_type (type_at bytes)) (is_reserved_zero bytes) (eqb (long_at 8 bytes) at) (ltb (length bytes) (size_at bytes))
+    (body_read pages at (size_at bytes) (type_at bytes) (long_at 16 bytes) (word_at 24 bytes) (drop 28 (take (size_at bytes) bytes))) y (sym (reads_from pages at bytes) ∙ e)
+
+-- a record that is found stands in the bytes, and fits
+pub record_found : (pages at : ℕ) (bytes : List ℕ) (r : Record) (n : ℕ) → IsBytes bytes → read_record pages at bytes ≡ Ok (Some (r, n)) → IsFound pages at bytes r n
+record_found pages at bytes r n fits e =
+    let p = passed pages at bytes (r, n) e in
+    let b = bind_some (read_body pages (type_at bytes) (drop 28 (take (size_at bytes) bytes))) (made_of at (size_at bytes) (long_at 16 bytes) (word_at 24 bytes)) (r, n) p.gives in
+    subst (λ (y : Record × ℕ). IsFound pages at bytes y.0 y.1) b.2
+    (made_is pages at bytes b.0 fits (ltb-false (length bytes) 28 p.is_long) p.is_sized p.is_typed p.is_zero (eqb-true (long_at 8 bytes) at p.is_placed) (ltb-false (length bytes) (size_at bytes) p.is_whole) b.1)
+
+-- a record that is found ends within the bytes, whatever they are
+pub found_within : (pages at : ℕ) (bytes : List ℕ) (r : Record) (n : ℕ) → read_record pages at bytes ≡ Ok (Some (r, n)) → n ≤ length bytes
+found_within pages at bytes r n e =
+    let p = passed pages at bytes (r, n) e in
+    let b = bind_some (read_body pages (type_at bytes) (drop 28 (take (size_at bytes) bytes))) (made_of at (size_at bytes) (long_at 16 bytes) (word_at 24 bytes)) (r, n) p.gives in
+    subst (λ (k : ℕ). k ≤ length bytes) (ap (λ (y : Record × ℕ). y.1) b.2) (ltb-false (length bytes) (size_at bytes) p.is_whole)
+
+-- ---- what is spelled
+
+sized : (pages : ℕ) (r : Record) → IsRecord pages r → is_size (type_byte r.body) (record_len r) ≡ true
+unfolding record_len
+sized pages r is = body_size pages r.body is.body
+
+-- what is spelled so is found
+pub record_again : (pages : ℕ) (r : Record) (rest : List ℕ) → IsRecord pages r → read_record pages r.lsn.0 (spelling r ++ rest) ≡ Ok (Some (r, record_len r))
+unfolding spelling
+record_again pages r rest is =
+    let kind = type_byte r.body in
+    let size = record_len r in
+    let body = body_bytes r.body in
+    let heading = head size kind r.lsn.0 r.prev.0 r.trans.0 in
+    let bytes = spelling r ++ rest in
+    let high = record_len-high pages r is in
+    let regrouped : bytes ≡ heading ++ (body ++ rest) = append_assoc heading body rest in
+    let h = subst (λ (xs : List ℕ). IsHeadOf size kind r.lsn.0 r.prev.0 r.trans.0 xs) (sym regrouped) (head_again size kind r.lsn.0 r.prev.0 r.trans.0 (body ++ rest) (omega arith) is.lsn is.prev is.trans) in
+    let len_of = length-head size kind r.lsn.0 r.prev.0 r.trans.0 in
+    let size_is = length-spelling r in
+    let long : 28 ≤ length bytes = omega (arith, length-append (spelling r) rest, length-append heading body) in
+    let whole : size ≤ length bytes = omega (arith, length-append (spelling r) rest) in
+    let front : drop 28 (take size bytes) ≡ body = ap (drop 28) (take_at (spelling r) rest size size_is) ∙ drop_at heading body 28 len_of in
+    let at = r.lsn.0 in
+    reads_from pages at bytes
+    ∙ ap (λ (k : ℕ). read_from pages at (length bytes) k (type_at bytes) (is_reserved_zero bytes) (long_at 8 bytes) (long_at 16 bytes) (word_at 24 bytes) (drop 28 (take k bytes))) h.size_is
+    ∙ ap (λ (k : ℕ). read_from pages at (length bytes) size k (is_reserved_zero bytes) (long_at 8 bytes) (long_at 16 bytes) (word_at 24 bytes) (drop 28 (take size bytes))) h.kind_is
+    ∙ ap (λ (k : ℕ). read_from pages at (length bytes) size kind (is_reserved_zero bytes) (long_at 8 bytes) k (word_at 24 bytes) (drop 28 (take size bytes))) h.prev_is
+    ∙ ap (λ (k : ℕ). read_from pages at (length bytes) size kind (is_reserved_zero bytes) (long_at 8 bytes) r.prev.0 k (drop 28 (take size bytes))) h.trans_is
+    ∙ ap (λ (xs : List ℕ). read_from pages at (length bytes) size kind (is_reserved_zero bytes) (long_at 8 bytes) r.prev.0 r.trans.0 xs) front
+    ∙ six_pass (ltb (length bytes) 28) (is_size kind size) (is_type kind) (is_reserved_zero bytes) (eqb (long_at 8 bytes) at) (ltb (length bytes) size) (body_read pages at size kind r.prev.0 r.trans.0 body)
+    (le-ltb (length bytes) 28 long) (sized pages r is) (type_byte_is r.body) h.zeros (eq-eqb (long_at 8 bytes) at h.lsn_is) (le-ltb (length bytes) size whole)
+    ∙ ap (λ (b : Result Body Fault). b >>= λ v. found (Some (made_of at size r.prev.0 r.trans.0 v))) (body_again pages r.body is.body)
+
+-- ---- what decode returns
+
+-- what is found is spelled so
+pub given_found : (pages at : ℕ) (bytes : List ℕ) (result : Result Found Fault) → IsBytes bytes → Gives (λ (o : Found). o) result (read_record pages at bytes)
+    → IfOk result (λ o. IfSome o (λ x. (take x.1 bytes ≡ spelling x.0) × (x.1 ≡ record_len x.0) × (x.1 ≤ length bytes) × (x.0.lsn.0 ≡ at) × IsRecord pages x.0))
+given_found pages at bytes (Err fault) fits given = tt
+given_found pages at bytes (Ok None) fits given = tt
+given_found pages at bytes (Ok (Some x)) fits given =
+    let f = record_found pages at bytes x.0 x.1 fits given in
+    (f.spelled, f.len, f.within, f.placed, f.fits)
+
+-- what is spelled so is found
+pub given_only : (pages at : ℕ) (bytes : List ℕ) (result : Result Found Fault) → Gives (λ (o : Found). o) result (read_record pages at bytes)
+    → (r : Record) (rest : List ℕ) → IsRecord pages r → r.lsn.0 ≡ at → bytes ≡ spelling r ++ rest → Gives (λ (o : Found). o) result (Ok (Some (r, record_len r)))
+given_only pages at bytes result given r rest is placed e =
+    let read : read_record pages at bytes ≡ Ok (Some (r, record_len r)) = ap (λ (k : ℕ). read_record pages k bytes) (sym placed) ∙ ap (read_record pages r.lsn.0) e ∙ record_again pages r rest is in
+    subst (λ (f : Result Found Fault). Gives (λ (o : Found). o) result f) read given
