@@ -44,7 +44,7 @@ fresh-get id zero p w h = absurd cc
 fresh-get id (suc count) zero w h = let e : id ≡ id + 0 = omega arith in sym (same_Some _ w h) ∙ ap (λ (i : ℕ). record { id = i; state = empty_page; pending = [] }) e
 fresh-get id (suc count) (suc p) w h = let e : suc id + p ≡ id + suc p = omega arith in fresh-get (suc id) count p w h ∙ ap (λ (i : ℕ). record { id = i; state = empty_page; pending = [] }) e
 
-end-nil : end_of [] ≡ 16
+pub end-nil : end_of [] ≡ 16
 unfolding end_of
 end-nil = refl
 
@@ -52,10 +52,10 @@ pub pages-fresh : (count : ℕ) → ArePagesOf [] (fresh_from 0 count)
 pages-fresh count = record {
   numbered = λ p w there. let e : 0 + p ≡ p = omega arith in ap (λ (v : Warm). v.id) (fresh-get 0 count p w there) ∙ e;
   each = λ p w there. let one : IsPageOf [] (record { id = 0 + p; state = empty_page; pending = [] }) = record {
-      below = omega (arith, end-nil);
-      content = sym (page_at-nil (0 + p) 0);
-      pending = sym (changes_above-nil (0 + p) 0);
-    } in subst (λ (v : Warm). IsPageOf [] v) (sym (fresh-get 0 count p w there)) one;
+    below = omega (arith, end-nil);
+    content = sym (page_at-nil (0 + p) 0);
+    pending = sym (changes_above-nil (0 + p) 0);
+  } in subst (λ (v : Warm). IsPageOf [] v) (sym (fresh-get 0 count p w there)) one;
 }
 
 -- ---- a record more
@@ -106,7 +106,7 @@ pub can_route : (count : ℕ) (log : List Record) (r : Record) (c : Change) (pag
 can_route count log r c pages is_log at change len h =
     let inside : c.key.page < count = change_inside count log r c is_log at change in
     elim (slice_get_cases pages c.key.page).1 [
-        inl there ↦
+      | inl there ↦
           let w : Warm = there.0 in
           let here : IsPageOf log w = h.each c.key.page w there.2 in
           let id : w.id ≡ c.key.page = h.numbered c.key.page w there.2 in
@@ -129,15 +129,15 @@ pages-push_change log r c pages new at change routed h =
     let changed : IsPageOf (log ++ r ∷ []) w' = with_pending (log ++ r ∷ []) w (w.pending ++ changes_on w.id (r ∷ [])) (w.pending ++ c ∷ []) (ap (λ (cs : List Change). w.pending ++ cs) (changes_on-same w.id r c change (sym id))) (page-push log r w at (h.each i w routed.found)) in
     record {
       numbered = λ p v there. elim (cases_eq p i) [
-          inl e ↦ ap (λ (x : Warm). x.id) (sym (same v (subst (λ q. slice_get new q ≡ Some v) e there))) ∙ id ∙ sym e
+        | inl e ↦ ap (λ (x : Warm). x.id) (sym (same v (subst (λ q. slice_get new q ≡ Some v) e there))) ∙ id ∙ sym e
         | inr ne ↦ h.numbered p v (other p v ne there)
       ];
       each = λ p v there. elim (cases_eq p i) [
-          inl e ↦ subst (λ (x : Warm). IsPageOf (log ++ r ∷ []) x) (same v (subst (λ q. slice_get new q ≡ Some v) e there)) changed
+        | inl e ↦ subst (λ (x : Warm). IsPageOf (log ++ r ∷ []) x) (same v (subst (λ q. slice_get new q ≡ Some v) e there)) changed
         | inr ne ↦
-          let old = other p v ne there in
-          let apart : c.key.page ≡ v.id → ⊥ = λ e. ne (sym (h.numbered p v old) ∙ sym e) in
-          page-push_none log r v at (changes_on-other v.id r c change apart) (h.each p v old)
+            let old = other p v ne there in
+            let apart : c.key.page ≡ v.id → ⊥ = λ e. ne (sym (h.numbered p v old) ∙ sym e) in
+            page-push_none log r v at (changes_on-other v.id r c change apart) (h.each p v old)
       ];
     }
 
@@ -170,11 +170,11 @@ pages-apply count log pages page new lsn is_log h applied =
     let changed : IsPageOf log w' = page-apply count log w w' lsn is_log (h.each page w applied.found) applied.redoes in
     record {
       numbered = λ p v there. elim (cases_eq p page) [
-          inl e ↦ ap (λ (x : Warm). x.id) (sym (same v (subst (λ q. slice_get new q ≡ Some v) e there))) ∙ id ∙ sym e
+        | inl e ↦ ap (λ (x : Warm). x.id) (sym (same v (subst (λ q. slice_get new q ≡ Some v) e there))) ∙ id ∙ sym e
         | inr ne ↦ h.numbered p v (other p v ne there)
       ];
       each = λ p v there. elim (cases_eq p page) [
-          inl e ↦ subst (λ (x : Warm). IsPageOf log x) (same v (subst (λ q. slice_get new q ≡ Some v) e there)) changed
+        | inl e ↦ subst (λ (x : Warm). IsPageOf log x) (same v (subst (λ q. slice_get new q ≡ Some v) e there)) changed
         | inr ne ↦ h.each p v (other p v ne there)
       ];
     }

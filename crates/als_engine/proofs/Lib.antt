@@ -1,3 +1,4 @@
 pub mod Redoing
 pub mod PageLists
 pub mod HeldPages
+pub mod HeldViews

@@ -69,7 +69,7 @@ fresh-push-at pages w count h g =
 pub nothing_more : (pages : List Warm) (from page : ℕ) → ((other : ℕ) → from ≤ other → other < page → NothingWaits pages other) → NothingWaits pages page → (other : ℕ) → from ≤ other → other < page + 1 → NothingWaits pages other
 nothing_more pages from page before here other le lt =
     elim (cases_lt other page) [
-        inl below ↦ before other le below
+      | inl below ↦ before other le below
       | inr above ↦ let same : page ≡ other = omega arith in subst (λ p. NothingWaits pages p) same here
     ]
 
@@ -77,7 +77,7 @@ nothing_more pages from page before here other le lt =
 pub nothing_from : (pages : List Warm) (from to : ℕ) → length pages ≤ to → ((other : ℕ) → from ≤ other → other < to → NothingWaits pages other) → (page : ℕ) → from ≤ page → NothingWaits pages page
 nothing_from pages from to end before page le =
     elim (cases_lt page to) [
-        inl below ↦ before page le below
+      | inl below ↦ before page le below
       | inr above ↦ let past : length pages ≤ page = omega arith in nothing_past pages page past
     ]
 

@@ -1,13 +1,15 @@
-ghost use Rattle.std.specs.Prelude.{◌≡◌, ℕ, ◌<◌, ◌≤◌, ◌+◌, ◌^◌, ◌⊎◌, List, [], ◌∷◌, ◌++◌, length, replicate, IfOk, IfErr, IfSome, OnOk, OnErr, IsErrOf, Err};
+ghost use Rattle.std.specs.Prelude.{◌≡◌, ℕ, ◌<◌, ◌≤◌, ◌+◌, ◌^◌, ◌⊎◌, List, [], ◌∷◌, ◌++◌, length, replicate, IfOk, IfErr, IfSome, MatchOption, OnOk, OnErr, IsErrOf, Err};
 ghost use Rattle.std.specs.Option.{option_copied};
 ghost use Rattle.als_record.specs.Spelling.{record_len, IsRecord};
 ghost use Rattle.als_record.specs.LogText.{end_of};
+ghost use Rattle.als_record.specs.Pages.{change_of};
+ghost use Rattle.als_engine.specs.Warm.{CanRoute, IsRouted, total_waiting};
 ghost use Rattle.als_engine.specs.Held.{Held, log_limit, pending_of, AppliesFirst, IsDry, WaitsFrom, ShowsPage, StandsAt};
 
 use crate::fault::Fault;
 use crate::warm_pages::WarmPages;
 use als_page::Page;
-use als_record::{Lsn, Record, change, encoded_len};
+use als_record::{Lsn, Record, encoded_len};
 use std::alloc::{AllocError, Global};
 use std::marker::Model;
 
@@ -31,6 +33,19 @@ impl Model for HeldLog {
     ghost view = { λ h. record { pages = h.pages; log = h.records.items; applied = applied_of h.warm } };
 
     ghost invariant = { λ h. IsHeld h.pages h.records.items h.warm h.end.0 };
+}
+
+/// Adds what a record changes, if anything, behind what its page waits for. An `Err` changes nothing.
+fn route_change(warm: &mut WarmPages, logged: &Record) -> Result<(), AllocError>
+    requires can { IfSome (change_of logged.now) (CanRoute warm.old) }
+    requires room { total_waiting warm.old + 1 < 2 ^ 64 }
+    ensures ok { OnOk result (MatchOption (change_of logged.now) (warm.new ≡ warm.old) (λ c. IsRouted warm.old c warm.new)) }
+    ensures err { OnErr result (warm.new ≡ warm.old) }
+{
+    match logged.change() {
+        None => Ok(()),
+        Some(change) => warm.route(change),
+    }
 }
 
 impl HeldLog {
@@ -79,26 +94,21 @@ impl HeldLog {
 
     /// Holds a record that stands at the log's end. It is refused by LogFull where it would end past the limit, and by
     /// Memory where a growth is refused. An `Err` changes nothing.
-    pub fn admit(&mut self, record: Record) -> Result<(), Fault>
-        requires fits { IsRecord self.old.pages record }
-        requires at { record.lsn.0 ≡ end_of self.old.log }
-        ensures ok { OnOk result (self.new ≡ record self.old { log = self.old.log ++ record ∷ [] }) }
+    pub fn admit(&mut self, logged: Record) -> Result<(), Fault>
+        requires fits { IsRecord self.old.pages logged }
+        requires at { logged.lsn.0 ≡ end_of self.old.log }
+        ensures ok { OnOk result (self.new ≡ record self.old { log = self.old.log ++ logged ∷ [] }) }
         ensures err { OnErr result (self.new ≡ self.old) }
-        ensures full { log_limit < end_of self.old.log + record_len record → result ≡ Err Fault.LogFull }
-        ensures cause { IfErr result (λ f. ((f ≡ Fault.LogFull) × (log_limit < end_of self.old.log + record_len record)) ⊎ (f ≡ Fault.Memory)) }
+        ensures full { log_limit < end_of self.old.log + record_len logged → result ≡ Err Fault.LogFull }
+        ensures cause { IfErr result (λ f. ((f ≡ Fault.LogFull) × (log_limit < end_of self.old.log + record_len logged)) ⊎ (f ≡ Fault.Memory)) }
     {
-        let len = encoded_len(&record) as u64;
+        let len = encoded_len(&logged) as u64;
         if self.end.0 + len > LOG_LIMIT {
             return Err(Fault::LogFull);
         }
         self.records.reserve(1)?;
-        if let Some(change) = change(&record) {
-            self.warm.route(change)?;
-        }
-        match self.records.push(record) {
-            Ok(()) => {}
-            Err(_) => unreachable!(),
-        }
+        route_change(&mut self.warm, &logged)?;
+        self.records.push_reserved(logged);
         self.end = Lsn(self.end.0 + len);
         Ok(())
     }
@@ -109,10 +119,10 @@ impl HeldLog {
         ensures ok { IfOk result (λ lsn. AppliesFirst self.old page lsn self.new) }
         ensures err { IfErr result (λ f. (f ≡ Fault.NothingToDo) × IsDry self.old page × (self.new ≡ self.old)) }
     {
-        match self.warm.apply(page) {
-            Some(lsn) => Ok(lsn),
-            None => Err(Fault::NothingToDo),
-        }
+        let Some(lsn) = self.warm.apply(page) else {
+            return Err(Fault::NothingToDo);
+        };
+        Ok(lsn)
     }
 
     /// The first page from there on for which changes wait.
@@ -136,6 +146,6 @@ impl HeldLog {
     pub fn record_at(&self, lsn: Lsn) -> Option<&Record>
         ensures { StandsAt self.now.log lsn (option_copied result) }
     {
-        self.records.iter().find(|record| record.lsn == lsn)
+        self.records.iter().find(|logged| logged.lsn == lsn)
     }
 }

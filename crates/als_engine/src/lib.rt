@@ -13,12 +13,15 @@ mod fed;
 mod warm_page;
 // All pages.
 mod warm_pages;
+// The held log with its pages.
+mod held_log;
 // One step of a run, and its reply.
 mod step;
 
 pub use config::Config;
 pub use fault::Fault;
 pub use fed::{Fed, FeedFault};
+pub use held_log::HeldLog;
 pub use status::{State, Status};
 pub use step::{Reply, Step};
 pub use warm_page::WarmPage;

@@ -11,9 +11,10 @@ returns-in_err-lsn-clause-none c =
     let inside : c.args.page < length c.self.inside.pages.items = omega arith in
     let found = slice_get_read c.self.inside.pages.items (length c.self.inside.pages.items) c.args.page c.in_ok-page.page.now refl inside c.in_ok-page.ensures.value in
     let done = c.in_err-lsn.ensures.none in
-    rw (c.from_residual-in_err-lsn.ensures, ← c.self.view_is)
-      (nothing_waits c.self.inside.pages.items c.args.page c.in_ok-page.page.now found done.0,
-       ap (λ (w : Warm). slice_set c.self.inside.pages.items c.args.page w) done.1 ∙ set_same c.self.inside.pages.items c.args.page c.in_ok-page.page.now found)
+    rw (c.from_residual-in_err-lsn.ensures, ← c.self.view_is) (
+      nothing_waits c.self.inside.pages.items c.args.page c.in_ok-page.page.now found done.0,
+      ap (λ (w : Warm). slice_set c.self.inside.pages.items c.args.page w) done.1 ∙ set_same c.self.inside.pages.items c.args.page c.in_ok-page.page.now found,
+    )
 
 pub returns-clause-some : goal.returns-clause-some
 returns-clause-some c =
