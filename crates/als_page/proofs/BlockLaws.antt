@@ -1,12 +1,12 @@
 -- Laws of a page's block.
-use Rattle.std.proofs.Common.{◌≡◌, ℕ, zero, suc, ◌+◌, ◌<◌, ◌≤◌, ◌^◌, Bool, true, false, ◌&&◌, ◌||◌, IsTrue, List, [], ◌∷◌, ◌++◌, length, take, drop, replicate, Option, None, Some, is_none, nat_le, ◌==◌, refl, ap, ap₂, sym, ◌∙◌, subst, arith, inl, inr, append_assoc, take-append-drop, eqb-true, eq-eqb, ne_eqb, le-leb}
-use Rattle.std.proofs.lemmas.Bool.{cond-true, cond-false, or_cases, and_parts, leb-true, cases_lt}
+use Rattle.std.proofs.Common.{◌≡◌, ℕ, zero, suc, ◌<◌, ◌≤◌, ◌^◌, true, ◌&&◌, IsTrue, List, [], ◌∷◌, ◌++◌, length, take, drop, replicate, None, Some, is_none, nat_le, ◌==◌, refl, ap, ap₂, sym, ◌∙◌, arith, inl, inr, eqb-true, ne_eqb}
+use Rattle.std.proofs.lemmas.Bool.{cond-false, or_cases, and_parts, leb-true, cases_lt}
 use Rattle.std.proofs.lemmas.List.{take_at, drop_at}
-use Rattle.std.specs.List.{flat_map, list_all, AllByRecursion}
-use Rattle.std.specs.Int.{w32, w64, to_be_bytes}
+use Rattle.std.specs.List.{flat_map, list_all}
+use Rattle.std.specs.Int.{w32, to_be_bytes}
 use Rattle.byteorder.specs.Endian.{big_number}
 use Rattle.byteorder.specs.Numbers.{big_number-reads_back}
-use Rattle.als_record.specs.Spelling.{Image, IsImage}
+use Rattle.als_record.specs.Spelling.{Image}
 use Rattle.als_record.specs.Pages.{PageState, empty_page, IsPageState}
 use Rattle.als_page.specs.Block.{slot_bytes, head_bytes, block_of, is_page_lsn}
 
@@ -32,7 +32,7 @@ big_number-head_bytes lsn id rest fits = big_number-reads_back 8 lsn (to_be_byte
 pub big_number-block_of : (id : ℕ) (page : PageState) → IsPageState page → big_number 8 (block_of id page) ≡ page.lsn
 big_number-block_of id page h =
     elim (cases_lt page.lsn 16) [
-        inl below ↦
+      | inl below ↦
           let empty : page ≡ empty_page = h.nothing below in
           ap (λ p. big_number 8 (block_of id p)) empty ∙ ap (big_number 8) (block_of-empty id) ∙ sym (ap (λ (p : PageState). p.lsn) empty)
       | inr above ↦
@@ -55,9 +55,10 @@ pub block_of-above : (id lsn : ℕ) (block : List ℕ) (page : PageState) → Is
 block_of-above id lsn block page h is read above =
     let same : lsn ≡ page.lsn = block_of-lsn id lsn block page h is read in
     let slots = flat_map slot_bytes page.slots in
-    let whole : block ≡ head_bytes page.lsn id ++ slots = is ∙ block_of-written id page (λ none. omega (arith, same, above, none)) in
-    (ap (take 32) whole ∙ take_at (head_bytes page.lsn id) slots 32 (length-head_bytes page.lsn id) ∙ sym (ap (λ n. head_bytes n id) same),
-     ap (drop 32) whole ∙ drop_at (head_bytes page.lsn id) slots 32 (length-head_bytes page.lsn id))
+    let whole : block ≡ head_bytes page.lsn id ++ slots = is ∙ block_of-written id page (λ none. omega (arith, same, above, none)) in (
+      ap (take 32) whole ∙ take_at (head_bytes page.lsn id) slots 32 (length-head_bytes page.lsn id) ∙ sym (ap (λ n. head_bytes n id) same),
+      ap (drop 32) whole ∙ drop_at (head_bytes page.lsn id) slots 32 (length-head_bytes page.lsn id),
+    )
 
 -- a head and slots are a block
 pub block_of-parts : (id lsn : ℕ) (slots : List Image) (head rest : List ℕ) → 16 ≤ lsn → head ≡ head_bytes lsn id → rest ≡ flat_map slot_bytes slots
@@ -77,7 +78,7 @@ pub is_page_lsn-below : (lsn : ℕ) (slots : List Image) → IsTrue (is_page_lsn
     → ◌≡◌ {A = PageState} (record { lsn = lsn; slots = slots }) empty_page
 is_page_lsn-below lsn slots h len below =
     elim (or_cases (nat_le 16 lsn) ((lsn == 0) && list_all is_none slots) h) [
-        inl above ↦ absurd (omega (arith, leb-true 16 lsn above))
+      | inl above ↦ absurd (omega (arith, leb-true 16 lsn above))
       | inr both ↦
           let (zero', none) = and_parts (lsn == 0) (list_all is_none slots) both in
           let make : ℕ → List Image → PageState = λ n xs. record { lsn = n; slots = xs } in
@@ -92,6 +93,6 @@ is_page_lsn-zero lsn slots h len is = let below : lsn < 16 = omega arith in is_p
 pub is_page_lsn-above : (lsn : ℕ) (slots : List Image) → IsTrue (is_page_lsn lsn slots) → (lsn ≡ 0 → ⊥) → 16 ≤ lsn
 is_page_lsn-above lsn slots h some' =
     elim (or_cases (nat_le 16 lsn) ((lsn == 0) && list_all is_none slots) h) [
-        inl above ↦ leb-true 16 lsn above
+      | inl above ↦ leb-true 16 lsn above
       | inr both ↦ let (zero', none) = and_parts (lsn == 0) (list_all is_none slots) both in absurd (some' (eqb-true lsn 0 zero'))
     ]

@@ -1,5 +1,5 @@
 -- Laws of a slot's bytes.
-use Rattle.std.proofs.Common.{◌≡◌, ℕ, zero, suc, ◌+◌, ◌-◌, ◌<◌, ◌≤◌, List, [], ◌∷◌, ◌++◌, length, replicate, get_or, take, drop, slice_range, Option, Some, None, refl, ap, sym, ◌∙◌, subst, arith, length-append}
+use Rattle.std.proofs.Common.{◌≡◌, ℕ, suc, ◌+◌, ◌-◌, ◌<◌, ◌≤◌, List, [], ◌∷◌, ◌++◌, length, replicate, get_or, take, slice_range, Option, Some, None, refl, ap, sym, ◌∙◌, subst, arith, length-append}
 use Rattle.std.proofs.lemmas.List.{take_at, length-replicate}
 use Rattle.std.specs.List.{AllByRecursion}
 use Rattle.arrayvec.specs.ArrayVec.{ArrayVec}
@@ -27,8 +27,8 @@ slot_bytes-present bytes n found None is first lt items = absurd (omega (arith, 
 slot_bytes-present bytes n found (Some value) is first lt items =
     let len : n - 1 ≡ length value.items = omega (arith, first, ap (λ xs. get_or xs 0 0) is) in
     let same : found.items ≡ value.items = items ∙ ap (λ xs. slice_range xs 1 n) is
-          ∙ ap (λ k. take k (value.items ++ replicate (31 - length value.items) 0)) len
-          ∙ take_at value.items (replicate (31 - length value.items) 0) (length value.items) refl in
+    ∙ ap (λ k. take k (value.items ++ replicate (31 - length value.items) 0)) len
+    ∙ take_at value.items (replicate (31 - length value.items) 0) (length value.items) refl in
     let back : List ℕ → Option (ArrayVec ℕ) = λ xs. Some (record { items = xs }) in
     ap back same
 

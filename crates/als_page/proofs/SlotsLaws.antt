@@ -1,5 +1,5 @@
 -- Laws of slots, one after another.
-use Rattle.std.proofs.Common.{◌≡◌, ℕ, zero, suc, ◌+◌, ◌-◌, ◌*◌, ◌<◌, ◌≤◌, List, [], ◌∷◌, ◌++◌, length, get_or, take, drop, None, refl, ap, ap₂, sym, ◌∙◌, subst, arith, append-nil, length-append, slice_set}
+use Rattle.std.proofs.Common.{◌≡◌, ℕ, zero, suc, ◌+◌, ◌*◌, ◌<◌, ◌≤◌, List, [], ◌∷◌, ◌++◌, length, get_or, take, drop, None, refl, ap, ap₂, sym, ◌∙◌, subst, arith, append-nil, length-append, slice_set}
 use Rattle.std.proofs.lemmas.List.{take_more, take_more_set, take_at, drop_at, ext_get_or, drop-drop, take_all}
 use Rattle.std.proofs.Math.Seq.{take-add}
 use Rattle.std.proofs.lemmas.List.Concat.{flat_map-append}
@@ -46,20 +46,22 @@ slot-at (x ∷ xs) zero lt h = (take_at (slot_bytes x) (flat_map slot_bytes xs) 
 slot-at (x ∷ xs) (suc i) lt h =
     let below : i < length xs = omega arith in
     let place : 32 * suc i ≡ 32 + 32 * i = omega arith in
-    let rest = slot-at xs i below h.1 in
-    (ap (λ n. take 32 (drop n (slot_bytes x ++ flat_map slot_bytes xs))) place
-      ∙ ap (take 32) (sym (drop-drop (32 * i) 32 (slot_bytes x ++ flat_map slot_bytes xs))
-        ∙ ap (drop (32 * i)) (drop_at (slot_bytes x) (flat_map slot_bytes xs) 32 (length-slot_bytes x h.0)))
-      ∙ rest.0, rest.1)
+    let rest = slot-at xs i below h.1 in (
+      ap (λ n. take 32 (drop n (slot_bytes x ++ flat_map slot_bytes xs))) place
+          ∙ ap (take 32) (sym (drop-drop (32 * i) 32 (slot_bytes x ++ flat_map slot_bytes xs))
+          ∙ ap (drop (32 * i)) (drop_at (slot_bytes x) (flat_map slot_bytes xs) 32 (length-slot_bytes x h.0)))
+          ∙ rest.0,
+      rest.1,
+    )
 
 -- no two lists of images have one spelling
 pub flat-injective : (xs ys : List Image) → length xs ≡ length ys → AllByRecursion IsImage xs → AllByRecursion IsImage ys
     → flat_map slot_bytes xs ≡ flat_map slot_bytes ys → xs ≡ ys
 flat-injective xs ys len hx hy same =
     ext_get_or None xs ys len (λ i lt.
-      let lt' : i < length ys = omega arith in
-      slot_bytes-injective (get_or xs i None) (get_or ys i None)
-        (sym (slot-at xs i lt hx).0 ∙ ap (λ bytes. take 32 (drop (32 * i) bytes)) same ∙ (slot-at ys i lt' hy).0))
+    let lt' : i < length ys = omega arith in
+    slot_bytes-injective (get_or xs i None) (get_or ys i None)
+    (sym (slot-at xs i lt hx).0 ∙ ap (λ bytes. take 32 (drop (32 * i) bytes)) same ∙ (slot-at ys i lt' hy).0))
 
 -- one more slot is read behind those read
 pub read-more : (images : List Image) (i n : ℕ) (image : Image) (bytes : List ℕ) → i < length images → n ≡ 32 → take n (drop (32 * i) bytes) ≡ slot_bytes image

@@ -1,5 +1,5 @@
 -- The block of a page: 512 bytes, of which 32 are a head and 32 stand for each slot. Numbers are big-endian.
-use Rattle.std.specs.Prelude.{ℕ, ◌+◌, ◌-◌, Bool, ◌||◌, ◌&&◌, List, [], ◌∷◌, ◌++◌, length, None, Some, is_none, nat_le, ◌==◌, if◌then◌else◌, replicate}
+use Rattle.std.specs.Prelude.{ℕ, ◌+◌, ◌-◌, Bool, ◌||◌, ◌&&◌, List, ◌∷◌, ◌++◌, length, None, Some, is_none, nat_le, ◌==◌, if◌then◌else◌, replicate}
 use Rattle.std.specs.List.{flat_map, list_all}
 use Rattle.std.specs.Int.{w32, w64, to_be_bytes}
 use Rattle.als_record.specs.Spelling.{Image}

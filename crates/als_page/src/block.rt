@@ -8,6 +8,7 @@ use als_record::{Image, Lsn};
 
 /// How many bytes a block has, and how many stand before its slots.
 pub const BLOCK: usize = 512;
+
 pub const HEAD: usize = 32;
 
 /// How many slots a page has.

@@ -12,3 +12,6 @@ mod block;
 
 pub use fault::Fault;
 pub use page::Page;
+
+#[cfg(test)]
+mod tests;

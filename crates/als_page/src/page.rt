@@ -1,7 +1,9 @@
 ghost use Rattle.std.specs.Prelude.{◌≡◌, ◌<◌, ◌≤◌, List, ◌∷◌, length, Some, slice_get, IsTrue, IfOk, IfErr, IsOkAnd};
 ghost use Rattle.als_page.specs.Block.{is_page_lsn};
 
-use crate::block::{BLOCK, HEAD, SLOTS, is_head, is_zero, no_images, read_slots, write_head, write_slots};
+use crate::block::{
+    BLOCK, HEAD, SLOTS, is_head, is_zero, no_images, read_slots, write_head, write_slots,
+};
 use crate::fault::Fault;
 use crate::slot::copy_of;
 use als_record::{Change, Image, Lsn};

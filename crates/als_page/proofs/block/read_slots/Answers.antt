@@ -1,8 +1,5 @@
-use Rattle.std.proofs.Common.{◌≡◌, ◌*◌, ◌+◌, ◌-◌, ◌<◌, ◌≤◌, List, length, take, get_or, Option, Some, None, sym, ◌∙◌, ap, subst, arith, length-set, refl}
-use Rattle.std.proofs.lemmas.List.{take_all}
-use Rattle.std.specs.List.{flat_map, AllByRecursion}
-use Rattle.als_record.specs.Spelling.{Image, IsImage}
-use Rattle.als_page.specs.Block.{slot_bytes}
+use Rattle.std.proofs.Common.{◌≡◌, ◌*◌, ◌+◌, ◌-◌, ◌<◌, ◌≤◌, List, length, get_or, Option, Some, None, sym, ◌∙◌, ap, arith, length-set}
+use Rattle.als_record.specs.Spelling.{Image}
 use Rattle.als_page.proofs.SlotsLaws.{read-more, fits-set, slot-of_bytes, flat-injective, flat-whole, fits-whole}
 use Rattle.als_page.proofs.block.read_slots.Goals as goal
 
@@ -26,7 +23,7 @@ loop-i-preserved c =
     record {
       len = length-set c.loop-i.images i c.in_ok-images.field-0 ∙ c.loop-i.invariant.len;
       found = read-more c.loop-i.images i n c.in_ok-images.field-0 c.args.bytes.now lt size read.found.0 c.loop-i.invariant.found;
-      fits = fits-set c.loop-i.images i c.in_ok-images.field-0 lt c.loop-i.invariant.fits read.found.1
+      fits = fits-set c.loop-i.images i c.in_ok-images.field-0 lt c.loop-i.invariant.fits read.found.1;
     }
 
 pub returns-clause-found : goal.returns-clause-found
@@ -41,4 +38,4 @@ returns-clause-only c images count fit is =
     let bytes' : length c.args.bytes.now ≤ 32 * c.loop-i.i = omega arith in
     let to_found : List Image → Option (List Image) = λ xs. Some xs in
     ap to_found (flat-injective c.loop-i.images images (c.loop-i.invariant.len ∙ sym count) (fits-whole c.loop-i.images c.loop-i.i images' c.loop-i.invariant.fits) fit
-      (sym (flat-whole c.loop-i.images c.loop-i.i c.args.bytes.now images' bytes' c.loop-i.invariant.found) ∙ is))
+    (sym (flat-whole c.loop-i.images c.loop-i.i c.args.bytes.now images' bytes' c.loop-i.invariant.found) ∙ is))

@@ -9,5 +9,5 @@ abbrev pub invariant-loop-i : goal.invariant-loop-i
 invariant-loop-i l = record {
   len : length l.images ≡ 15;
   found : take (32 * l.i) l.bytes ≡ flat_map slot_bytes (take l.i l.images);
-  fits : AllByRecursion IsImage (take l.i l.images)
+  fits : AllByRecursion IsImage (take l.i l.images);
 }

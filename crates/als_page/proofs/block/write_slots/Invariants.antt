@@ -8,5 +8,5 @@ use Rattle.als_page.proofs.block.write_slots.Given as goal
 abbrev pub invariant-loop-i : goal.invariant-loop-i
 invariant-loop-i l = record {
   written : take (32 * l.i) l.into ≡ flat_map slot_bytes (take l.i l.images);
-  fits : AllByRecursion IsImage (take l.i l.images)
+  fits : AllByRecursion IsImage (take l.i l.images);
 }

@@ -1,4 +1,4 @@
-use Rattle.std.proofs.Common.{◌≡◌, ℕ, ◌∙◌, ap, replicate}
+use Rattle.std.proofs.Common.{ℕ, ◌∙◌, ap, replicate}
 use Rattle.als_page.proofs.SlotLaws.{IsImage-of_bytes, slot_bytes-of_bytes, slot_bytes-none}
 use Rattle.als_page.proofs.slot.write_slot.Goals as goal
 

@@ -5,5 +5,5 @@ use Rattle.als_page.proofs.page.Page.copied.Given as goal
 abbrev pub invariant-loop-i : goal.invariant-loop-i
 invariant-loop-i l = record {
   len : length l.slots ≡ 15;
-  same : take l.i l.slots ≡ take l.i l.self.slots
+  same : take l.i l.slots ≡ take l.i l.self.slots;
 }

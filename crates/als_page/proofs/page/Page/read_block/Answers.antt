@@ -1,19 +1,19 @@
-use Rattle.std.proofs.Common.{◌≡◌, ℕ, ◌<◌, ◌≤◌, ◌^◌, ◌++◌, List, length, take, drop, Option, Some, None, refl, sym, ◌∙◌, ap, ap₂, subst, arith, take-append-drop}
+use Rattle.std.proofs.Common.{◌≡◌, ℕ, List, take, drop, Some, None, refl, sym, ◌∙◌, ap, ap₂, subst, arith, take-append-drop}
 use Rattle.std.proofs.lemmas.Bool.{both_ways}
 use Rattle.std.specs.List.{flat_map}
 use Rattle.als_record.specs.Spelling.{Image}
-use Rattle.als_record.specs.Pages.{PageState, IsPageState, empty_page}
+use Rattle.als_record.specs.Pages.{PageState, IsPageState}
 use Rattle.als_record.proofs.PageLaws.{IsPageState-empty}
 use Rattle.als_page.specs.Block.{slot_bytes, block_of, head_bytes}
-use Rattle.als_page.specs.Page.{state_of}
 use Rattle.als_page.proofs.BlockLaws.{block_of-empty, block_of-parts, block_of-lsn, block_of-below, block_of-above}
 use Rattle.als_page.proofs.page.Page.read_block.Goals as goal
 
 pub returns-then-is_zero-clause-found : goal.returns-then-is_zero-clause-found
-returns-then-is_zero-clause-found c =
-    (c.empty.ensures.number,
-     c.is_zero.ensures.0 c.if-is_zero.true ∙ sym (ap (block_of c.args.id) c.empty.ensures.state ∙ block_of-empty c.args.id),
-     subst IsPageState (sym c.empty.ensures.state) IsPageState-empty)
+returns-then-is_zero-clause-found c = (
+  c.empty.ensures.number,
+  c.is_zero.ensures.0 c.if-is_zero.true ∙ sym (ap (block_of c.args.id) c.empty.ensures.state ∙ block_of-empty c.args.id),
+  subst IsPageState (sym c.empty.ensures.state) IsPageState-empty,
+)
 
 pub returns-then-is_zero-clause-only : goal.returns-then-is_zero-clause-only
 returns-then-is_zero-clause-only c page h is =
@@ -34,10 +34,11 @@ pub returns-in-Some-clause-found : goal.returns-in-Some-clause-found
 returns-in-Some-clause-found c =
     let lsn = c.read_u64.result in
     let head : take 32 c.args.block.now ≡ head_bytes lsn c.args.id = sym c.split_at.ensures.front ∙ c.is_head.ensures.0 c.if-not-is_head.false in
-    let slots : drop 32 c.args.block.now ≡ flat_map slot_bytes c.in-Some.slots = sym c.split_at.ensures.back ∙ c.in-Some.ensures.found.0 in
-    (refl,
-     sym (take-append-drop 32 c.args.block.now) ∙ block_of-parts c.args.id lsn c.in-Some.slots (take 32 c.args.block.now) (drop 32 c.args.block.now) c.if-lsn-lt16.false head slots,
-     record { width = omega arith; count = c.in-Some.ensures.found.1; images = c.in-Some.ensures.found.2; nothing = λ below. absurd (omega (arith, below, c.if-lsn-lt16.false)) })
+    let slots : drop 32 c.args.block.now ≡ flat_map slot_bytes c.in-Some.slots = sym c.split_at.ensures.back ∙ c.in-Some.ensures.found.0 in (
+      refl,
+      sym (take-append-drop 32 c.args.block.now) ∙ block_of-parts c.args.id lsn c.in-Some.slots (take 32 c.args.block.now) (drop 32 c.args.block.now) c.if-lsn-lt16.false head slots,
+      record { width = omega arith; count = c.in-Some.ensures.found.1; images = c.in-Some.ensures.found.2; nothing = λ below. absurd (omega (arith, below, c.if-lsn-lt16.false)) },
+    )
 
 pub returns-in-Some-clause-only : goal.returns-in-Some-clause-only
 returns-in-Some-clause-only c page h is =

@@ -1,9 +1,8 @@
-use Rattle.std.proofs.Common.{◌≡◌, sym, ◌∙◌, ap}
+use Rattle.std.proofs.Common.{sym, ◌∙◌, ap}
 use Rattle.als_record.specs.Spelling.{Image}
 use Rattle.als_record.specs.Pages.{PageState, redone}
 use Rattle.als_record.proofs.PageLaws.{changes_above-cons}
 use Rattle.std.proofs.Common.{slice_set}
-use Rattle.als_page.specs.Page.{state_of}
 use Rattle.als_page.proofs.page.Page.redo.Goals as goal
 
 pub returns-clause-history : goal.returns-clause-history

@@ -1,8 +1,7 @@
 use Rattle.std.proofs.Common.{◌≡◌, ℕ, length, replicate, sym, ◌∙◌, ap, subst, arith}
-use Rattle.als_record.specs.Pages.{PageState, IsPageState, empty_page}
+use Rattle.als_record.specs.Pages.{IsPageState}
 use Rattle.als_record.proofs.PageLaws.{IsPageState-empty}
 use Rattle.als_page.specs.Block.{block_of}
-use Rattle.als_page.specs.Page.{state_of}
 use Rattle.als_page.proofs.BlockLaws.{block_of-empty, block_of-parts, is_page_lsn-zero, is_page_lsn-above}
 use Rattle.als_page.proofs.page.Page.write_block.Goals as goal
 
@@ -24,4 +23,4 @@ pub returns-clause-written : goal.returns-clause-written
 returns-clause-written c =
     let page = c.args.self.now in
     block_of-parts page.id page.lsn.0 page.slots c.write_head.new.into c.write_slots.new.into (is_page_lsn-above page.lsn.0 page.slots page.written c.if-self-eq0.false)
-      c.write_head.ensures c.write_slots.ensures.written
+    c.write_head.ensures c.write_slots.ensures.written
