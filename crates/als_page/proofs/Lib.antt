@@ -1,0 +1,4 @@
+pub mod SlotLaws
+pub mod HeadLaws
+pub mod SlotsLaws
+pub mod BlockLaws

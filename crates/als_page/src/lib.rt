@@ -1,6 +1,17 @@
-//! A page.
+//! Pages: their redo, and the blocks of a device that hold them.
 #![tactic(auto)]
 
+// Why a block is no page.
+mod fault;
+// A slot as bytes.
+mod slot;
+// A page in memory.
 mod page;
+// A page as the bytes of a block.
+mod block;
 
+pub use fault::Fault;
 pub use page::Page;
+
+#[cfg(test)]
+mod tests;

@@ -1,0 +1,81 @@
+use crate::block::BLOCK;
+use crate::{Fault, Page};
+use als_record::{Change, Image, Key, Lsn, Value};
+use std::test::Fail;
+
+// A value of one byte.
+fn one_byte(byte: u8) -> Image {
+    let mut value = Value::new();
+    match value.try_push(byte) {
+        Ok(()) => Some(value),
+        Err(_) => None,
+    }
+}
+
+// The block of page 0 whose slot 0 has the value aa by the record at 16.
+fn block_of_first_update() -> [u8; BLOCK] {
+    let mut block = [0; BLOCK];
+    block[7] = 0x10;
+    block[13] = 1;
+    block[32] = 2;
+    block[33] = 0xaa;
+    block
+}
+
+#[test]
+fn writes_and_reads_a_block(rt: HostRuntime) -> Result<(), Fail> {
+    let mut page = Page::empty(0);
+    page.redo(&Change {
+        lsn: Lsn(16),
+        key: Key { page: 0, slot: 0 },
+        after: one_byte(0xaa),
+    });
+    let mut block = [7; BLOCK];
+    page.write_block(&mut block);
+    assert_eq!(rt; block.as_slice(), block_of_first_update().as_slice());
+    let read = Page::read_block(0, &block)?;
+    assert_eq!(rt; read.id(), 0);
+    assert_eq!(rt; read.lsn(), Lsn(16));
+    assert!(rt; *read.image(0) == one_byte(0xaa));
+    assert!(rt; read.image(14).is_none());
+    assert!(rt; *read.copied().image(0) == one_byte(0xaa));
+    Ok(())
+}
+
+#[test]
+fn an_untouched_page_is_zeros(rt: HostRuntime) -> Result<(), Fail> {
+    let read = Page::read_block(7, &[0; BLOCK])?;
+    assert_eq!(rt; read.id(), 7);
+    assert_eq!(rt; read.lsn(), Lsn(0));
+    assert!(rt; read.image(0).is_none());
+    let mut block = [7; BLOCK];
+    read.write_block(&mut block);
+    assert_eq!(rt; block.as_slice(), [0; BLOCK].as_slice());
+    Ok(())
+}
+
+#[test]
+fn refuses_what_is_no_block(rt: HostRuntime) {
+    // page_LSN below 16; another number; another version; a zero of the head; a first byte above 32; a zero of an
+    // absent slot; a zero behind a value; a zero of a block whose page_LSN is 0
+    for (at, byte) in [
+        (7, 15),
+        (11, 1),
+        (13, 2),
+        (31, 1),
+        (64, 33),
+        (95, 1),
+        (34, 1),
+        (7, 0),
+    ] {
+        let mut block = block_of_first_update();
+        block[at] = byte;
+        match Page::read_block(0, &block) {
+            Ok(_) => panic!(rt; "taken: {byte} at {at}"),
+            Err(fault) => assert_eq!(rt; fault, Fault::BadPage { page: 0 }),
+        }
+    }
+    let fault = Fault::BadPage { page: 9 };
+    assert_eq!(rt; fault.number(), 33);
+    assert_eq!(rt; fault.name(), "BadPage");
+}
