@@ -21,7 +21,14 @@ mod fault;
 mod header;
 // Bytes to records.
 mod decoding;
+// What an unended transaction is doing.
+mod transaction_state;
+// A row of the transaction table.
+mod transaction_row;
+// Why a record may not follow a log.
+mod cause;
 
+pub use cause::Cause;
 pub use change::Change;
 pub use decoding::decode;
 pub use fault::Fault;
@@ -32,3 +39,5 @@ pub use lsn::Lsn;
 pub use record::{Body, Record};
 pub use rows::{LoggedPage, LoggedTransaction, PageRows, TransactionRows};
 pub use trans_id::TransId;
+pub use transaction_row::TransactionRow;
+pub use transaction_state::TransactionState;
