@@ -1,1 +1,5 @@
 mod WorkedLogs
+pub mod Records
+pub mod Survivors
+pub mod Numbers
+pub mod Unended
