@@ -3,3 +3,4 @@ pub mod Records
 pub mod Survivors
 pub mod Numbers
 pub mod Unended
+pub mod TableSteps
