@@ -4,3 +4,4 @@ pub mod Survivors
 pub mod Numbers
 pub mod Unended
 pub mod TableSteps
+pub mod TableRows
