@@ -5,3 +5,5 @@ pub mod Numbers
 pub mod Unended
 pub mod TableSteps
 pub mod TableRows
+pub mod Images
+pub mod Validity
