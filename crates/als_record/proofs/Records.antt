@@ -1,11 +1,11 @@
 -- What becomes of a transaction, seen through its records, with one more record in the log: its own, or another's.
-use Rattle.std.proofs.Common.{◌≡◌, ℕ, ◌==◌, Bool, true, false, cond, not, ◌&&◌, ◌||◌, List, [], ◌∷◌, ◌++◌, filter, fold, drop, take, length, reverse, refl, sym, ap, ◌∙◌, append-nil, length-append, add-sub_cancel, arith, ◌-◌}
+use Rattle.std.proofs.Common.{◌≡◌, ℕ, ◌==◌, Bool, true, false, cond, not, ◌&&◌, ◌||◌, List, [], ◌∷◌, ◌++◌, filter, fold, drop, take, length, reverse, inl, inr, ◌⊎◌, refl, sym, ap, ◌∙◌, append-nil, length-append, add-sub_cancel, arith, ◌-◌}
 use Rattle.std.specs.List.{list_any}
 use Rattle.std.proofs.lemmas.List.Elements.{filter-append}
 use Rattle.std.proofs.lemmas.List.Folds.{list_any-append}
 use Rattle.std.proofs.lemmas.List.Sums.{fold_push}
 use Rattle.std.proofs.lemmas.List.{reverse-append, take_at}
-use Rattle.std.proofs.lemmas.Bool.{false≢true, and_parts, not-true}
+use Rattle.std.proofs.lemmas.Bool.{cases_Bool, false≢true, and_parts, not-true}
 use Rattle.als_record.specs.declared.record.Body.{Body}
 use Rattle.als_record.specs.declared.record.Body.TheVariants.{Update, Compensation, Commit, Rollback, End, BeginCheckpoint, EndCheckpoint}
 use Rattle.als_record.specs.declared.record.Record.{Record}
@@ -190,3 +190,21 @@ has_begun-unended log t u = (and_parts (has_begun log t) (not (has_ended log t))
 pub has_ended-unended : (log : List Record) (t : ℕ) → is_unended log t ≡ true → has_ended log t ≡ false
 unfolding is_unended
 has_ended-unended log t u = not-true (has_ended log t) (and_parts (has_begun log t) (not (has_ended log t)) u).1
+
+-- ---- what has happened stays
+
+grows : (log : List Record) (r : Record) (t : ℕ) (f : List Record → ℕ → Bool) (b : Bool) → (is_of t r ≡ true → f (log ++ r ∷ []) t ≡ (f log t || b)) → (is_of t r ≡ false → f (log ++ r ∷ []) t ≡ f log t) → f log t ≡ true → f (log ++ r ∷ []) t ≡ true
+grows log r t f b own other e = elim (cases_Bool (is_of t r)) [
+    inl o ↦ own o ∙ rw e refl
+  | inr o ↦ other o ∙ e ]
+
+pub has_begun-grows : (log : List Record) (r : Record) (t : ℕ) → has_begun log t ≡ true → has_begun (log ++ r ∷ []) t ≡ true
+has_begun-grows log r t e = elim (cases_Bool (is_of t r)) [
+    inl o ↦ has_begun-own log r t o
+  | inr o ↦ has_begun-other log r t o ∙ e ]
+
+pub is_committed-grows : (log : List Record) (r : Record) (t : ℕ) → is_committed log t ≡ true → is_committed (log ++ r ∷ []) t ≡ true
+is_committed-grows log r t = grows log r t is_committed (is_commit r.body) (is_committed-own log r t) (is_committed-other log r t)
+
+pub has_ended-grows : (log : List Record) (r : Record) (t : ℕ) → has_ended log t ≡ true → has_ended (log ++ r ∷ []) t ≡ true
+has_ended-grows log r t = grows log r t has_ended (is_end r.body) (has_ended-own log r t) (has_ended-other log r t)
