@@ -7,3 +7,4 @@ pub mod TableSteps
 pub mod TableRows
 pub mod Images
 pub mod Validity
+pub mod TailSteps
