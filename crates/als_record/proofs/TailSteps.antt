@@ -110,6 +110,28 @@ module _ (b : Body) (c : is_compensation b ≡ true) where
   pub compensation-survivors : (left : List Record) (r : Record) → survivors_after left r b ≡ without_newest r.trans.0 left
   compensation-survivors left r = by_cases (λ b. survivors_after left r b ≡ without_newest r.trans.0 left) (λ _ _ _. refl)
 
+-- ---- the first of the losers' updates
+
+pub losing-is_update : (log : List Record) (u : Record) (us : List Record) → losing log ≡ u ∷ us → is_update u.body ≡ true
+unfolding losing
+losing-is_update log u us e = (subst (AllByRecursion (λ v. is_update v.body ≡ true)) e (kept (all_surviving log) (All-is_update log))).0
+  where
+    kept : (vs : List Record) → AllByRecursion (λ v. is_update v.body ≡ true) vs → AllByRecursion (λ v. is_update v.body ≡ true) (filter (λ v. is_loser log v.trans.0) vs)
+    kept [] a = tt
+    kept (v ∷ rest) a = elim (cases_Bool (is_loser log v.trans.0)) [
+        inl y ↦ rw y (a.0, kept rest a.1)
+      | inr y ↦ rw y (kept rest a.1) ]
+
+pub losing-is_loser : (log : List Record) (u : Record) (us : List Record) → losing log ≡ u ∷ us → is_loser log u.trans.0 ≡ true
+unfolding losing
+losing-is_loser log u us e = (subst (AllByRecursion (λ v. is_loser log v.trans.0 ≡ true)) e (kept (all_surviving log))).0
+  where
+    kept : (vs : List Record) → AllByRecursion (λ v. is_loser log v.trans.0 ≡ true) (filter (λ v. is_loser log v.trans.0) vs)
+    kept [] = tt
+    kept (v ∷ rest) = elim (cases_Bool (is_loser log v.trans.0)) [
+        inl y ↦ rw y (y, kept rest)
+      | inr y ↦ rw y (kept rest) ]
+
 -- ---- a loser's compensation
 
 module _ (log : List Record) (r : Record) (c : is_compensation r.body ≡ true) (l : is_loser log r.trans.0 ≡ true) where
@@ -187,3 +209,138 @@ module _ (log : List Record) (r : Record) (c : is_compensation r.body ≡ true) 
                 ap (is_finished (log ++ r ∷ [])) g ∙ finished_here u rest e q ∙ ap not y ∙ sym (unfinished_before u rest e q) ∙ ap (is_finished log) (sym g)
           | inr w ↦ finished_others x w ]) (unended log) ∙ none)
     | inr y ↦ rw y (filter-one (is_finished (log ++ r ∷ [])) (is_finished log) r.trans.0 finished_others (finished_here u rest e q ∙ ap not y) (unended log) (Apart-unended log) (is_among-unended log r.trans.0 ∙ parts.0) none) ]
+
+-- ---- the end of a finished transaction
+
+module _ (log : List Record) (r : Record) (b : r.body ≡ End) (u : is_unended log r.trans.0 ≡ true) where
+  end_own : is_of r.trans.0 r ≡ true
+  end_own = rw (b, eqb-refl r.trans.0) refl
+
+  end_other : (x : ℕ) → (x == r.trans.0) ≡ false → is_of x r ≡ false
+  end_other x e = rw b (eqb-sym r.trans.0 x ∙ e)
+
+  or-false : (h : Bool) → (h || false) ≡ h
+  or-false true = refl
+  or-false false = refl
+
+  pub end-all_surviving : all_surviving (log ++ r ∷ []) ≡ all_surviving log
+  end-all_surviving = all_surviving-push log r ∙ rw b refl
+
+  pub end-is_committed : (x : ℕ) → is_committed (log ++ r ∷ []) x ≡ is_committed log x
+  end-is_committed x = elim (cases_Bool (x == r.trans.0)) [
+      inl e ↦ let q : x ≡ r.trans.0 = eqb-true x r.trans.0 e in ap (is_committed (log ++ r ∷ [])) q ∙ here ∙ ap (is_committed log) (sym q)
+    | inr e ↦ is_committed-other log r x (end_other x e) ]
+    where
+      here : is_committed (log ++ r ∷ []) r.trans.0 ≡ is_committed log r.trans.0
+      here = is_committed-own log r r.trans.0 end_own ∙ rw b (or-false (is_committed log r.trans.0))
+
+  pub end-to_undo : (x : ℕ) → to_undo (log ++ r ∷ []) x ≡ to_undo log x
+  end-to_undo x = elim (cases_Bool (x == r.trans.0)) [
+      inl e ↦ let q : x ≡ r.trans.0 = eqb-true x r.trans.0 e in ap (to_undo (log ++ r ∷ [])) q ∙ here ∙ ap (to_undo log) (sym q)
+    | inr e ↦ to_undo-other log r x (end_other x e) ]
+    where
+      here : to_undo (log ++ r ∷ []) r.trans.0 ≡ to_undo log r.trans.0
+      here = to_undo-own log r r.trans.0 end_own ∙ rw b refl
+
+  pub end-unended : unended (log ++ r ∷ []) ≡ without r.trans.0 (unended log)
+  end-unended = unended-end log r (rw b refl) (rw b refl) (has_begun-unended log r.trans.0 u)
+
+  end-is_finished : (x : ℕ) → is_finished (log ++ r ∷ []) x ≡ is_finished log x
+  unfolding is_finished
+  end-is_finished x = rw (end-is_committed x, end-to_undo x) refl
+
+  pub end-finished : (rest : List ℕ) → filter (is_finished log) (unended log) ≡ r.trans.0 ∷ rest → filter (is_finished (log ++ r ∷ [])) (unended (log ++ r ∷ [])) ≡ rest
+  end-finished rest e =
+      ap (filter (is_finished (log ++ r ∷ []))) end-unended
+      ∙ filter_agree (is_finished (log ++ r ∷ [])) (is_finished log) end-is_finished (without r.trans.0 (unended log))
+      ∙ without-filter r.trans.0 (is_finished log) (unended log)
+      ∙ ap (without r.trans.0) e
+      ∙ rw (eqb-refl r.trans.0) (without-absent r.trans.0 rest (subst Apart e (Apart-filter (is_finished log) (unended log) (Apart-unended log))).0)
+
+  -- it had nothing to undo, so the losers' updates stay as they are
+  pub end-losing : is_finished log r.trans.0 ≡ true → losing (log ++ r ∷ []) ≡ losing log
+  unfolding losing is_finished is_loser
+  end-losing f = ap (filter (λ u. is_loser (log ++ r ∷ []) u.trans.0)) end-all_surviving ∙ elim (cases_Bool (is_committed log r.trans.0)) [
+      inl c ↦ filter_agree (λ (v : Record). is_loser (log ++ r ∷ []) v.trans.0) (λ v. is_loser log v.trans.0) (λ v. committed c v.trans.0) (all_surviving log)
+    | inr c ↦ filter-absent (λ v. is_loser (log ++ r ∷ []) v.trans.0) (λ v. is_loser log v.trans.0) r.trans.0 (λ v w. is_loser-other log r v.trans.0 (end_other v.trans.0 w)) (all_surviving log)
+        (all_surviving-by r.trans.0 log ∙ nothing (to_undo log r.trans.0) (rw c at f)) ]
+    where
+      nothing : (left : List Record) → not (is_some_left left) ≡ true → left ≡ []
+      nothing [] e = refl
+      nothing (v ∷ rest) e = absurd (false≢true e)
+
+      off : (a : Bool) → (a && not true) ≡ false
+      off true = refl
+      off false = refl
+
+      committed : is_committed log r.trans.0 ≡ true → (x : ℕ) → is_loser (log ++ r ∷ []) x ≡ is_loser log x
+      committed c x = elim (cases_Bool (x == r.trans.0)) [
+          inl e ↦ let q : x ≡ r.trans.0 = eqb-true x r.trans.0 e in
+              rw (q, end-is_committed r.trans.0, c) (off (is_unended (log ++ r ∷ []) r.trans.0) ∙ sym (off (is_unended log r.trans.0)))
+        | inr e ↦ is_loser-other log r x (end_other x e) ]
+
+-- ---- one step
+
+-- what is appended where these are finished and these are to undo
+abbrev left_of : List Record → List TailStep
+left_of log = ends (filter (is_finished log) (unended log)) ++ undoes (losing log)
+
+next_end : (log : List Record) (t : ℕ) (ts : List ℕ) → filter (is_finished log) (unended log) ≡ t ∷ ts → left_of (log ++ record_for log (Ends t) ∷ []) ≡ ends ts ++ undoes (losing log)
+next_end log t ts p = ap (λ xs. ends xs ++ undoes (losing (log ++ r ∷ []))) (end-finished log r refl passes.1 ts p) ∙ ap (λ us. ends ts ++ undoes us) (end-losing log r refl passes.1 passes.0)
+  where
+    r : Record
+    r = record_for log (Ends t)
+
+    passes : (is_finished log t ≡ true) × (is_unended log t ≡ true)
+    passes = and_parts (is_finished log t) (is_unended log t)
+        (ap (λ b. is_finished log t && b) (sym (is_among-unended log t)) ∙ sym (is_among-filter (is_finished log) t (unended log)) ∙ ap (λ xs. is_among xs t) p ∙ rw (eqb-refl t) refl)
+
+next_undo : (log : List Record) (u : Record) (us : List Record) → filter (is_finished log) (unended log) ≡ [] → losing log ≡ u ∷ us → left_of (log ++ record_for log (Undoes u) ∷ []) ≡ cond (list_any (is_by u.trans.0) us) (undoes us) (Ends u.trans.0 ∷ undoes us)
+next_undo log u us p q =
+    ap (λ xs. ends xs ++ undoes (losing (log ++ r ∷ []))) (compensation-finished log r comp loser u us q refl p)
+    ∙ ap (λ vs. ends (cond (list_any (is_by u.trans.0) us) [] (u.trans.0 ∷ [])) ++ undoes vs) (compensation-losing log r comp loser u us q refl)
+    ∙ split (list_any (is_by u.trans.0) us)
+  where
+    r : Record
+    r = record_for log (Undoes u)
+
+    comp : is_compensation r.body ≡ true
+    comp = undone-is_compensation u.prev u.body (losing-is_update log u us q)
+
+    loser : is_loser log u.trans.0 ≡ true
+    loser = losing-is_loser log u us q
+
+    split : (b : Bool) → ends (cond b [] (u.trans.0 ∷ [])) ++ undoes us ≡ cond b (undoes us) (Ends u.trans.0 ∷ undoes us)
+    split true = refl
+    split false = refl
+
+-- what follows the first step of a tail is the tail of the log with that step's record
+pub tail_steps-next : (log : List Record) (step : TailStep) (rest : List TailStep) → tail_steps log ≡ step ∷ rest → tail_steps (log ++ record_for log step ∷ []) ≡ rest
+unfolding tail_steps undoes
+tail_steps-next log step rest e = go (filter (is_finished log) (unended log)) refl (losing log) refl e
+  where
+    go : (ts : List ℕ) → filter (is_finished log) (unended log) ≡ ts → (us : List Record) → losing log ≡ us → ends ts ++ undoes us ≡ step ∷ rest → left_of (log ++ record_for log step ∷ []) ≡ rest
+    go (t ∷ ts) p us q e =
+        let s : step ≡ Ends t = cc e in
+        let m : ends ts ++ undoes us ≡ rest = cc e in
+        ap (λ st. left_of (log ++ record_for log st ∷ [])) s ∙ next_end log t ts p ∙ ap (λ vs. ends ts ++ undoes vs) q ∙ m
+    go [] p (u ∷ us) q e =
+        let s : step ≡ Undoes u = cc e in
+        let m : cond (list_any (is_by u.trans.0) us) (undoes us) (Ends u.trans.0 ∷ undoes us) ≡ rest = cc e in
+        ap (λ st. left_of (log ++ record_for log st ∷ [])) s ∙ next_undo log u us p q ∙ m
+    go [] p [] q e = absurd (cc e)
+
+-- ---- the law of one takeover log
+
+-- after any number of records of the tail, the tail is the rest
+numbered-front : (n : ℕ) (log : List Record) (steps : List TailStep) → tail_steps log ≡ steps → tail_of (log ++ take n (numbered log steps)) ≡ drop n (numbered log steps)
+unfolding numbered tail_of
+numbered-front zero log steps e = ap tail_of (append-nil log) ∙ ap (numbered log) e
+numbered-front (suc n) log [] e = ap tail_of (append-nil log) ∙ ap (numbered log) e
+numbered-front (suc n) log (step ∷ rest) e =
+    ap tail_of (sym (append_assoc log (record_for log step ∷ []) (take n (numbered (log ++ record_for log step ∷ []) rest))))
+    ∙ numbered-front n (log ++ record_for log step ∷ []) rest (tail_steps-next log step rest e)
+
+pub tail_of-front : (log : List Record) (n : ℕ) → tail_of (log ++ take n (tail_of log)) ≡ drop n (tail_of log)
+unfolding tail_of
+tail_of-front log n = numbered-front n log (tail_steps log) refl
