@@ -5,3 +5,13 @@ pub mod BodyLaws
 pub mod RowLaws
 pub mod RecordLaws
 pub mod ReadingLaws
+mod WorkedLogs
+pub mod Records
+pub mod Survivors
+pub mod Numbers
+pub mod Unended
+pub mod TableSteps
+pub mod TableRows
+pub mod Images
+pub mod Validity
+pub mod TailSteps

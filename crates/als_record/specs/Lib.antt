@@ -1,5 +1,12 @@
 pub mod FaultNames
+pub mod CauseNames
 pub mod Spelling
 pub mod Reading
 pub mod LogText
 pub mod Pages
+pub mod Transactions
+pub mod Table
+pub mod Images
+pub mod Validity
+pub mod Tail
+pub mod Commits

@@ -35,7 +35,14 @@ mod row_writing;
 mod encoding;
 // What redo does for a record.
 mod changes;
+// What an unended transaction is doing.
+mod transaction_state;
+// A row of the transaction table.
+mod transaction_row;
+// Why a record may not follow a log.
+mod cause;
 
+pub use cause::Cause;
 pub use change::Change;
 pub use decoding::decode;
 pub use encoding::encode;
@@ -48,3 +55,5 @@ pub use lsn::Lsn;
 pub use record::{Body, Record};
 pub use rows::{LoggedPage, LoggedTransaction, PageRows, TransactionRows};
 pub use trans_id::TransId;
+pub use transaction_row::TransactionRow;
+pub use transaction_state::TransactionState;

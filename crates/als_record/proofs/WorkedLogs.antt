@@ -1,0 +1,261 @@
+-- Worked logs: what the definitions of transactions, tables, causes, tails and commits compute for them.
+use Rattle.std.proofs.Common.{◌≡◌, ℕ, zero, suc, ◌+◌, ◌-◌, ◌*◌, true, List, [], ◌∷◌, Some, None, refl}
+use Rattle.als_record.specs.declared.key.Key.{Key}
+use Rattle.als_record.specs.declared.record.Body.{Body}
+use Rattle.als_record.specs.declared.record.Body.TheVariants.{Update, Compensation, Commit, Rollback, End, BeginCheckpoint, EndCheckpoint}
+use Rattle.als_record.specs.declared.record.Record.{Record}
+use Rattle.als_record.specs.declared.transaction_state.TransactionState.{TransactionState}
+use Rattle.als_record.specs.declared.transaction_state.TransactionState.TheVariants.{Active, Committed}
+use Rattle.als_record.specs.declared.transaction_row.TransactionRow.{TransactionRow}
+use Rattle.als_record.specs.declared.cause.Cause.TheVariants.{BadPrev, OldTransaction, WrongState, WrongUndoNext, WrongCompensation, RecordHeld, BeforeImage, TooManyTransactions, BadCheckpoint}
+use Rattle.als_record.specs.Spelling.{Image, record_len}
+use Rattle.als_record.specs.LogText.{end_of}
+use Rattle.als_record.specs.Transactions.{records_of, to_undo, surviving, has_begun, is_committed, has_rollback, has_ended, is_unended, is_loser, last_lsn, undo_next_of, transactions, unended, losers, greatest_trans, all_surviving}
+use Rattle.als_record.specs.Table.{state_of, row_of, table_of}
+use Rattle.als_record.specs.Images.{image_now, won}
+use Rattle.als_record.specs.Validity.{prev_of, bad_prev, old_transaction, wrong_state, wrong_undo_next, wrong_compensation, held_by, before_image, too_many, open_checkpoint, bad_checkpoint, first_bad, may_follow, may_follow_all, is_valid}
+use Rattle.als_record.specs.Tail.{is_finished, undoes, losing, tail_steps, numbered, tail_of, tail_len}
+use Rattle.als_record.specs.Commits.{writes_of, commits_of}
+
+-- ---- how the logs are written here: a record by its LSN, PrevLSN and TransID
+
+abbrev at : ℕ → ℕ → ℕ → Body → Record
+at lsn prev trans body = record { lsn = record { 0 = lsn }; prev = record { 0 = prev }; trans = record { 0 = trans }; body = body }
+
+abbrev key : ℕ → ℕ → Key
+key page slot = record { page = page; slot = slot }
+
+-- an image of one byte
+abbrev one : ℕ → Image
+one byte = Some (record { items = byte ∷ [] })
+
+abbrev clr : ℕ → ℕ → ℕ → Key → Image → ℕ → Record
+clr lsn prev trans k after next = at lsn prev trans (Compensation (record { 0 = next }) k after)
+
+abbrev row : ℕ → TransactionState → ℕ → ℕ → TransactionRow
+row trans state last undo = record { trans = record { 0 = trans }; state = state; last = record { 0 = last }; undo_next = record { 0 = undo } }
+
+-- ---- a transaction that did not commit
+
+-- an update, and nothing more
+abbrev open_update : List Record
+open_update = (at 16 0 1 (Update (key 0 0) None (one 0xaa))) ∷ []
+
+open_update-valid : is_valid open_update ≡ true
+unfolding record_len end_of records_of to_undo surviving has_begun is_committed has_rollback has_ended is_unended is_loser last_lsn undo_next_of transactions unended losers greatest_trans all_surviving state_of row_of table_of image_now won prev_of bad_prev old_transaction wrong_state wrong_undo_next wrong_compensation held_by before_image too_many open_checkpoint bad_checkpoint first_bad may_follow may_follow_all is_valid is_finished undoes losing tail_steps numbered tail_of tail_len writes_of commits_of
+open_update-valid = refl
+
+open_update-tail : tail_of open_update ≡ ((clr 52 16 1 (key 0 0) None 0) ∷ (at 94 52 1 End) ∷ [])
+unfolding record_len end_of records_of to_undo surviving has_begun is_committed has_rollback has_ended is_unended is_loser last_lsn undo_next_of transactions unended losers greatest_trans all_surviving state_of row_of table_of image_now won prev_of bad_prev old_transaction wrong_state wrong_undo_next wrong_compensation held_by before_image too_many open_checkpoint bad_checkpoint first_bad may_follow may_follow_all is_valid is_finished undoes losing tail_steps numbered tail_of tail_len writes_of commits_of
+open_update-tail = refl
+
+open_update-len : end_of open_update + tail_len open_update ≡ 122
+unfolding record_len end_of records_of to_undo surviving has_begun is_committed has_rollback has_ended is_unended is_loser last_lsn undo_next_of transactions unended losers greatest_trans all_surviving state_of row_of table_of image_now won prev_of bad_prev old_transaction wrong_state wrong_undo_next wrong_compensation held_by before_image too_many open_checkpoint bad_checkpoint first_bad may_follow may_follow_all is_valid is_finished undoes losing tail_steps numbered tail_of tail_len writes_of commits_of
+open_update-len = refl
+
+open_update-won : won open_update (key 0 0) ≡ None
+unfolding record_len end_of records_of to_undo surviving has_begun is_committed has_rollback has_ended is_unended is_loser last_lsn undo_next_of transactions unended losers greatest_trans all_surviving state_of row_of table_of image_now won prev_of bad_prev old_transaction wrong_state wrong_undo_next wrong_compensation held_by before_image too_many open_checkpoint bad_checkpoint first_bad may_follow may_follow_all is_valid is_finished undoes losing tail_steps numbered tail_of tail_len writes_of commits_of
+open_update-won = refl
+
+-- ---- a committed transaction, and one over it that did not commit
+
+-- the second transaction writes over the first one's value
+abbrev overwritten : List Record
+overwritten = (at 16 0 1 (Update (key 0 0) None (one 0xaa))) ∷ (at 52 16 1 Commit) ∷ (at 80 0 2 (Update (key 0 1) None (one 0xbb))) ∷ (at 116 80 2 (Update (key 0 0) (one 0xaa) (one 0xcc))) ∷ []
+
+overwritten-valid : is_valid overwritten ≡ true
+unfolding record_len end_of records_of to_undo surviving has_begun is_committed has_rollback has_ended is_unended is_loser last_lsn undo_next_of transactions unended losers greatest_trans all_surviving state_of row_of table_of image_now won prev_of bad_prev old_transaction wrong_state wrong_undo_next wrong_compensation held_by before_image too_many open_checkpoint bad_checkpoint first_bad may_follow may_follow_all is_valid is_finished undoes losing tail_steps numbered tail_of tail_len writes_of commits_of
+overwritten-valid = refl
+
+overwritten-table : table_of overwritten ≡ (row 1 Committed 52 16 ∷ row 2 Active 116 116 ∷ [])
+unfolding record_len end_of records_of to_undo surviving has_begun is_committed has_rollback has_ended is_unended is_loser last_lsn undo_next_of transactions unended losers greatest_trans all_surviving state_of row_of table_of image_now won prev_of bad_prev old_transaction wrong_state wrong_undo_next wrong_compensation held_by before_image too_many open_checkpoint bad_checkpoint first_bad may_follow may_follow_all is_valid is_finished undoes losing tail_steps numbered tail_of tail_len writes_of commits_of
+overwritten-table = refl
+
+overwritten-tail : tail_of overwritten ≡ ((at 153 52 1 End) ∷ (clr 181 116 2 (key 0 0) (one 0xaa) 80) ∷ (clr 224 181 2 (key 0 1) None 0) ∷ (at 266 224 2 End) ∷ [])
+unfolding record_len end_of records_of to_undo surviving has_begun is_committed has_rollback has_ended is_unended is_loser last_lsn undo_next_of transactions unended losers greatest_trans all_surviving state_of row_of table_of image_now won prev_of bad_prev old_transaction wrong_state wrong_undo_next wrong_compensation held_by before_image too_many open_checkpoint bad_checkpoint first_bad may_follow may_follow_all is_valid is_finished undoes losing tail_steps numbered tail_of tail_len writes_of commits_of
+overwritten-tail = refl
+
+overwritten-len : end_of overwritten + tail_len overwritten ≡ 294
+unfolding record_len end_of records_of to_undo surviving has_begun is_committed has_rollback has_ended is_unended is_loser last_lsn undo_next_of transactions unended losers greatest_trans all_surviving state_of row_of table_of image_now won prev_of bad_prev old_transaction wrong_state wrong_undo_next wrong_compensation held_by before_image too_many open_checkpoint bad_checkpoint first_bad may_follow may_follow_all is_valid is_finished undoes losing tail_steps numbered tail_of tail_len writes_of commits_of
+overwritten-len = refl
+
+overwritten-won : won overwritten (key 0 0) ≡ one 0xaa
+unfolding record_len end_of records_of to_undo surviving has_begun is_committed has_rollback has_ended is_unended is_loser last_lsn undo_next_of transactions unended losers greatest_trans all_surviving state_of row_of table_of image_now won prev_of bad_prev old_transaction wrong_state wrong_undo_next wrong_compensation held_by before_image too_many open_checkpoint bad_checkpoint first_bad may_follow may_follow_all is_valid is_finished undoes losing tail_steps numbered tail_of tail_len writes_of commits_of
+overwritten-won = refl
+
+overwritten-lost : won overwritten (key 0 1) ≡ None
+unfolding record_len end_of records_of to_undo surviving has_begun is_committed has_rollback has_ended is_unended is_loser last_lsn undo_next_of transactions unended losers greatest_trans all_surviving state_of row_of table_of image_now won prev_of bad_prev old_transaction wrong_state wrong_undo_next wrong_compensation held_by before_image too_many open_checkpoint bad_checkpoint first_bad may_follow may_follow_all is_valid is_finished undoes losing tail_steps numbered tail_of tail_len writes_of commits_of
+overwritten-lost = refl
+
+overwritten-now : image_now overwritten (key 0 0) ≡ one 0xcc
+unfolding record_len end_of records_of to_undo surviving has_begun is_committed has_rollback has_ended is_unended is_loser last_lsn undo_next_of transactions unended losers greatest_trans all_surviving state_of row_of table_of image_now won prev_of bad_prev old_transaction wrong_state wrong_undo_next wrong_compensation held_by before_image too_many open_checkpoint bad_checkpoint first_bad may_follow may_follow_all is_valid is_finished undoes losing tail_steps numbered tail_of tail_len writes_of commits_of
+overwritten-now = refl
+
+overwritten-commits : commits_of overwritten ≡ (record { trans = record { 0 = 1 }; lsn = record { 0 = 52 }; writes = record { key = key 0 0; after = one 0xaa } ∷ [] } ∷ [])
+unfolding record_len end_of records_of to_undo surviving has_begun is_committed has_rollback has_ended is_unended is_loser last_lsn undo_next_of transactions unended losers greatest_trans all_surviving state_of row_of table_of image_now won prev_of bad_prev old_transaction wrong_state wrong_undo_next wrong_compensation held_by before_image too_many open_checkpoint bad_checkpoint first_bad may_follow may_follow_all is_valid is_finished undoes losing tail_steps numbered tail_of tail_len writes_of commits_of
+overwritten-commits = refl
+
+-- ---- a rollback by compensations, and then another transaction at the same key
+
+-- the first transaction has compensated its update, and not ended
+abbrev rolled_back : List Record
+rolled_back = (at 16 0 1 (Update (key 0 0) None (one 0x11))) ∷ (clr 52 16 1 (key 0 0) None 0) ∷ (at 94 0 2 (Update (key 0 0) None (one 0x22))) ∷ (at 130 94 2 Commit) ∷ []
+
+rolled_back-valid : is_valid rolled_back ≡ true
+unfolding record_len end_of records_of to_undo surviving has_begun is_committed has_rollback has_ended is_unended is_loser last_lsn undo_next_of transactions unended losers greatest_trans all_surviving state_of row_of table_of image_now won prev_of bad_prev old_transaction wrong_state wrong_undo_next wrong_compensation held_by before_image too_many open_checkpoint bad_checkpoint first_bad may_follow may_follow_all is_valid is_finished undoes losing tail_steps numbered tail_of tail_len writes_of commits_of
+rolled_back-valid = refl
+
+rolled_back-tail : tail_of rolled_back ≡ ((at 158 52 1 End) ∷ (at 186 130 2 End) ∷ [])
+unfolding record_len end_of records_of to_undo surviving has_begun is_committed has_rollback has_ended is_unended is_loser last_lsn undo_next_of transactions unended losers greatest_trans all_surviving state_of row_of table_of image_now won prev_of bad_prev old_transaction wrong_state wrong_undo_next wrong_compensation held_by before_image too_many open_checkpoint bad_checkpoint first_bad may_follow may_follow_all is_valid is_finished undoes losing tail_steps numbered tail_of tail_len writes_of commits_of
+rolled_back-tail = refl
+
+rolled_back-len : end_of rolled_back + tail_len rolled_back ≡ 214
+unfolding record_len end_of records_of to_undo surviving has_begun is_committed has_rollback has_ended is_unended is_loser last_lsn undo_next_of transactions unended losers greatest_trans all_surviving state_of row_of table_of image_now won prev_of bad_prev old_transaction wrong_state wrong_undo_next wrong_compensation held_by before_image too_many open_checkpoint bad_checkpoint first_bad may_follow may_follow_all is_valid is_finished undoes losing tail_steps numbered tail_of tail_len writes_of commits_of
+rolled_back-len = refl
+
+rolled_back-won : won rolled_back (key 0 0) ≡ one 0x22
+unfolding record_len end_of records_of to_undo surviving has_begun is_committed has_rollback has_ended is_unended is_loser last_lsn undo_next_of transactions unended losers greatest_trans all_surviving state_of row_of table_of image_now won prev_of bad_prev old_transaction wrong_state wrong_undo_next wrong_compensation held_by before_image too_many open_checkpoint bad_checkpoint first_bad may_follow may_follow_all is_valid is_finished undoes losing tail_steps numbered tail_of tail_len writes_of commits_of
+rolled_back-won = refl
+
+-- ---- a rollback to a savepoint
+
+-- the second update is compensated, and the transaction goes on
+abbrev savepoint : List Record
+savepoint = (at 16 0 1 (Update (key 0 0) None (one 0x11))) ∷ (at 52 16 1 (Update (key 0 1) None (one 0x22))) ∷ (clr 88 52 1 (key 0 1) None 16) ∷ (at 130 88 1 (Update (key 0 2) None (one 0x33))) ∷ []
+
+savepoint-valid : is_valid savepoint ≡ true
+unfolding record_len end_of records_of to_undo surviving has_begun is_committed has_rollback has_ended is_unended is_loser last_lsn undo_next_of transactions unended losers greatest_trans all_surviving state_of row_of table_of image_now won prev_of bad_prev old_transaction wrong_state wrong_undo_next wrong_compensation held_by before_image too_many open_checkpoint bad_checkpoint first_bad may_follow may_follow_all is_valid is_finished undoes losing tail_steps numbered tail_of tail_len writes_of commits_of
+savepoint-valid = refl
+
+savepoint-table : table_of savepoint ≡ (row 1 Active 130 130 ∷ [])
+unfolding record_len end_of records_of to_undo surviving has_begun is_committed has_rollback has_ended is_unended is_loser last_lsn undo_next_of transactions unended losers greatest_trans all_surviving state_of row_of table_of image_now won prev_of bad_prev old_transaction wrong_state wrong_undo_next wrong_compensation held_by before_image too_many open_checkpoint bad_checkpoint first_bad may_follow may_follow_all is_valid is_finished undoes losing tail_steps numbered tail_of tail_len writes_of commits_of
+savepoint-table = refl
+
+savepoint-tail : tail_of savepoint ≡ ((clr 166 130 1 (key 0 2) None 88) ∷ (clr 208 166 1 (key 0 0) None 0) ∷ (at 250 208 1 End) ∷ [])
+unfolding record_len end_of records_of to_undo surviving has_begun is_committed has_rollback has_ended is_unended is_loser last_lsn undo_next_of transactions unended losers greatest_trans all_surviving state_of row_of table_of image_now won prev_of bad_prev old_transaction wrong_state wrong_undo_next wrong_compensation held_by before_image too_many open_checkpoint bad_checkpoint first_bad may_follow may_follow_all is_valid is_finished undoes losing tail_steps numbered tail_of tail_len writes_of commits_of
+savepoint-tail = refl
+
+savepoint-len : end_of savepoint + tail_len savepoint ≡ 278
+unfolding record_len end_of records_of to_undo surviving has_begun is_committed has_rollback has_ended is_unended is_loser last_lsn undo_next_of transactions unended losers greatest_trans all_surviving state_of row_of table_of image_now won prev_of bad_prev old_transaction wrong_state wrong_undo_next wrong_compensation held_by before_image too_many open_checkpoint bad_checkpoint first_bad may_follow may_follow_all is_valid is_finished undoes losing tail_steps numbered tail_of tail_len writes_of commits_of
+savepoint-len = refl
+
+-- ---- ten savepoints one after another
+
+-- an update, and ten times another one that is compensated
+abbrev savepoints : List Record
+savepoints = (at 16 0 1 (Update (key 0 0) None (one 0x11))) ∷ (at 52 16 1 (Update (key 0 1) None (one 0x22))) ∷ (clr 88 52 1 (key 0 1) None 16) ∷ (at 130 88 1 (Update (key 0 1) None (one 0x22))) ∷ (clr 166 130 1 (key 0 1) None 88) ∷ (at 208 166 1 (Update (key 0 1) None (one 0x22))) ∷ (clr 244 208 1 (key 0 1) None 166) ∷ (at 286 244 1 (Update (key 0 1) None (one 0x22))) ∷ (clr 322 286 1 (key 0 1) None 244) ∷ (at 364 322 1 (Update (key 0 1) None (one 0x22))) ∷ (clr 400 364 1 (key 0 1) None 322) ∷ (at 442 400 1 (Update (key 0 1) None (one 0x22))) ∷ (clr 478 442 1 (key 0 1) None 400) ∷ (at 520 478 1 (Update (key 0 1) None (one 0x22))) ∷ (clr 556 520 1 (key 0 1) None 478) ∷ (at 598 556 1 (Update (key 0 1) None (one 0x22))) ∷ (clr 634 598 1 (key 0 1) None 556) ∷ (at 676 634 1 (Update (key 0 1) None (one 0x22))) ∷ (clr 712 676 1 (key 0 1) None 634) ∷ (at 754 712 1 (Update (key 0 1) None (one 0x22))) ∷ (clr 790 754 1 (key 0 1) None 712) ∷ []
+
+savepoints-valid : is_valid savepoints ≡ true
+unfolding record_len end_of records_of to_undo surviving has_begun is_committed has_rollback has_ended is_unended is_loser last_lsn undo_next_of transactions unended losers greatest_trans all_surviving state_of row_of table_of image_now won prev_of bad_prev old_transaction wrong_state wrong_undo_next wrong_compensation held_by before_image too_many open_checkpoint bad_checkpoint first_bad may_follow may_follow_all is_valid is_finished undoes losing tail_steps numbered tail_of tail_len writes_of commits_of
+savepoints-valid = refl
+
+savepoints-end : end_of savepoints ≡ 832
+unfolding record_len end_of records_of to_undo surviving has_begun is_committed has_rollback has_ended is_unended is_loser last_lsn undo_next_of transactions unended losers greatest_trans all_surviving state_of row_of table_of image_now won prev_of bad_prev old_transaction wrong_state wrong_undo_next wrong_compensation held_by before_image too_many open_checkpoint bad_checkpoint first_bad may_follow may_follow_all is_valid is_finished undoes losing tail_steps numbered tail_of tail_len writes_of commits_of
+savepoints-end = refl
+
+savepoints-table : table_of savepoints ≡ (row 1 Active 790 712 ∷ [])
+unfolding record_len end_of records_of to_undo surviving has_begun is_committed has_rollback has_ended is_unended is_loser last_lsn undo_next_of transactions unended losers greatest_trans all_surviving state_of row_of table_of image_now won prev_of bad_prev old_transaction wrong_state wrong_undo_next wrong_compensation held_by before_image too_many open_checkpoint bad_checkpoint first_bad may_follow may_follow_all is_valid is_finished undoes losing tail_steps numbered tail_of tail_len writes_of commits_of
+savepoints-table = refl
+
+savepoints-tail : tail_of savepoints ≡ ((clr 832 790 1 (key 0 0) None 0) ∷ (at 874 832 1 End) ∷ [])
+unfolding record_len end_of records_of to_undo surviving has_begun is_committed has_rollback has_ended is_unended is_loser last_lsn undo_next_of transactions unended losers greatest_trans all_surviving state_of row_of table_of image_now won prev_of bad_prev old_transaction wrong_state wrong_undo_next wrong_compensation held_by before_image too_many open_checkpoint bad_checkpoint first_bad may_follow may_follow_all is_valid is_finished undoes losing tail_steps numbered tail_of tail_len writes_of commits_of
+savepoints-tail = refl
+
+-- ---- the first cause against a record
+
+-- an update that holds its key
+abbrev held : List Record
+held = (at 16 0 1 (Update (key 0 0) None (one 0x11))) ∷ []
+
+held-by : first_bad held (at 52 0 2 (Update (key 0 0) (one 0x11) (one 0x22))) ≡ Some (RecordHeld (record { 0 = 1 }))
+unfolding record_len end_of records_of to_undo surviving has_begun is_committed has_rollback has_ended is_unended is_loser last_lsn undo_next_of transactions unended losers greatest_trans all_surviving state_of row_of table_of image_now won prev_of bad_prev old_transaction wrong_state wrong_undo_next wrong_compensation held_by before_image too_many open_checkpoint bad_checkpoint first_bad may_follow may_follow_all is_valid is_finished undoes losing tail_steps numbered tail_of tail_len writes_of commits_of
+held-by = refl
+
+-- an update, committed
+abbrev committed : List Record
+committed = (at 16 0 1 (Update (key 0 0) None (one 0xaa))) ∷ (at 52 16 1 Commit) ∷ []
+
+committed-before : first_bad committed (at 80 0 2 (Update (key 0 0) (one 0xab) (one 0xcc))) ≡ Some BeforeImage
+unfolding record_len end_of records_of to_undo surviving has_begun is_committed has_rollback has_ended is_unended is_loser last_lsn undo_next_of transactions unended losers greatest_trans all_surviving state_of row_of table_of image_now won prev_of bad_prev old_transaction wrong_state wrong_undo_next wrong_compensation held_by before_image too_many open_checkpoint bad_checkpoint first_bad may_follow may_follow_all is_valid is_finished undoes losing tail_steps numbered tail_of tail_len writes_of commits_of
+committed-before = refl
+
+open_update-prev : first_bad open_update (at 52 0 1 Commit) ≡ Some BadPrev
+unfolding record_len end_of records_of to_undo surviving has_begun is_committed has_rollback has_ended is_unended is_loser last_lsn undo_next_of transactions unended losers greatest_trans all_surviving state_of row_of table_of image_now won prev_of bad_prev old_transaction wrong_state wrong_undo_next wrong_compensation held_by before_image too_many open_checkpoint bad_checkpoint first_bad may_follow may_follow_all is_valid is_finished undoes losing tail_steps numbered tail_of tail_len writes_of commits_of
+open_update-prev = refl
+
+-- a transaction with a greater number came first
+abbrev second : List Record
+second = (at 16 0 2 (Update (key 0 0) None (one 0xaa))) ∷ []
+
+second-old : first_bad second (at 52 0 1 (Update (key 0 1) None (one 0xbb))) ≡ Some OldTransaction
+unfolding record_len end_of records_of to_undo surviving has_begun is_committed has_rollback has_ended is_unended is_loser last_lsn undo_next_of transactions unended losers greatest_trans all_surviving state_of row_of table_of image_now won prev_of bad_prev old_transaction wrong_state wrong_undo_next wrong_compensation held_by before_image too_many open_checkpoint bad_checkpoint first_bad may_follow may_follow_all is_valid is_finished undoes losing tail_steps numbered tail_of tail_len writes_of commits_of
+second-old = refl
+
+open_update-end : first_bad open_update (at 52 16 1 End) ≡ Some WrongState
+unfolding record_len end_of records_of to_undo surviving has_begun is_committed has_rollback has_ended is_unended is_loser last_lsn undo_next_of transactions unended losers greatest_trans all_surviving state_of row_of table_of image_now won prev_of bad_prev old_transaction wrong_state wrong_undo_next wrong_compensation held_by before_image too_many open_checkpoint bad_checkpoint first_bad may_follow may_follow_all is_valid is_finished undoes losing tail_steps numbered tail_of tail_len writes_of commits_of
+open_update-end = refl
+
+held-next : first_bad held (clr 52 16 1 (key 0 0) None 16) ≡ Some WrongUndoNext
+unfolding record_len end_of records_of to_undo surviving has_begun is_committed has_rollback has_ended is_unended is_loser last_lsn undo_next_of transactions unended losers greatest_trans all_surviving state_of row_of table_of image_now won prev_of bad_prev old_transaction wrong_state wrong_undo_next wrong_compensation held_by before_image too_many open_checkpoint bad_checkpoint first_bad may_follow may_follow_all is_valid is_finished undoes losing tail_steps numbered tail_of tail_len writes_of commits_of
+held-next = refl
+
+held-image : first_bad held (clr 52 16 1 (key 0 0) (one 0x22) 0) ≡ Some WrongCompensation
+unfolding record_len end_of records_of to_undo surviving has_begun is_committed has_rollback has_ended is_unended is_loser last_lsn undo_next_of transactions unended losers greatest_trans all_surviving state_of row_of table_of image_now won prev_of bad_prev old_transaction wrong_state wrong_undo_next wrong_compensation held_by before_image too_many open_checkpoint bad_checkpoint first_bad may_follow may_follow_all is_valid is_finished undoes losing tail_steps numbered tail_of tail_len writes_of commits_of
+held-image = refl
+
+-- a checkpoint that has ended
+abbrev checkpoint : List Record
+checkpoint = (at 16 0 0 BeginCheckpoint) ∷ (at 44 16 0 (EndCheckpoint [] [])) ∷ []
+
+checkpoint-valid : is_valid checkpoint ≡ true
+unfolding record_len end_of records_of to_undo surviving has_begun is_committed has_rollback has_ended is_unended is_loser last_lsn undo_next_of transactions unended losers greatest_trans all_surviving state_of row_of table_of image_now won prev_of bad_prev old_transaction wrong_state wrong_undo_next wrong_compensation held_by before_image too_many open_checkpoint bad_checkpoint first_bad may_follow may_follow_all is_valid is_finished undoes losing tail_steps numbered tail_of tail_len writes_of commits_of
+checkpoint-valid = refl
+
+checkpoint-again : first_bad checkpoint (at 76 16 0 (EndCheckpoint [] [])) ≡ Some BadCheckpoint
+unfolding record_len end_of records_of to_undo surviving has_begun is_committed has_rollback has_ended is_unended is_loser last_lsn undo_next_of transactions unended losers greatest_trans all_surviving state_of row_of table_of image_now won prev_of bad_prev old_transaction wrong_state wrong_undo_next wrong_compensation held_by before_image too_many open_checkpoint bad_checkpoint first_bad may_follow may_follow_all is_valid is_finished undoes losing tail_steps numbered tail_of tail_len writes_of commits_of
+checkpoint-again = refl
+
+-- ---- corners: the end of a checkpoint that never began; the number 0; a checkpoint's record that names a transaction
+
+empty-checkpoint : first_bad [] (at 16 0 0 (EndCheckpoint [] [])) ≡ Some BadCheckpoint
+unfolding record_len end_of records_of to_undo surviving has_begun is_committed has_rollback has_ended is_unended is_loser last_lsn undo_next_of transactions unended losers greatest_trans all_surviving state_of row_of table_of image_now won prev_of bad_prev old_transaction wrong_state wrong_undo_next wrong_compensation held_by before_image too_many open_checkpoint bad_checkpoint first_bad may_follow may_follow_all is_valid is_finished undoes losing tail_steps numbered tail_of tail_len writes_of commits_of
+empty-checkpoint = refl
+
+empty-zero : first_bad [] (at 16 0 0 (Update (key 0 0) None (one 0xaa))) ≡ Some OldTransaction
+unfolding record_len end_of records_of to_undo surviving has_begun is_committed has_rollback has_ended is_unended is_loser last_lsn undo_next_of transactions unended losers greatest_trans all_surviving state_of row_of table_of image_now won prev_of bad_prev old_transaction wrong_state wrong_undo_next wrong_compensation held_by before_image too_many open_checkpoint bad_checkpoint first_bad may_follow may_follow_all is_valid is_finished undoes losing tail_steps numbered tail_of tail_len writes_of commits_of
+empty-zero = refl
+
+committed-checkpoint : first_bad committed (at 80 0 1 BeginCheckpoint) ≡ Some WrongState
+unfolding record_len end_of records_of to_undo surviving has_begun is_committed has_rollback has_ended is_unended is_loser last_lsn undo_next_of transactions unended losers greatest_trans all_surviving state_of row_of table_of image_now won prev_of bad_prev old_transaction wrong_state wrong_undo_next wrong_compensation held_by before_image too_many open_checkpoint bad_checkpoint first_bad may_follow may_follow_all is_valid is_finished undoes losing tail_steps numbered tail_of tail_len writes_of commits_of
+committed-checkpoint = refl
+
+open_update-checkpoint : first_bad open_update (at 52 0 1 BeginCheckpoint) ≡ Some BadCheckpoint
+unfolding record_len end_of records_of to_undo surviving has_begun is_committed has_rollback has_ended is_unended is_loser last_lsn undo_next_of transactions unended losers greatest_trans all_surviving state_of row_of table_of image_now won prev_of bad_prev old_transaction wrong_state wrong_undo_next wrong_compensation held_by before_image too_many open_checkpoint bad_checkpoint first_bad may_follow may_follow_all is_valid is_finished undoes losing tail_steps numbered tail_of tail_len writes_of commits_of
+open_update-checkpoint = refl
+
+empty-commit : first_bad [] (at 16 0 1 Commit) ≡ None
+unfolding record_len end_of records_of to_undo surviving has_begun is_committed has_rollback has_ended is_unended is_loser last_lsn undo_next_of transactions unended losers greatest_trans all_surviving state_of row_of table_of image_now won prev_of bad_prev old_transaction wrong_state wrong_undo_next wrong_compensation held_by before_image too_many open_checkpoint bad_checkpoint first_bad may_follow may_follow_all is_valid is_finished undoes losing tail_steps numbered tail_of tail_len writes_of commits_of
+empty-commit = refl
+
+empty-end : first_bad [] (at 16 0 1 End) ≡ None
+unfolding record_len end_of records_of to_undo surviving has_begun is_committed has_rollback has_ended is_unended is_loser last_lsn undo_next_of transactions unended losers greatest_trans all_surviving state_of row_of table_of image_now won prev_of bad_prev old_transaction wrong_state wrong_undo_next wrong_compensation held_by before_image too_many open_checkpoint bad_checkpoint first_bad may_follow may_follow_all is_valid is_finished undoes losing tail_steps numbered tail_of tail_len writes_of commits_of
+empty-end = refl
+
+-- ---- many transactions
+
+-- this many transactions that begin to roll back, the numbers from here on
+abbrev rollbacks : ℕ → ℕ → List Record
+rollbacks zero t = []
+rollbacks (suc n) t = at (28 * t - 12) 0 t Rollback ∷ rollbacks n (t + 1)
+
+rollbacks-few : first_bad (rollbacks 20 1) (at 576 0 21 Rollback) ≡ None
+unfolding record_len end_of records_of to_undo surviving has_begun is_committed has_rollback has_ended is_unended is_loser last_lsn undo_next_of transactions unended losers greatest_trans all_surviving state_of row_of table_of image_now won prev_of bad_prev old_transaction wrong_state wrong_undo_next wrong_compensation held_by before_image too_many open_checkpoint bad_checkpoint first_bad may_follow may_follow_all is_valid is_finished undoes losing tail_steps numbered tail_of tail_len writes_of commits_of
+rollbacks-few = refl
+
+rollbacks-many : first_bad (rollbacks 256 1) (at 7184 0 257 Rollback) ≡ Some TooManyTransactions
+unfolding record_len end_of records_of to_undo surviving has_begun is_committed has_rollback has_ended is_unended is_loser last_lsn undo_next_of transactions unended losers greatest_trans all_surviving state_of row_of table_of image_now won prev_of bad_prev old_transaction wrong_state wrong_undo_next wrong_compensation held_by before_image too_many open_checkpoint bad_checkpoint first_bad may_follow may_follow_all is_valid is_finished undoes losing tail_steps numbered tail_of tail_len writes_of commits_of
+rollbacks-many = refl
+
+rollbacks-end : end_of (rollbacks 256 1) ≡ 7184
+unfolding record_len end_of records_of to_undo surviving has_begun is_committed has_rollback has_ended is_unended is_loser last_lsn undo_next_of transactions unended losers greatest_trans all_surviving state_of row_of table_of image_now won prev_of bad_prev old_transaction wrong_state wrong_undo_next wrong_compensation held_by before_image too_many open_checkpoint bad_checkpoint first_bad may_follow may_follow_all is_valid is_finished undoes losing tail_steps numbered tail_of tail_len writes_of commits_of
+rollbacks-end = refl
