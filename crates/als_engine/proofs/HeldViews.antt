@@ -47,7 +47,7 @@ waiting_seen pages log warm p w h there =
 pub dry : (pages end : ℕ) (log : List Record) (warm : List Warm) (p : ℕ) → IsHeld pages log warm end → NothingWaits warm p → IsDry (view_of pages log warm) p
 dry pages end log warm p held none =
     elim (slice_get_cases warm p).1 [
-        inl there ↦ inr (waiting_seen pages log warm p there.0 held.are_pages there.2 ∙ none there.0 there.2)
+      | inl there ↦ inr (waiting_seen pages log warm p there.0 held.are_pages there.2 ∙ none there.0 there.2)
       | inr past ↦ inl (omega (arith, past.0, held.count))
     ]
 
@@ -55,11 +55,12 @@ pub waits_from : (pages end : ℕ) (log : List Record) (warm : List Warm) (from 
 waits_from pages end log warm from None held first = λ page le. dry pages end log warm page held (first page le)
 waits_from pages end log warm from (Some page) held first =
     let w : Warm = first.1.0 in
-    let inside : page < length warm = slice_get_within warm page w first.1.1 in
-    (first.0,
-     omega (arith, inside, held.count),
-     (λ e. first.1.2 (sym (waiting_seen pages log warm page w held.are_pages first.1.1) ∙ e)),
-     (λ other le lt. dry pages end log warm other held (first.2 other le lt)))
+    let inside : page < length warm = slice_get_within warm page w first.1.1 in (
+      first.0,
+      omega (arith, inside, held.count),
+      (λ e. first.1.2 (sym (waiting_seen pages log warm page w held.are_pages first.1.1) ∙ e)),
+      (λ other le lt. dry pages end log warm other held (first.2 other le lt)),
+    )
 
 -- ---- how many changes wait
 
@@ -107,10 +108,11 @@ routed_count old new c r =
     let w' : Warm = record w { pending = w.pending ++ c ∷ [] } in
     let i = c.key.page in
     let there : get_or old i w ≡ w = get_or_from_slice_get old i w w r.found in
-    let total = total-set old i w w' r.found in
-    (ap length r.after ∙ length-set old i w',
-     omega (arith, ap total_waiting r.after, total, length-append w.pending (c ∷ [])),
-     ap applied_of r.after ∙ map-set_same (λ (v : Warm). v.state.lsn) old i w' w (sym (ap (λ (v : Warm). v.state.lsn) there)))
+    let total = total-set old i w w' r.found in (
+      ap length r.after ∙ length-set old i w',
+      omega (arith, ap total_waiting r.after, total, length-append w.pending (c ∷ [])),
+      ap applied_of r.after ∙ map-set_same (λ (v : Warm). v.state.lsn) old i w' w (sym (ap (λ (v : Warm). v.state.lsn) there)),
+    )
 
 routes_count : (old new : List Warm) (change : Option Change) → Routes old change new → (length new ≡ length old) × (total_waiting new ≤ total_waiting old + 1) × (applied_of new ≡ applied_of old)
 routes_count old new None same = (ap length same, omega (arith, ap total_waiting same), ap applied_of same)

@@ -2,3 +2,5 @@ pub mod Redoing
 pub mod PageLists
 pub mod HeldPages
 pub mod HeldViews
+pub mod TakingLaws
+pub mod FeedLaws

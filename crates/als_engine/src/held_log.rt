@@ -1,7 +1,7 @@
 ghost use Rattle.std.specs.Prelude.{◌≡◌, ℕ, ◌<◌, ◌≤◌, ◌+◌, ◌^◌, ◌⊎◌, List, [], ◌∷◌, ◌++◌, length, replicate, IfOk, IfErr, IfSome, MatchOption, OnOk, OnErr, IsErrOf, Err};
 ghost use Rattle.std.specs.Option.{option_copied};
 ghost use Rattle.als_record.specs.Spelling.{record_len, IsRecord};
-ghost use Rattle.als_record.specs.LogText.{end_of};
+ghost use Rattle.als_record.specs.LogText.{end_of, IsLog};
 ghost use Rattle.als_record.specs.Pages.{change_of};
 ghost use Rattle.als_engine.specs.Warm.{CanRoute, IsRouted, total_waiting};
 ghost use Rattle.als_engine.specs.Held.{Held, log_limit, pending_of, AppliesFirst, IsDry, WaitsFrom, ShowsPage, StandsAt};
@@ -74,13 +74,15 @@ impl HeldLog {
     pub fn end(&self) -> Lsn
         ensures end { result.0 ≡ end_of self.now.log }
         ensures limit { end_of self.now.log ≤ log_limit }
+        ensures log { IsLog self.now.pages self.now.log }
     {
         self.end
     }
 
     /// How many records are held.
     pub fn len(&self) -> usize
-        ensures { result ≡ length self.now.log }
+        ensures count { result ≡ length self.now.log }
+        ensures log { IsLog self.now.pages self.now.log }
     {
         self.records.len()
     }

@@ -15,10 +15,15 @@ mod warm_page;
 mod warm_pages;
 // The held log with its pages.
 mod held_log;
+// Records from the receiver to the held log.
+mod taking_in;
+// The engine and its events.
+mod engine;
 // One step of a run, and its reply.
 mod step;
 
 pub use config::Config;
+pub use engine::Engine;
 pub use fault::Fault;
 pub use fed::{Fed, FeedFault};
 pub use held_log::HeldLog;

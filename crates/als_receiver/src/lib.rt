@@ -2,4 +2,6 @@
 #![tactic(auto)]
 
 mod receiver;
-pub use receiver::{Receiver, Refusal};
+mod refusal;
+pub use receiver::Receiver;
+pub use refusal::Refusal;

@@ -15,3 +15,4 @@ pub mod TableRows
 pub mod Images
 pub mod Validity
 pub mod TailSteps
+pub mod LogLaws

@@ -13,7 +13,8 @@ pub invariant_of-self : goal.invariant_of-self
 invariant_of-self c = rw c.in_default.ensures.none.1 c.self.invariant
 
 pub returns-in_default-clause-err : goal.returns-in_default-clause-err
-returns-in_default-clause-err c = rw (← c.self.view_is)
-  (refl,
-   dry c.self.inside.pages c.self.inside.end.0 c.self.inside.records.items c.self.inside.warm c.args.page c.self.invariant c.in_default.ensures.none.0,
-   ap (λ (ws : List Warm). view_of c.self.inside.pages c.self.inside.records.items ws) c.in_default.ensures.none.1)
+returns-in_default-clause-err c = rw (← c.self.view_is) (
+  refl,
+  dry c.self.inside.pages c.self.inside.end.0 c.self.inside.records.items c.self.inside.warm c.args.page c.self.invariant c.in_default.ensures.none.0,
+  ap (λ (ws : List Warm). view_of c.self.inside.pages c.self.inside.records.items ws) c.in_default.ensures.none.1,
+)

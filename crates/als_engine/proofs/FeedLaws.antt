@@ -1,0 +1,52 @@
+-- A feed, from what went over to the held log.
+use Rattle.std.proofs.Common.{◌≡◌, ℕ, ◌+◌, ◌-◌, ◌<◌, ◌≤◌, List, [], ◌++◌, length, Option, None, Ok, refl, sym, ap, subst, ◌∙◌, length-append, arith}
+use Rattle.als_record.specs.declared.record.Record.{Record}
+use Rattle.als_record.specs.Reading.{read_record}
+use Rattle.als_record.specs.LogText.{spellings, end_of, IsLog}
+use Rattle.als_receiver.specs.Reception.{Reception}
+use Rattle.als_engine.specs.declared.fault.Fault.{Fault}
+use Rattle.als_engine.specs.declared.fed.Fed.{Fed}
+use Rattle.als_engine.specs.declared.fed.FeedFault.{FeedFault}
+use Rattle.als_engine.specs.Held.{Held, pending_of}
+use Rattle.als_engine.specs.Machine.{Machine, with_log, Splits, FeedsAll, FeedsFront, kept_fault}
+use Rattle.als_engine.specs.TakingIn.{TakesAll, TakesFront}
+use Rattle.als_engine.proofs.TakingLaws.{end_grown}
+
+abbrev pub machine : Held → ℕ → List ℕ → Option Fault → Machine
+machine held limit partial refused = record { held = held; limit = limit; partial = partial; refused = refused }
+
+log_at : (held new : Held) (records : List Record) → new ≡ with_log held (held.log ++ records) → IsLog new.pages new.log → IsLog held.pages (held.log ++ records)
+log_at held new records e is_log = subst (λ (h : Held). IsLog h.pages h.log) e is_log
+
+counted : (held new : Held) (records : List Record) (count : ℕ) → new ≡ with_log held (held.log ++ records) → count ≡ length new.log - length held.log → count ≡ length records
+counted held new records count e f = omega (arith, f, ap (λ (h : Held). length h.log) e, length-append held.log records)
+
+pub feeds_all : (held new : Held) (limit : ℕ) (kept piece : List ℕ) (refused : Option Fault) (receiver : Reception) (taken count : ℕ) → refused ≡ None → pending_of held < limit
+    → TakesAll held (kept ++ piece) new receiver → IsLog new.pages new.log → taken ≡ length piece → count ≡ length new.log - length held.log
+    → FeedsAll (machine held limit kept refused) piece (record { taken = taken; records = count }) (machine new limit receiver.kept refused)
+feeds_all held new limit kept piece refused receiver taken count following room all is_log taken-is count-is = record {
+  following = following;
+  room = room;
+  records = all.records;
+  rest = receiver.kept;
+  split = record { whole = all.whole; is_log = log_at held new all.records all.after is_log };
+  waits = subst (λ (h : Held). read_record h.pages (end_of h.log) receiver.kept ≡ Ok None) all.after all.rests.waits;
+  after = ap (λ (h : Held). machine h limit receiver.kept refused) all.after;
+  taken = taken-is;
+  count = counted held new all.records count all.after count-is;
+}
+
+pub feeds_front : (held new : Held) (limit : ℕ) (kept piece : List ℕ) (refused : Option Fault) (fault : Fault) (taken count bytes : ℕ) → refused ≡ None → pending_of held < limit
+    → TakesFront held (kept ++ piece) new fault → IsLog new.pages new.log → bytes ≡ end_of new.log - end_of held.log → taken ≡ bytes - length kept → count ≡ length new.log - length held.log
+    → FeedsFront (machine held limit kept refused) piece (record { taken = taken; records = count; fault = fault }) (machine new limit [] (kept_fault fault))
+feeds_front held new limit kept piece refused fault taken count bytes following room front is_log bytes-is taken-is count-is = record {
+  following = following;
+  room = room;
+  records = front.records;
+  rest = front.rest;
+  split = record { whole = front.whole; is_log = log_at held new front.records front.after is_log };
+  cause = front.cause;
+  after = ap (λ (h : Held). machine h limit [] (kept_fault fault)) front.after;
+  taken = omega (arith, taken-is, bytes-is, end_grown held new front.records front.after);
+  count = counted held new front.records count front.after count-is;
+}

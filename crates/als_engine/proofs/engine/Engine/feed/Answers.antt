@@ -1,0 +1,26 @@
+use Rattle.std.proofs.Common.{◌-◌, refl, inr, arith}
+use Rattle.als_engine.proofs.TakingLaws.{end_grown, rests_again}
+use Rattle.als_engine.proofs.FeedLaws.{feeds_all, feeds_front}
+use Rattle.als_engine.proofs.engine.Engine.feed.Goals as goal
+
+pub overflow_sub-held_bytes : goal.overflow_sub-held_bytes
+overflow_sub-held_bytes c =
+    let front = c.in-Err.ensures.err in
+    omega (arith, end_grown c.self.inside.held c.take_piece.new.held front.records front.after, c.end-end.ensures.end, c.end.ensures.end)
+
+pub invariant_of-self-in-Err : goal.invariant_of-self-in-Err
+invariant_of-self-in-Err c = rests_again c.take_piece.new.held c.new.result c.end-in-Err.result.0 c.pages.result c.new.ensures c.end-in-Err.ensures.end c.pages.ensures
+
+pub returns-in-Ok : goal.returns-in-Ok
+returns-in-Ok c =
+    rw (← c.self.view_is)
+      (feeds_all c.self.inside.held c.take_piece.new.held c.self.inside.limit c.self.inside.receiver.kept c.args.piece.now c.self.inside.refused c.take_piece.new.receiver _ _
+        c.in_default.is (omega (arith, c.pending.ensures, c.if-pending-self.false)) c.in-Ok.ensures.ok c.len.ensures.log refl (omega (arith, c.len.ensures.count, c.len-records.ensures.count)))
+
+pub returns-in-Err : goal.returns-in-Err
+returns-in-Err c =
+    rw (← c.self.view_is)
+      (rw (c.new.ensures, c.kept-self-inside.ensures)
+        (inr (feeds_front c.self.inside.held c.take_piece.new.held c.self.inside.limit c.self.inside.receiver.kept c.args.piece.now c.self.inside.refused c.in-Err.fault _ _ (c.end.result.0 - c.end-end.result.0)
+          c.in_default.is (omega (arith, c.pending.ensures, c.if-pending-self.false)) c.in-Err.ensures.err c.len-in-Err.ensures.log (omega (arith, c.end.ensures.end, c.end-end.ensures.end))
+          (omega (arith, c.saturating_sub.ensures, c.partial-partial.ensures)) (omega (arith, c.len-in-Err.ensures.count, c.len-records.ensures.count)))))

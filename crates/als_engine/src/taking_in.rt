@@ -1,0 +1,68 @@
+ghost use Rattle.std.specs.Prelude.{◌≡◌, ◌≤◌, ◌++◌, length, OnOk, IfOk, IfErr, MatchBool};
+ghost use Rattle.als_record.specs.LogText.{end_of};
+ghost use Rattle.als_engine.specs.Machine.{IsCause};
+ghost use Rattle.als_engine.specs.TakingIn.{Meets, Rests, TakesOne, TakesAll, TakesFront};
+
+use crate::fault::Fault;
+use crate::held_log::HeldLog;
+use als_receiver::Receiver;
+
+/// How many bytes of a piece go to the receiver at once.
+const CHUNK: usize = 65_536;
+
+/// Gives a piece to the receiver, and each record that is whole then to the held log.
+pub(crate) fn take_piece(
+    held: &mut HeldLog,
+    receiver: &mut Receiver,
+    piece: &[u8],
+) -> Result<(), Fault>
+    requires { Rests held.old receiver.old }
+    ensures ok { OnOk result (TakesAll held.old (receiver.old.kept ++ piece.now) held.new receiver.new) }
+    ensures err { IfErr result (TakesFront held.old (receiver.old.kept ++ piece.now) held.new) }
+{
+    let mut rest = piece;
+    while !rest.is_empty() {
+        let (chunk, after) = rest.split_at(rest.len().min(CHUNK));
+        take_chunk(held, receiver, chunk)?;
+        rest = after;
+    }
+    Ok(())
+}
+
+/// The same for a chunk of at most 65,536 bytes.
+fn take_chunk(held: &mut HeldLog, receiver: &mut Receiver, chunk: &[u8]) -> Result<(), Fault>
+    requires rests { Rests held.old receiver.old }
+    requires few { length chunk.now ≤ 65536 }
+    ensures ok { OnOk result (TakesAll held.old (receiver.old.kept ++ chunk.now) held.new receiver.new) }
+    ensures err { IfErr result (TakesFront held.old (receiver.old.kept ++ chunk.now) held.new) }
+{
+    let _ = held.end();
+    receiver.push(chunk)?;
+    take_records(held, receiver)
+}
+
+/// Gives each record that is whole to the held log.
+fn take_records(held: &mut HeldLog, receiver: &mut Receiver) -> Result<(), Fault>
+    requires { Meets held.old receiver.old }
+    ensures ok { OnOk result (TakesAll held.old receiver.old.kept held.new receiver.new) }
+    ensures err { IfErr result (TakesFront held.old receiver.old.kept held.new) }
+{
+    while take_record(held, receiver)? {}
+    Ok(())
+}
+
+/// Gives the next record to the held log, if it is whole; says whether it was.
+fn take_record(held: &mut HeldLog, receiver: &mut Receiver) -> Result<bool, Fault>
+    requires { Meets held.old receiver.old }
+    ensures ok { IfOk result (λ more. MatchBool more (TakesOne held.old receiver.old held.new receiver.new) ((held.new ≡ held.old) × (receiver.new ≡ receiver.old) × Rests held.old receiver.old)) }
+    ensures err { IfErr result (λ fault. (held.new ≡ held.old) × IsCause held.old.pages (end_of held.old.log) receiver.old.kept fault) }
+{
+    match receiver.next() {
+        Ok(Some(logged)) => {
+            held.admit(logged)?;
+            Ok(true)
+        }
+        Ok(None) => Ok(false),
+        Err(refusal) => Err(Fault::from(refusal.fault)),
+    }
+}
