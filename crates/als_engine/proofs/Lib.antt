@@ -4,3 +4,4 @@ pub mod HeldPages
 pub mod HeldViews
 pub mod TakingLaws
 pub mod FeedLaws
+pub mod RunLaws

@@ -86,9 +86,9 @@ cause_at old now xs ys rest fault e cause =
 -- a cause in front of more bytes is the same cause
 cause_more : (pages at : ℕ) (rest more : List ℕ) (fault : Fault) → IsCause pages at rest fault → IsCause pages at (rest ++ more) fault
 cause_more pages at rest more fault cause = elim cause [
-    inl shape ↦ inl (shape.0, fault_more pages at rest more shape.0 shape.1, shape.2)
+  | inl shape ↦ inl (shape.0, fault_more pages at rest more shape.0 shape.1, shape.2)
   | inr other ↦ elim other [
-      inl full ↦ inr (inl (full.0, found_more pages at rest more (full.0, record_len full.0) full.1, full.2, full.3))
+    | inl full ↦ inr (inl (full.0, found_more pages at rest more (full.0, record_len full.0) full.1, full.2, full.3))
     | inr memory ↦ inr (inr memory)
   ]
 ]
@@ -130,8 +130,8 @@ all_then_front old now new bytes chunk more receiver fault first second = record
   records = first.records ++ second.records;
   rest = second.rest ++ more;
   whole = spelled_twice (bytes ++ (chunk ++ more)) (receiver.kept ++ (chunk ++ more)) (second.rest ++ more) first.records second.records
-    (ap (λ (m : List ℕ). m ++ (chunk ++ more)) first.whole ∙ append_assoc (spellings first.records) receiver.kept (chunk ++ more))
-    (sym (append_assoc receiver.kept chunk more) ∙ ap (λ (m : List ℕ). m ++ more) second.whole ∙ append_assoc (spellings second.records) second.rest more);
+      (ap (λ (m : List ℕ). m ++ (chunk ++ more)) first.whole ∙ append_assoc (spellings first.records) receiver.kept (chunk ++ more))
+      (sym (append_assoc receiver.kept chunk more) ∙ ap (λ (m : List ℕ). m ++ more) second.whole ∙ append_assoc (spellings second.records) second.rest more);
   after = grown_twice old now new first.records second.records first.after second.after;
   cause = cause_more old.pages (end_of (old.log ++ (first.records ++ second.records))) second.rest more fault (cause_at old now first.records second.records second.rest fault first.after second.cause);
 }
@@ -158,7 +158,7 @@ rests_empty held receiver meets none = record {
 -- a receiver whose partial record was dropped
 pub rests_dropped : (held : Held) (receiver after : Reception) → Rests held receiver → after ≡ with_kept receiver [] → Rests held after
 rests_dropped held receiver after rests e = subst (λ (x : Reception). Rests held x) (sym e)
-  (rests_empty held (with_kept receiver []) (record { wanted = rests.meets.wanted; pages = rests.meets.pages; takes = rests.meets.takes }) refl)
+    (rests_empty held (with_kept receiver []) (record { wanted = rests.meets.wanted; pages = rests.meets.pages; takes = rests.meets.takes }) refl)
 
 end-start : end_of [] ≡ 16
 unfolding end_of
@@ -167,18 +167,18 @@ end-start = refl
 -- a new receiver at the start of an empty log
 pub rests_new : (held : Held) (receiver : Reception) (pages : ℕ) → held ≡ record { pages = pages; log = []; applied = replicate pages 0 } → receiver ≡ fresh 16 pages → Rests held receiver
 rests_new held receiver pages e f = rests_empty held receiver (record {
-    wanted = ap (λ (x : Reception). x.wanted) f ∙ sym end-start ∙ ap (λ (h : Held). end_of h.log) (sym e);
-    pages = ap (λ (x : Reception). x.pages) f ∙ ap (λ (h : Held). h.pages) (sym e);
-    takes = ap (λ (x : Reception). x.refusal) f;
-  }) (ap (λ (x : Reception). x.kept) f)
+  wanted = ap (λ (x : Reception). x.wanted) f ∙ sym end-start ∙ ap (λ (h : Held). end_of h.log) (sym e);
+  pages = ap (λ (x : Reception). x.pages) f ∙ ap (λ (h : Held). h.pages) (sym e);
+  takes = ap (λ (x : Reception). x.refusal) f;
+}) (ap (λ (x : Reception). x.kept) f)
 
 -- a new receiver at the end of a log
 pub rests_again : (held : Held) (receiver : Reception) (end pages : ℕ) → receiver ≡ fresh end pages → end ≡ end_of held.log → pages ≡ held.pages → Rests held receiver
 rests_again held receiver end pages f e p = rests_empty held receiver (record {
-    wanted = ap (λ (x : Reception). x.wanted) f ∙ e;
-    pages = ap (λ (x : Reception). x.pages) f ∙ p;
-    takes = ap (λ (x : Reception). x.refusal) f;
-  }) (ap (λ (x : Reception). x.kept) f)
+  wanted = ap (λ (x : Reception). x.wanted) f ∙ e;
+  pages = ap (λ (x : Reception). x.pages) f ∙ p;
+  takes = ap (λ (x : Reception). x.refusal) f;
+}) (ap (λ (x : Reception). x.kept) f)
 
 grown_sum : (a b c e : ℕ) → c ≡ a + b → e ≡ 16 + a → 16 + c ≡ e + b
 grown_sum a b c e f g = omega (arith, f, g)

@@ -3,6 +3,7 @@ ghost use Rattle.std.specs.Option.{option_copied};
 ghost use Rattle.als_record.specs.LogText.{end_of};
 ghost use Rattle.als_engine.specs.Config.{IsConfig};
 ghost use Rattle.als_engine.specs.Held.{pending_of, WaitsFrom, ShowsPage, StandsAt};
+ghost use Rattle.als_engine.specs.Runs.{Steps};
 ghost use Rattle.als_engine.specs.Machine.{empty_machine, state_of, Feeds, resynced, Applies, kept_fault};
 
 use crate::config::Config;
@@ -10,6 +11,7 @@ use crate::fault::Fault;
 use crate::fed::{Fed, FeedFault};
 use crate::held_log::HeldLog;
 use crate::status::{State, Status};
+use crate::step::{Reply, Step};
 use crate::taking_in::take_piece;
 use als_page::Page;
 use als_receiver::Receiver;
@@ -107,6 +109,26 @@ impl Engine {
     {
         let lsn = self.held.apply(page)?;
         Ok(lsn)
+    }
+
+    /// One step of the small machine.
+    pub fn step(&mut self, step: &Step) -> Reply
+        ensures { Steps self.old step.now result self.new }
+    {
+        match step {
+            Step::Feed(piece) => match self.feed(piece) {
+                Ok(fed) => Reply::Fed(fed),
+                Err(refusal) => Reply::FeedRefused(refusal),
+            },
+            Step::Resync => {
+                self.resync();
+                Reply::Done
+            }
+            Step::Apply(page) => match self.apply(*page) {
+                Ok(lsn) => Reply::Applied(lsn),
+                Err(fault) => Reply::Refused(fault),
+            },
+        }
     }
 
     /// What the engine tells of itself.

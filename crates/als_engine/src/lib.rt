@@ -22,12 +22,13 @@ mod engine;
 // One step of a run, and its reply.
 mod step;
 
+// Runs of steps.
+mod world;
+
 pub use config::Config;
 pub use engine::Engine;
 pub use fault::Fault;
 pub use fed::{Fed, FeedFault};
-pub use held_log::HeldLog;
 pub use status::{State, Status};
 pub use step::{Reply, Step};
-pub use warm_page::WarmPage;
-pub use warm_pages::WarmPages;
+pub use world::{World, run};

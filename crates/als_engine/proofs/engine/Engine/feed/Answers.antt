@@ -14,13 +14,13 @@ invariant_of-self-in-Err c = rests_again c.take_piece.new.held c.new.result c.en
 pub returns-in-Ok : goal.returns-in-Ok
 returns-in-Ok c =
     rw (← c.self.view_is)
-      (feeds_all c.self.inside.held c.take_piece.new.held c.self.inside.limit c.self.inside.receiver.kept c.args.piece.now c.self.inside.refused c.take_piece.new.receiver _ _
-        c.in_default.is (omega (arith, c.pending.ensures, c.if-pending-self.false)) c.in-Ok.ensures.ok c.len.ensures.log refl (omega (arith, c.len.ensures.count, c.len-records.ensures.count)))
+    (feeds_all c.self.inside.held c.take_piece.new.held c.self.inside.limit c.self.inside.receiver.kept c.args.piece.now c.self.inside.refused c.take_piece.new.receiver _ _
+    c.in_default.is (omega (arith, c.pending.ensures, c.if-pending-self.false)) c.in-Ok.ensures.ok c.len.ensures.log refl (omega (arith, c.len.ensures.count, c.len-records.ensures.count)))
 
 pub returns-in-Err : goal.returns-in-Err
 returns-in-Err c =
     rw (← c.self.view_is)
-      (rw (c.new.ensures, c.kept-self-inside.ensures)
-        (inr (feeds_front c.self.inside.held c.take_piece.new.held c.self.inside.limit c.self.inside.receiver.kept c.args.piece.now c.self.inside.refused c.in-Err.fault _ _ (c.end.result.0 - c.end-end.result.0)
-          c.in_default.is (omega (arith, c.pending.ensures, c.if-pending-self.false)) c.in-Err.ensures.err c.len-in-Err.ensures.log (omega (arith, c.end.ensures.end, c.end-end.ensures.end))
-          (omega (arith, c.saturating_sub.ensures, c.partial-partial.ensures)) (omega (arith, c.len-in-Err.ensures.count, c.len-records.ensures.count)))))
+    (rw (c.new.ensures, c.kept-self-inside.ensures)
+    (inr (feeds_front c.self.inside.held c.take_piece.new.held c.self.inside.limit c.self.inside.receiver.kept c.args.piece.now c.self.inside.refused c.in-Err.fault _ _ (c.end.result.0 - c.end-end.result.0)
+    c.in_default.is (omega (arith, c.pending.ensures, c.if-pending-self.false)) c.in-Err.ensures.err c.len-in-Err.ensures.log (omega (arith, c.end.ensures.end, c.end-end.ensures.end))
+    (omega (arith, c.saturating_sub.ensures, c.partial-partial.ensures)) (omega (arith, c.len-in-Err.ensures.count, c.len-records.ensures.count)))))
