@@ -4,3 +4,4 @@ pub mod BodyLaws
 pub mod RowLaws
 pub mod RecordLaws
 pub mod ReadingLaws
+pub mod HeaderLaws

@@ -21,6 +21,8 @@ mod fault;
 mod header;
 // Numbers, keys and images in bytes.
 mod fields;
+// A header to bytes and back.
+mod header_codec;
 // Bytes to the bodies of updates and compensations.
 mod bodies;
 // Bytes to the rows of a checkpoint.
