@@ -5,3 +5,4 @@ pub mod RowLaws
 pub mod RecordLaws
 pub mod ReadingLaws
 pub mod HeaderLaws
+pub mod LogLaws

@@ -3,7 +3,7 @@ use Rattle.std.proofs.Common.{◌≡◌, ℕ, ◌+◌, ◌-◌, ◌^◌, ◌<◌
 use Rattle.std.specs.Prelude.{not, ◌&&◌, if◌then◌else◌, IfOk, IfSome}
 use Rattle.std.specs.Int.{w32, w64}
 use Rattle.std.proofs.lemmas.Bool.{ltb-true, ltb-false, lt-ltb, le-ltb, eqb-true, eq-eqb}
-use Rattle.std.proofs.lemmas.List.{take_at, drop_at, take-append-drop, take-take, take-append-le, length-append, length-take, length-drop, get_or_append_left, append_cancel_left}
+use Rattle.std.proofs.lemmas.List.{take_at, drop_at, take-append-drop, take-take, take-append-le, length-append, length-take, length-drop, get_or_append_left, append_cancel_left, append-nil}
 use Rattle.als_record.specs.declared.record.Body.{Body}
 use Rattle.als_record.specs.declared.record.Record.{Record}
 use Rattle.als_record.specs.declared.fault.Fault.{Fault}
@@ -197,3 +197,102 @@ pub given_only : (pages at : ℕ) (bytes : List ℕ) (result : Result Found Faul
 given_only pages at bytes result given r rest is placed e =
     let read : read_record pages at bytes ≡ Ok (Some (r, record_len r)) = ap (λ (k : ℕ). read_record pages k bytes) (sym placed) ∙ ap (read_record pages r.lsn.0) e ∙ record_again pages r rest is in
     subst (λ (f : Result Found Fault). Gives (λ (o : Found). o) result f) read given
+
+-- ---- more bytes, and fewer
+
+zeros_more : (bytes more : List ℕ) → 28 ≤ length bytes → is_reserved_zero (bytes ++ more) ≡ is_reserved_zero bytes
+zeros_more bytes more long =
+    let five : get_or (bytes ++ more) 5 0 ≡ get_or bytes 5 0 = get_or_append_left bytes more 0 5 (omega arith) in
+    let six_same : get_or (bytes ++ more) 6 0 ≡ get_or bytes 6 0 = get_or_append_left bytes more 0 6 (omega arith) in
+    let seven : get_or (bytes ++ more) 7 0 ≡ get_or bytes 7 0 = get_or_append_left bytes more 0 7 (omega arith) in
+    let zeros : ℕ → ℕ → ℕ → Bool = λ a b c. eqb a 0 && eqb b 0 && eqb c 0 in
+    ap (λ (k : ℕ). zeros k (get_or (bytes ++ more) 6 0) (get_or (bytes ++ more) 7 0)) five ∙ ap (λ (k : ℕ). zeros (get_or bytes 5 0) k (get_or (bytes ++ more) 7 0)) six_same ∙ ap (λ (k : ℕ). zeros (get_or bytes 5 0) (get_or bytes 6 0) k) seven
+
+-- reading bytes with more behind them, by the fields of the front
+reads_more : (pages at : ℕ) (bytes more : List ℕ) → 28 ≤ length bytes
+    → read_record pages at (bytes ++ more) ≡ read_from pages at (length (bytes ++ more)) (size_at bytes) (type_at bytes) (is_reserved_zero bytes) (long_at 8 bytes) (long_at 16 bytes) (word_at 24 bytes) (drop 28 (take (size_at bytes) (bytes ++ more)))
+reads_more pages at bytes more long =
+    let all = bytes ++ more in
+    let len = length all in
+    let size = size_at bytes in
+    let kind = type_at bytes in
+    reads_from pages at all
+    ∙ ap (λ (k : ℕ). read_from pages at len k (type_at all) (is_reserved_zero all) (long_at 8 all) (long_at 16 all) (word_at 24 all) (drop 28 (take k all))) (number_more w32 0 bytes more (omega arith))
+    ∙ ap (λ (k : ℕ). read_from pages at len size k (is_reserved_zero all) (long_at 8 all) (long_at 16 all) (word_at 24 all) (drop 28 (take size all))) (get_or_append_left bytes more 0 4 (omega arith))
+    ∙ ap (λ (z : Bool). read_from pages at len size kind z (long_at 8 all) (long_at 16 all) (word_at 24 all) (drop 28 (take size all))) (zeros_more bytes more long)
+    ∙ ap (λ (k : ℕ). read_from pages at len size kind (is_reserved_zero bytes) k (long_at 16 all) (word_at 24 all) (drop 28 (take size all))) (number_more w64 8 bytes more (omega arith))
+    ∙ ap (λ (k : ℕ). read_from pages at len size kind (is_reserved_zero bytes) (long_at 8 bytes) k (word_at 24 all) (drop 28 (take size all))) (number_more w64 16 bytes more (omega arith))
+    ∙ ap (λ (k : ℕ). read_from pages at len size kind (is_reserved_zero bytes) (long_at 8 bytes) (long_at 16 bytes) k (drop 28 (take size all))) (number_more w32 24 bytes more (omega arith))
+
+more_of : (pages at : ℕ) (bytes more : List ℕ) (short cut : Bool) → ltb (length bytes) 28 ≡ short → ltb (length bytes) (size_at bytes) ≡ cut
+    → (read_record pages at bytes ≡ Ok None) ⊎ (read_record pages at (bytes ++ more) ≡ read_record pages at bytes)
+more_of pages at bytes more true cut e f = inl (reads_from pages at bytes ∙ rw e refl)
+more_of pages at bytes more false true e f =
+    let long = ltb-false (length bytes) 28 e in
+    let size = size_at bytes in
+    let kind = type_at bytes in
+    let zeros = is_reserved_zero bytes in
+    let placed = eqb (long_at 8 bytes) at in
+    let body : List ℕ → Result Found Fault = λ xs. body_read pages at size kind (long_at 16 bytes) (word_at 24 bytes) (drop 28 (take size xs)) in
+    let all_long : ltb (length (bytes ++ more)) 28 ≡ false = le-ltb (length (bytes ++ more)) 28 (omega (arith, length-append bytes more)) in
+    let one : read_record pages at bytes ≡ six false (is_size kind size) (is_type kind) zeros placed true (body bytes) =
+    reads_from pages at bytes ∙ ap (λ (b : Bool). six b (is_size kind size) (is_type kind) zeros placed (ltb (length bytes) size) (body bytes)) e ∙ ap (λ (b : Bool). six false (is_size kind size) (is_type kind) zeros placed b (body bytes)) f in
+    let two : read_record pages at (bytes ++ more) ≡ six false (is_size kind size) (is_type kind) zeros placed (ltb (length (bytes ++ more)) size) (body (bytes ++ more)) =
+    reads_more pages at bytes more long ∙ ap (λ (b : Bool). six b (is_size kind size) (is_type kind) zeros placed (ltb (length (bytes ++ more)) size) (body (bytes ++ more))) all_long in
+    elim (six_cut (is_size kind size) (is_type kind) zeros placed (ltb (length (bytes ++ more)) size) (body bytes) (body (bytes ++ more))) [
+      | inl none ↦ inl (one ∙ none)
+      | inr same ↦ inr (two ∙ same ∙ sym one)
+    ]
+more_of pages at bytes more false false e f =
+    let long = ltb-false (length bytes) 28 e in
+    let whole = ltb-false (length bytes) (size_at bytes) f in
+    let size = size_at bytes in
+    let kind = type_at bytes in
+    let zeros = is_reserved_zero bytes in
+    let placed = eqb (long_at 8 bytes) at in
+    let body : List ℕ → Result Found Fault = λ xs. body_read pages at size kind (long_at 16 bytes) (word_at 24 bytes) (drop 28 xs) in
+    let all_long : ltb (length (bytes ++ more)) 28 ≡ false = le-ltb (length (bytes ++ more)) 28 (omega (arith, length-append bytes more)) in
+    let all_whole : ltb (length (bytes ++ more)) size ≡ false = le-ltb (length (bytes ++ more)) size (omega (arith, length-append bytes more)) in
+    let one : read_record pages at bytes ≡ six false (is_size kind size) (is_type kind) zeros placed false (body (take size bytes)) =
+    reads_from pages at bytes ∙ ap (λ (b : Bool). six b (is_size kind size) (is_type kind) zeros placed (ltb (length bytes) size) (body (take size bytes))) e ∙ ap (λ (b : Bool). six false (is_size kind size) (is_type kind) zeros placed b (body (take size bytes))) f in
+    let two : read_record pages at (bytes ++ more) ≡ six false (is_size kind size) (is_type kind) zeros placed false (body (take size (bytes ++ more))) =
+    reads_more pages at bytes more long ∙ ap (λ (b : Bool). six b (is_size kind size) (is_type kind) zeros placed (ltb (length (bytes ++ more)) size) (body (take size (bytes ++ more)))) all_long
+    ∙ ap (λ (b : Bool). six false (is_size kind size) (is_type kind) zeros placed b (body (take size (bytes ++ more)))) all_whole in
+    inr (two ∙ ap (λ (xs : List ℕ). six false (is_size kind size) (is_type kind) zeros placed false (body xs)) (take-append-le size bytes more whole) ∙ sym one)
+
+-- either more bytes are needed, or more bytes behind change nothing
+pub read_more : (pages at : ℕ) (bytes more : List ℕ) → (read_record pages at bytes ≡ Ok None) ⊎ (read_record pages at (bytes ++ more) ≡ read_record pages at bytes)
+read_more pages at bytes more = more_of pages at bytes more (ltb (length bytes) 28) (ltb (length bytes) (size_at bytes)) refl refl
+
+-- a record that is found stays found
+pub found_more : (pages at : ℕ) (bytes more : List ℕ) (x : Record × ℕ) → read_record pages at bytes ≡ Ok (Some x) → read_record pages at (bytes ++ more) ≡ Ok (Some x)
+found_more pages at bytes more x e = elim (read_more pages at bytes more) [ inl none ↦ absurd cc | inr same ↦ same ∙ e ]
+
+-- a fault stays
+pub fault_more : (pages at : ℕ) (bytes more : List ℕ) (fault : Fault) → read_record pages at bytes ≡ Err fault → read_record pages at (bytes ++ more) ≡ Err fault
+fault_more pages at bytes more fault e = elim (read_more pages at bytes more) [ inl none ↦ absurd cc | inr same ↦ same ∙ e ]
+
+-- a proper front of a record waits for more
+pub front_waits : (pages : ℕ) (r : Record) (bytes more : List ℕ) → IsRecord pages r → bytes ++ more ≡ spelling r → length bytes < record_len r → read_record pages r.lsn.0 bytes ≡ Ok None
+front_waits pages r bytes more is e short =
+    elim (read_more pages r.lsn.0 bytes more) [
+      | inl none ↦ none
+      | inr same ↦
+          let whole : spelling r ++ [] ≡ bytes ++ more = append-nil (spelling r) ∙ sym e in
+          let found : read_record pages r.lsn.0 bytes ≡ Ok (Some (r, record_len r)) = sym same ∙ ap (read_record pages r.lsn.0) (sym whole) ∙ record_again pages r [] is in
+          let within = found_within pages r.lsn.0 bytes r (record_len r) found in
+          absurd (omega (arith, within))
+    ]
+
+-- ---- one spelling
+
+some_is : (x y : Record × ℕ) → found (Some x) ≡ found (Some y) → x ≡ y
+some_is x y e = cc
+
+-- no spelling begins another one at the same LSN
+pub one_spelling_is : (pages : ℕ) (a b : Record) (x y : List ℕ) → IsRecord pages a → IsRecord pages b → a.lsn.0 ≡ b.lsn.0 → spelling a ++ x ≡ spelling b ++ y → (a ≡ b) × (x ≡ y)
+one_spelling_is pages a b x y is_a is_b placed e =
+    let first = record_again pages a x is_a in
+    let second : read_record pages a.lsn.0 (spelling a ++ x) ≡ Ok (Some (b, record_len b)) = ap (read_record pages a.lsn.0) e ∙ ap (λ (k : ℕ). read_record pages k (spelling b ++ y)) placed ∙ record_again pages b y is_b in
+    let same : a ≡ b = ap (λ (x : Record × ℕ). x.0) (some_is (a, record_len a) (b, record_len b) (sym first ∙ second)) in
+    (same, append_cancel_left (spelling a) x y (e ∙ ap (λ (r : Record). spelling r ++ y) (sym same)))

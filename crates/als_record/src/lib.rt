@@ -37,6 +37,8 @@ mod row_writing;
 mod encoding;
 // What redo does for a record.
 mod changes;
+// That bytes are one record, and a text one log.
+mod laws;
 
 pub use change::Change;
 pub use decoding::decode;
@@ -45,8 +47,12 @@ pub use fault::Fault;
 pub use header::LogHeader;
 pub use image::{Image, Value};
 pub use key::Key;
+pub use laws::{one_log, one_spelling};
 pub use lengths::encoded_len;
 pub use lsn::Lsn;
 pub use record::{Body, Record};
 pub use rows::{LoggedPage, LoggedTransaction, PageRows, TransactionRows};
 pub use trans_id::TransId;
+
+#[cfg(test)]
+mod tests;
