@@ -77,6 +77,15 @@ header_again pages rest low high =
     two_pass (ltb (length bytes) 16) (is_magic (take 8 bytes) && is_within 1 4096 (word_at 8 bytes) && eqb (word_at 12 bytes) 0) (record { pages = word_at 8 bytes }) long good
     ∙ ap (λ (k : ℕ). found_pages k) read
 
+-- no header begins another one
+pub one_header : (m n : ℕ) (x y : List ℕ) → m < 2 ^ 32 → n < 2 ^ 32 → header_bytes m ++ x ≡ header_bytes n ++ y → (m ≡ n) × (x ≡ y)
+unfolding header_bytes
+one_header m n x y small_m small_n e =
+    let first : word_at 8 (header_bytes m ++ x) ≡ m = number_again w32 (2 ^ 32) wide32 8 (header_bytes m ++ x) (0 ∷ 0 ∷ 0 ∷ 0 ∷ x) m small_m refl in
+    let second : word_at 8 (header_bytes n ++ y) ≡ n = number_again w32 (2 ^ 32) wide32 8 (header_bytes n ++ y) (0 ∷ 0 ∷ 0 ∷ 0 ∷ y) n small_n refl in
+    let same : m ≡ n = sym first ∙ ap (word_at 8) e ∙ second in
+    (same, ap (drop 16) e)
+
 -- ---- what decode returns
 
 pub given_header : (bytes : List ℕ) (result : Read) → IsBytes bytes → result ≡ read_header bytes

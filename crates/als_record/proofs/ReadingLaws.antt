@@ -139,6 +139,10 @@ record_found pages at bytes r n fits e =
     subst (λ (y : Record × ℕ). IsFound pages at bytes y.0 y.1) b.2
     (made_is pages at bytes b.0 fits (ltb-false (length bytes) 28 p.is_long) p.is_sized p.is_typed p.is_zero (eqb-true (long_at 8 bytes) at p.is_placed) (ltb-false (length bytes) (size_at bytes) p.is_whole) b.1)
 
+-- a record that is found, and what stands behind it, are the bytes
+pub found_splits : (pages at : ℕ) (bytes : List ℕ) (r : Record) (n : ℕ) → IsBytes bytes → read_record pages at bytes ≡ Ok (Some (r, n)) → bytes ≡ spelling r ++ drop n bytes
+found_splits pages at bytes r n fits e = sym (take-append-drop n bytes) ∙ ap (λ (xs : List ℕ). xs ++ drop n bytes) (record_found pages at bytes r n fits e).spelled
+
 -- a record that is found ends within the bytes, whatever they are
 pub found_within : (pages at : ℕ) (bytes : List ℕ) (r : Record) (n : ℕ) → read_record pages at bytes ≡ Ok (Some (r, n)) → n ≤ length bytes
 found_within pages at bytes r n e =

@@ -1,4 +1,4 @@
-ghost use Rattle.std.specs.Prelude.{◌≡◌, ℕ, ◌++◌, List};
+ghost use Rattle.std.specs.Prelude.{◌≡◌, ℕ, ◌<◌, ◌^◌, ◌++◌, List};
 ghost use Rattle.als_record.specs.declared.record.Record.{Record as AnyRecord};
 ghost use Rattle.als_record.specs.Spelling.{spelling, IsRecord};
 ghost use Rattle.als_record.specs.LogText.{log_text, IsLog};
@@ -9,7 +9,8 @@ pub fn one_spelling()
         → spelling a ++ x ≡ spelling b ++ y → (a ≡ b) × (x ≡ y) }
 {}
 
-/// A law: two logs of one database with the same text are the same log.
+/// A law: two logs with the same text are the same log, of databases of the same size.
 pub fn one_log()
-    ensures { (pages : ℕ) (a b : List AnyRecord) → IsLog pages a → IsLog pages b → log_text pages a ≡ log_text pages b → a ≡ b }
+    ensures { (m n : ℕ) (a b : List AnyRecord) → m < 2 ^ 32 → n < 2 ^ 32 → IsLog m a → IsLog n b → log_text m a ≡ log_text n b
+        → (m ≡ n) × (a ≡ b) }
 {}

@@ -1,7 +1,12 @@
-use Rattle.std.proofs.lemmas.List.{append_cancel_left}
-use Rattle.als_record.specs.LogText.{header_bytes, spellings}
+use Rattle.std.proofs.Common.{sym, subst, List, ℕ}
+use Rattle.als_record.specs.declared.record.Record.{Record}
+use Rattle.als_record.specs.LogText.{spellings, IsLog}
+use Rattle.als_record.proofs.HeaderLaws.{one_header}
 use Rattle.als_record.proofs.LogLaws.{logs_once}
 use Rattle.als_record.proofs.laws.one_log.Goals as goal
 
 pub returns : goal.returns
-returns c = λ pages a b is_a is_b e. logs_once pages 16 a b is_a.laid_out is_b.laid_out is_a.records is_b.records (append_cancel_left (header_bytes pages) (spellings a) (spellings b) e)
+returns c = λ m n a b small_m small_n is_a is_b e.
+    let parts = one_header m n (spellings a) (spellings b) small_m small_n e in
+    let is_b_as : IsLog m b = subst (λ (k : ℕ). IsLog k b) (sym parts.0) is_b in
+    (parts.0, logs_once m 16 a b is_a.laid_out is_b_as.laid_out is_a.records is_b_as.records parts.1)
