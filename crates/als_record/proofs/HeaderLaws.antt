@@ -1,13 +1,13 @@
 -- A header that is read is spelled so, and what is spelled so is read.
-use Rattle.std.proofs.Common.{◌≡◌, ℕ, ◌+◌, ◌^◌, ◌<◌, ◌≤◌, Bool, true, false, cond, eqb, ltb, leb, List, [], ◌∷◌, ◌++◌, length, get_or, take, drop, Option, Some, None, Result, Ok, Err, refl, sym, ap, subst, ◌∙◌, append_assoc, arith}
-use Rattle.std.specs.Prelude.{not, ◌&&◌, if◌then◌else◌, IfOk, MatchOption, codes, bytes_eq}
+use Rattle.std.proofs.Common.{◌≡◌, ℕ, ◌^◌, ◌<◌, ◌≤◌, Bool, true, false, eqb, ltb, leb, List, ◌∷◌, ◌++◌, length, take, drop, Option, Some, None, Result, Ok, Err, refl, sym, ap, subst, ◌∙◌, append_assoc, arith}
+use Rattle.std.specs.Prelude.{not, ◌&&◌, if◌then◌else◌, IfOk, MatchOption, codes}
 use Rattle.std.specs.Int.{w32, to_be_bytes}
-use Rattle.std.proofs.lemmas.Bool.{and_parts, and_from, ltb-true, ltb-false, le-ltb, leb-true, le-leb, eqb-true, eq-eqb}
+use Rattle.std.proofs.lemmas.Bool.{and_parts, and_from, ltb-true, ltb-false, le-ltb, leb-true, le-leb, eqb-true}
 use Rattle.std.proofs.lemmas.List.{take_at, take-append-drop, length-append}
 use Rattle.std.proofs.lemmas.Slice.Eq.{bytes_eq-Decides}
 use Rattle.als_record.specs.declared.header.LogHeader.{LogHeader}
 use Rattle.als_record.specs.declared.fault.Fault.{Fault}
-use Rattle.als_record.specs.declared.fault.Fault.TheVariants.{Memory, BadHeader, BadLength, BadType, BadReserved, WrongLsn, BadKey, BadValue}
+use Rattle.als_record.specs.declared.fault.Fault.TheVariants.{BadHeader}
 use Rattle.als_record.specs.LogText.{header_bytes}
 use Rattle.als_record.specs.Reading.{word_at, is_within}
 use Rattle.als_record.specs.HeaderReading.{is_magic, read_header}

@@ -1,18 +1,18 @@
 -- A record that is found is spelled so, and what is spelled so is found; more bytes behind it change nothing.
-use Rattle.std.proofs.Common.{◌≡◌, ℕ, ◌+◌, ◌-◌, ◌^◌, ◌<◌, ◌≤◌, ◌⊎◌, Bool, true, false, cond, eqb, ltb, List, [], ◌∷◌, ◌++◌, length, get_or, take, drop, Option, Some, None, Result, Ok, Err, refl, sym, ap, subst, ◌∙◌, append_assoc, arith, inl, inr}
+use Rattle.std.proofs.Common.{◌≡◌, ℕ, ◌+◌, ◌^◌, ◌<◌, ◌≤◌, ◌⊎◌, Bool, true, false, eqb, ltb, List, [], ◌++◌, length, get_or, take, drop, Option, Some, None, Result, Ok, Err, refl, sym, ap, subst, ◌∙◌, append_assoc, arith, inl, inr}
 use Rattle.std.specs.Prelude.{not, ◌&&◌, if◌then◌else◌, IfOk, IfErr, IfSome}
 use Rattle.std.specs.Int.{w32, w64}
-use Rattle.std.proofs.lemmas.Bool.{ltb-true, ltb-false, lt-ltb, le-ltb, eqb-true, eq-eqb}
+use Rattle.std.proofs.lemmas.Bool.{ltb-false, le-ltb, eqb-true, eq-eqb}
 use Rattle.std.proofs.lemmas.List.{take_at, drop_at, take-append-drop, take-take, take-append-le, length-append, length-take, length-drop, get_or_append_left, append_cancel_left, append-nil}
 use Rattle.als_record.specs.declared.record.Body.{Body}
 use Rattle.als_record.specs.declared.record.Body.TheVariants.{Update, Compensation, Commit, Rollback, End, BeginCheckpoint, EndCheckpoint}
 use Rattle.als_record.specs.declared.record.Record.{Record}
 use Rattle.als_record.specs.declared.fault.Fault.{Fault}
-use Rattle.als_record.specs.declared.fault.Fault.TheVariants.{Memory, BadHeader, BadLength, BadType, BadReserved, WrongLsn, BadKey, BadValue}
+use Rattle.als_record.specs.declared.fault.Fault.TheVariants.{Memory, BadLength, BadType, BadReserved, WrongLsn}
 use Rattle.als_record.specs.Spelling.{head, spelling, record_len, body_bytes, body_len, type_byte, IsRecord}
 use Rattle.als_record.specs.Reading.{Gives, HasRows, TakesMemory, ◌>>=◌, word_at, long_at, size_at, type_at, is_size, is_type, is_reserved_zero, read_body, read_record}
 use Rattle.als_record.proofs.FieldLaws.{IsBytes, IsBytes-drop, IsBytes-take, wide32, wide64, number_below, number_more}
-use Rattle.als_record.proofs.RecordLaws.{body_found, body_again, size_range, type_byte_is, body_size, length-head, length-body_bytes, length-spelling, record_len-high, head_found, head_again, IsHeadOf}
+use Rattle.als_record.proofs.RecordLaws.{body_found, body_again, size_range, type_byte_is, body_size, length-head, length-spelling, record_len-high, head_found, head_again, IsHeadOf}
 
 abbrev Found : Type 0
 Found = Option (Record × ℕ)

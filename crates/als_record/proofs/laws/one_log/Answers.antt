@@ -1,5 +1,4 @@
-use Rattle.std.proofs.Common.{sym, subst, List, ℕ}
-use Rattle.als_record.specs.declared.record.Record.{Record}
+use Rattle.std.proofs.Common.{sym, subst, ℕ}
 use Rattle.als_record.specs.LogText.{spellings, IsLog}
 use Rattle.als_record.proofs.HeaderLaws.{one_header}
 use Rattle.als_record.proofs.LogLaws.{logs_once}
