@@ -15,4 +15,5 @@ pub mod TableRows
 pub mod Images
 pub mod Validity
 pub mod TailSteps
+pub mod HeaderLaws
 pub mod LogLaws

@@ -1,16 +1,15 @@
 -- The text of a log: its length, its parts, and that it is the text of no other log.
-use Rattle.std.proofs.Common.{◌≡◌, ℕ, ◌+◌, ◌^◌, ◌<◌, ◌≤◌, Bool, true, false, eqb, List, [], ◌∷◌, ◌++◌, length, take, drop, Option, Some, None, Result, Ok, Err, refl, sym, ap, subst, ◌∙◌, append_assoc, add_assoc, arith}
-use Rattle.std.specs.Prelude.{IsTrue, ◌&&◌, codes}
-use Rattle.std.specs.List.{flat_map, sum_by, AllByRecursion}
-use Rattle.std.specs.Int.{w32, to_be_bytes}
+use Rattle.std.proofs.Common.{◌≡◌, ℕ, ◌+◌, Bool, eqb, List, [], ◌∷◌, ◌++◌, length, drop, Some, Ok, refl, sym, ap, subst, ◌∙◌, append_assoc, arith}
+use Rattle.std.specs.Prelude.{IsTrue, ◌&&◌}
+use Rattle.std.specs.List.{sum_by, AllByRecursion}
 use Rattle.std.proofs.lemmas.Bool.{and_parts, eqb-true}
-use Rattle.std.proofs.lemmas.List.{append-nil, length-append, drop_at, append_cancel_left, append_cancel_right}
+use Rattle.std.proofs.lemmas.List.{append-nil, length-append, drop_at}
 use Rattle.std.proofs.Math.Bool.{and_assoc}
 use Rattle.std.proofs.lemmas.List.Sums.{sum_by-cons}
 use Rattle.std.proofs.lemmas.List.Concat.{flat_map-cons, flat_map-append}
 use Rattle.als_record.specs.declared.record.Record.{Record}
 use Rattle.als_record.specs.Spelling.{record_len, spelling, IsRecord}
-use Rattle.als_record.specs.LogText.{header_bytes, spellings, log_text, end_of, follow_from, IsLog}
+use Rattle.als_record.specs.LogText.{spellings, end_of, follow_from}
 use Rattle.als_record.specs.Reading.{read_record}
 use Rattle.als_record.proofs.RecordLaws.{length-spelling, record_len-low}
 use Rattle.als_record.proofs.ReadingLaws.{record_again, one_spelling_is}

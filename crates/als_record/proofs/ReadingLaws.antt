@@ -1,17 +1,18 @@
 -- A record that is found is spelled so, and what is spelled so is found; more bytes behind it change nothing.
-use Rattle.std.proofs.Common.{◌≡◌, ℕ, ◌+◌, ◌-◌, ◌^◌, ◌<◌, ◌≤◌, ◌⊎◌, Bool, true, false, cond, eqb, ltb, List, [], ◌∷◌, ◌++◌, length, get_or, take, drop, Option, Some, None, Result, Ok, Err, refl, sym, ap, subst, ◌∙◌, append_assoc, arith, inl, inr}
-use Rattle.std.specs.Prelude.{not, ◌&&◌, if◌then◌else◌, IfOk, IfSome}
+use Rattle.std.proofs.Common.{◌≡◌, ℕ, ◌+◌, ◌^◌, ◌<◌, ◌≤◌, ◌⊎◌, Bool, true, false, eqb, ltb, List, [], ◌++◌, length, get_or, take, drop, Option, Some, None, Result, Ok, Err, refl, sym, ap, subst, ◌∙◌, append_assoc, arith, inl, inr}
+use Rattle.std.specs.Prelude.{not, ◌&&◌, if◌then◌else◌, IfOk, IfErr, IfSome}
 use Rattle.std.specs.Int.{w32, w64}
-use Rattle.std.proofs.lemmas.Bool.{ltb-true, ltb-false, lt-ltb, le-ltb, eqb-true, eq-eqb}
+use Rattle.std.proofs.lemmas.Bool.{ltb-false, le-ltb, eqb-true, eq-eqb}
 use Rattle.std.proofs.lemmas.List.{take_at, drop_at, take-append-drop, take-take, take-append-le, length-append, length-take, length-drop, get_or_append_left, append_cancel_left, append-nil}
 use Rattle.als_record.specs.declared.record.Body.{Body}
+use Rattle.als_record.specs.declared.record.Body.TheVariants.{Update, Compensation, Commit, Rollback, End, BeginCheckpoint, EndCheckpoint}
 use Rattle.als_record.specs.declared.record.Record.{Record}
 use Rattle.als_record.specs.declared.fault.Fault.{Fault}
-use Rattle.als_record.specs.declared.fault.Fault.TheVariants.{Memory, BadHeader, BadLength, BadType, BadReserved, WrongLsn, BadKey, BadValue}
+use Rattle.als_record.specs.declared.fault.Fault.TheVariants.{Memory, BadLength, BadType, BadReserved, WrongLsn}
 use Rattle.als_record.specs.Spelling.{head, spelling, record_len, body_bytes, body_len, type_byte, IsRecord}
-use Rattle.als_record.specs.Reading.{Gives, ◌>>=◌, word_at, long_at, size_at, type_at, is_size, is_type, is_reserved_zero, read_body, read_record}
+use Rattle.als_record.specs.Reading.{Gives, HasRows, TakesMemory, ◌>>=◌, word_at, long_at, size_at, type_at, is_size, is_type, is_reserved_zero, read_body, read_record}
 use Rattle.als_record.proofs.FieldLaws.{IsBytes, IsBytes-drop, IsBytes-take, wide32, wide64, number_below, number_more}
-use Rattle.als_record.proofs.RecordLaws.{body_found, body_again, size_range, type_byte_is, body_size, length-head, length-body_bytes, length-spelling, record_len-high, head_found, head_again, IsHeadOf}
+use Rattle.als_record.proofs.RecordLaws.{body_found, body_again, size_range, type_byte_is, body_size, length-head, length-spelling, record_len-high, head_found, head_again, IsHeadOf}
 
 abbrev Found : Type 0
 Found = Option (Record × ℕ)
@@ -139,6 +140,10 @@ record_found pages at bytes r n fits e =
     subst (λ (y : Record × ℕ). IsFound pages at bytes y.0 y.1) b.2
     (made_is pages at bytes b.0 fits (ltb-false (length bytes) 28 p.is_long) p.is_sized p.is_typed p.is_zero (eqb-true (long_at 8 bytes) at p.is_placed) (ltb-false (length bytes) (size_at bytes) p.is_whole) b.1)
 
+-- a record that is found, and what stands behind it, are the bytes
+pub found_splits : (pages at : ℕ) (bytes : List ℕ) (r : Record) (n : ℕ) → IsBytes bytes → read_record pages at bytes ≡ Ok (Some (r, n)) → bytes ≡ spelling r ++ drop n bytes
+found_splits pages at bytes r n fits e = sym (take-append-drop n bytes) ∙ ap (λ (xs : List ℕ). xs ++ drop n bytes) (record_found pages at bytes r n fits e).spelled
+
 -- a record that is found ends within the bytes, whatever they are
 pub found_within : (pages at : ℕ) (bytes : List ℕ) (r : Record) (n : ℕ) → read_record pages at bytes ≡ Ok (Some (r, n)) → n ≤ length bytes
 found_within pages at bytes r n e =
@@ -197,6 +202,38 @@ pub given_only : (pages at : ℕ) (bytes : List ℕ) (result : Result Found Faul
 given_only pages at bytes result given r rest is placed e =
     let read : read_record pages at bytes ≡ Ok (Some (r, record_len r)) = ap (λ (k : ℕ). read_record pages k bytes) (sym placed) ∙ ap (read_record pages r.lsn.0) e ∙ record_again pages r rest is in
     subst (λ (f : Result Found Fault). Gives (λ (o : Found). o) result f) read given
+
+rows_type : (body : Body) → HasRows body → type_byte body ≡ 7
+rows_type (Update key before after) h = absurd h
+rows_type (Compensation undo_next key after) h = absurd h
+rows_type Commit h = absurd h
+rows_type Rollback h = absurd h
+rows_type End h = absurd h
+rows_type BeginCheckpoint h = absurd h
+rows_type (EndCheckpoint transactions pages) h = refl
+
+-- where a record with rows is found, its type is 7
+takes_type : (pages at : ℕ) (bytes : List ℕ) (read : Result Found Fault) → IsBytes bytes → read_record pages at bytes ≡ read → TakesMemory read → type_at bytes ≡ 7
+takes_type pages at bytes (Err fault) fits e takes = absurd takes
+takes_type pages at bytes (Ok None) fits e takes = absurd takes
+takes_type pages at bytes (Ok (Some y)) fits e takes =
+    let p = passed pages at bytes y e in
+    let size = size_at bytes in
+    let kind = type_at bytes in
+    let front = take size bytes in
+    let rest = drop 28 front in
+    let b = bind_some (read_body pages kind rest) (made_of at size (long_at 16 bytes) (word_at 24 bytes)) y p.gives in
+    let range = size_range kind size p.is_typed p.is_sized in
+    let whole = ltb-false (length bytes) size p.is_whole in
+    let rest_len : 28 + length rest ≡ size = omega (arith, length-drop 28 front, length-take size bytes, range.0) in
+    let body = body_found pages kind rest b.0 (IsBytes-drop 28 front (IsBytes-take size bytes fits)) p.is_typed (ap (is_size kind) rest_len ∙ p.is_sized) b.1 in
+    sym body.kind_is ∙ rows_type b.0 (subst HasRows (sym (ap (λ (x : Record × ℕ). x.0.body) b.2)) takes)
+
+pub given_rows : (pages at : ℕ) (bytes : List ℕ) (result : Result Found Fault) → IfErr result (λ e. e ≡ Memory → TakesMemory (read_record pages at bytes)) → result ≡ Err Memory → TakesMemory (read_record pages at bytes)
+given_rows pages at bytes result given e = subst (λ (r : Result Found Fault). IfErr r (λ f. f ≡ Memory → TakesMemory (read_record pages at bytes))) e given refl
+
+pub given_memory : (pages at : ℕ) (bytes : List ℕ) (result : Result Found Fault) → IsBytes bytes → IfErr result (λ e. e ≡ Memory → TakesMemory (read_record pages at bytes)) → result ≡ Err Memory → type_at bytes ≡ 7
+given_memory pages at bytes result fits given e = takes_type pages at bytes (read_record pages at bytes) fits refl (given_rows pages at bytes result given e)
 
 -- ---- more bytes, and fewer
 

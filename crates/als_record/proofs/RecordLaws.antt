@@ -1,18 +1,16 @@
 -- A record that is found is spelled so, and what is spelled so is found.
-use Rattle.std.proofs.Common.{◌≡◌, ℕ, zero, suc, ◌+◌, ◌-◌, ◌*◌, ◌^◌, ◌<◌, ◌≤◌, ◌⊎◌, Bool, true, false, cond, eqb, leb, ltb, List, [], ◌∷◌, ◌++◌, length, get_or, take, drop, Option, Some, None, Result, Ok, Err, refl, sym, ap, subst, ◌∙◌, append_assoc, arith, inl, inr}
-use Rattle.std.specs.Prelude.{not, ◌&&◌, if◌then◌else◌, IfOk, IfSome}
+use Rattle.std.proofs.Common.{◌≡◌, ℕ, zero, suc, ◌+◌, ◌*◌, ◌^◌, ◌<◌, ◌≤◌, true, eqb, leb, List, [], ◌∷◌, ◌++◌, length, get_or, drop, Ok, refl, sym, ap, subst, ◌∙◌, append_assoc, arith}
+use Rattle.std.specs.Prelude.{◌&&◌}
 use Rattle.std.specs.List.{flat_map}
 use Rattle.std.specs.Int.{w32, w64, to_be_bytes}
-use Rattle.std.proofs.lemmas.Bool.{and_parts, and_from, ltb-true, ltb-false, lt-ltb, le-ltb, leb-true, le-leb, eqb-true, eq-eqb}
-use Rattle.std.proofs.lemmas.List.{take_at, drop_at, take-append-drop, take-take, length-append, length-take, length-drop, drop_more, nil_from_length, append_cancel_left}
+use Rattle.std.proofs.lemmas.Bool.{and_parts, and_from, leb-true, le-leb, eqb-true}
+use Rattle.std.proofs.lemmas.List.{length-append, drop_more, nil_from_length}
 use Rattle.als_record.specs.declared.record.Body.{Body}
 use Rattle.als_record.specs.declared.record.Body.TheVariants.{Update, Compensation, Commit, Rollback, End, BeginCheckpoint, EndCheckpoint}
 use Rattle.als_record.specs.declared.record.Record.{Record}
-use Rattle.als_record.specs.declared.fault.Fault.{Fault}
-use Rattle.als_record.specs.declared.fault.Fault.TheVariants.{Memory, BadHeader, BadLength, BadType, BadReserved, WrongLsn, BadKey, BadValue}
-use Rattle.als_record.specs.Spelling.{Image, image_bytes, image_len, head, spelling, record_len, body_bytes, body_len, type_byte, transaction_row, page_row, IsBody, IsRecord}
-use Rattle.als_record.specs.Reading.{Gives, ◌>>=◌, word_at, long_at, size_at, type_at, is_size, is_type, is_within, is_reserved_zero, read_body, read_record}
-use Rattle.als_record.proofs.FieldLaws.{IsBytes, IsBytes-drop, IsBytes-take, wide32, wide64, number_field, number_below, number_again, number_more}
+use Rattle.als_record.specs.Spelling.{image_bytes, image_len, head, spelling, record_len, body_bytes, body_len, type_byte, transaction_row, page_row, IsBody, IsRecord}
+use Rattle.als_record.specs.Reading.{word_at, long_at, size_at, type_at, is_size, is_type, is_within, is_reserved_zero, read_body}
+use Rattle.als_record.proofs.FieldLaws.{IsBytes, wide32, wide64, number_field, number_again}
 use Rattle.als_record.proofs.BodyLaws.{done, ok_is, update_found, update_again, compensation_found, compensation_again}
 use Rattle.als_record.proofs.RowLaws.{checkpoint_found, checkpoint_again, length-transactions, length-pages}
 

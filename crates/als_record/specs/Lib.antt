@@ -2,6 +2,7 @@ pub mod FaultNames
 pub mod CauseNames
 pub mod Spelling
 pub mod Reading
+pub mod HeaderReading
 pub mod LogText
 pub mod Pages
 pub mod Transactions

@@ -1,5 +1,5 @@
 -- A log as one text: a header of 16 bytes, and then the spelling of each record at its LSN.
-use Rattle.std.specs.Prelude.{◌≡◌, ℕ, ◌+◌, ◌≤◌, ◌<◌, Bool, true, ◌&&◌, List, [], ◌∷◌, ◌++◌, IsTrue, ◌==◌, codes}
+use Rattle.std.specs.Prelude.{ℕ, ◌+◌, Bool, true, ◌&&◌, List, [], ◌∷◌, ◌++◌, IsTrue, ◌==◌, codes}
 use Rattle.std.specs.List.{flat_map, sum_by, AllByRecursion}
 use Rattle.std.specs.Int.{w32, to_be_bytes}
 use Rattle.als_record.specs.declared.record.Record.{Record}

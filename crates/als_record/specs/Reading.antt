@@ -1,9 +1,6 @@
 -- How bytes are read as a record: steps in order, of which the first that applies decides.
-use Rattle.std.specs.Prelude.{◌≡◌, ℕ, zero, suc, ◌+◌, ◌*◌, Bool, true, false, not, ◌&&◌, ◌||◌, List, [], ◌∷◌, length, take, drop, slice_index, Option, Some, None, Result, Ok, Err, nat_lt, nat_le, ◌==◌, if◌then◌else◌}
+use Rattle.std.specs.Prelude.{◌≡◌, ℕ, zero, suc, ◌+◌, ◌*◌, Bool, not, ◌&&◌, ◌||◌, List, [], ◌∷◌, length, take, drop, slice_index, Option, Some, None, Result, Ok, Err, nat_lt, nat_le, ◌==◌, if◌then◌else◌}
 use Rattle.std.specs.Int.{w16, w32, w64, from_be_bytes}
-use Rattle.arrayvec.specs.ArrayVec.{ArrayVec}
-use Rattle.als_record.specs.declared.lsn.Lsn.{Lsn}
-use Rattle.als_record.specs.declared.trans_id.TransId.{TransId}
 use Rattle.als_record.specs.declared.key.Key.{Key}
 use Rattle.als_record.specs.declared.rows.LoggedTransaction.{LoggedTransaction}
 use Rattle.als_record.specs.declared.rows.LoggedPage.{LoggedPage}
@@ -152,3 +149,22 @@ read_record pages at bytes =
     else if nat_lt (length bytes) (size_at bytes) then Ok None
     else read_body pages (type_at bytes) (drop 28 (take (size_at bytes) bytes)) >>= λ body.
     Ok (Some (record { lsn = record { 0 = at }; prev = record { 0 = long_at 16 bytes }; trans = record { 0 = word_at 24 bytes }; body = body }, size_at bytes))
+
+-- Reading gives an end_chkpt, the one record of which a part lies in memory of its own.
+abbrev pub HasRows : Body → Type 0
+HasRows (Update key before after) = ⊥
+HasRows (Compensation undo_next key after) = ⊥
+HasRows Commit = ⊥
+HasRows Rollback = ⊥
+HasRows End = ⊥
+HasRows BeginCheckpoint = ⊥
+HasRows (EndCheckpoint transactions pages) = Unit {0}
+
+abbrev pub GivesRows : Result Body Fault → Type 0
+GivesRows (Ok body) = HasRows body
+GivesRows (Err fault) = ⊥
+
+abbrev pub TakesMemory : Result (Option (Record × ℕ)) Fault → Type 0
+TakesMemory (Ok None) = ⊥
+TakesMemory (Ok (Some found)) = HasRows found.0.body
+TakesMemory (Err fault) = ⊥

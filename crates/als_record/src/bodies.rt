@@ -64,10 +64,10 @@ pub(crate) fn compensation(pages: u32, body: &[u8]) -> Result<Body, Fault>
     if body.len() != 14 + value_len(after) {
         return Err(Fault::BadLength);
     }
-    let (_, new) = body.split_at(14);
+    let (_, value) = body.split_at(14);
     Ok(Body::Compensation {
         undo_next: Lsn(long(body, 0)),
         key,
-        after: image(after, new),
+        after: image(after, value),
     })
 }

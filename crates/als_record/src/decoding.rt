@@ -1,8 +1,9 @@
 ghost use Rattle.std.specs.Prelude.{◌≡◌, ℕ, ◌<◌, ◌≤◌, ◌+◌, ◌-◌, ◌^◌, ◌++◌, List, length, take, drop, slice_index, Some, None, Ok, Err, IfOk, IfErr, IfSome};
+ghost use Rattle.std.specs.Result.{IsErrOf};
 ghost use Rattle.als_record.specs.declared.record.Record.{Record as AnyRecord};
 ghost use Rattle.als_record.specs.declared.fault.Fault.TheVariants.{Memory};
 ghost use Rattle.als_record.specs.Spelling.{spelling, record_len, IsRecord};
-ghost use Rattle.als_record.specs.Reading.{Gives, is_size, read_body, read_record};
+ghost use Rattle.als_record.specs.Reading.{Gives, GivesRows, TakesMemory, is_size, read_body, read_record};
 
 use crate::bodies::{compensation, update};
 use crate::fault::Fault;
@@ -36,7 +37,7 @@ fn body_of(alloc: Global, pages: u32, kind: u8, body: &[u8]) -> Result<Body, Fau
     requires compensation { kind ≡ 2 → 14 ≤ length body.now }
     requires checkpoint { 7 ≤ kind → 4 ≤ length body.now }
     ensures read { Gives (λ b. b) result (read_body pages kind body.now) }
-    ensures memory { IfErr result (λ e. e ≡ Memory → 7 ≤ kind) }
+    ensures memory { IfErr result (λ e. e ≡ Memory → GivesRows (read_body pages kind body.now)) }
 {
     match kind {
         1 => update(pages, body),
@@ -54,7 +55,7 @@ fn body_of(alloc: Global, pages: u32, kind: u8, body: &[u8]) -> Result<Body, Fau
 #[tactic(auto, unfolding(crate::specs::Reading::read_record))]
 fn read(alloc: Global, bytes: &[u8], at: Lsn, pages: u32) -> Result<Option<(Record, usize)>, Fault>
     ensures exact { Gives (λ o. o) result (read_record pages at.0 bytes.now) }
-    ensures memory { IfErr result (λ e. e ≡ Memory → slice_index bytes.now 4 ≡ 7) }
+    ensures memory { IfErr result (λ e. e ≡ Memory → TakesMemory (read_record pages at.0 bytes.now)) }
 {
     if bytes.len() < 28 {
         return Ok(None);
@@ -104,8 +105,9 @@ pub fn decode(
         → Gives (λ o. o) result (Ok (Some (r, record_len r))) }
     // Which fault it is, and when more bytes are needed.
     ensures exact { Gives (λ o. o) result (read_record pages at.0 bytes.now) }
-    // Only an end_chkpt record's rows take memory.
-    ensures memory { IfErr result (λ e. e ≡ Memory → slice_index bytes.now 4 ≡ 7) }
+    // Memory is wanted for nothing but the rows of an end_chkpt record that is there.
+    ensures memory { IsErrOf result Memory → slice_index bytes.now 4 ≡ 7 }
+    ensures rows { IsErrOf result Memory → TakesMemory (read_record pages at.0 bytes.now) }
 {
     read(alloc, bytes, at, pages)
 }

@@ -21,6 +21,8 @@ mod fault;
 mod header;
 // Numbers, keys and images in bytes.
 mod fields;
+// A header to bytes and back.
+mod header_codec;
 // Bytes to the bodies of updates and compensations.
 mod bodies;
 // Bytes to the rows of a checkpoint.
@@ -41,6 +43,8 @@ mod transaction_state;
 mod transaction_row;
 // Why a record may not follow a log.
 mod cause;
+// That bytes are one record, and a text one log.
+mod laws;
 
 pub use cause::Cause;
 pub use change::Change;
@@ -50,6 +54,7 @@ pub use fault::Fault;
 pub use header::LogHeader;
 pub use image::{Image, Value};
 pub use key::Key;
+pub use laws::{one_log, one_spelling};
 pub use lengths::encoded_len;
 pub use lsn::Lsn;
 pub use record::{Body, Record};
@@ -57,3 +62,6 @@ pub use rows::{LoggedPage, LoggedTransaction, PageRows, TransactionRows};
 pub use trans_id::TransId;
 pub use transaction_row::TransactionRow;
 pub use transaction_state::TransactionState;
+
+#[cfg(test)]
+mod tests;

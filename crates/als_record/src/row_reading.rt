@@ -1,5 +1,6 @@
 ghost use Rattle.std.specs.Prelude.{◌≡◌, ◌+◌, ◌*◌, ◌≤◌, length, take, drop, IfErr, IfOk, Ok, Err};
-ghost use Rattle.als_record.specs.Reading.{Gives, transaction_at, transactions_at, page_row_at, pages_at, read_checkpoint};
+ghost use Rattle.als_record.specs.declared.fault.Fault.TheVariants.{Memory};
+ghost use Rattle.als_record.specs.Reading.{Gives, GivesRows, transaction_at, transactions_at, page_row_at, pages_at, read_checkpoint};
 
 use crate::fault::Fault;
 use crate::fields::{half, long, word};
@@ -67,7 +68,8 @@ fn pages(alloc: Global, count: usize, bytes: &[u8]) -> Result<PageRows, AllocErr
 #[tactic(auto, unfolding(crate::specs::Reading::read_checkpoint))]
 pub(crate) fn checkpoint(alloc: Global, body: &[u8]) -> Result<Body, Fault>
     requires { 4 ≤ length body.now }
-    ensures { Gives (λ b. b) result (read_checkpoint body.now) }
+    ensures read { Gives (λ b. b) result (read_checkpoint body.now) }
+    ensures memory { IfErr result (λ e. e ≡ Memory → GivesRows (read_checkpoint body.now)) }
 {
     let transaction_count = half(body, 0) as usize;
     let page_count = half(body, 2) as usize;

@@ -1,5 +1,5 @@
 use Rattle.std.proofs.Common.{arith}
-use Rattle.als_record.proofs.ReadingLaws.{given_found, given_only}
+use Rattle.als_record.proofs.ReadingLaws.{given_found, given_only, given_memory, given_rows}
 use Rattle.als_record.proofs.decoding.decode.Goals as goal
 
 pub returns-clause-found : goal.returns-clause-found
@@ -7,3 +7,9 @@ returns-clause-found c = given_found c.args.pages c.args.at.0 c.args.bytes.now c
 
 pub returns-clause-only : goal.returns-clause-only
 returns-clause-only c = given_only c.args.pages c.args.at.0 c.args.bytes.now c.read.result c.read.ensures.exact
+
+pub returns-clause-memory : goal.returns-clause-memory
+returns-clause-memory c = given_memory c.args.pages c.args.at.0 c.args.bytes.now c.read.result (λ i. omega (arith, c.type_inv.bytes i)) c.read.ensures.memory
+
+pub returns-clause-rows : goal.returns-clause-rows
+returns-clause-rows c = given_rows c.args.pages c.args.at.0 c.args.bytes.now c.read.result c.read.ensures.memory

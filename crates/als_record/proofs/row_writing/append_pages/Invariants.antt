@@ -1,4 +1,4 @@
-use Rattle.std.proofs.Common.{◌≡◌, ◌+◌, ◌*◌, ◌≤◌, ◌++◌, length, take, vec_len, vec_capacity}
+use Rattle.std.proofs.Common.{◌≡◌, ◌+◌, ◌*◌, ◌≤◌, ◌++◌, take, vec_len, vec_capacity}
 use Rattle.std.specs.List.{flat_map}
 use Rattle.als_record.specs.Spelling.{page_row}
 use Rattle.als_record.proofs.row_writing.append_pages.Given as goal
