@@ -8,3 +8,4 @@ pub mod TableRows
 pub mod Images
 pub mod Validity
 pub mod TailSteps
+pub mod Standing
