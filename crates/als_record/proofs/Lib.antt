@@ -9,3 +9,5 @@ pub mod Images
 pub mod Validity
 pub mod TailSteps
 pub mod Standing
+pub mod Sound
+pub mod Takeover
