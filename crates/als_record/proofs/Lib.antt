@@ -11,3 +11,5 @@ pub mod TailSteps
 pub mod Standing
 pub mod Sound
 pub mod Takeover
+pub mod TailLength
+pub mod Places
