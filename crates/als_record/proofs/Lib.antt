@@ -13,3 +13,4 @@ pub mod Sound
 pub mod Takeover
 pub mod TailLength
 pub mod Places
+pub mod Held
