@@ -17,3 +17,9 @@ pub mod Validity
 pub mod TailSteps
 pub mod HeaderLaws
 pub mod LogLaws
+pub mod Standing
+pub mod Sound
+pub mod Takeover
+pub mod TailLength
+pub mod Places
+pub mod Held

@@ -208,3 +208,8 @@ is_committed-grows log r t = grows log r t is_committed (is_commit r.body) (is_c
 
 pub has_ended-grows : (log : List Record) (r : Record) (t : ℕ) → has_ended log t ≡ true → has_ended (log ++ r ∷ []) t ≡ true
 has_ended-grows log r t = grows log r t has_ended (is_end r.body) (has_ended-own log r t) (has_ended-other log r t)
+
+pub has_begun-ended : (log : List Record) (t : ℕ) → has_ended log t ≡ true → has_begun log t ≡ true
+has_begun-ended log t h = elim (cases_Bool (has_begun log t)) [
+    inl e ↦ e
+  | inr e ↦ absurd (false≢true (sym (has_ended-none log t e) ∙ h)) ]

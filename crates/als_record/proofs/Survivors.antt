@@ -83,7 +83,7 @@ pub All-weaken : (P Q : Record → Type 0) → ((u : Record) → P u → Q u) �
 All-weaken P Q f [] a = tt
 All-weaken P Q f (u ∷ rest) a = (f u a.0, All-weaken P Q f rest a.1)
 
-all_surviving-nil : all_surviving [] ≡ []
+pub all_surviving-nil : all_surviving [] ≡ []
 unfolding all_surviving
 all_surviving-nil = refl
 

@@ -137,3 +137,20 @@ module _ (log : List Record) (r : Record) where
       ∙ ap (λ b. filter (is_unended (log ++ r ∷ [])) (transactions log) ++ cond b (r.trans.0 ∷ []) []) {y = false} (is_unended-own log r r.trans.0 (own_of w) ∙ simp (has_ended-none log r.trans.0 n, e))
       ∙ append-nil (filter (is_unended (log ++ r ∷ [])) (transactions log))
       ∙ filter-except (is_unended (log ++ r ∷ [])) (is_unended log) r.trans.0 others (transactions log) (is_among-transactions log r.trans.0 ∙ n)
+
+  -- ---- how many
+
+  pub length-unended_more : is_transactional r.body ≡ true → is_end r.body ≡ false → is_unended log r.trans.0 ≡ true → length (unended (log ++ r ∷ [])) ≡ length (unended log)
+  length-unended_more w e u = ap length (unended-more w e u)
+
+  pub length-unended_end : is_transactional r.body ≡ true → is_end r.body ≡ true → is_unended log r.trans.0 ≡ true → length (unended (log ++ r ∷ [])) + 1 ≡ length (unended log)
+  length-unended_end w e u = ap (λ ts. length ts + 1) (unended-end w e (has_begun-unended log r.trans.0 u)) ∙ length-without r.trans.0 (unended log) (Apart-unended log) (is_among-unended log r.trans.0 ∙ u)
+
+  pub length-unended_new : is_transactional r.body ≡ true → is_end r.body ≡ false → has_begun log r.trans.0 ≡ false → length (unended (log ++ r ∷ [])) ≡ length (unended log) + 1
+  length-unended_new w e n = ap length (unended-new w e n) ∙ length_push (unended log) r.trans.0
+
+  pub length-unended_new_end : is_transactional r.body ≡ true → is_end r.body ≡ true → has_begun log r.trans.0 ≡ false → length (unended (log ++ r ∷ [])) ≡ length (unended log)
+  length-unended_new_end w e n = ap length (unended-new_end w e n)
+
+  pub length-unended_checkpoint : is_transactional r.body ≡ false → length (unended (log ++ r ∷ [])) ≡ length (unended log)
+  length-unended_checkpoint w = ap length (unended-checkpoint w)

@@ -1,13 +1,14 @@
 -- The tail of a log: what a takeover appends, as the undo pass of ARIES does (Mohan et al., TODS 1992, section 6.3): one
 -- falling sweep over all losers. The code finds it one record at a time.
-use Rattle.std.specs.Prelude.{ℕ, ◌==◌, Bool, ◌||◌, not, List, [], ◌∷◌, ◌++◌, map, filter, sum_by, if◌then◌else◌}
+use Rattle.std.specs.Prelude.{ℕ, ◌+◌, ◌==◌, Bool, ◌||◌, not, List, [], ◌∷◌, ◌++◌, map, filter, sum_by, if◌then◌else◌}
 use Rattle.std.specs.List.{list_any}
 use Rattle.als_record.specs.declared.lsn.Lsn.{Lsn}
 use Rattle.als_record.specs.declared.record.Body.{Body}
 use Rattle.als_record.specs.declared.record.Body.TheVariants.{Update, Compensation, End}
 use Rattle.als_record.specs.declared.record.Record.{Record}
-use Rattle.als_record.specs.Spelling.{record_len}
+use Rattle.als_record.specs.Spelling.{image_len, record_len}
 use Rattle.als_record.specs.LogText.{end_of}
+use Rattle.als_record.specs.Images.{image_before}
 use Rattle.als_record.specs.Transactions.{to_undo, is_some_left, is_committed, is_loser, last_lsn, unended, all_surviving}
 
 -- one record of a tail, before it has a place: a transaction ends, or an update is undone
@@ -58,3 +59,11 @@ tail_of log = numbered log (tail_steps log)
 -- the tail's length in bytes
 unfoldable pub tail_len : List Record → ℕ
 tail_len log = sum_by record_len (tail_of log)
+
+-- the length of the compensation that undoes an update
+abbrev pub undo_len : Record → ℕ
+undo_len u = 42 + image_len (image_before u.body)
+
+-- how many bytes the compensations of a transaction take, if it is to be undone
+unfoldable pub undo_bytes : List Record → ℕ → ℕ
+undo_bytes log t = sum_by undo_len (to_undo log t)
