@@ -1,0 +1,72 @@
+-- What callers see of a receiver, and what its calls do.
+use Rattle.std.specs.Prelude.{◌≡◌, ℕ, ◌+◌, ◌<◌, Bool, true, false, MatchBool, List, [], ◌++◌, length, Option, Some, None, MatchOption, Result, Ok, Err}
+use Rattle.als_record.specs.declared.fault.Fault.{Fault}
+use Rattle.als_record.specs.declared.fault.Fault.TheVariants.{BadHeader, BadLength, BadType, BadReserved, WrongLsn, BadKey, BadValue, Memory}
+use Rattle.als_record.specs.declared.record.Record.{Record}
+use Rattle.als_record.specs.Spelling.{record_len, spelling, IsRecord}
+use Rattle.als_record.specs.Reading.{read_record}
+use Rattle.als_receiver.specs.declared.refusal.Refusal.{Refusal}
+
+-- the page count of the database, the LSN of the next record, the bytes kept for it, and the refusal that stays
+pub record Reception : Type 0 where
+  pub pages : ℕ
+  pub wanted : ℕ
+  pub kept : List ℕ
+  pub refusal : Option Refusal
+
+-- a receiver before its first bytes
+abbrev pub fresh : ℕ → ℕ → Reception
+fresh wanted pages = record { pages = pages; wanted = wanted; kept = []; refusal = None }
+
+-- the bytes kept are these, and all else stays
+abbrev pub with_kept : Reception → List ℕ → Reception
+with_kept old bytes = record { pages = old.pages; wanted = old.wanted; kept = bytes; refusal = old.refusal }
+
+-- this refusal stays from now on
+abbrev pub with_refusal : Reception → Refusal → Reception
+with_refusal old refusal = record { pages = old.pages; wanted = old.wanted; kept = old.kept; refusal = Some refusal }
+
+-- the record at the front of the bytes kept is handed out, and the next one is wanted behind it
+pub record HandsOut (old : Reception) (r : Record) (new : Reception) : Type 0 where
+  pub unrefused : old.refusal ≡ None
+  pub reading : read_record old.pages old.wanted old.kept ≡ Ok (Some (r, record_len r))
+  pub place : r.lsn.0 ≡ old.wanted
+  pub fits : IsRecord old.pages r
+  pub bytes : old.kept ≡ spelling r ++ new.kept
+  pub after : new ≡ record { pages = old.pages; wanted = old.wanted + record_len r; kept = new.kept; refusal = None }
+
+-- the bytes kept are less than a record, and nothing changes
+pub record Waits (old new : Reception) : Type 0 where
+  pub unrefused : old.refusal ≡ None
+  pub reading : read_record old.pages old.wanted old.kept ≡ Ok None
+  pub short : length old.kept < 54560
+  pub same : new ≡ old
+
+-- want of memory is no fault of the bytes
+abbrev pub is_memory : Fault → Bool
+is_memory Memory = true
+is_memory BadHeader = false
+is_memory BadLength = false
+is_memory BadType = false
+is_memory BadReserved = false
+is_memory WrongLsn = false
+is_memory BadKey = false
+is_memory BadValue = false
+
+-- the bytes kept begin with no record: this refusal stays
+pub record RefusesBytes (old : Reception) (refusal : Refusal) (new : Reception) : Type 0 where
+  pub reading : read_record old.pages old.wanted old.kept ≡ Err refusal.fault
+  pub stays : new ≡ with_refusal old refusal
+
+-- a refusal: the one that stays, else want of memory, which changes nothing, or the first of the bytes
+abbrev pub Refuses : Reception → Refusal → Reception → Type 0
+Refuses old refusal new =
+    MatchOption old.refusal
+      ((refusal.lsn.0 ≡ old.wanted) × MatchBool (is_memory refusal.fault) (new ≡ old) (RefusesBytes old refusal new))
+      (λ before. (refusal ≡ before) × (new ≡ old))
+
+-- what a call for the next record answers, and what it leaves
+abbrev pub Answers : Reception → Result (Option Record) Refusal → Reception → Type 0
+Answers old (Ok (Some r)) new = HandsOut old r new
+Answers old (Ok None) new = Waits old new
+Answers old (Err refusal) new = Refuses old refusal new
