@@ -1,1 +1,2 @@
 pub mod Reception
+pub mod History

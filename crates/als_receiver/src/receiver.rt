@@ -1,15 +1,18 @@
-ghost use Rattle.std.specs.Prelude.{◌≡◌, ◌+◌, ◌<◌, ◌^◌, [], ◌++◌, length, OnOk, OnErr};
+ghost use Rattle.std.specs.Prelude.{◌≡◌, ◌+◌, ◌<◌, ◌^◌, [], ◌++◌, length, MatchBool, OnOk, OnErr};
 
 use crate::refusal::Refusal;
-use als_record::{Fault, Lsn, Record};
+use als_record::{Fault, Lsn, Record, decode};
+use bytes::BytesMut;
 use std::alloc::{AllocError, Global};
 use std::marker::Model;
 
+/// Takes the bytes of a log text in pieces, however they are cut, and hands out its records one by one. It keeps the
+/// bytes of a record that is not whole yet, and after bytes that are no record it gives the same refusal for good.
 #[derive(Drop)]
 pub struct Receiver {
     pages: u32,
     wanted: Lsn,
-    kept: Vec<u8>,
+    kept: BytesMut,
     refusal: Option<Refusal>,
 }
 
@@ -25,48 +28,91 @@ impl Model for Receiver {
 }
 
 impl Receiver {
-    ghost use Rattle.als_receiver.specs.Reception.{fresh, with_kept, Answers};
+    ghost use Rattle.als_receiver.specs.Reception.{fresh, with_kept, with_refusal, is_memory, Answers};
 
+    /// A receiver for a database of `pages` pages that wants the record at `at` first. It takes no memory.
     pub fn new(alloc: Global, at: Lsn, pages: u32) -> Receiver
         ensures { result ≡ fresh at.0 pages }
     {
         Receiver {
             pages,
             wanted: at,
-            kept: Vec::new(alloc),
+            kept: BytesMut::new(alloc),
             refusal: None,
         }
     }
 
+    /// Adds bytes to those kept. Only want of memory is refused, and changes nothing. Log texts have less than 2^64
+    /// bytes: `position` tells where these begin.
     pub fn push(&mut self, piece: &[u8]) -> Result<(), AllocError>
         requires { self.old.wanted + length self.old.kept + length piece.now < 2 ^ 64 }
         ensures ok { OnOk result (self.new ≡ with_kept self.old (self.old.kept ++ piece.now)) }
         ensures err { OnErr result (self.new ≡ self.old) }
     {
-        Err(AllocError)
+        self.kept.extend_from_slice(piece)
     }
 
+    /// The next record, `None` where more bytes are needed. A refusal says where the record should stand and which of
+    /// the shape faults it has, and every later call gives it again; but want of memory (32, only at an end_chkpt's
+    /// rows) is not kept: the call may be made again.
     pub fn next(&mut self) -> Result<Option<Record>, Refusal>
         ensures { Answers self.old result self.new }
     {
-        match self.refusal {
-            Some(refusal) => Err(refusal),
-            None => Err(Refusal {
-                lsn: self.wanted,
-                fault: Fault::Memory,
-            }),
+        if let Some(refusal) = self.refusal {
+            return Err(refusal);
+        }
+        match decode(*self.kept.allocator(), self.kept.as_slice(), self.wanted, self.pages) {
+            Ok(None) => Ok(None),
+            Ok(Some((record, len))) => {
+                self.kept.advance(len);
+                self.wanted = Lsn(self.wanted.0 + len as u64);
+                Ok(Some(record))
+            }
+            Err(fault) => Err(self.refused(fault)),
         }
     }
 
+    // The refusal of the bytes kept, which stays unless memory is wanted.
+    fn refused(&mut self, fault: Fault) -> Refusal
+        ensures place { result.lsn.0 ≡ self.old.wanted }
+        ensures fault { result.fault ≡ fault }
+        ensures kept { MatchBool (is_memory fault) (self.new ≡ self.old) (self.new ≡ with_refusal self.old result) }
+    {
+        let refusal = Refusal {
+            lsn: self.wanted,
+            fault,
+        };
+        if fault != Fault::Memory {
+            self.refusal = Some(refusal);
+        }
+        refusal
+    }
+
+    /// How many bytes are kept: fewer than the longest record's 54,560 once `next` has answered `None`.
     pub fn partial(&self) -> usize
         ensures { result ≡ length self.now.kept }
     {
         self.kept.len()
     }
 
+    /// Forgets the bytes kept. It takes no memory, and a refusal stays.
     pub fn drop_partial(&mut self)
         ensures { self.new ≡ with_kept self.old [] }
     {
         self.kept.clear();
+    }
+
+    /// The offset behind the records handed out, at which the next one should stand.
+    pub fn next_lsn(&self) -> Lsn
+        ensures { result.0 ≡ self.now.wanted }
+    {
+        self.wanted
+    }
+
+    /// The offset of the byte that is to be pushed next: behind the records handed out and the bytes kept.
+    pub fn position(&self) -> u64
+        ensures { result ≡ self.now.wanted + length self.now.kept }
+    {
+        self.wanted.0 + self.kept.len() as u64
     }
 }

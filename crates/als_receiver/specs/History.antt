@@ -1,0 +1,76 @@
+-- Histories: calls on a receiver one after another, with what they answered.
+use Rattle.std.specs.Prelude.{◌≡◌, ℕ, ◌+◌, ◌-◌, IsTrue, List, [], ◌∷◌, ◌++◌, length, take, Option, None, Some, Result, Ok, Err}
+use Rattle.als_record.specs.declared.fault.Fault.{Fault}
+use Rattle.als_record.specs.declared.record.Record.{Record}
+use Rattle.std.specs.List.{sum_by, AllByRecursion}
+use Rattle.als_record.specs.Spelling.{record_len, IsRecord}
+use Rattle.als_record.specs.LogText.{spellings, follow_from}
+use Rattle.als_record.specs.Reading.{read_record}
+use Rattle.als_receiver.specs.declared.refusal.Refusal.{Refusal}
+use Rattle.als_receiver.specs.Reception.{Reception, with_kept, Answers}
+
+-- a call: a piece pushed, an answer to the question for the next record, or the bytes that were dropped
+pub data Call : Type 0 where
+  Push : (piece : List ℕ) → Call
+  Next : (answer : Result (Option Record) Refusal) → Call
+  Drop : (bytes : List ℕ) → Call
+
+-- what a call does
+abbrev pub Does : Reception → Call → Reception → Type 0
+Does old (Push piece) new = new ≡ with_kept old (old.kept ++ piece)
+Does old (Next answer) new = Answers old answer new
+Does old (Drop bytes) new = (bytes ≡ old.kept) × (new ≡ with_kept old [])
+
+-- calls lead from one state to another
+abbrev pub Runs : Reception → List Call → Reception → Type 0
+Runs old [] new = new ≡ old
+Runs old (call ∷ calls) new = (between : Reception) × Does old call between × Runs between calls new
+
+-- the records handed out, in order
+abbrev pub handed_by : Result (Option Record) Refusal → List Record
+handed_by (Ok (Some r)) = r ∷ []
+handed_by (Ok None) = []
+handed_by (Err refusal) = []
+
+abbrev pub handed : List Call → List Record
+handed [] = []
+handed (Push piece ∷ calls) = handed calls
+handed (Next answer ∷ calls) = handed_by answer ++ handed calls
+handed (Drop bytes ∷ calls) = handed calls
+
+-- all bytes pushed but those dropped, behind the bytes that came before
+abbrev pub bytes_after : List ℕ → List Call → List ℕ
+bytes_after before [] = before
+bytes_after before (Push piece ∷ calls) = bytes_after (before ++ piece) calls
+bytes_after before (Next answer ∷ calls) = bytes_after before calls
+bytes_after before (Drop bytes ∷ calls) = bytes_after (take (length before - length bytes) before) calls
+
+-- nothing was dropped
+abbrev pub KeepsAll : List Call → Type 0
+KeepsAll [] = Unit {0}
+KeepsAll (Push piece ∷ calls) = KeepsAll calls
+KeepsAll (Next answer ∷ calls) = KeepsAll calls
+KeepsAll (Drop bytes ∷ calls) = ⊥
+
+-- what the bytes kept begin with, if it is read now
+abbrev pub reading_of : Reception → Result (Option (Record × ℕ)) Fault
+reading_of s = read_record s.pages s.wanted s.kept
+
+-- no whole record is left among the bytes kept
+pub record IsEmptied (s : Reception) : Type 0 where
+  pub none : (found : Record × ℕ) → reading_of s ≡ Ok (Some found) → ⊥
+
+-- Where a history from the first record on stands: all bytes pushed but those dropped are the records handed out,
+-- spelled, and then the bytes kept; and these records follow one another in the log text.
+pub record Accounts (wanted pages : ℕ) (calls : List Call) (s : Reception) : Type 0 where
+  pub bytes : bytes_after [] calls ≡ spellings (handed calls) ++ s.kept
+  pub follow : IsTrue (follow_from wanted (handed calls))
+  pub records : AllByRecursion (IsRecord pages) (handed calls)
+  pub next : s.wanted ≡ wanted + sum_by record_len (handed calls)
+
+-- What two histories have in common that end with no whole record left.
+pub record EndAlike (first second : List Call) (s t : Reception) : Type 0 where
+  pub records : handed first ≡ handed second
+  pub kept : s.kept ≡ t.kept
+  pub wanted : s.wanted ≡ t.wanted
+  pub refusal : (e f : Refusal) → s.refusal ≡ Some e → t.refusal ≡ Some f → e ≡ f
