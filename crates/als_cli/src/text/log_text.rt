@@ -1,9 +1,14 @@
+ghost use Rattle.std.specs.Prelude.{◌≡◌, ◌++◌, length, IfOk, OnOk, Some};
+ghost use Rattle.als_record.specs.LogText.{header_bytes};
+ghost use Rattle.als_record.specs.Spelling.{spelling};
+ghost use Rattle.als_cli.specs.RawRecord.{record_of};
+
 use super::raw_body::RawBody;
-use super::raw_record::RawRecord;
+use super::raw_record::append_record;
 use crate::script::RecordLine;
-use byteorder::{BigEndian, ByteOrder};
 use std::alloc::{AllocError, Global};
 use std::collections::HashMap;
+use std::marker::Model;
 
 /// The log text of record lines: a header, and a record for each line, with its place and its PrevLSN filled in.
 #[derive(Drop)]
@@ -17,11 +22,20 @@ pub struct LogText {
     last_checkpoint: u64,
 }
 
+impl Model for LogText {
+    ghost use Rattle.std.specs.Prelude.{ℕ, List};
+
+    ghost Value = { List ℕ };
+
+    ghost view = { λ t. t.bytes.items };
+}
+
 impl LogText {
     /// A log of no records, of a database of so many pages.
-    pub fn new(alloc: Global, pages: u32) -> Result<LogText, AllocError> {
-        let mut header = *b"ALSLOG01\0\0\0\0\0\0\0\0";
-        BigEndian::write_u32(&mut header[8..], pages);
+    pub fn new(alloc: Global, pages: u32) -> Result<LogText, AllocError>
+        ensures { IfOk result (λ t. t ≡ header_bytes pages) }
+    {
+        let header = header(pages);
         let bytes = Vec::from_slice(alloc, &header)?;
         let mut ends = Vec::new(alloc);
         ends.push(bytes.len())?;
@@ -34,7 +48,9 @@ impl LogText {
     }
 
     /// The text so far.
-    pub fn bytes(&self) -> &[u8] {
+    pub fn bytes(&self) -> &[u8]
+        ensures { result.now ≡ self.now }
+    {
         self.bytes.as_slice()
     }
 
@@ -43,16 +59,18 @@ impl LogText {
         self.ends.as_slice()
     }
 
-    /// Appends the record of a line.
-    pub fn push(&mut self, line: &RecordLine) -> Result<(), AllocError> {
+    /// Appends the record of a line: it stands where the text ends, and has the line's PrevLSN where the line has one.
+    pub fn push(&mut self, line: &RecordLine) -> Result<(), AllocError>
+        ensures { OnOk result ((prev : _)
+            × (self.new ≡ self.old ++ spelling (record_of (length self.old) prev line.now.trans line.now.body))
+            × ((own : _) → line.now.prev ≡ Some own → prev ≡ own)) }
+    {
         let lsn = self.bytes.len() as u64;
-        let record = RawRecord {
-            lsn,
-            prev: self.prev_of(line),
-            trans: line.trans,
-            body: &line.body,
+        let prev = match line.prev {
+            Some(prev) => prev,
+            None => self.prev_of(line),
         };
-        record.spell(&mut self.bytes)?;
+        append_record(&mut self.bytes, lsn, prev, line.trans, &line.body)?;
         self.ends.push(self.bytes.len())?;
         self.last_of.insert(line.trans, lsn)?;
         if let RawBody::BeginCheckpoint = line.body {
@@ -61,14 +79,24 @@ impl LogText {
         Ok(())
     }
 
-    /// The PrevLSN of a line's record: its own word, else the last record of the same TransID; for an end_chkpt the
+    /// The PrevLSN of a line's record where the line has none: the last record of the same TransID; for an end_chkpt the
     /// last begin_chkpt, and none for a begin_chkpt.
     fn prev_of(&self, line: &RecordLine) -> u64 {
-        match (line.prev, &line.body) {
-            (Some(prev), _) => prev,
-            (None, RawBody::BeginCheckpoint) => 0,
-            (None, RawBody::EndCheckpoint) => self.last_checkpoint,
-            (None, _) => self.last_of.get(&line.trans).copied().unwrap_or(0),
+        match &line.body {
+            RawBody::BeginCheckpoint => 0,
+            RawBody::EndCheckpoint => self.last_checkpoint,
+            _ => self.last_of.get(&line.trans).copied().unwrap_or(0),
         }
     }
+}
+
+/// The header of a log text.
+#[tactic(auto, unfolding(als_record::specs::LogText::header_bytes))]
+fn header(pages: u32) -> [u8; 16]
+    ensures { result ≡ header_bytes pages }
+{
+    let p = pages.to_be_bytes();
+    [
+        b'A', b'L', b'S', b'L', b'O', b'G', b'0', b'1', p[0], p[1], p[2], p[3], 0, 0, 0, 0,
+    ]
 }
