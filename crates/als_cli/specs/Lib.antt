@@ -1,0 +1,2 @@
+pub mod RawRecord
+pub mod Status

@@ -1,0 +1,95 @@
+use clap::error::ErrorKind;
+use clap::{Arg, ArgAction, Error};
+use std::alloc::{AllocError, Global};
+use std::convert::AsStr;
+
+/// What the command line asks for.
+#[derive(Clone, Copy, Debug, PartialEq, Eq)]
+pub enum Command {
+    /// Record lines to a log text: its bytes, or lines of hexadecimal digits.
+    Make { hex: bool },
+    /// A script to what its lines print.
+    Sim,
+}
+
+const ABOUT: &str =
+    "A hot standby that redoes the log which its primary ships (ARIES, continuous redo).";
+
+const STATUSES: &str = "Exit statuses:
+  0  done (in sim also where a step was refused: its line says so)
+  2  a fault of the command line, or `line N: bad line`
+  3  `als: refused N Name`, or a world line that was refused";
+
+const MAKE_ABOUT: &str = "Makes a log text from record lines";
+
+const MAKE_HELP: &str = "Reads standard input: a line `pages N`, and then record lines
+  u T P S BEFORE AFTER    update of slot S of page P by transaction T
+  c T P S AFTER NEXT      compensation with UndoNxtLSN NEXT
+  commit T, rollback T, end T
+  ckpt, ckptend           begin_chkpt, and end_chkpt with empty tables
+each with an optional ` prev=N` in place of its own PrevLSN. A value is lower
+case hexadecimal, `.` for the empty value, `-` for absent. Empty lines and lines
+that begin with # are passed over.
+Writes standard output: the log's header and its records.
+
+Example:
+  printf 'pages 4\\nu 1 0 0 - aa\\ncommit 1\\nend 1\\n' | als make --hex
+
+Exit statuses: 0 done, 2 a fault of the command line or `line N: bad line` (then
+nothing is written), 3 `als: refused N Name`.";
+
+const SIM_ABOUT: &str = "Runs a script on a standby in memory";
+
+const SIM_HELP: &str = "Reads standard input: first a line
+  world pages=P log=B frames=F workers=W pending=Q
+and then record lines as `als make` reads them, which make the primary's log
+text, and
+  feed A B                give the standby bytes A to B-1 of the text
+  resync                  drop the partial record, follow again
+  apply P                 redo the first pending changes of page P
+  drain                   redo until nothing is pending
+  show status|db, show page P, show log A
+Writes standard output: for each line that is no record line what it answers.
+
+Example:
+  als sim < examples/first-path.als
+
+Exit statuses: 0 done (a refused step is a line `refused N Name`, and the script
+goes on), 2 a fault of the command line or `line N: bad line`, 3 a refused world
+line or `als: refused N Name`.";
+
+/// What the words ask for, of which the first is the program's name. An error is a mistake in the words, a request for
+/// help, or want of memory; its text says which.
+pub fn args<S: AsStr>(alloc: Global, words: &[S]) -> Result<Command, Error> {
+    let mut als = language(alloc)?;
+    let matches = als.try_get_matches_from_mut(words)?;
+    match matches.subcommand() {
+        Some(("make", make)) => Ok(Command::Make {
+            hex: make.get_flag("hex"),
+        }),
+        Some(("sim", _)) => Ok(Command::Sim),
+        _ => Err(als.error(ErrorKind::MissingSubcommand, "a subcommand is wanted")?),
+    }
+}
+
+/// The command lines that the program knows.
+fn language<'a>(alloc: Global) -> Result<clap::Command<'a>, AllocError> {
+    let hex = Arg::new(alloc, "hex")
+        .long("hex")
+        .action(ArgAction::SetTrue)
+        .help("Write lower case hexadecimal, the header and each record on a line");
+    let make = clap::Command::new(alloc, "make")
+        .about(MAKE_ABOUT)
+        .after_help(MAKE_HELP)
+        .arg(hex)?;
+    let sim = clap::Command::new(alloc, "sim")
+        .about(SIM_ABOUT)
+        .after_help(SIM_HELP);
+    clap::Command::new(alloc, "als")
+        .bin_name("als")?
+        .about(ABOUT)
+        .after_help(STATUSES)
+        .subcommand_required(true)
+        .subcommand(make)?
+        .subcommand(sim)
+}

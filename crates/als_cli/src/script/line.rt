@@ -1,0 +1,29 @@
+use super::combined_line::CombinedLine;
+use super::record_line::RecordLine;
+use super::show_line::ShowLine;
+use super::step_line::StepLine;
+
+/// A line of a simulation behind its first.
+#[derive(Drop)]
+pub enum Line {
+    Record(RecordLine),
+    Step(StepLine),
+    Combined(CombinedLine),
+    Show(ShowLine),
+}
+
+impl Line {
+    /// What a line says; None where it is none of the language.
+    pub fn parse(line: &str) -> Option<Line> {
+        if let Some(record) = RecordLine::parse(line) {
+            return Some(Line::Record(record));
+        }
+        if let Some(step) = StepLine::parse(line) {
+            return Some(Line::Step(step));
+        }
+        if let Some(combined) = CombinedLine::parse(line) {
+            return Some(Line::Combined(combined));
+        }
+        Some(Line::Show(ShowLine::parse(line)?))
+    }
+}

@@ -1,0 +1,30 @@
+use super::words::Words;
+
+/// A line of one step.
+#[derive(Clone, Copy, Debug, PartialEq, Eq)]
+pub enum StepLine {
+    /// `feed A B`: bytes `from` to `to - 1` of the log text.
+    Feed { from: u64, to: u64 },
+    Resync,
+    /// `apply P`
+    Apply { page: u32 },
+}
+
+impl StepLine {
+    /// The step of a line; None where it is no step line.
+    pub fn parse(line: &str) -> Option<StepLine> {
+        let mut words = Words::of(line);
+        let step = match words.next()? {
+            "feed" => StepLine::Feed {
+                from: words.number()?,
+                to: words.number()?,
+            },
+            "resync" => StepLine::Resync,
+            "apply" => StepLine::Apply {
+                page: words.number()?,
+            },
+            _ => return None,
+        };
+        words.ending(step)
+    }
+}

@@ -1,0 +1,32 @@
+use als_engine::{Fault, Fed, FeedFault, Reply};
+use als_record::Lsn;
+use std::io;
+use std::io::Write;
+
+/// The line of a step's reply; `end` is where the log then ends.
+pub fn reply<W: Write>(output: &mut W, reply: &Reply, end: Lsn) -> io::Result<()> {
+    let end = end.0;
+    match reply {
+        Reply::Done => writeln!(output, "ok"),
+        Reply::Applied(lsn) => writeln!(output, "ok lsn={}", lsn.0),
+        Reply::Fed(Fed { taken, records }) => {
+            writeln!(output, "ok taken={taken} records={records} end={end}")
+        }
+        Reply::FeedRefused(
+            FeedFault {
+                taken,
+                records,
+                fault,
+            },
+        ) => writeln!(
+            output,
+            "refused {fault} taken={taken} records={records} end={end}"
+        ),
+        Reply::Refused(fault) => refused(output, *fault),
+    }
+}
+
+/// The line of a refusal: its number, its name, and the number that it carries, if any.
+pub fn refused<W: Write>(output: &mut W, fault: Fault) -> io::Result<()> {
+    writeln!(output, "refused {fault}")
+}

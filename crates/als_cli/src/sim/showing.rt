@@ -1,0 +1,119 @@
+ghost use Rattle.std.specs.Prelude.{◌≤◌};
+
+use super::shown_image::ShownImage;
+use super::shown_record::ShownRecord;
+use als_engine::{Engine, State, Status};
+use als_page::Page;
+use als_record::{Body, Image, Lsn, Record};
+use std::io;
+use std::io::Write;
+
+/// Slots of a page.
+const SLOTS: u8 = 15;
+
+/// Where the first record of a log stands.
+const FIRST: u64 = 16;
+
+/// `show status`.
+pub fn status<W: Write>(output: &mut W, engine: &Engine) -> io::Result<()> {
+    let Status {
+        state,
+        end,
+        acknowledged,
+        pending,
+        leases,
+        ..
+    } = engine.status();
+    let (state, end, acknowledged) = (state_name(state), end.0, acknowledged.0);
+    writeln!(
+        output,
+        "state={state} end={end} ack={acknowledged} pending={pending} leases={leases}"
+    )
+}
+
+/// The state's name as scripts see it.
+fn state_name(state: State) -> &'static str {
+    match state {
+        State::Following => "Following",
+        State::Refusing { .. } => "Refusing",
+    }
+}
+
+/// `show page`.
+pub fn page<W: Write>(output: &mut W, number: u32, page: &Page) -> io::Result<()> {
+    writeln!(output, "page {number} lsn={}", page.lsn().0)?;
+    present(output, number, page)?;
+    Ok(())
+}
+
+/// `show db`.
+pub fn database<W: Write>(output: &mut W, engine: &Engine) -> io::Result<()> {
+    let mut is_empty = true;
+    for number in 0..engine.pages() {
+        if let Some(page) = engine.page_now(number) {
+            is_empty &= !present(output, number, page)?;
+        }
+    }
+    if is_empty {
+        writeln!(output, "empty")?;
+    }
+    Ok(())
+}
+
+/// A line for each present slot; answers whether there is one.
+fn present<W: Write>(output: &mut W, number: u32, page: &Page) -> io::Result<bool> {
+    let mut any = false;
+    for slot in 0..SLOTS {
+        let image = page.image(slot);
+        if image.is_some() {
+            writeln!(output, "{number}/{slot} {}", ShownImage(image))?;
+            any = true;
+        }
+    }
+    Ok(any)
+}
+
+/// `show log`.
+pub fn log<W: Write>(output: &mut W, engine: &Engine, from: u64) -> io::Result<()> {
+    let end = engine.status().end.0;
+    let mut at = FIRST;
+    let mut is_empty = true;
+    while at < end {
+        let Some(record) = engine.record_at(Lsn(at)) else {
+            break;
+        };
+        if at >= from {
+            writeln!(output, "{}", ShownRecord(record))?;
+            is_empty = false;
+        }
+        at = at.saturating_add(spelled_len(record));
+    }
+    if is_empty {
+        writeln!(output, "none")?;
+    }
+    Ok(())
+}
+
+/// How many bytes of the log a record takes.
+fn spelled_len(record: &Record) -> u64
+    ensures { 28 ≤ result }
+{
+    match &record.body {
+        Body::Update { before, after, .. } => 35 + image_len(before) + image_len(after),
+        Body::Compensation { after, .. } => 42 + image_len(after),
+        Body::EndCheckpoint {
+            transactions,
+            pages,
+        } => 32 + 21 * transactions.as_slice().len() as u64 + 12 * pages.as_slice().len() as u64,
+        _ => 28,
+    }
+}
+
+fn image_len(image: &Image) -> u64
+    ensures { result ≤ 31 }
+{
+    match image {
+        Some(value) => value.len() as u64,
+        None => 0,
+    }
+}

@@ -1,0 +1,12 @@
+// A row of a table, and how it is run.
+mod row;
+// `als make`.
+mod making;
+// The script language: its bad lines.
+mod language;
+// Scripts whose output comes from the standby.
+mod standby;
+// The command line.
+mod asking;
+// Streams that fail or are too long.
+mod streams;

@@ -1,0 +1,179 @@
+use super::row::{Row, WORLD, run_rows};
+use crate::program::program;
+use std::test::Fail;
+
+/// First lines that are no world.
+const BAD_WORLDS: [&str; 9] = [
+    "world",
+    "world pages=4 log=8 frames=4 workers=2",
+    "world pages=4 log=8 frames=4 workers=2 pending=1000 ",
+    "world pages=4 log=8 frames=4 pending=1000 workers=2",
+    "world pages=4  log=8 frames=4 workers=2 pending=1000",
+    "world pages=+4 log=8 frames=4 workers=2 pending=1000",
+    "world pages= log=8 frames=4 workers=2 pending=1000",
+    "world pages=18446744073709551616 log=8 frames=4 workers=2 pending=1000",
+    "show status",
+];
+
+/// Lines that are none of the language.
+const BAD_LINES: [&str; 46] = [
+    " ",
+    "nothing",
+    "COMMIT 1",
+    " commit 1",
+    "commit 1 ",
+    "commit  1",
+    "commit\t1",
+    "commit 1\r",
+    "commit",
+    "commit x",
+    "commit +1",
+    "commit -1",
+    "commit 4294967296",
+    "commit 1 1",
+    "commit 1 prev=",
+    "commit 1 prev=+1",
+    "commit 1 prev=18446744073709551616",
+    "commit 1 prev=1 prev=1",
+    "commit 1 Prev=1",
+    "commit prev=1",
+    "ckpt 0",
+    "ckptend 0",
+    "u 1 0 0 -",
+    "u 1 0 0 - aa bb",
+    "u 1 4294967296 0 - aa",
+    "u 1 0 256 - aa",
+    "u 1 0 0 - a",
+    "u 1 0 0 - AA",
+    "u 1 0 0 - 0g",
+    "u 1 0 0 -- aa",
+    "u 1 0 0 .. aa",
+    "c 1 0 0 aa",
+    "c 1 0 0 aa -",
+    "c 1 0 0 aa 18446744073709551616",
+    "feed 16",
+    "feed 16 15",
+    "feed 0 17",
+    "feed 16 18446744073709551616",
+    "resync 0",
+    "apply",
+    "apply 4294967296",
+    "drain 0",
+    "show",
+    "show page",
+    "show log x",
+    "world pages=4 log=8 frames=4 workers=2 pending=1000",
+];
+
+#[test]
+fn sim_tells_bad_worlds(rt: HostRuntime) -> Result<(), Fail> {
+    for line in BAD_WORLDS {
+        let script = format!(in rt.alloc(); "#\n{line}\n")?;
+        let row = Row::sim(script.as_str(), "").failing("line 2: bad line\n", 2);
+        run_rows(&rt, &[row])?;
+    }
+    Ok(())
+}
+
+#[test]
+fn sim_tells_bad_lines(rt: HostRuntime) -> Result<(), Fail> {
+    for line in BAD_LINES {
+        let script = format!(in rt.alloc(); "{WORLD}feed 16 16\n{line}\nfeed 16 16\n")?;
+        let output = "ok taken=0 records=0 end=16\n";
+        let row = Row::sim(script.as_str(), output).failing("line 3: bad line\n", 2);
+        run_rows(&rt, &[row])?;
+    }
+    Ok(())
+}
+
+/// Empty lines and comments are passed over and counted; a missing first line would come behind the last.
+#[test]
+fn sim_counts_lines(rt: HostRuntime) -> Result<(), Fail> {
+    let bare = "world pages=4 log=8 frames=4 workers=2 pending=1000";
+    let zeros =
+        "world pages=0004 log=08 frames=4 workers=2 pending=1000\nfeed 0016 000000000000000000000016";
+    let passed = format!(in rt.alloc(); "\n# \u{e9}\n{WORLD}\n#\r\nfeed 16 16\n\nx")?;
+    let fed = "ok taken=0 records=0 end=16\n";
+    let rows = [
+        Row::sim(bare, ""),
+        Row::sim(zeros, fed),
+        Row::sim(passed.as_str(), fed).failing("line 8: bad line\n", 2),
+        Row::sim("", "").failing("line 1: bad line\n", 2),
+        Row::sim("\n\n", "").failing("line 3: bad line\n", 2),
+        Row::sim("#", "").failing("line 2: bad line\n", 2),
+    ];
+    run_rows(&rt, &rows)
+}
+
+/// A line that is no text is a bad line, also where a comment that is none is passed over.
+#[test]
+fn sim_wants_text(rt: HostRuntime) -> Result<(), Fail> {
+    let script = b"#\xff\nworld pages=4 log=8 frames=4 workers=2 pending=1000\ncommit 1\xff\n";
+    let mut output = Vec::new(rt.alloc());
+    let mut errors = Vec::new(rt.alloc());
+    let words = ["als", "sim"];
+    let status = program(
+        rt.alloc(),
+        &words,
+        script.as_slice(),
+        &mut output,
+        &mut errors,
+    );
+    assert!(rt; output.is_empty() && status == 2);
+    assert!(rt; errors.as_slice() == b"line 3: bad line\n".as_slice());
+    Ok(())
+}
+
+/// A world that is refused ends the script, whatever follows.
+#[test]
+fn sim_refuses_worlds(rt: HostRuntime) -> Result<(), Fail> {
+    let refused = "refused 37 BadConfig\n";
+    let rows = [
+        Row::sim(
+            "world pages=4 log=0 frames=4 workers=2 pending=1000\nx\n",
+            refused,
+        ),
+        Row::sim(
+            "world pages=4 log=4194305 frames=4 workers=2 pending=1000\n",
+            refused,
+        ),
+        Row::sim(
+            "world pages=4 log=8 frames=4 workers=0 pending=1000\n",
+            refused,
+        ),
+        Row::sim(
+            "world pages=4 log=8 frames=4 workers=9 pending=1000\n",
+            refused,
+        ),
+        Row::sim(
+            "world pages=0 log=8 frames=4 workers=2 pending=1000\n",
+            refused,
+        ),
+        Row::sim(
+            "world pages=4097 log=8 frames=4 workers=2 pending=1000\n",
+            refused,
+        ),
+        Row::sim(
+            "world pages=4 log=8 frames=0 workers=2 pending=1000\n",
+            refused,
+        ),
+        Row::sim(
+            "world pages=4 log=8 frames=4097 workers=2 pending=1000\n",
+            refused,
+        ),
+        Row::sim(
+            "world pages=4 log=8 frames=4 workers=2 pending=0\n",
+            refused,
+        ),
+        Row::sim(
+            "world pages=4 log=8 frames=4 workers=2 pending=1000001\n",
+            refused,
+        ),
+        Row::sim(
+            "world pages=18446744073709551615 log=8 frames=4 workers=2 pending=1\n",
+            refused,
+        ),
+    ];
+    let rows = rows.map(|row| row.failing("", 3));
+    run_rows(&rt, &rows)
+}

@@ -1,0 +1,199 @@
+use super::row::{Row, WORLD, run_rows};
+use std::test::Fail;
+
+/// The record lines of a transaction of one update, at 16, 52 and 80; the text ends at 108.
+const ONE_UPDATE: &str = "u 1 0 0 - aa\ncommit 1\nend 1\n";
+
+/// The script of `examples/first-path.als`.
+#[test]
+fn first_path(rt: HostRuntime) -> Result<(), Fail> {
+    let script = "world pages=4 log=8 frames=4 workers=2 pending=1000
+u 1 0 0 - aa
+commit 1
+end 1
+feed 16 108
+drain
+show page 0
+";
+    let output = "ok taken=92 records=3 end=108\nok\npage 0 lsn=16\n0/0 aa\n";
+    run_rows(&rt, &[Row::sim(script, output)])
+}
+
+/// A record is held as soon as its last byte has come, whatever the pieces.
+#[test]
+fn feed_byte_by_byte(rt: HostRuntime) -> Result<(), Fail> {
+    let mut script = format!(in rt.alloc(); "{WORLD}{ONE_UPDATE}")?;
+    let mut output = String::new(rt.alloc());
+    let mut end = 16;
+    for at in 16..108 {
+        let next = at + 1;
+        let records = match next {
+            52 | 80 | 108 => 1,
+            _ => 0,
+        };
+        if records == 1 {
+            end = next;
+        }
+        writeln!(script, "feed {at} {next}")?;
+        writeln!(output, "ok taken=1 records={records} end={end}")?;
+    }
+    run_rows(&rt, &[Row::sim(script.as_str(), output.as_str())])
+}
+
+/// What a feed answers: records taken and partial, a value that is too long, too much pending.
+#[test]
+fn feed_answers(rt: HostRuntime) -> Result<(), Fail> {
+    let rows = [
+        Row::sim(
+            "world pages=4 log=8 frames=4 workers=2 pending=1000
+u 1 0 0 - aa
+commit 1
+end 1
+feed 16 79
+show status
+resync
+feed 16 52
+feed 52 108
+resync
+feed 52 108
+feed 108 108
+show log 16
+",
+            "ok taken=63 records=1 end=52
+state=Following end=52 ack=16 pending=1 leases=0
+ok
+refused 5 WrongLsn taken=0 records=0 end=52
+refused 5 WrongLsn taken=0 records=0 end=52
+ok
+ok taken=56 records=2 end=108
+ok taken=0 records=0 end=108
+16 update trans=1 0/0 - aa prev=0
+52 commit trans=1 prev=16
+80 end trans=1 prev=52
+",
+        ),
+        Row::sim(
+            "world pages=4096 log=8 frames=4 workers=2 pending=1000
+u 1 4095 14 - 000102030405060708090a0b0c0d0e0f101112131415161718191a1b1c1d1e
+u 1 0 0 - 000102030405060708090a0b0c0d0e0f101112131415161718191a1b1c1d1e1f
+feed 16 149
+feed 82 82
+show status
+resync
+show status
+drain
+show page 4095
+show db
+",
+            "refused 7 BadValue taken=66 records=1 end=82
+refused 7 BadValue taken=0 records=0 end=82
+state=Refusing end=82 ack=16 pending=1 leases=0
+ok
+state=Following end=82 ack=16 pending=1 leases=0
+ok
+page 4095 lsn=16
+4095/14 000102030405060708090a0b0c0d0e0f101112131415161718191a1b1c1d1e
+4095/14 000102030405060708090a0b0c0d0e0f101112131415161718191a1b1c1d1e
+",
+        ),
+        Row::sim(
+            "world pages=4 log=8 frames=4 workers=2 pending=1
+u 1 0 0 - aa
+commit 1
+end 1
+feed 16 52
+feed 52 80
+drain
+feed 52 80
+",
+            "ok taken=36 records=1 end=52
+refused 36 Backlog taken=0 records=0 end=52
+ok
+ok taken=28 records=1 end=80
+",
+        ),
+    ];
+    run_rows(&rt, &rows)
+}
+
+/// Redo of one page, and what is shown before and behind it.
+#[test]
+fn redo_and_show(rt: HostRuntime) -> Result<(), Fail> {
+    let script = "world pages=4 log=8 frames=4 workers=2 pending=1000
+u 1 0 0 - aa
+u 1 0 14 - .
+u 1 3 1 - 0001
+commit 1
+feed 0 0
+show db
+show log 0
+show page 3
+feed 16 152
+show db
+show status
+apply 1
+apply 4
+apply 0
+apply 0
+show page 0
+show db
+apply 3
+show db
+show status
+show log 52
+show log 53
+show log 153
+show page 4
+";
+    let output = "ok taken=0 records=0 end=16
+empty
+none
+page 3 lsn=0
+ok taken=136 records=4 end=152
+empty
+state=Following end=152 ack=16 pending=3 leases=0
+refused 27 NothingToDo
+refused 27 NothingToDo
+ok lsn=52
+refused 27 NothingToDo
+page 0 lsn=52
+0/0 aa
+0/14 .
+0/0 aa
+0/14 .
+ok lsn=87
+0/0 aa
+0/14 .
+3/1 0001
+state=Following end=152 ack=16 pending=0 leases=0
+52 update trans=1 0/14 - . prev=16
+87 update trans=1 3/1 - 0001 prev=52
+124 commit trans=1 prev=87
+87 update trans=1 3/1 - 0001 prev=52
+124 commit trans=1 prev=87
+none
+";
+    run_rows(
+        &rt,
+        &[Row::sim(script, output).failing("line 25: bad line\n", 2)],
+    )
+}
+
+/// More changes of a page than one redo takes, and a page that has none.
+#[test]
+fn drain_goes_round(rt: HostRuntime) -> Result<(), Fail> {
+    let mut script = format!(in rt.alloc(); "{WORLD}u 1 2 0 - 00\nu 1 1 0 - 00\n")?;
+    for _ in 0..130 {
+        script.push_str("u 1 2 0 00 00\n")?;
+    }
+    script.push_str("feed 16 4898\nshow status\ndrain\nshow status\nshow db\ndrain\n")?;
+    let output = "ok taken=4882 records=132 end=4898
+state=Following end=4898 ack=16 pending=132 leases=0
+ok
+state=Following end=4898 ack=16 pending=0 leases=0
+1/0 00
+2/0 00
+ok
+";
+    run_rows(&rt, &[Row::sim(script.as_str(), output)])
+}

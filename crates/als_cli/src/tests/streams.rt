@@ -1,0 +1,146 @@
+use super::row::WORLD;
+use crate::program::program;
+use std::alloc::Global;
+use std::io;
+use std::io::{Read, Write};
+use std::test::Fail;
+
+/// What a failing stream ends with.
+const REFUSED: &[u8] = b"als: refused 44 Stream\n";
+
+/// Takes so many bytes, and then fails.
+#[derive(Drop)]
+struct Full {
+    room: usize,
+}
+
+impl Write for Full {
+    fn write(&mut self, bytes: &[u8]) -> io::Result<usize> {
+        if bytes.len() > self.room {
+            return Err(io::Error::from(io::ErrorKind::StorageFull));
+        }
+        self.room -= bytes.len();
+        Ok(bytes.len())
+    }
+
+    fn flush(&mut self) -> io::Result<()> {
+        Ok(())
+    }
+}
+
+/// Takes everything, and can't write it out.
+#[derive(Drop)]
+struct Unflushed;
+
+impl Write for Unflushed {
+    fn write(&mut self, bytes: &[u8]) -> io::Result<usize> {
+        Ok(bytes.len())
+    }
+
+    fn flush(&mut self) -> io::Result<()> {
+        Err(io::Error::from(io::ErrorKind::BrokenPipe))
+    }
+}
+
+/// Fails at each read.
+#[derive(Drop)]
+struct Broken;
+
+impl Read for Broken {
+    fn read(&mut self, _bytes: &mut [u8]) -> io::Result<usize> {
+        Err(io::Error::from(io::ErrorKind::ConnectionReset))
+    }
+}
+
+/// The most that standard input may have is read, one byte more is refused, and nothing is run.
+#[test]
+fn input_has_a_limit(rt: HostRuntime) -> Result<(), Fail> {
+    let world = WORLD.as_bytes();
+    let fed = "feed 16 16\n".as_bytes();
+    let rest = 16_777_216 - 64;
+    assert!(rt; world.len() + fed.len() == 63);
+    let comment = io::repeat(b'#').take(rest);
+    let longest = world.chain(fed).chain(b"\n".as_slice()).chain(comment);
+    let output = ran(rt.alloc(), &["als", "sim"], longest, 0, b"")?;
+    assert!(rt; output.as_slice() == b"ok taken=0 records=0 end=16\n".as_slice());
+    let comment = io::repeat(b'#').take(rest + 1);
+    let longer = world.chain(fed).chain(b"\n".as_slice()).chain(comment);
+    assert!(rt; ran(rt.alloc(), &["als", "sim"], longer, 3, REFUSED)?.is_empty());
+    let longer = io::repeat(b'\n').take(16_777_217);
+    assert!(rt; ran(rt.alloc(), &["als", "make"], longer, 3, REFUSED)?.is_empty());
+    Ok(())
+}
+
+/// A reader that fails, at once or behind a whole script, ends the program before anything is run.
+#[test]
+fn readers_may_fail(rt: HostRuntime) -> Result<(), Fail> {
+    assert!(rt; ran(rt.alloc(), &["als", "make"], Broken, 3, REFUSED)?.is_empty());
+    let script = "pages 4\n".as_bytes().chain(Broken);
+    assert!(rt; ran(rt.alloc(), &["als", "make"], script, 3, REFUSED)?.is_empty());
+    let script = WORLD
+        .as_bytes()
+        .chain("show status\n".as_bytes())
+        .chain(Broken);
+    assert!(rt; ran(rt.alloc(), &["als", "sim"], script, 3, REFUSED)?.is_empty());
+    Ok(())
+}
+
+/// A writer that fails is told, also where the buffer is written out behind a bad line.
+#[test]
+fn writers_may_fail(rt: HostRuntime) -> Result<(), Fail> {
+    let words = ["als", "make"];
+    for room in [0, 1, 15] {
+        let mut errors = Vec::new(rt.alloc());
+        let script = "pages 4\n".as_bytes();
+        let status = program(rt.alloc(), &words, script, Full { room }, &mut errors);
+        assert!(rt; status == 3 && errors.as_slice() == REFUSED);
+    }
+    let mut errors = Vec::new(rt.alloc());
+    let status = program(
+        rt.alloc(),
+        &words,
+        "pages 4\n".as_bytes(),
+        Unflushed,
+        &mut errors,
+    );
+    assert!(rt; status == 3 && errors.as_slice() == REFUSED);
+    let mut errors = Vec::new(rt.alloc());
+    let script = WORLD.as_bytes().chain("show status\nbad\n".as_bytes());
+    let status = program(
+        rt.alloc(),
+        &["als", "sim"],
+        script,
+        Full { room: 10 },
+        &mut errors,
+    );
+    assert!(rt; status == 3 && errors.as_slice() == REFUSED);
+    // Help, and a standard error that fails too.
+    let status = program(
+        rt.alloc(),
+        &["als", "--help"],
+        io::empty(),
+        Full { room: 10 },
+        Full { room: 0 },
+    );
+    assert!(rt; status == 3);
+    Ok(())
+}
+
+/// What a run writes, where it ends with this status and this on standard error.
+fn ran<R: Read + Drop>(
+    alloc: Global,
+    words: &[&str],
+    input: R,
+    status: u8,
+    errors: &[u8],
+) -> Result<Vec<u8>, Fail> {
+    let mut output = Vec::new(alloc);
+    let mut told = Vec::new(alloc);
+    if program(alloc, words, input, &mut output, &mut told) != status {
+        return Err(Fail::new("another status"));
+    }
+    if told.as_slice() != errors {
+        return Err(Fail::new("another text on standard error"));
+    }
+    Ok(output)
+}
