@@ -21,7 +21,6 @@ mod taking_in;
 mod engine;
 // One step of a run, and its reply.
 mod step;
-
 // Runs of steps.
 mod world;
 
@@ -32,3 +31,6 @@ pub use fed::{Fed, FeedFault};
 pub use status::{State, Status};
 pub use step::{Reply, Step};
 pub use world::{World, run};
+
+#[cfg(test)]
+mod tests;
