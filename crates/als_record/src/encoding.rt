@@ -11,6 +11,7 @@ use crate::lsn::Lsn;
 use crate::record::{Body, Record};
 use crate::row_writing::{append_pages, append_transactions};
 use crate::trans_id::TransId;
+use byteorder::{BigEndian, ByteOrder};
 
 /// Appends bytes for which there is room.
 #[inline]
@@ -59,14 +60,13 @@ fn length_of(image: &Image) -> u8
 fn head_bytes(size: u32, kind: u8, lsn: Lsn, prev: Lsn, trans: TransId) -> [u8; 28]
     ensures { result ≡ head size kind lsn.0 prev.0 trans.0 }
 {
-    let s = size.to_be_bytes();
-    let l = lsn.0.to_be_bytes();
-    let p = prev.0.to_be_bytes();
-    let t = trans.0.to_be_bytes();
-    [
-        s[0], s[1], s[2], s[3], kind, 0, 0, 0, l[0], l[1], l[2], l[3], l[4], l[5], l[6], l[7],
-        p[0], p[1], p[2], p[3], p[4], p[5], p[6], p[7], t[0], t[1], t[2], t[3],
-    ]
+    let mut bytes = [0; 28];
+    BigEndian::write_u32(&mut bytes, size);
+    bytes[4] = kind;
+    BigEndian::write_u64(&mut bytes[8..], lsn.0);
+    BigEndian::write_u64(&mut bytes[16..], prev.0);
+    BigEndian::write_u32(&mut bytes[24..], trans.0);
+    bytes
 }
 
 /// The fixed part of an update's body.
@@ -74,8 +74,12 @@ fn head_bytes(size: u32, kind: u8, lsn: Lsn, prev: Lsn, trans: TransId) -> [u8; 
 fn update_front(key: Key, before: u8, after: u8) -> [u8; 7]
     ensures { result ≡ to_be_bytes w32 key.page ++ (key.slot ∷ before ∷ after ∷ []) }
 {
-    let p = key.page.to_be_bytes();
-    [p[0], p[1], p[2], p[3], key.slot, before, after]
+    let mut bytes = [0; 7];
+    BigEndian::write_u32(&mut bytes, key.page);
+    bytes[4] = key.slot;
+    bytes[5] = before;
+    bytes[6] = after;
+    bytes
 }
 
 /// The fixed part of a compensation's body.
@@ -83,11 +87,12 @@ fn update_front(key: Key, before: u8, after: u8) -> [u8; 7]
 fn compensation_front(undo_next: Lsn, key: Key, after: u8) -> [u8; 14]
     ensures { result ≡ to_be_bytes w64 undo_next.0 ++ to_be_bytes w32 key.page ++ (key.slot ∷ after ∷ []) }
 {
-    let u = undo_next.0.to_be_bytes();
-    let p = key.page.to_be_bytes();
-    [
-        u[0], u[1], u[2], u[3], u[4], u[5], u[6], u[7], p[0], p[1], p[2], p[3], key.slot, after,
-    ]
+    let mut bytes = [0; 14];
+    BigEndian::write_u64(&mut bytes, undo_next.0);
+    BigEndian::write_u32(&mut bytes[8..], key.page);
+    bytes[12] = key.slot;
+    bytes[13] = after;
+    bytes
 }
 
 /// The counts of an end_chkpt's rows.
@@ -95,9 +100,10 @@ fn compensation_front(undo_next: Lsn, key: Key, after: u8) -> [u8; 14]
 fn counts(transactions: u16, pages: u16) -> [u8; 4]
     ensures { result ≡ to_be_bytes w16 transactions ++ to_be_bytes w16 pages }
 {
-    let n = transactions.to_be_bytes();
-    let m = pages.to_be_bytes();
-    [n[0], n[1], m[0], m[1]]
+    let mut bytes = [0; 4];
+    BigEndian::write_u16(&mut bytes, transactions);
+    BigEndian::write_u16(&mut bytes[2..], pages);
+    bytes
 }
 
 /// Appends a body for which there is room.

@@ -5,6 +5,7 @@ ghost use Rattle.als_record.specs.HeaderReading.{is_magic, read_header};
 use crate::fault::Fault;
 use crate::fields::word;
 use crate::header::LogHeader;
+use byteorder::{BigEndian, ByteOrder};
 
 /// Is it the text that each log begins with?
 fn begins_log(front: &[u8]) -> bool
@@ -59,9 +60,8 @@ impl LogHeader {
     pub fn encode(&self) -> [u8; 16]
         ensures { result ≡ header_bytes self.now.pages }
     {
-        let p = self.pages.to_be_bytes();
-        [
-            b'A', b'L', b'S', b'L', b'O', b'G', b'0', b'1', p[0], p[1], p[2], p[3], 0, 0, 0, 0,
-        ]
+        let mut bytes = *b"ALSLOG01\0\0\0\0\0\0\0\0";
+        BigEndian::write_u32(&mut bytes[8..], self.pages);
+        bytes
     }
 }

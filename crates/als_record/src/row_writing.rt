@@ -4,19 +4,19 @@ ghost use Rattle.als_record.specs.Spelling.{transaction_row, page_row};
 
 use crate::encoding::append;
 use crate::rows::{LoggedPage, LoggedTransaction};
+use byteorder::{BigEndian, ByteOrder};
 
 #[inline]
 #[tactic(auto, unfolding(crate::specs::Spelling::transaction_row))]
 fn transaction_bytes(row: LoggedTransaction) -> [u8; 21]
     ensures { result ≡ transaction_row row }
 {
-    let t = row.trans.0.to_be_bytes();
-    let l = row.last.0.to_be_bytes();
-    let u = row.undo_next.0.to_be_bytes();
-    [
-        t[0], t[1], t[2], t[3], row.state, l[0], l[1], l[2], l[3], l[4], l[5], l[6], l[7], u[0],
-        u[1], u[2], u[3], u[4], u[5], u[6], u[7],
-    ]
+    let mut bytes = [0; 21];
+    BigEndian::write_u32(&mut bytes, row.trans.0);
+    bytes[4] = row.state;
+    BigEndian::write_u64(&mut bytes[5..], row.last.0);
+    BigEndian::write_u64(&mut bytes[13..], row.undo_next.0);
+    bytes
 }
 
 #[inline]
@@ -24,11 +24,10 @@ fn transaction_bytes(row: LoggedTransaction) -> [u8; 21]
 fn page_bytes(row: LoggedPage) -> [u8; 12]
     ensures { result ≡ page_row row }
 {
-    let p = row.page.to_be_bytes();
-    let l = row.rec_lsn.0.to_be_bytes();
-    [
-        p[0], p[1], p[2], p[3], l[0], l[1], l[2], l[3], l[4], l[5], l[6], l[7],
-    ]
+    let mut bytes = [0; 12];
+    BigEndian::write_u32(&mut bytes, row.page);
+    BigEndian::write_u64(&mut bytes[4..], row.rec_lsn.0);
+    bytes
 }
 
 /// Appends rows for which there is room.
