@@ -14,3 +14,4 @@ pub mod Takeover
 pub mod TailLength
 pub mod Places
 pub mod Held
+pub mod Falling
