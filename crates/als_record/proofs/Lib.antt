@@ -15,3 +15,4 @@ pub mod TailLength
 pub mod Places
 pub mod Held
 pub mod Falling
+pub mod CommitSteps
