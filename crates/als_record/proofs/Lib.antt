@@ -16,3 +16,4 @@ pub mod Places
 pub mod Held
 pub mod Falling
 pub mod CommitSteps
+pub mod Chain
