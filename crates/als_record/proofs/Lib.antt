@@ -17,3 +17,4 @@ pub mod Held
 pub mod Falling
 pub mod CommitSteps
 pub mod Chain
+pub mod TailFirst

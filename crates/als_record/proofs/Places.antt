@@ -82,7 +82,7 @@ record Ordered (log : List Record) : Type 0 where
   rising : Rising (transactions log)
   below : AllByRecursion (λ x. x ≤ greatest_trans log) (transactions log)
 
-transactions-nil : transactions [] ≡ []
+pub transactions-nil : transactions [] ≡ []
 unfolding transactions
 transactions-nil = refl
 
