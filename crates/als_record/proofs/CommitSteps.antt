@@ -1,13 +1,13 @@
 -- The commits of a valid log, with one more record: a commit record adds one, others none.
 use Rattle.std.proofs.Common.{◌≡◌, ℕ, ◌==◌, Bool, true, false, cond, not, ◌&&◌, ◌||◌, List, [], ◌∷◌, ◌++◌, map, filter, filter_map, reverse, refl, sym, ap, ◌∙◌, inl, inr, ◌⊎◌, subst, append-nil}
-use Rattle.std.specs.List.{AllByRecursion}
+use Rattle.std.specs.List.{list_any, AllByRecursion}
 use Rattle.std.proofs.lemmas.Bool.{cases_Bool, eqb-true, false≢true, and_parts, or_right}
 use Rattle.std.proofs.lemmas.List.{map-append}
 use Rattle.std.proofs.lemmas.List.Elements.{filter-append}
 use Rattle.als_record.specs.declared.record.Body.{Body}
 use Rattle.als_record.specs.declared.record.Body.TheVariants.{Update, Compensation, Commit, Rollback, End, BeginCheckpoint, EndCheckpoint}
 use Rattle.als_record.specs.declared.record.Record.{Record}
-use Rattle.als_record.specs.Transactions.{is_transactional, is_commit, is_end, is_of, to_undo_after, to_undo, surviving, is_committed}
+use Rattle.als_record.specs.Transactions.{is_transactional, is_commit, is_end, is_of, records_of, to_undo_after, to_undo, surviving, is_committed}
 use Rattle.als_record.specs.Validity.{may_follow, is_valid}
 use Rattle.als_record.specs.Commits.{Commit as AnyCommit, write_of, writes_of, commits_of}
 use Rattle.als_record.proofs.Records.{to_undo-own, to_undo-other, is_committed-own, is_committed-grows}
@@ -107,3 +107,30 @@ pub commits_of-push : (log : List Record) (r : Record) → is_valid (log ++ r �
 commits_of-push log r v =
     let parts : (is_valid log ≡ true) × (may_follow log r ≡ true) = and_parts (is_valid log) (may_follow log r) (sym (is_valid-push log r) ∙ v) in
     commits_push log r (Sound-valid log parts.0) (Admitted-may_follow log r parts.1)
+
+-- who is committed is read off the commits
+pub is_committed-commits_of : (log : List Record) (t : ℕ) → is_committed log t ≡ list_any (λ c. c.trans.0 == t) (commits_of log)
+unfolding is_committed records_of commits_of
+is_committed-commits_of log t = go log
+  where
+    kind : (b : Body) → is_commit b ≡ true → is_transactional b ≡ true
+    kind Commit e = refl
+    kind (Update key before after) e = refl
+    kind (Compensation undo_next key after) e = refl
+    kind Rollback e = refl
+    kind End e = refl
+    kind BeginCheckpoint e = absurd (false≢true e)
+    kind (EndCheckpoint transactions pages) e = absurd (false≢true e)
+
+    step : (r : Record) (us cs : List Record) → list_any (λ u. is_commit u.body) us ≡ list_any (λ c. c.trans.0 == t) (map (commit_by log) cs) → list_any (λ u. is_commit u.body) (cond (is_of t r) (r ∷ us) us) ≡ list_any (λ c. c.trans.0 == t) (map (commit_by log) (cond (is_commit r.body) (r ∷ cs) cs))
+    step r us cs ih = elim (cases_Bool (is_commit r.body)) [
+        inl c ↦ let w : is_transactional r.body ≡ true = kind r.body c in elim (cases_Bool (r.trans.0 == t)) [
+            inl e ↦ simp (c, w, e)
+          | inr e ↦ simp (c, w, e) ih ]
+      | inr c ↦ elim (cases_Bool (is_of t r)) [
+            inl o ↦ simp (c, o) ih
+          | inr o ↦ simp (c, o) ih ] ]
+
+    go : (us : List Record) → list_any (λ u. is_commit u.body) (filter (is_of t) us) ≡ list_any (λ c. c.trans.0 == t) (map (commit_by log) (filter (λ u. is_commit u.body) us))
+    go [] = refl
+    go (r ∷ rest) = step r (filter (is_of t) rest) (filter (λ u. is_commit u.body) rest) (go rest)
