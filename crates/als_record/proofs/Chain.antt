@@ -1,8 +1,8 @@
 -- The undo chain of a transaction: from its UndoNxtLSN, by PrevLSNs of updates and UndoNxtLSNs of compensations, undo meets
 -- exactly its surviving updates, the newest first.
-use Rattle.std.proofs.Common.{◌≡◌, ℕ, ◌==◌, ◌+◌, ◌≤◌, ◌<◌, Bool, true, false, cond, not, ◌&&◌, ◌||◌, List, [], ◌∷◌, ◌++◌, filter, drop, reverse, refl, sym, ap, ◌∙◌, inl, inr, ◌⊎◌, subst, arith}
+use Rattle.std.proofs.Common.{◌≡◌, ℕ, ◌==◌, ◌+◌, ◌≤◌, ◌<◌, Bool, true, false, cond, not, ◌&&◌, ◌||◌, List, [], ◌∷◌, ◌++◌, drop, reverse, refl, sym, ap, ◌∙◌, inl, inr, subst, arith}
 use Rattle.std.specs.List.{AllByRecursion}
-use Rattle.std.proofs.lemmas.Bool.{cases_Bool, eqb-true, eq-eqb, ne_eqb, false≢true, and_parts, or_parts, not-false, not-true}
+use Rattle.std.proofs.lemmas.Bool.{cases_Bool, eqb-true, ne_eqb, false≢true, and_parts, or_parts, not-false}
 use Rattle.std.proofs.lemmas.List.{reverse-append}
 use Rattle.als_record.specs.declared.lsn.Lsn.{Lsn}
 use Rattle.als_record.specs.declared.key.Key.{Key}
@@ -11,15 +11,15 @@ use Rattle.als_record.specs.declared.record.Body.TheVariants.{Update, Compensati
 use Rattle.als_record.specs.declared.record.Record.{Record}
 use Rattle.als_record.specs.Spelling.{Image, record_len}
 use Rattle.als_record.specs.LogText.{end_of}
-use Rattle.als_record.specs.Transactions.{is_transactional, is_update, is_compensation, is_commit, is_rollback, is_end, is_of, records_of, to_undo_after, to_undo, is_some_left, has_begun, is_committed, has_rollback, has_ended, is_unended, last_lsn, undo_next_after, undo_next_of, without_newest, survivors_after, all_surviving}
+use Rattle.als_record.specs.Transactions.{is_transactional, is_update, is_compensation, is_commit, is_rollback, is_end, is_of, records_of, to_undo_after, to_undo, is_some_left, has_begun, is_committed, has_rollback, has_ended, is_unended, last_lsn, undo_next_after, undo_next_of}
 use Rattle.als_record.specs.Validity.{prev_of, bad_prev, is_forward, wrong_state, goes_on_after, wrong_undo_next, undoes_newest, wrong_compensation, is_valid}
-use Rattle.als_record.proofs.Records.{records_of-own, records_of-other, records_of-none, to_undo-own, to_undo-other, last_lsn-own, last_lsn-other, undo_next_of-own, undo_next_of-other, is_committed-own, is_committed-other, has_rollback-own, has_rollback-other, has_ended-own, has_ended-other, has_begun-unended, has_ended-unended, has_begun-ended}
+use Rattle.als_record.proofs.Records.{records_of-own, records_of-other, records_of-none, to_undo-own, to_undo-other, last_lsn-own, last_lsn-other, undo_next_of-own, undo_next_of-other, is_committed-own, is_committed-other, has_rollback-own, has_rollback-other, has_ended-own, has_ended-other, has_ended-unended, has_begun-ended}
 use Rattle.als_record.proofs.Numbers.{eqb-refl}
-use Rattle.als_record.proofs.Survivors.{is_by, all_surviving-push, all_surviving-by, all_surviving-nil, All-without_newest, All-weaken}
+use Rattle.als_record.proofs.Survivors.{All-weaken}
 use Rattle.als_record.proofs.Validity.{Admitted, valid_induction}
 use Rattle.als_record.proofs.Sound.{Sound, Sound-valid, goes_on, only_ends}
 use Rattle.als_record.proofs.Places.{end_of-push, record_len-head}
-use Rattle.als_record.proofs.Falling.{Falling, All-filter}
+use Rattle.als_record.proofs.Falling.{Falling}
 
 -- ---- PrevLSN
 
@@ -29,8 +29,9 @@ unfolding bad_prev prev_of last_lsn
 Admitted-prev log r s a w =
     let e : (r.prev.0 == cond {A = ℕ} (is_unended log r.trans.0) (last_lsn log r.trans.0) 0) ≡ true = not-false _ (rw w at a.prev) in
     eqb-true r.prev.0 _ e ∙ elim (cases_Bool (has_begun log r.trans.0)) [
-        inl b ↦ rw (goes_on log r s a w b) refl
-      | inr b ↦ rw (records_of-none log r.trans.0 b) (either (is_unended log r.trans.0)) ]
+      | inl b ↦ rw (goes_on log r s a w b) refl
+      | inr b ↦ rw (records_of-none log r.trans.0 b) (either (is_unended log r.trans.0))
+    ]
   where
     either : (b : Bool) → ◌≡◌ {A = ℕ} (cond b 0 0) 0
     either true = refl
@@ -65,8 +66,9 @@ first_of_chain : (P : Record → Type 0) (n : ℕ) (rs : List Record) (u : Recor
 unfolding undo_chain
 first_of_chain P n [] u us a e = absurd (cc e)
 first_of_chain P n (r ∷ rest) u us a e = elim (cases_Bool (r.lsn.0 == n)) [
-    inr y ↦ first_of_chain P n rest u us a.1 (rw y at e)
-  | inl y ↦ go r.body (rw y at e) (λ m f. first_of_chain P m rest u us a.1 f) ]
+  | inr y ↦ first_of_chain P n rest u us a.1 (rw y at e)
+  | inl y ↦ go r.body (rw y at e) (λ m f. first_of_chain P m rest u us a.1 f)
+]
   where
     go : (b : Body) → undone_at r b ++ undo_chain (goes_to r b) rest ≡ u ∷ us → ((m : ℕ) → undo_chain m rest ≡ u ∷ us → P u) → P u
     go (Update key before after) f next = let g : r ≡ u = cc f in subst P g a.0
@@ -82,8 +84,9 @@ chain_rest : (n : ℕ) (rs : List Record) (u : Record) (us : List Record) → Fa
 unfolding undo_chain
 chain_rest n [] u us f a e = absurd (cc e)
 chain_rest n (r ∷ rest) u us f a e = elim (cases_Bool (r.lsn.0 == n)) [
-    inr y ↦ later n (rw y at e) (chain_rest n rest u us f.1 a.1 (rw y at e))
-  | inl y ↦ go r.body (rw y at e) (λ m g. later m g (chain_rest m rest u us f.1 a.1 g)) ]
+  | inr y ↦ later n (rw y at e) (chain_rest n rest u us f.1 a.1 (rw y at e))
+  | inl y ↦ go r.body (rw y at e) (λ m g. later m g (chain_rest m rest u us f.1 a.1 g))
+]
   where
     -- the first update stands below this record
     later : (m : ℕ) → undo_chain m rest ≡ u ∷ us → undo_chain u.prev.0 rest ≡ us → undo_chain u.prev.0 (r ∷ rest) ≡ us
@@ -147,7 +150,8 @@ module _ (log : List Record) (r : Record) (s : Sound log) (a : Admitted log r) w
         below = rw same (All-weaken (λ u. u.lsn.0 < end_of log) (λ u. u.lsn.0 < end_of (log ++ r ∷ [])) (λ u b. omega arith) (backwards log t) h.below);
         follow = rw same h.follow;
         last_below = rw last (omega arith);
-        next_below = rw next (omega arith) }
+        next_below = rw next (omega arith);
+      }
 
   -- its own record
   module _ (w : is_transactional r.body ≡ true) (h : Threaded log r.trans.0) where
@@ -203,8 +207,9 @@ module _ (log : List Record) (r : Record) (s : Sound log) (a : Admitted log r) w
 
           not_ended : has_ended log r.trans.0 ≡ false
           not_ended = elim (cases_Bool (has_ended log r.trans.0)) [
-              inr e ↦ e
-            | inl e ↦ has_ended-unended log r.trans.0 (goes_on log r s a w (has_begun-ended log r.trans.0 e)) ]
+            | inr e ↦ e
+            | inl e ↦ has_ended-unended log r.trans.0 (goes_on log r s a w (has_begun-ended log r.trans.0 e))
+          ]
 
       Threaded-update : Threaded (log ++ r ∷ []) r.trans.0
       unfolding undo_chain
@@ -217,8 +222,12 @@ module _ (log : List Record) (r : Record) (s : Sound log) (a : Admitted log r) w
           record {
             chain = rw (longer, next, left, eqb-refl r.lsn.0) (ap (λ x. undone_at r x ++ undo_chain (goes_to r x) (backwards log r.trans.0)) b ∙ ap (λ us. r ∷ us) before_it);
             link = λ c. ap (λ n. undo_chain n (backwards (log ++ r ∷ []) r.trans.0)) (last ∙ sym next);
-            falling = falling-own; below = below-own; follow = follow-own; last_below = last-own;
-            next_below = omega arith }
+            falling = falling-own;
+            below = below-own;
+            follow = follow-own;
+            last_below = last-own;
+            next_below = omega arith;
+          }
 
     module _ (undo_next : Lsn) (key : Key) (after : Image) (b : r.body ≡ Compensation undo_next key after) where
       undoes : (left : List Record) → undoes_newest left (Compensation undo_next key after) ≡ true → goes_on_after left (Compensation undo_next key after) ≡ true → (u : Record) × (rest : List Record) × (left ≡ u ∷ rest) × (undo_next.0 ≡ u.prev.0)
@@ -257,8 +266,12 @@ module _ (log : List Record) (r : Record) (s : Sound log) (a : Admitted log r) w
           record {
             chain = rw (longer, next, left, d) rest_chained;
             link = λ c. rw (longer, next, last, d, eqb-refl r.lsn.0) (ap (λ x. undone_at r x ++ undo_chain (goes_to r x) (backwards log r.trans.0)) b);
-            falling = falling-own; below = below-own; follow = follow-own; last_below = last-own;
-            next_below = omega arith }
+            falling = falling-own;
+            below = below-own;
+            follow = follow-own;
+            last_below = last-own;
+            next_below = omega arith;
+          }
 
     module _ (quiet : is_update r.body ≡ false) (quiet_too : is_compensation r.body ≡ false) where
       kept : (b : Body) → is_update b ≡ false → is_compensation b ≡ false → (undo_next_after (undo_next_of log r.trans.0) r.lsn.0 b ≡ undo_next_of log r.trans.0) × (to_undo_after (to_undo log r.trans.0) r b ≡ to_undo log r.trans.0)
@@ -310,8 +323,12 @@ module _ (log : List Record) (r : Record) (s : Sound log) (a : Admitted log r) w
           record {
             chain = rw (longer, next, left, d) h.chain;
             link = λ c. absurd (idle c);
-            falling = falling-own; below = below-own; follow = follow-own; last_below = last-own;
-            next_below = omega arith }
+            falling = falling-own;
+            below = below-own;
+            follow = follow-own;
+            last_below = last-own;
+            next_below = omega arith;
+          }
 
     Threaded-own : Threaded (log ++ r ∷ []) r.trans.0
     Threaded-own = go r.body refl
@@ -327,11 +344,12 @@ module _ (log : List Record) (r : Record) (s : Sound log) (a : Admitted log r) w
 
   Threaded-push : (t : ℕ) → Threaded log t → Threaded (log ++ r ∷ []) t
   Threaded-push t h = elim (cases_Bool (is_of t r)) [
-      inr o ↦ Threaded-other t o h
+    | inr o ↦ Threaded-other t o h
     | inl o ↦
         let p : (is_transactional r.body ≡ true) × ((r.trans.0 == t) ≡ true) = and_parts (is_transactional r.body) (r.trans.0 == t) o in
         let q : r.trans.0 ≡ t = eqb-true r.trans.0 t p.1 in
-        subst (Threaded (log ++ r ∷ [])) q (Threaded-own p.0 (subst (Threaded log) (sym q) h)) ]
+        subst (Threaded (log ++ r ∷ [])) q (Threaded-own p.0 (subst (Threaded log) (sym q) h))
+  ]
 
 Threaded-nil : (t : ℕ) → Threaded [] t
 unfolding undo_chain undo_next_of last_lsn to_undo records_of end_of

@@ -1,5 +1,5 @@
 -- The commits of a valid log, with one more record: a commit record adds one, others none.
-use Rattle.std.proofs.Common.{◌≡◌, ℕ, ◌==◌, Bool, true, false, cond, not, ◌&&◌, ◌||◌, List, [], ◌∷◌, ◌++◌, map, filter, filter_map, reverse, refl, sym, ap, ◌∙◌, inl, inr, ◌⊎◌, subst, append-nil}
+use Rattle.std.proofs.Common.{◌≡◌, ℕ, ◌==◌, Bool, true, false, cond, List, [], ◌∷◌, ◌++◌, map, filter, filter_map, reverse, refl, sym, ap, ◌∙◌, inl, inr, append-nil}
 use Rattle.std.specs.List.{list_any, AllByRecursion}
 use Rattle.std.proofs.lemmas.Bool.{cases_Bool, eqb-true, false≢true, and_parts, or_right}
 use Rattle.std.proofs.lemmas.List.{map-append}
@@ -52,13 +52,15 @@ module _ (log : List Record) (r : Record) (s : Sound log) (a : Admitted log r) w
   writes_stay : (t : ℕ) → is_committed log t ≡ true → writes_of (log ++ r ∷ []) t ≡ writes_of log t
   unfolding writes_of surviving
   writes_stay t c = ap (λ us. filter_map (λ (u : Record). write_of u.body) (reverse us)) (elim (cases_Bool (is_of t r)) [
-      inr o ↦ to_undo-other log r t o
-    | inl o ↦ to_undo-own log r t o ∙ ended r.body (over (eqb-true r.trans.0 t (and_parts (is_transactional r.body) (r.trans.0 == t) o).1)) ])
+    | inr o ↦ to_undo-other log r t o
+    | inl o ↦ to_undo-own log r t o ∙ ended r.body (over (eqb-true r.trans.0 t (and_parts (is_transactional r.body) (r.trans.0 == t) o).1))
+  ])
     where
       over : r.trans.0 ≡ t → is_end r.body ≡ true
       over q = elim (cases_Bool (is_end r.body)) [
-          inl e ↦ e
-        | inr e ↦ absurd (false≢true (sym (only_ends log r s a e) ∙ ap (is_committed log) q ∙ c)) ]
+        | inl e ↦ e
+        | inr e ↦ absurd (false≢true (sym (only_ends log r s a e) ∙ ap (is_committed log) q ∙ c))
+      ]
 
       ended : (b : Body) → is_end b ≡ true → to_undo_after (to_undo log t) r b ≡ to_undo log t
       ended End e = refl
@@ -124,12 +126,15 @@ is_committed-commits_of log t = go log
 
     step : (r : Record) (us cs : List Record) → list_any (λ u. is_commit u.body) us ≡ list_any (λ c. c.trans.0 == t) (map (commit_by log) cs) → list_any (λ u. is_commit u.body) (cond (is_of t r) (r ∷ us) us) ≡ list_any (λ c. c.trans.0 == t) (map (commit_by log) (cond (is_commit r.body) (r ∷ cs) cs))
     step r us cs ih = elim (cases_Bool (is_commit r.body)) [
-        inl c ↦ let w : is_transactional r.body ≡ true = kind r.body c in elim (cases_Bool (r.trans.0 == t)) [
-            inl e ↦ simp (c, w, e)
-          | inr e ↦ simp (c, w, e) ih ]
+      | inl c ↦ let w : is_transactional r.body ≡ true = kind r.body c in elim (cases_Bool (r.trans.0 == t)) [
+        | inl e ↦ simp (c, w, e)
+        | inr e ↦ simp (c, w, e) ih
+      ]
       | inr c ↦ elim (cases_Bool (is_of t r)) [
-            inl o ↦ simp (c, o) ih
-          | inr o ↦ simp (c, o) ih ] ]
+        | inl o ↦ simp (c, o) ih
+        | inr o ↦ simp (c, o) ih
+      ]
+    ]
 
     go : (us : List Record) → list_any (λ u. is_commit u.body) (filter (is_of t) us) ≡ list_any (λ c. c.trans.0 == t) (map (commit_by log) (filter (λ u. is_commit u.body) us))
     go [] = refl

@@ -1,7 +1,7 @@
 -- The surviving updates stand in falling LSN: which of the losers' is the first to undo.
-use Rattle.std.proofs.Common.{◌≡◌, ℕ, ◌==◌, ◌+◌, ◌≤◌, ◌<◌, Bool, true, false, cond, not, ◌&&◌, ◌||◌, List, [], ◌∷◌, ◌++◌, filter, refl, sym, ap, ◌∙◌, inl, inr, ◌⊎◌, subst, arith}
-use Rattle.std.specs.List.{list_any, AllByRecursion}
-use Rattle.std.proofs.lemmas.Bool.{cases_Bool, eqb-true, eq-eqb, false≢true}
+use Rattle.std.proofs.Common.{◌≡◌, ℕ, ◌==◌, ◌+◌, ◌≤◌, ◌<◌, Bool, true, List, [], ◌∷◌, ◌++◌, filter, refl, sym, ap, ◌∙◌, inl, inr, subst, arith}
+use Rattle.std.specs.List.{AllByRecursion}
+use Rattle.std.proofs.lemmas.Bool.{cases_Bool, eq-eqb}
 use Rattle.als_record.specs.declared.record.Body.{Body}
 use Rattle.als_record.specs.declared.record.Body.TheVariants.{Update, Compensation, Commit, Rollback, End, BeginCheckpoint, EndCheckpoint}
 use Rattle.als_record.specs.declared.record.Record.{Record}
@@ -23,20 +23,23 @@ Falling (u ∷ rest) = AllByRecursion (λ v. v.lsn.0 < u.lsn.0) rest × Falling 
 Falling-without_newest : (t : ℕ) (us : List Record) → Falling us → Falling (without_newest t us)
 Falling-without_newest t [] f = tt
 Falling-without_newest t (u ∷ rest) f = elim (cases_Bool (u.trans.0 == t)) [
-    inl e ↦ rw e f.1
-  | inr e ↦ rw e (All-without_newest (λ v. v.lsn.0 < u.lsn.0) t rest f.0, Falling-without_newest t rest f.1) ]
+  | inl e ↦ rw e f.1
+  | inr e ↦ rw e (All-without_newest (λ v. v.lsn.0 < u.lsn.0) t rest f.0, Falling-without_newest t rest f.1)
+]
 
 pub All-filter : (P : Record → Type 0) (p : Record → Bool) (us : List Record) → AllByRecursion P us → AllByRecursion P (filter p us)
 All-filter P p [] a = tt
 All-filter P p (u ∷ rest) a = elim (cases_Bool (p u)) [
-    inl e ↦ rw e (a.0, All-filter P p rest a.1)
-  | inr e ↦ rw e (All-filter P p rest a.1) ]
+  | inl e ↦ rw e (a.0, All-filter P p rest a.1)
+  | inr e ↦ rw e (All-filter P p rest a.1)
+]
 
 pub Falling-filter : (p : Record → Bool) (us : List Record) → Falling us → Falling (filter p us)
 Falling-filter p [] f = tt
 Falling-filter p (u ∷ rest) f = elim (cases_Bool (p u)) [
-    inl e ↦ rw e (All-filter (λ v. v.lsn.0 < u.lsn.0) p rest f.0, Falling-filter p rest f.1)
-  | inr e ↦ rw e (Falling-filter p rest f.1) ]
+  | inl e ↦ rw e (All-filter (λ v. v.lsn.0 < u.lsn.0) p rest f.0, Falling-filter p rest f.1)
+  | inr e ↦ rw e (Falling-filter p rest f.1)
+]
 
 record Placed (log : List Record) : Type 0 where
   falling : Falling (all_surviving log)
@@ -114,13 +117,17 @@ losing-first log v t l w rest q top = go (losing log) refl
   where
     go : (us : List Record) → losing log ≡ us → (us : List Record) × (losing log ≡ w ∷ us)
     go [] e = absurd (cc (sym q ∙ sym (losing-by log t l) ∙ ap (filter (is_by t)) e))
-    go (u ∷ us) e = (us, e ∙ ap (λ x. x ∷ us) (elim (cases_Bool (u.trans.0 == t)) [
-        inl y ↦ let g : u ∷ filter (is_by t) us ≡ w ∷ rest = (rw y at f) in cc g
-      | inr y ↦
-          let g : filter (is_by t) us ≡ w ∷ rest = (rw y at f) in
-          let lower : w.lsn.0 < u.lsn.0 = (subst (AllByRecursion (λ x. x.lsn.0 < u.lsn.0)) g (All-filter (λ x. x.lsn.0 < u.lsn.0) (is_by t) us (subst Falling e (Falling-losing log v)).0)).0 in
-          let higher : u.lsn.0 ≤ w.lsn.0 = top u.trans.0 (losing-is_loser log u us e) u (filter (is_by u.trans.0) us) (losing-newest log u us e) in
-          absurd (omega arith) ]))
+    go (u ∷ us) e = (
+      us,
+      e ∙ ap (λ x. x ∷ us) (elim (cases_Bool (u.trans.0 == t)) [
+        | inl y ↦ let g : u ∷ filter (is_by t) us ≡ w ∷ rest = (rw y at f) in cc g
+        | inr y ↦
+            let g : filter (is_by t) us ≡ w ∷ rest = (rw y at f) in
+            let lower : w.lsn.0 < u.lsn.0 = (subst (AllByRecursion (λ x. x.lsn.0 < u.lsn.0)) g (All-filter (λ x. x.lsn.0 < u.lsn.0) (is_by t) us (subst Falling e (Falling-losing log v)).0)).0 in
+            let higher : u.lsn.0 ≤ w.lsn.0 = top u.trans.0 (losing-is_loser log u us e) u (filter (is_by u.trans.0) us) (losing-newest log u us e) in
+            absurd (omega arith)
+      ]),
+    )
       where
         f : filter (is_by t) (u ∷ us) ≡ w ∷ rest
         f = ap (filter (is_by t)) (sym e) ∙ losing-by log t l ∙ q

@@ -1,14 +1,13 @@
 -- How many surviving updates of a key a transaction has, with one more record: what a validator counts at each key.
-use Rattle.std.proofs.Common.{◌≡◌, ℕ, ◌==◌, ◌+◌, ◌<◌, nat_lt, Bool, true, false, cond, not, ◌&&◌, ◌||◌, List, [], ◌∷◌, ◌++◌, count_by, drop, refl, sym, ap, ◌∙◌, inl, inr, ◌⊎◌, subst, arith, zero-add}
+use Rattle.std.proofs.Common.{◌≡◌, ℕ, ◌+◌, nat_lt, Bool, true, false, cond, ◌||◌, List, [], ◌∷◌, ◌++◌, count_by, drop, refl, sym, ap, ◌∙◌, arith, zero-add}
 use Rattle.std.specs.List.{list_any}
-use Rattle.std.proofs.lemmas.Bool.{cases_Bool, false≢true, lt-ltb}
+use Rattle.std.proofs.lemmas.Bool.{false≢true, lt-ltb}
 use Rattle.std.proofs.lemmas.List.Sums.{sum_by-cons}
 use Rattle.als_record.specs.declared.key.Key.{Key}
 use Rattle.als_record.specs.declared.record.Body.{Body}
 use Rattle.als_record.specs.declared.record.Body.TheVariants.{Update, Compensation, Commit, Rollback, End, BeginCheckpoint, EndCheckpoint}
 use Rattle.als_record.specs.declared.record.Record.{Record}
 use Rattle.als_record.specs.Spelling.{Image}
-use Rattle.als_record.specs.declared.lsn.Lsn.{Lsn}
 use Rattle.als_record.specs.Transactions.{is_update, is_compensation, is_of, to_undo_after, to_undo, has_begun}
 use Rattle.als_record.specs.Images.{same_key, is_update_at}
 use Rattle.als_record.proofs.Records.{to_undo-own, to_undo-other, to_undo-none}

@@ -1,14 +1,13 @@
 -- The rows of the transaction table by their places: one row for each unended transaction, found by its number.
-use Rattle.std.proofs.Common.{◌≡◌, ℕ, zero, suc, ◌==◌, ◌+◌, ◌<◌, Bool, true, false, cond, not, ◌&&◌, ◌||◌, List, [], ◌∷◌, ◌++◌, length, map, filter, find, get_or, set, remove, take, drop, Option, Some, None, refl, sym, ap, ◌∙◌, inl, inr, ◌⊎◌, arith, le_of_suc-le-suc, not-suc-le-zero}
-use Rattle.std.specs.List.{list_any}
+use Rattle.std.proofs.Common.{◌≡◌, ℕ, zero, suc, ◌==◌, ◌<◌, Bool, true, false, cond, not, ◌&&◌, ◌||◌, List, [], ◌∷◌, ◌++◌, length, map, filter, get_or, set, remove, refl, sym, ap, ◌∙◌, inl, inr, le_of_suc-le-suc, not-suc-le-zero}
 use Rattle.std.proofs.lemmas.Bool.{cases_Bool, eqb-true, eq-eqb, false≢true, or_parts}
 use Rattle.als_record.specs.declared.record.Record.{Record}
 use Rattle.als_record.specs.declared.transaction_row.TransactionRow.{TransactionRow}
 use Rattle.als_record.specs.declared.transaction_state.TransactionState.{TransactionState}
 use Rattle.als_record.specs.declared.transaction_state.TransactionState.TheVariants.{Active, Committed, RollingBack}
-use Rattle.als_record.specs.Transactions.{is_transactional, is_end, is_committed, has_rollback, has_begun, is_unended, unended, is_among}
+use Rattle.als_record.specs.Transactions.{is_transactional, is_end, is_committed, has_rollback, is_unended, unended, is_among}
 use Rattle.als_record.specs.Table.{state_of, row_of, table_of, row_after}
-use Rattle.als_record.proofs.Numbers.{Apart, eqb-refl, eqb-sym}
+use Rattle.als_record.proofs.Numbers.{Apart, eqb-refl}
 use Rattle.als_record.proofs.Unended.{is_among-unended, Apart-unended}
 use Rattle.als_record.proofs.Records.{has_begun-unended}
 use Rattle.als_record.proofs.TableSteps.{with_record, is_row_of_other, table_of-more, table_of-end}
@@ -69,8 +68,9 @@ module _ (r : Record) where
 
   differs : (row : TransactionRow) (rest : List TransactionRow) (i : ℕ) (d : TransactionRow) → is_among (numbers rest) row.trans.0 ≡ false → i < length rest → (get_or rest i d).trans.0 ≡ r.trans.0 → (row.trans.0 == r.trans.0) ≡ false
   differs row rest i d n lt q = elim (cases_Bool (row.trans.0 == r.trans.0)) [
-      inl e ↦ absurd (false≢true (sym n ∙ ap (is_among (numbers rest)) (eqb-true row.trans.0 r.trans.0 e ∙ sym q) ∙ among_at rest i d lt))
-    | inr e ↦ e ]
+    | inl e ↦ absurd (false≢true (sym n ∙ ap (is_among (numbers rest)) (eqb-true row.trans.0 r.trans.0 e ∙ sym q) ∙ among_at rest i d lt))
+    | inr e ↦ e
+  ]
 
   pub with_record-set : (rows : List TransactionRow) (i : ℕ) (d : TransactionRow) → Apart (numbers rows) → i < length rows → (get_or rows i d).trans.0 ≡ r.trans.0 → map (with_record r) rows ≡ set rows i (row_after (get_or rows i d) r)
   with_record-set [] i d a lt q = absurd (not-suc-le-zero lt)

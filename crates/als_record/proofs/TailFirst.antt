@@ -1,28 +1,27 @@
 -- The first record of a tail, which is all that a takeover appends at a time: which one it is, and what comes of it.
-use Rattle.std.proofs.Common.{◌≡◌, ℕ, ◌==◌, ◌+◌, ◌≤◌, ◌<◌, ◌^◌, Bool, true, false, cond, not, ◌&&◌, ◌||◌, List, [], ◌∷◌, ◌++◌, filter, take, drop, sum_by, refl, sym, ap, ◌∙◌, inl, inr, ◌⊎◌, subst, arith, IsTrue, lt_trans}
+use Rattle.std.proofs.Common.{◌≡◌, ℕ, ◌==◌, ◌+◌, ◌<◌, ◌^◌, Bool, true, false, cond, not, ◌&&◌, List, [], ◌∷◌, ◌++◌, filter, take, drop, sum_by, refl, sym, ap, ◌∙◌, inl, inr, subst, arith, lt_trans}
 use Rattle.std.specs.List.{list_any, AllByRecursion}
-use Rattle.std.proofs.lemmas.Bool.{cases_Bool, eqb-true, eq-eqb, false≢true, and_parts, and_from, not-true}
+use Rattle.std.proofs.lemmas.Bool.{cases_Bool, eqb-true, eq-eqb, false≢true, and_parts, and_from}
 use Rattle.std.proofs.lemmas.List.Sums.{sum_by-cons}
-use Rattle.als_record.specs.declared.lsn.Lsn.{Lsn}
 use Rattle.als_record.specs.declared.key.Key.{Key}
 use Rattle.als_record.specs.declared.record.Body.{Body}
 use Rattle.als_record.specs.declared.record.Body.TheVariants.{Update, Compensation, Commit, Rollback, End, BeginCheckpoint, EndCheckpoint}
 use Rattle.als_record.specs.declared.record.Record.{Record}
 use Rattle.als_record.specs.Spelling.{record_len, IsBody, IsRecord}
 use Rattle.als_record.specs.LogText.{end_of, follow_from, IsLog}
-use Rattle.als_record.specs.Transactions.{is_transactional, is_update, to_undo, is_some_left, is_among, transactions, unended, is_unended, is_committed, is_loser, with_transaction, without_newest, survivors_after, all_surviving, last_lsn}
-use Rattle.als_record.specs.Images.{image_now, won}
+use Rattle.als_record.specs.Transactions.{is_transactional, is_update, is_among, transactions, unended, is_unended, is_committed, is_loser, survivors_after, all_surviving, last_lsn}
+use Rattle.als_record.specs.Images.{won}
 use Rattle.als_record.specs.Validity.{may_follow, is_valid, IsValidLog}
 use Rattle.als_record.specs.Tail.{TailStep, Ends, Undoes, is_finished, ends, undoes, losing, tail_steps, undone, record_for, numbered, tail_of, tail_len}
 use Rattle.als_record.proofs.Numbers.{is_among-filter, eqb-refl}
 use Rattle.als_record.proofs.Survivors.{all_surviving-push, all_surviving-nil, All-without_newest, log_induction}
 use Rattle.als_record.proofs.Unended.{is_among-unended, transactions-push}
 use Rattle.als_record.proofs.Validity.{is_valid-push, may_follow-admitted, Admitted}
-use Rattle.als_record.proofs.TailSteps.{tail_steps-next, tail_of-front, losing-is_update, losing-is_loser}
+use Rattle.als_record.proofs.TailSteps.{tail_of-front, losing-is_update}
 use Rattle.als_record.proofs.Takeover.{Steps, tail_steps-first, unended-without_tail}
 use Rattle.als_record.proofs.Falling.{losing-none, All-filter}
 use Rattle.als_record.proofs.Chain.{Threaded-valid}
-use Rattle.als_record.proofs.Places.{end_of-push, transactions-nil}
+use Rattle.als_record.proofs.Places.{transactions-nil}
 
 -- ---- which one
 
@@ -35,9 +34,10 @@ tail_of-ends log t ts e =
 -- the compensation of the first of the losers' updates, where no transaction is finished
 pub tail_of-undoes : (log : List Record) (u : Record) (us : List Record) → filter (is_finished log) (unended log) ≡ [] → losing log ≡ u ∷ us → (rest : List Record) × (tail_of log ≡ record_for log (Undoes u) ∷ rest)
 unfolding tail_of numbered tail_steps undoes
-tail_of-undoes log u us e q =
-    (numbered (log ++ record_for log (Undoes u) ∷ []) (cond (list_any (λ v. v.trans.0 == u.trans.0) us) (undoes us) (Ends u.trans.0 ∷ undoes us)),
-     ap (λ xs. numbered log (ends xs ++ undoes (losing log))) e ∙ ap (λ vs. numbered log (undoes vs)) q)
+tail_of-undoes log u us e q = (
+  numbered (log ++ record_for log (Undoes u) ∷ []) (cond (list_any (λ v. v.trans.0 == u.trans.0) us) (undoes us) (Ends u.trans.0 ∷ undoes us)),
+  ap (λ xs. numbered log (ends xs ++ undoes (losing log))) e ∙ ap (λ vs. numbered log (undoes vs)) q,
+)
 
 -- none, where nothing is unended
 pub tail_of-none : (log : List Record) → unended log ≡ [] → tail_of log ≡ []
@@ -154,8 +154,9 @@ numbers_fit pages = log_induction (λ l. AllByRecursion (IsRecord pages) l → A
 All-among : (P : ℕ → Type 0) (t : ℕ) (xs : List ℕ) → AllByRecursion P xs → is_among xs t ≡ true → P t
 All-among P t [] a e = absurd (false≢true e)
 All-among P t (x ∷ rest) a e = elim (cases_Bool (x == t)) [
-    inl y ↦ subst P (eqb-true x t y) a.0
-  | inr y ↦ All-among P t rest a.1 (rw y at e) ]
+  | inl y ↦ subst P (eqb-true x t y) a.0
+  | inr y ↦ All-among P t rest a.1 (rw y at e)
+]
 
 module _ (pages : ℕ) (log : List Record) (v : is_valid log ≡ true) (l : AllByRecursion (IsRecord pages) log) (room : end_of log < 2 ^ 64) where
   low : (t : ℕ) → last_lsn log t < 2 ^ 64
@@ -167,7 +168,8 @@ module _ (pages : ℕ) (log : List Record) (v : is_valid log ≡ true) (l : AllB
     lsn = room;
     prev = low t;
     trans = All-among (λ x. x < 2 ^ 32) t (transactions log) (numbers_fit pages log l) (and_parts (is_unended log t) (is_among (transactions log) t) (sym (is_among-filter (is_unended log) t (transactions log)) ∙ is_among-unended log t ∙ u)).1;
-    body = tt }
+    body = tt;
+  }
 
   undoes_fit : (u : Record) → is_update u.body ≡ true → IsRecord pages u → IsRecord pages (record_for log (Undoes u))
   undoes_fit u i f = record { lsn = room; prev = low u.trans.0; trans = f.trans; body = go u.body i f.body }
@@ -206,4 +208,5 @@ tail_of-IsRecord pages log r rest l room e =
 pub IsValidLog-next : (pages : ℕ) (log : List Record) (r : Record) (rest : List Record) → IsValidLog pages log → end_of log < 2 ^ 64 → tail_of log ≡ r ∷ rest → IsValidLog pages (log ++ r ∷ [])
 IsValidLog-next pages log r rest l room e = record {
   text = IsLog-push pages log r l.text (tail_of-admitted log r rest e l.valid).place (tail_of-IsRecord pages log r rest l room e);
-  valid = tail_of-is_valid log r rest e l.valid }
+  valid = tail_of-is_valid log r rest e l.valid;
+}
