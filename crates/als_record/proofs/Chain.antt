@@ -19,7 +19,8 @@ use Rattle.als_record.proofs.Survivors.{All-weaken}
 use Rattle.als_record.proofs.Validity.{Admitted, valid_induction}
 use Rattle.als_record.proofs.Sound.{Sound, Sound-valid, goes_on, only_ends}
 use Rattle.als_record.proofs.Places.{end_of-push, record_len-head}
-use Rattle.als_record.proofs.Falling.{Falling}
+use Rattle.als_record.specs.Orders.{Falling}
+use Rattle.als_record.specs.UndoChain.{undone_at, goes_to, undo_chain, backwards}
 
 -- ---- PrevLSN
 
@@ -38,25 +39,6 @@ Admitted-prev log r s a w =
     either false = refl
 
 -- ---- the chain
-
--- the update that a record of the chain is
-abbrev pub undone_at : Record → Body → List Record
-undone_at r (Update key before after) = r ∷ []
-undone_at r _ = []
-
--- where the chain goes on
-abbrev pub goes_to : Record → Body → ℕ
-goes_to r (Compensation undo_next key after) = undo_next.0
-goes_to r _ = r.prev.0
-
--- the updates that undo meets from an LSN on, among a transaction's records, the newest first
-pub undo_chain : ℕ → List Record → List Record
-undo_chain n [] = []
-undo_chain n (r ∷ rest) = cond (r.lsn.0 == n) (undone_at r r.body ++ undo_chain (goes_to r r.body) rest) (undo_chain n rest)
-
--- a transaction's records, the newest first
-abbrev pub backwards : List Record → ℕ → List Record
-backwards log t = reverse (records_of log t)
 
 -- each record follows another one
 abbrev pub follows : Record → Type 0

@@ -1,18 +1,8 @@
 -- Lists of numbers: which are among them, that they are apart, that they rise; and what a filter does to them.
-use Rattle.std.proofs.Common.{◌≡◌, ℕ, ◌==◌, ◌+◌, ◌<◌, Bool, true, false, cond, not, ◌&&◌, ◌||◌, List, [], ◌∷◌, ◌++◌, length, filter, refl, sym, ap, ◌∙◌, inl, inr, arith}
-use Rattle.std.specs.List.{AllByRecursion}
+use Rattle.std.proofs.Common.{◌≡◌, ℕ, ◌==◌, ◌+◌, Bool, true, false, cond, not, ◌&&◌, ◌||◌, List, [], ◌∷◌, ◌++◌, length, filter, refl, sym, ap, ◌∙◌, inl, inr, arith}
 use Rattle.std.proofs.lemmas.Bool.{cases_Bool, eqb-true, eq-eqb, ne_eqb, or_parts, false≢true}
 use Rattle.als_record.specs.Transactions.{is_among}
-
--- no number stands twice
-abbrev pub Apart : List ℕ → Type 0
-Apart [] = Unit {0}
-Apart (x ∷ rest) = (is_among rest x ≡ false) × Apart rest
-
--- each number is below those behind it
-abbrev pub Rising : List ℕ → Type 0
-Rising [] = Unit {0}
-Rising (x ∷ rest) = AllByRecursion (λ y. x < y) rest × Rising rest
+use Rattle.als_record.specs.Orders.{Apart}
 
 -- the list without a number
 abbrev pub without : ℕ → List ℕ → List ℕ

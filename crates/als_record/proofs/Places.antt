@@ -8,7 +8,7 @@ use Rattle.als_record.specs.Spelling.{record_len}
 use Rattle.als_record.specs.LogText.{end_of}
 use Rattle.als_record.specs.Transactions.{is_transactional, is_among, transactions, unended, is_unended, has_begun, greatest_trans}
 use Rattle.als_record.specs.Validity.{checkpoint_after, open_checkpoint, is_valid, old_transaction}
-use Rattle.als_record.proofs.Numbers.{Rising}
+use Rattle.als_record.specs.Orders.{Rising}
 use Rattle.als_record.proofs.Validity.{Admitted, valid_induction}
 use Rattle.als_record.proofs.Unended.{transactions-push, greatest_trans-push, is_among-transactions}
 use Rattle.als_record.proofs.Records.{is_unended-none}

@@ -7,7 +7,8 @@ use Rattle.als_record.specs.declared.transaction_state.TransactionState.{Transac
 use Rattle.als_record.specs.declared.transaction_state.TransactionState.TheVariants.{Active, Committed, RollingBack}
 use Rattle.als_record.specs.Transactions.{is_transactional, is_end, is_committed, has_rollback, is_unended, unended, is_among}
 use Rattle.als_record.specs.Table.{state_of, row_of, table_of, row_after}
-use Rattle.als_record.proofs.Numbers.{Apart, eqb-refl}
+use Rattle.als_record.proofs.Numbers.{eqb-refl}
+use Rattle.als_record.specs.Orders.{Apart}
 use Rattle.als_record.proofs.Unended.{is_among-unended, Apart-unended}
 use Rattle.als_record.proofs.Records.{has_begun-unended}
 use Rattle.als_record.proofs.TableSteps.{with_record, is_row_of_other, table_of-more, table_of-end}

@@ -12,7 +12,8 @@ use Rattle.als_record.specs.Transactions.{is_transactional, is_update, is_compen
 use Rattle.als_record.specs.Spelling.{Image}
 use Rattle.als_record.specs.Tail.{TailStep, Ends, Undoes, is_finished, ends, undoes, losing, tail_steps, undone, record_for, numbered, tail_of}
 use Rattle.als_record.proofs.Records.{to_undo-own, to_undo-other, is_committed-own, is_committed-other, is_loser-own, is_loser-other, has_begun-unended, has_ended-unended}
-use Rattle.als_record.proofs.Numbers.{Apart, without, eqb-refl, eqb-sym, is_among-filter, Apart-filter, filter-except, without-absent}
+use Rattle.als_record.proofs.Numbers.{without, eqb-refl, eqb-sym, is_among-filter, Apart-filter, filter-except, without-absent}
+use Rattle.als_record.specs.Orders.{Apart}
 use Rattle.als_record.proofs.Survivors.{is_by, all_surviving-push, all_surviving-by, All-is_update}
 use Rattle.als_record.proofs.Unended.{unended-more, unended-end, Apart-unended, is_among-unended}
 

@@ -7,7 +7,8 @@ use Rattle.std.proofs.lemmas.List.Sums.{fold_push}
 use Rattle.als_record.specs.declared.record.Record.{Record}
 use Rattle.als_record.specs.Transactions.{is_transactional, is_end, is_of, is_among, is_some_left, records_of, has_begun, has_ended, is_unended, with_transaction, transactions, unended, greatest_trans}
 use Rattle.als_record.proofs.Records.{is_unended-other, is_unended-own, has_ended-none, has_begun-unended, has_ended-unended}
-use Rattle.als_record.proofs.Numbers.{Apart, without, eqb-refl, eqb-sym, is_among-append, is_among-filter, Apart-push, Apart-filter, filter-except, filter-without, length-without}
+use Rattle.als_record.proofs.Numbers.{without, eqb-refl, eqb-sym, is_among-append, is_among-filter, Apart-push, Apart-filter, filter-except, filter-without, length-without}
+use Rattle.als_record.specs.Orders.{Apart}
 
 pub transactions-push : (log : List Record) (r : Record) → transactions (log ++ r ∷ []) ≡ with_transaction (transactions log) r
 unfolding transactions
