@@ -1,7 +1,11 @@
-//! The laws over what logs mean: each is the contract of a function that does nothing.
+//! The laws over what logs mean: each is the contract of a function that does nothing. They say in another way what the
+//! definitions of als_record say, so that a wrong definition would break one.
 #![tactic(auto)]
 
 // What a takeover leaves.
 mod takeover;
+// What a valid log is like.
+mod valid_logs;
 
-pub use takeover::{tail_goes_on, tail_takes_over};
+pub use takeover::{tail_goes_on, tail_is_a_sum, tail_takes_over};
+pub use valid_logs::{one_loser_holds_a_key, rows_rise, sweep_falls, undo_chain_meets_survivors};

@@ -1,7 +1,7 @@
 -- Which transaction holds a key, in a valid log: at most one loser.
-use Rattle.std.proofs.Common.{◌≡◌, ℕ, ◌==◌, ◌+◌, Bool, true, false, cond, not, ◌&&◌, ◌||◌, List, [], ◌∷◌, ◌++◌, filter, find, Option, Some, None, option_map, is_some, refl, sym, ap, ◌∙◌, inl, inr, ◌⊎◌, subst, arith}
+use Rattle.std.proofs.Common.{◌≡◌, ℕ, ◌==◌, ◌+◌, Bool, true, false, not, ◌&&◌, List, [], ◌∷◌, filter, find, Option, Some, None, option_map, refl, sym, ap, ◌∙◌, inl, inr, arith}
 use Rattle.std.specs.List.{list_any, AllByRecursion}
-use Rattle.std.proofs.lemmas.Bool.{cases_Bool, eqb-true, eq-eqb, ne_eqb, false≢true, and_parts, and_from, or_parts, or_from, or_left, or_right, not-true, not-false, or_cases}
+use Rattle.std.proofs.lemmas.Bool.{cases_Bool, eqb-true, ne_eqb, false≢true, and_parts, or_parts, not-true, or_cases}
 use Rattle.als_record.specs.declared.trans_id.TransId.{TransId}
 use Rattle.als_record.specs.declared.key.Key.{Key}
 use Rattle.als_record.specs.declared.record.Body.{Body}
@@ -11,10 +11,10 @@ use Rattle.als_record.specs.Spelling.{Image}
 use Rattle.als_record.specs.Transactions.{is_update, to_undo, is_loser, all_surviving}
 use Rattle.als_record.specs.Images.{is_update_at}
 use Rattle.als_record.specs.Validity.{holder, held_by, is_valid}
-use Rattle.als_record.proofs.Numbers.{eqb-refl, eqb-sym}
+use Rattle.als_record.proofs.Numbers.{eqb-refl}
 use Rattle.als_record.proofs.Survivors.{is_by, all_surviving-by}
 use Rattle.als_record.proofs.Standing.{Covers}
-use Rattle.als_record.proofs.Sound.{Sound, Sound-valid, is_closed, is_closed-loser}
+use Rattle.als_record.proofs.Sound.{Sound-valid, is_closed, is_closed-loser}
 
 -- whether a transaction has a surviving update of a key
 abbrev pub holds : List Record → ℕ → Key → Bool
@@ -31,56 +31,65 @@ module _ (closed : ℕ → Bool) (loses : ℕ → Bool) (open_ : (x : ℕ) → l
   alone : (v : Record) (us : List Record) → AllByRecursion (λ u. is_update_at k u.body ≡ true → (u.trans.0 == v.trans.0) ≡ false → closed u.trans.0 ≡ true) us → (t : ℕ) → loses t ≡ true → any_at t k us ≡ true → (t == v.trans.0) ≡ true
   alone v [] c t l h = absurd (false≢true h)
   alone v (u ∷ us) c t l h = elim (cases_Bool (u.trans.0 == t)) [
-      inr y ↦ alone v us c.1 t l (rw y at h)
+    | inr y ↦ alone v us c.1 t l (rw y at h)
     | inl y ↦ elim (or_cases (is_update_at k u.body) (any_at t k us) (rw y at h)) [
-          inr z ↦ alone v us c.1 t l z
-        | inl z ↦ elim (cases_Bool (t == v.trans.0)) [
-              inl w ↦ w
-            | inr w ↦
-                let q : u.trans.0 ≡ t = eqb-true u.trans.0 t y in
-                let d : closed u.trans.0 ≡ true = c.0 z (ap (λ n. n == v.trans.0) q ∙ w) in
-                absurd (false≢true (sym (open_ t l) ∙ ap closed (sym q) ∙ d)) ] ] ]
+      | inr z ↦ alone v us c.1 t l z
+      | inl z ↦ elim (cases_Bool (t == v.trans.0)) [
+        | inl w ↦ w
+        | inr w ↦
+            let q : u.trans.0 ≡ t = eqb-true u.trans.0 t y in
+            let d : closed u.trans.0 ≡ true = c.0 z (ap (λ n. n == v.trans.0) q ∙ w) in
+            absurd (false≢true (sym (open_ t l) ∙ ap closed (sym q) ∙ d))
+      ]
+    ]
+  ]
 
   found : (us : List Record) → Covers closed us → (t : ℕ) → loses t ≡ true → (t == s) ≡ false → any_at t k us ≡ true → option_map (λ u. u.trans) (find (λ u. is_update_at k u.body && not (u.trans.0 == s) && loses u.trans.0) us) ≡ Some (record { 0 = t })
   found [] c t l d h = absurd (false≢true h)
   found (u ∷ us) c t l d h = elim (cases_Bool (is_update_at k u.body && not (u.trans.0 == s) && loses u.trans.0)) [
-      inl y ↦ rw y (named (mine (and_parts _ _ (and_parts _ _ y).0).0))
-    | inr y ↦ rw y (found us c.1 t l d (later y)) ]
+    | inl y ↦ rw y (named (mine (and_parts _ _ (and_parts _ _ y).0).0))
+    | inr y ↦ rw y (found us c.1 t l d (later y))
+  ]
     where
       named : u.trans.0 ≡ t → Some u.trans ≡ Some (record { 0 = t })
       named q = ap (λ n. let o : Option TransId = Some (record { 0 = n }) in o) q
 
       mine : is_update_at k u.body ≡ true → u.trans.0 ≡ t
       mine z = elim (cases_Bool (u.trans.0 == t)) [
-          inl w ↦ eqb-true u.trans.0 t w
-        | inr w ↦ let g : any_at t k us ≡ true = (rw w at h) in sym (eqb-true t u.trans.0 (alone u us (c.0 k z) t l g)) ]
+        | inl w ↦ eqb-true u.trans.0 t w
+        | inr w ↦ let g : any_at t k us ≡ true = (rw w at h) in sym (eqb-true t u.trans.0 (alone u us (c.0 k z) t l g))
+      ]
 
       later : (is_update_at k u.body && not (u.trans.0 == s) && loses u.trans.0) ≡ false → any_at t k us ≡ true
       later y = elim (cases_Bool (u.trans.0 == t)) [
-          inr w ↦ (rw w at h)
+        | inr w ↦ (rw w at h)
         | inl w ↦ elim (or_cases (is_update_at k u.body) (any_at t k us) (rw w at h)) [
-              inr z ↦ z
-            | inl z ↦
-                let q : u.trans.0 ≡ t = eqb-true u.trans.0 t w in
-                let o : (u.trans.0 == s) ≡ false = ap (λ n. n == s) q ∙ d in
-                let p : loses u.trans.0 ≡ true = ap loses q ∙ l in
-                absurd (false≢true (sym y ∙ rw (z, o, p) refl)) ] ]
+          | inr z ↦ z
+          | inl z ↦
+              let q : u.trans.0 ≡ t = eqb-true u.trans.0 t w in
+              let o : (u.trans.0 == s) ≡ false = ap (λ n. n == s) q ∙ d in
+              let p : loses u.trans.0 ≡ true = ap loses q ∙ l in
+              absurd (false≢true (sym y ∙ rw (z, o, p) refl))
+        ]
+      ]
 
 -- no update passes where no loser has one of the key
 nobody : (loses : ℕ → Bool) (k : Key) (s : ℕ) (us : List Record) → ((t : ℕ) → loses t ≡ true → (t == s) ≡ false → any_at t k us ≡ false) → find (λ u. is_update_at k u.body && not (u.trans.0 == s) && loses u.trans.0) us ≡ None
 nobody loses k s [] n = refl
 nobody loses k s (u ∷ us) n = elim (cases_Bool (is_update_at k u.body && not (u.trans.0 == s) && loses u.trans.0)) [
-    inl y ↦
+  | inl y ↦
       let a : ((is_update_at k u.body && not (u.trans.0 == s)) ≡ true) × (loses u.trans.0 ≡ true) = and_parts _ _ y in
       let b : (is_update_at k u.body ≡ true) × (not (u.trans.0 == s) ≡ true) = and_parts _ _ a.0 in
       let f : any_at u.trans.0 k (u ∷ us) ≡ false = n u.trans.0 a.1 (not-true (u.trans.0 == s) b.1) in
       absurd (false≢true (sym f ∙ rw (eqb-refl u.trans.0, b.0) refl))
-  | inr y ↦ rw y (nobody loses k s us (λ t l d. below t (n t l d))) ]
+  | inr y ↦ rw y (nobody loses k s us (λ t l d. below t (n t l d)))
+]
   where
     below : (t : ℕ) → any_at t k (u ∷ us) ≡ false → any_at t k us ≡ false
     below t e = elim (cases_Bool (u.trans.0 == t)) [
-        inl w ↦ (or_parts (is_update_at k u.body) (any_at t k us) (rw w at e)).1
-      | inr w ↦ (rw w at e) ]
+      | inl w ↦ (or_parts (is_update_at k u.body) (any_at t k us) (rw w at e)).1
+      | inr w ↦ (rw w at e)
+    ]
 
 -- ---- the law
 

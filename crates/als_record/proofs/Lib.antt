@@ -23,3 +23,8 @@ pub mod Takeover
 pub mod TailLength
 pub mod Places
 pub mod Held
+pub mod HeldCounts
+pub mod Falling
+pub mod CommitSteps
+pub mod Chain
+pub mod TailFirst

@@ -1,16 +1,16 @@
 -- Where records stand: a log ends after its last record, LSNs rise, and what is begun stays known.
-use Rattle.std.proofs.Common.{◌≡◌, ℕ, ◌==◌, ◌+◌, ◌≤◌, ◌<◌, max, nat_le, Bool, true, false, cond, not, ◌&&◌, ◌||◌, List, [], ◌∷◌, ◌++◌, fold, sum_by, filter, refl, sym, ap, ◌∙◌, inl, inr, ◌⊎◌, subst, arith, append_assoc}
+use Rattle.std.proofs.Common.{◌≡◌, ℕ, ◌+◌, ◌≤◌, ◌<◌, max, nat_le, Bool, true, false, not, ◌&&◌, List, [], ◌∷◌, ◌++◌, filter, refl, sym, ap, ◌∙◌, inl, inr, arith}
 use Rattle.std.specs.List.{AllByRecursion}
-use Rattle.std.proofs.lemmas.Bool.{cases_Bool, eqb-true, eq-eqb, false≢true, and_parts, leb-false}
+use Rattle.std.proofs.lemmas.Bool.{cases_Bool, leb-false}
 use Rattle.std.proofs.lemmas.List.Sums.{fold_push, sum_by_push}
 use Rattle.als_record.specs.declared.record.Record.{Record}
 use Rattle.als_record.specs.Spelling.{record_len}
-use Rattle.als_record.specs.LogText.{end_of, follow_from}
-use Rattle.als_record.specs.Transactions.{is_transactional, is_of, is_among, transactions, unended, is_unended, has_begun, greatest_trans, with_transaction, all_surviving, without_newest, survivors_after}
+use Rattle.als_record.specs.LogText.{end_of}
+use Rattle.als_record.specs.Transactions.{is_transactional, is_among, transactions, unended, is_unended, has_begun, greatest_trans}
 use Rattle.als_record.specs.Validity.{checkpoint_after, open_checkpoint, is_valid, old_transaction}
-use Rattle.als_record.proofs.Numbers.{Rising, Apart, is_among-append}
-use Rattle.als_record.proofs.Validity.{Admitted, valid_induction, is_valid-push, Admitted-may_follow}
-use Rattle.als_record.proofs.Unended.{transactions-push, greatest_trans-push, is_among-transactions, is_among-unended}
+use Rattle.als_record.specs.Orders.{Rising}
+use Rattle.als_record.proofs.Validity.{Admitted, valid_induction}
+use Rattle.als_record.proofs.Unended.{transactions-push, greatest_trans-push, is_among-transactions}
 use Rattle.als_record.proofs.Records.{is_unended-none}
 
 pub end_of-push : (log : List Record) (r : Record) → end_of (log ++ r ∷ []) ≡ end_of log + record_len r
@@ -68,21 +68,23 @@ Rising-push (x ∷ rest) t a b = (push rest a.0, Rising-push rest t a.1 b.1)
 pub Rising-filter : (p : ℕ → Bool) (xs : List ℕ) → Rising xs → Rising (filter p xs)
 Rising-filter p [] a = tt
 Rising-filter p (x ∷ rest) a = elim (cases_Bool (p x)) [
-    inl e ↦ rw e (kept rest a.0, Rising-filter p rest a.1)
-  | inr e ↦ rw e (Rising-filter p rest a.1) ]
+  | inl e ↦ rw e (kept rest a.0, Rising-filter p rest a.1)
+  | inr e ↦ rw e (Rising-filter p rest a.1)
+]
   where
     kept : (ys : List ℕ) → AllByRecursion (λ y. x < y) ys → AllByRecursion (λ y. x < y) (filter p ys)
     kept [] c = tt
     kept (y ∷ ys) c = elim (cases_Bool (p y)) [
-        inl e ↦ rw e (c.0, kept ys c.1)
-      | inr e ↦ rw e (kept ys c.1) ]
+      | inl e ↦ rw e (c.0, kept ys c.1)
+      | inr e ↦ rw e (kept ys c.1)
+    ]
 
 -- the transactions rise, all up to the greatest TransID
 record Ordered (log : List Record) : Type 0 where
   rising : Rising (transactions log)
   below : AllByRecursion (λ x. x ≤ greatest_trans log) (transactions log)
 
-transactions-nil : transactions [] ≡ []
+pub transactions-nil : transactions [] ≡ []
 unfolding transactions
 transactions-nil = refl
 

@@ -1,5 +1,5 @@
 -- What becomes of a transaction, seen through its records, with one more record in the log: its own, or another's.
-use Rattle.std.proofs.Common.{◌≡◌, ℕ, ◌==◌, Bool, true, false, cond, not, ◌&&◌, ◌||◌, List, [], ◌∷◌, ◌++◌, filter, fold, drop, take, length, reverse, inl, inr, ◌⊎◌, refl, sym, ap, ◌∙◌, append-nil, length-append, add-sub_cancel, arith, ◌-◌}
+use Rattle.std.proofs.Common.{◌≡◌, ℕ, Bool, true, false, cond, not, ◌&&◌, ◌||◌, List, [], ◌∷◌, ◌++◌, filter, fold, drop, take, length, reverse, inl, inr, refl, sym, ap, ◌∙◌, append-nil, length-append, add-sub_cancel, ◌-◌}
 use Rattle.std.specs.List.{list_any}
 use Rattle.std.proofs.lemmas.List.Elements.{filter-append}
 use Rattle.std.proofs.lemmas.List.Folds.{list_any-append}
@@ -9,7 +9,7 @@ use Rattle.std.proofs.lemmas.Bool.{cases_Bool, false≢true, and_parts, not-true
 use Rattle.als_record.specs.declared.record.Body.{Body}
 use Rattle.als_record.specs.declared.record.Body.TheVariants.{Update, Compensation, Commit, Rollback, End, BeginCheckpoint, EndCheckpoint}
 use Rattle.als_record.specs.declared.record.Record.{Record}
-use Rattle.als_record.specs.Transactions.{is_transactional, is_update, is_compensation, is_commit, is_rollback, is_end, is_of, records_of, to_undo_after, to_undo, surviving, is_some_left, has_begun, is_committed, has_rollback, has_ended, is_unended, is_loser, last_lsn, undo_next_after, undo_next_of}
+use Rattle.als_record.specs.Transactions.{is_update, is_compensation, is_commit, is_rollback, is_end, is_of, records_of, to_undo_after, to_undo, surviving, is_some_left, has_begun, is_committed, has_rollback, has_ended, is_unended, is_loser, last_lsn, undo_next_after, undo_next_of}
 
 module _ (log : List Record) (r : Record) (t : ℕ) where
   pub records_of-own : is_of t r ≡ true → records_of (log ++ r ∷ []) t ≡ records_of log t ++ r ∷ []
@@ -195,13 +195,15 @@ has_ended-unended log t u = not-true (has_ended log t) (and_parts (has_begun log
 
 grows : (log : List Record) (r : Record) (t : ℕ) (f : List Record → ℕ → Bool) (b : Bool) → (is_of t r ≡ true → f (log ++ r ∷ []) t ≡ (f log t || b)) → (is_of t r ≡ false → f (log ++ r ∷ []) t ≡ f log t) → f log t ≡ true → f (log ++ r ∷ []) t ≡ true
 grows log r t f b own other e = elim (cases_Bool (is_of t r)) [
-    inl o ↦ own o ∙ rw e refl
-  | inr o ↦ other o ∙ e ]
+  | inl o ↦ own o ∙ rw e refl
+  | inr o ↦ other o ∙ e
+]
 
 pub has_begun-grows : (log : List Record) (r : Record) (t : ℕ) → has_begun log t ≡ true → has_begun (log ++ r ∷ []) t ≡ true
 has_begun-grows log r t e = elim (cases_Bool (is_of t r)) [
-    inl o ↦ has_begun-own log r t o
-  | inr o ↦ has_begun-other log r t o ∙ e ]
+  | inl o ↦ has_begun-own log r t o
+  | inr o ↦ has_begun-other log r t o ∙ e
+]
 
 pub is_committed-grows : (log : List Record) (r : Record) (t : ℕ) → is_committed log t ≡ true → is_committed (log ++ r ∷ []) t ≡ true
 is_committed-grows log r t = grows log r t is_committed (is_commit r.body) (is_committed-own log r t) (is_committed-other log r t)
@@ -211,5 +213,6 @@ has_ended-grows log r t = grows log r t has_ended (is_end r.body) (has_ended-own
 
 pub has_begun-ended : (log : List Record) (t : ℕ) → has_ended log t ≡ true → has_begun log t ≡ true
 has_begun-ended log t h = elim (cases_Bool (has_begun log t)) [
-    inl e ↦ e
-  | inr e ↦ absurd (false≢true (sym (has_ended-none log t e) ∙ h)) ]
+  | inl e ↦ e
+  | inr e ↦ absurd (false≢true (sym (has_ended-none log t e) ∙ h))
+]

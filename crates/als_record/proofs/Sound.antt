@@ -1,25 +1,23 @@
 -- What each valid log keeps: a key has what stands there, updates are held apart, and only the committed end with updates.
-use Rattle.std.proofs.Common.{◌≡◌, ℕ, ◌==◌, ◌+◌, ◌≤◌, ◌<◌, max, nat_le, Bool, true, false, cond, not, ◌&&◌, ◌||◌, List, [], ◌∷◌, ◌++◌, filter, find, drop, Option, Some, None, option_map, refl, sym, ap, ◌∙◌, inl, inr, ◌⊎◌, subst, arith}
-use Rattle.std.specs.List.{list_any, AllByRecursion}
-use Rattle.std.proofs.lemmas.Bool.{cases_Bool, eqb-true, eq-eqb, ne_eqb, false≢true, true≢false, and_parts, or_parts, not-true, not-false, le-leb, or_left, or_right, or_cases}
+use Rattle.std.proofs.Common.{◌≡◌, ℕ, ◌==◌, ◌≤◌, nat_le, Bool, true, false, cond, not, ◌&&◌, ◌||◌, List, [], ◌∷◌, ◌++◌, filter, find, Option, Some, None, option_map, refl, sym, ap, ◌∙◌, inl, inr, subst, arith}
+use Rattle.std.specs.List.{AllByRecursion}
+use Rattle.std.proofs.lemmas.Bool.{cases_Bool, eqb-true, false≢true, and_parts, or_parts, not-true, not-false, le-leb, or_left, or_right, or_cases}
 use Rattle.als_record.specs.declared.lsn.Lsn.{Lsn}
 use Rattle.als_record.specs.declared.key.Key.{Key}
-use Rattle.als_record.specs.declared.trans_id.TransId.{TransId}
 use Rattle.als_record.specs.declared.record.Body.{Body}
 use Rattle.als_record.specs.declared.record.Body.TheVariants.{Update, Compensation, Commit, Rollback, End, BeginCheckpoint, EndCheckpoint}
 use Rattle.als_record.specs.declared.record.Record.{Record}
 use Rattle.als_record.specs.Spelling.{Image}
-use Rattle.als_record.specs.Pages.{change_of, change_in}
-use Rattle.als_record.specs.Transactions.{is_transactional, is_update, is_compensation, is_commit, is_rollback, is_end, is_of, records_of, to_undo_after, to_undo, is_some_left, is_committed, has_rollback, has_begun, has_ended, is_unended, is_loser, without_newest, survivors_after, all_surviving, greatest_trans}
-use Rattle.als_record.specs.Images.{same_key, same_image, image_after, image_now, is_update_at, image_before, image_written, image_of_found, won}
+use Rattle.als_record.specs.Pages.{change_in}
+use Rattle.als_record.specs.Transactions.{is_transactional, is_update, is_compensation, is_end, is_of, records_of, to_undo_after, to_undo, is_some_left, is_committed, has_rollback, has_begun, has_ended, is_unended, is_loser, without_newest, survivors_after, all_surviving, greatest_trans}
+use Rattle.als_record.specs.Images.{same_key, same_image, image_now, is_update_at, image_before, image_written, image_of_found}
 use Rattle.als_record.specs.Validity.{old_transaction, wrong_state, is_forward, undoes_newest, wrong_compensation, holder, held_by, saw_now, before_image, is_valid}
-use Rattle.als_record.proofs.Records.{to_undo-own, to_undo-other, is_committed-own, is_committed-other, has_begun-own, has_begun-other, has_ended-own, has_ended-other, is_unended-own, is_committed-grows, has_ended-grows, has_begun-unended, has_ended-unended, has_begun-ended, to_undo-none}
-use Rattle.als_record.proofs.Numbers.{eqb-refl, eqb-sym}
-use Rattle.als_record.proofs.Survivors.{is_by, all_surviving-push, all_surviving-by, all_surviving-nil, All-without_newest, All-weaken, All-has_begun, has_begun-survivor}
+use Rattle.als_record.proofs.Records.{to_undo-own, to_undo-other, has_begun-other, has_ended-own, has_ended-other, is_committed-grows, has_ended-grows, has_ended-unended, has_begun-ended}
+use Rattle.als_record.proofs.Survivors.{is_by, all_surviving-push, all_surviving-by, All-weaken, All-has_begun, has_begun-survivor}
 use Rattle.als_record.proofs.Unended.{greatest_trans-push}
 use Rattle.als_record.proofs.Images.{image_with, image_now-push}
 use Rattle.als_record.proofs.Validity.{Admitted, valid_induction}
-use Rattle.als_record.proofs.Standing.{same_key-true, same_key-refl, same_image-true, is_update_at-same, standing, Chained, Covers, standing-undone, standing-kept, Chained-undone, Covers-without_newest, Covers-grows}
+use Rattle.als_record.proofs.Standing.{same_key-true, same_image-true, is_update_at-same, standing, Chained, Covers, standing-undone, standing-kept, Chained-undone, Covers-without_newest, Covers-grows}
 
 -- a transaction whose updates stay: committed, or ended
 unfoldable pub is_closed : List Record → ℕ → Bool
@@ -36,8 +34,9 @@ pub record Sound (log : List Record) : Type 0 where
 pub is_closed-grows : (log : List Record) (r : Record) (t : ℕ) → is_closed log t ≡ true → is_closed (log ++ r ∷ []) t ≡ true
 unfolding is_closed
 is_closed-grows log r t e = elim (or_cases (is_committed log t) (has_ended log t) e) [
-    inl c ↦ or_left (is_committed (log ++ r ∷ []) t) (has_ended (log ++ r ∷ []) t) (is_committed-grows log r t c)
-  | inr h ↦ or_right (is_committed (log ++ r ∷ []) t) (has_ended (log ++ r ∷ []) t) (has_ended-grows log r t h) ]
+  | inl c ↦ or_left (is_committed (log ++ r ∷ []) t) (has_ended (log ++ r ∷ []) t) (is_committed-grows log r t c)
+  | inr h ↦ or_right (is_committed (log ++ r ∷ []) t) (has_ended (log ++ r ∷ []) t) (has_ended-grows log r t h)
+]
 
 -- a transaction that has begun is a loser or closed
 pub is_closed-not_loser : (log : List Record) (t : ℕ) → has_begun log t ≡ true → is_loser log t ≡ false → is_closed log t ≡ true
@@ -58,19 +57,21 @@ is_closed-loser log t l =
 
 find-none : (p : Record → Bool) (u : Record) (rest : List Record) → find p (u ∷ rest) ≡ None → (p u ≡ false) × (find p rest ≡ None)
 find-none p u rest e = elim (cases_Bool (p u)) [
-    inl y ↦ let f : ◌≡◌ {A = Option Record} (Some u) None = (rw y at e) in absurd (cc f)
-  | inr y ↦ (y, (rw y at e)) ]
+  | inl y ↦ let f : ◌≡◌ {A = Option Record} (Some u) None = (rw y at e) in absurd (cc f)
+  | inr y ↦ (y, (rw y at e))
+]
 
 module _ (log : List Record) (r : Record) (s : Sound log) (a : Admitted log r) where
   -- a transaction that has begun goes on only while it is unended
   pub goes_on : is_transactional r.body ≡ true → has_begun log r.trans.0 ≡ true → is_unended log r.trans.0 ≡ true
   unfolding old_transaction
   goes_on w b = elim (cases_Bool (is_unended log r.trans.0)) [
-      inl e ↦ e
+    | inl e ↦ e
     | inr e ↦
         let l : nat_le r.trans.0 (greatest_trans log) ≡ true = le-leb r.trans.0 (greatest_trans log) (s.below r.trans.0 b) in
         let f : (is_transactional r.body && not (is_unended log r.trans.0) && nat_le r.trans.0 (greatest_trans log)) ≡ true = rw (w, e, l) refl in
-        absurd (false≢true (sym a.old ∙ f)) ]
+        absurd (false≢true (sym a.old ∙ f))
+  ]
 
   states : (is_committed log r.trans.0 && not (is_end r.body) ≡ false) × ((is_end r.body && not (is_committed log r.trans.0) && is_some_left (to_undo log r.trans.0)) ≡ false)
   unfolding wrong_state
@@ -82,21 +83,24 @@ module _ (log : List Record) (r : Record) (s : Sound log) (a : Admitted log r) w
   -- a committed transaction only ends
   pub only_ends : is_end r.body ≡ false → is_committed log r.trans.0 ≡ false
   only_ends e = elim (cases_Bool (is_committed log r.trans.0)) [
-      inr c ↦ c
-    | inl c ↦ absurd (false≢true (sym states.0 ∙ rw (c, e) refl)) ]
+    | inr c ↦ c
+    | inl c ↦ absurd (false≢true (sym states.0 ∙ rw (c, e) refl))
+  ]
 
   -- what is not committed ends with nothing to undo
   pub ends_clean : is_end r.body ≡ true → is_committed log r.trans.0 ≡ false → is_some_left (to_undo log r.trans.0) ≡ false
   ends_clean e c = elim (cases_Bool (is_some_left (to_undo log r.trans.0))) [
-      inr l ↦ l
-    | inl l ↦ absurd (false≢true (sym states.1 ∙ rw (e, c, l) refl)) ]
+    | inr l ↦ l
+    | inl l ↦ absurd (false≢true (sym states.1 ∙ rw (e, c, l) refl))
+  ]
 
   -- ---- the transactions
 
   below-next : (t : ℕ) → has_begun (log ++ r ∷ []) t ≡ true → t ≤ greatest_trans (log ++ r ∷ [])
   below-next t b = rw (greatest_trans-push log r) (elim (cases_Bool (is_of t r)) [
-      inl o ↦ let q : r.trans.0 ≡ t = eqb-true r.trans.0 t (and_parts (is_transactional r.body) (r.trans.0 == t) o).1 in omega arith
-    | inr o ↦ let h : t ≤ greatest_trans log = s.below t (sym (has_begun-other log r t o) ∙ b) in omega arith ])
+    | inl o ↦ let q : r.trans.0 ≡ t = eqb-true r.trans.0 t (and_parts (is_transactional r.body) (r.trans.0 == t) o).1 in omega arith
+    | inr o ↦ let h : t ≤ greatest_trans log = s.below t (sym (has_begun-other log r t o) ∙ b) in omega arith
+  ])
 
   some_left-before : (b : Body) (left : List Record) → is_update b ≡ false → is_some_left (to_undo_after left r b) ≡ true → is_some_left left ≡ true
   some_left-before (Update key before after) left u e = absurd (false≢true (sym u))
@@ -123,20 +127,23 @@ module _ (log : List Record) (r : Record) (s : Sound log) (a : Admitted log r) w
 
   settled-next : (t : ℕ) → is_some_left (to_undo (log ++ r ∷ []) t) ≡ true → has_ended (log ++ r ∷ []) t ≡ true → is_committed (log ++ r ∷ []) t ≡ true
   settled-next t l h = elim (cases_Bool (is_of t r)) [
-      inr o ↦ is_committed-grows log r t (s.settled t (ap is_some_left (sym (to_undo-other log r t o)) ∙ l) (sym (has_ended-other log r t o) ∙ h))
-    | inl o ↦ mine o (eqb-true r.trans.0 t (and_parts (is_transactional r.body) (r.trans.0 == t) o).1) (and_parts (is_transactional r.body) (r.trans.0 == t) o).0 ]
+    | inr o ↦ is_committed-grows log r t (s.settled t (ap is_some_left (sym (to_undo-other log r t o)) ∙ l) (sym (has_ended-other log r t o) ∙ h))
+    | inl o ↦ mine o (eqb-true r.trans.0 t (and_parts (is_transactional r.body) (r.trans.0 == t) o).1) (and_parts (is_transactional r.body) (r.trans.0 == t) o).0
+  ]
     where
       mine : is_of t r ≡ true → r.trans.0 ≡ t → is_transactional r.body ≡ true → is_committed (log ++ r ∷ []) t ≡ true
       mine o q w = elim (cases_Bool (is_end r.body)) [
-          inl e ↦ elim (cases_Bool (is_committed log t)) [
-              inl c ↦ is_committed-grows log r t c
-            | inr c ↦
-                let before : is_some_left (to_undo log t) ≡ true = some_left-before r.body (to_undo log t) (end-is_update r.body e) (ap is_some_left (sym (to_undo-own log r t o)) ∙ l) in
-                absurd (false≢true (sym (ends_clean e (ap (is_committed log) q ∙ c)) ∙ ap (λ x. is_some_left (to_undo log x)) q ∙ before)) ]
+        | inl e ↦ elim (cases_Bool (is_committed log t)) [
+          | inl c ↦ is_committed-grows log r t c
+          | inr c ↦
+              let before : is_some_left (to_undo log t) ≡ true = some_left-before r.body (to_undo log t) (end-is_update r.body e) (ap is_some_left (sym (to_undo-own log r t o)) ∙ l) in
+              absurd (false≢true (sym (ends_clean e (ap (is_committed log) q ∙ c)) ∙ ap (λ x. is_some_left (to_undo log x)) q ∙ before))
+        ]
         | inr e ↦
             let ended : has_ended log t ≡ true = had (has_ended log t) (sym (has_ended-own log r t o ∙ ap (λ b. has_ended log t || b) e) ∙ h) in
             let open_ : is_unended log r.trans.0 ≡ true = goes_on w (ap (has_begun log) q ∙ has_begun-ended log t ended) in
-            absurd (false≢true (sym (has_ended-unended log r.trans.0 open_) ∙ ap (has_ended log) q ∙ ended)) ]
+            absurd (false≢true (sym (has_ended-unended log r.trans.0 open_) ∙ ap (has_ended log) q ∙ ended))
+      ]
 
   -- ---- the updates
 
@@ -188,10 +195,13 @@ module _ (log : List Record) (r : Record) (s : Sound log) (a : Admitted log r) w
     update-sound = record {
       now = λ k. image_now-push log r k ∙ ap (λ x. image_with k (image_now log k) (change_in r x)) b ∙ rw update-surviving (image k);
       chained = rw update-surviving ((λ k w. ap image_before b ∙ update-saw ∙ s.now key ∙ ap (standing (all_surviving log)) (same_key-true key k (ap (is_update_at k) (sym b) ∙ w))), s.chained);
-      covers = rw update-surviving ((λ k w. All-weaken (λ u. is_update_at k u.body ≡ true → (u.trans.0 == r.trans.0) ≡ false → is_closed log u.trans.0 ≡ true) (λ u. is_update_at k u.body ≡ true → (u.trans.0 == r.trans.0) ≡ false → is_closed (log ++ r ∷ []) u.trans.0 ≡ true) (λ u f x y. is_closed-grows log r u.trans.0 (f x y)) (all_surviving log) (update-covers (all_surviving log) (All-has_begun log) nobody k w)),
-          Covers-grows (is_closed log) (is_closed (log ++ r ∷ [])) (is_closed-grows log r) (all_surviving log) s.covers);
+      covers = rw update-surviving (
+        (λ k w. All-weaken (λ u. is_update_at k u.body ≡ true → (u.trans.0 == r.trans.0) ≡ false → is_closed log u.trans.0 ≡ true) (λ u. is_update_at k u.body ≡ true → (u.trans.0 == r.trans.0) ≡ false → is_closed (log ++ r ∷ []) u.trans.0 ≡ true) (λ u f x y. is_closed-grows log r u.trans.0 (f x y)) (all_surviving log) (update-covers (all_surviving log) (All-has_begun log) nobody k w)),
+        Covers-grows (is_closed log) (is_closed (log ++ r ∷ [])) (is_closed-grows log r) (all_surviving log) s.covers,
+      );
       settled = settled-next;
-      below = below-next }
+      below = below-next;
+    }
       where
         image : (k : Key) → cond (same_key key k) after (image_now log k) ≡ standing (r ∷ all_surviving log) k
         image k = subst (λ c. cond (same_key key k) after (image_now log k) ≡ image_of_found (cond c (Some r) (find (λ u. is_update_at k u.body) (all_surviving log)))) (sym (ap (is_update_at k) b)) (go (same_key key k))
@@ -234,7 +244,8 @@ module _ (log : List Record) (r : Record) (s : Sound log) (a : Admitted log r) w
       chained = rw compensation-surviving (Chained-undone (is_closed log) r.trans.0 open_one (all_surviving log) undone_one.0 undone_one.1 s.chained s.covers first_by);
       covers = rw compensation-surviving (Covers-without_newest (is_closed (log ++ r ∷ [])) r.trans.0 (all_surviving log) (Covers-grows (is_closed log) (is_closed (log ++ r ∷ [])) (is_closed-grows log r) (all_surviving log) s.covers));
       settled = settled-next;
-      below = below-next }
+      below = below-next;
+    }
       where
         image : (k : Key) (c : Bool) → same_key key k ≡ c → cond c after (image_now log k) ≡ standing (without_newest r.trans.0 (all_surviving log)) k
         image k true e =
@@ -265,7 +276,8 @@ module _ (log : List Record) (r : Record) (s : Sound log) (a : Admitted log r) w
       chained = rw quiet-surviving s.chained;
       covers = rw quiet-surviving (Covers-grows (is_closed log) (is_closed (log ++ r ∷ [])) (is_closed-grows log r) (all_surviving log) s.covers);
       settled = settled-next;
-      below = below-next }
+      below = below-next;
+    }
 
   pub Sound-push : Sound (log ++ r ∷ [])
   Sound-push = go r.body refl

@@ -1,25 +1,17 @@
 -- What a key has is what the last surviving update there wrote: undo gives back what stood before.
-use Rattle.std.proofs.Common.{◌≡◌, ℕ, ◌==◌, ◌+◌, ◌≤◌, ◌<◌, max, nat_le, Bool, true, false, cond, not, ◌&&◌, ◌||◌, List, [], ◌∷◌, ◌++◌, filter, find, drop, Option, Some, None, option_map, refl, sym, ap, ◌∙◌, inl, inr, ◌⊎◌, subst, arith}
-use Rattle.std.specs.List.{list_any, AllByRecursion}
-use Rattle.std.specs.Str.{bytes_eq}
-use Rattle.std.proofs.lemmas.Bool.{cases_Bool, eqb-true, eq-eqb, ne_eqb, false≢true, true≢false, and_parts, or_parts, not-true, not-false, le-leb, or_left, or_right}
+use Rattle.std.proofs.Common.{◌≡◌, ℕ, ◌==◌, Bool, true, false, List, [], ◌∷◌, filter, find, Some, None, refl, sym, ap, ◌∙◌, inl, inr, subst}
+use Rattle.std.specs.List.{AllByRecursion}
+use Rattle.std.proofs.lemmas.Bool.{cases_Bool, eqb-true, false≢true, and_parts}
 use Rattle.std.proofs.lemmas.Slice.Eq.{bytes_eq-Decides}
-use Rattle.arrayvec.specs.ArrayVec.{ArrayVec}
 use Rattle.als_record.specs.declared.key.Key.{Key}
 use Rattle.als_record.specs.declared.record.Body.{Body}
 use Rattle.als_record.specs.declared.record.Body.TheVariants.{Update, Compensation, Commit, Rollback, End, BeginCheckpoint, EndCheckpoint}
 use Rattle.als_record.specs.declared.record.Record.{Record}
 use Rattle.als_record.specs.Spelling.{Image}
-use Rattle.als_record.specs.Pages.{change_of}
-use Rattle.als_record.specs.Transactions.{is_transactional, is_update, is_compensation, is_commit, is_end, is_of, is_among, to_undo_after, to_undo, is_some_left, is_committed, has_begun, has_ended, is_unended, is_loser, without_newest, survivors_after, all_surviving, greatest_trans}
-use Rattle.als_record.specs.Images.{same_key, same_image, image_after, image_now, is_update_at, image_before, image_written, image_of_found, won}
-use Rattle.als_record.specs.Validity.{old_transaction, wrong_state, undoes_newest, wrong_compensation, holder, held_by, saw_now, before_image, is_valid}
-use Rattle.als_record.proofs.Records.{to_undo-own, to_undo-other, is_committed-own, is_committed-other, has_begun-own, has_begun-other, has_ended-own, has_ended-other, is_unended-own, is_committed-grows, has_ended-grows, has_begun-unended, has_ended-unended, to_undo-none}
+use Rattle.als_record.specs.Transactions.{without_newest}
+use Rattle.als_record.specs.Images.{same_key, same_image, is_update_at, image_before, image_of_found}
 use Rattle.als_record.proofs.Numbers.{eqb-refl, eqb-sym}
-use Rattle.als_record.proofs.Survivors.{is_by, all_surviving-push, all_surviving-by, all_surviving-nil, All-without_newest, All-weaken, All-has_begun, has_begun-survivor}
-use Rattle.als_record.proofs.Unended.{greatest_trans-push}
-use Rattle.als_record.proofs.Images.{image_now-push}
-use Rattle.als_record.proofs.Validity.{Admitted, valid_induction}
+use Rattle.als_record.proofs.Survivors.{is_by, All-without_newest, All-weaken}
 
 -- ---- keys and images
 
@@ -72,63 +64,72 @@ Covers closed (v ∷ rest) = ((k : Key) → is_update_at k v.body ≡ true → A
 pub All-first : (P : Record → Type 0) (t : ℕ) (us : List Record) (u : Record) (rest : List Record) → AllByRecursion P us → filter (is_by t) us ≡ u ∷ rest → P u
 All-first P t [] u rest a e = absurd (cc e)
 All-first P t (v ∷ us) u rest a e = elim (cases_Bool (v.trans.0 == t)) [
-    inl y ↦ let f : v ∷ filter (is_by t) us ≡ u ∷ rest = (rw y at e) in let g : v ≡ u = cc f in subst P g a.0
-  | inr y ↦ let f : filter (is_by t) us ≡ u ∷ rest = (rw y at e) in All-first P t us u rest a.1 f ]
+  | inl y ↦ let f : v ∷ filter (is_by t) us ≡ u ∷ rest = (rw y at e) in let g : v ≡ u = cc f in subst P g a.0
+  | inr y ↦ let f : filter (is_by t) us ≡ u ∷ rest = (rw y at e) in All-first P t us u rest a.1 f
+]
 
 All-by : (t : ℕ) (us : List Record) → AllByRecursion (λ u. (u.trans.0 == t) ≡ true) (filter (is_by t) us)
 All-by t [] = tt
 All-by t (u ∷ rest) = elim (cases_Bool (u.trans.0 == t)) [
-    inl y ↦ rw y (y, All-by t rest)
-  | inr y ↦ rw y (All-by t rest) ]
+  | inl y ↦ rw y (y, All-by t rest)
+  | inr y ↦ rw y (All-by t rest)
+]
 
 module _ (closed : ℕ → Bool) (t : ℕ) (open_ : closed t ≡ false) where
   -- another transaction's update does not cover the first one of this transaction
   uncovered : (v : Record) (us : List Record) (u : Record) (rest : List Record) → Covers closed (v ∷ us) → filter (is_by t) us ≡ u ∷ rest → (v.trans.0 == t) ≡ false → (k : Key) → is_update_at k u.body ≡ true → is_update_at k v.body ≡ false
   uncovered v us u rest c e y k w = elim (cases_Bool (is_update_at k v.body)) [
-      inr z ↦ z
+    | inr z ↦ z
     | inl z ↦
         let by : (u.trans.0 == t) ≡ true = (subst (AllByRecursion (λ u. (u.trans.0 == t) ≡ true)) e (All-by t us)).0 in
         let q : u.trans.0 ≡ t = eqb-true u.trans.0 t by in
         let d : (u.trans.0 == v.trans.0) ≡ false = ap (λ n. n == v.trans.0) q ∙ eqb-sym t v.trans.0 ∙ y in
         let f : closed u.trans.0 ≡ true = All-first (λ u. is_update_at k u.body ≡ true → (u.trans.0 == v.trans.0) ≡ false → closed u.trans.0 ≡ true) t us u rest (c.0 k z) e w d in
-        absurd (false≢true (sym open_ ∙ ap closed (sym q) ∙ f)) ]
+        absurd (false≢true (sym open_ ∙ ap closed (sym q) ∙ f))
+  ]
 
   -- at the key of the first update of a transaction stands, without it, what it saw
   pub standing-undone : (us : List Record) (u : Record) (rest : List Record) → Chained us → Covers closed us → filter (is_by t) us ≡ u ∷ rest → (k : Key) → is_update_at k u.body ≡ true → standing (without_newest t us) k ≡ image_before u.body
   standing-undone [] u rest h c e k w = absurd (cc e)
   standing-undone (v ∷ us) u rest h c e k w = elim (cases_Bool (v.trans.0 == t)) [
-      inl y ↦ let f : v ∷ filter (is_by t) us ≡ u ∷ rest = (rw y at e) in let g : v ≡ u = cc f in
-          rw y (sym (h.0 k (ap (λ x. is_update_at k x.body) g ∙ w)) ∙ ap (λ x. image_before x.body) g)
+    | inl y ↦ let f : v ∷ filter (is_by t) us ≡ u ∷ rest = (rw y at e) in let g : v ≡ u = cc f in
+        rw y (sym (h.0 k (ap (λ x. is_update_at k x.body) g ∙ w)) ∙ ap (λ x. image_before x.body) g)
     | inr y ↦ let f : filter (is_by t) us ≡ u ∷ rest = (rw y at e) in
-          let z : is_update_at k v.body ≡ false = uncovered v us u rest c f y k w in
-          simp (y, z) (standing-undone us u rest h.1 c.1 f k w) ]
+        let z : is_update_at k v.body ≡ false = uncovered v us u rest c f y k w in
+        simp (y, z) (standing-undone us u rest h.1 c.1 f k w)
+  ]
 
   -- at other keys stands what stood
   pub standing-kept : (us : List Record) (u : Record) (rest : List Record) → filter (is_by t) us ≡ u ∷ rest → (k : Key) → is_update_at k u.body ≡ false → standing (without_newest t us) k ≡ standing us k
   standing-kept [] u rest e k w = absurd (cc e)
   standing-kept (v ∷ us) u rest e k w = elim (cases_Bool (v.trans.0 == t)) [
-      inl y ↦ let f : v ∷ filter (is_by t) us ≡ u ∷ rest = (rw y at e) in let g : v ≡ u = cc f in
-          let z : is_update_at k v.body ≡ false = ap (λ x. is_update_at k x.body) g ∙ w in simp (y, z)
+    | inl y ↦ let f : v ∷ filter (is_by t) us ≡ u ∷ rest = (rw y at e) in let g : v ≡ u = cc f in
+        let z : is_update_at k v.body ≡ false = ap (λ x. is_update_at k x.body) g ∙ w in simp (y, z)
     | inr y ↦ let f : filter (is_by t) us ≡ u ∷ rest = (rw y at e) in elim (cases_Bool (is_update_at k v.body)) [
-          inl z ↦ simp (y, z)
-        | inr z ↦ simp (y, z) (standing-kept us u rest f k w) ] ]
+      | inl z ↦ simp (y, z)
+      | inr z ↦ simp (y, z) (standing-kept us u rest f k w)
+    ]
+  ]
 
   pub Chained-undone : (us : List Record) (u : Record) (rest : List Record) → Chained us → Covers closed us → filter (is_by t) us ≡ u ∷ rest → Chained (without_newest t us)
   Chained-undone [] u rest h c e = tt
   Chained-undone (v ∷ us) u rest h c e = elim (cases_Bool (v.trans.0 == t)) [
-      inl y ↦ rw y h.1
-    | inr y ↦ let f : filter (is_by t) us ≡ u ∷ rest = (rw y at e) in rw y (λ k z. h.0 k z ∙ sym (standing-kept us u rest f k (apart v us u rest c f y k z)), Chained-undone us u rest h.1 c.1 f) ]
+    | inl y ↦ rw y h.1
+    | inr y ↦ let f : filter (is_by t) us ≡ u ∷ rest = (rw y at e) in rw y (λ k z. h.0 k z ∙ sym (standing-kept us u rest f k (apart v us u rest c f y k z)), Chained-undone us u rest h.1 c.1 f)
+  ]
     where
       apart : (v : Record) (us : List Record) (u : Record) (rest : List Record) → Covers closed (v ∷ us) → filter (is_by t) us ≡ u ∷ rest → (v.trans.0 == t) ≡ false → (k : Key) → is_update_at k v.body ≡ true → is_update_at k u.body ≡ false
       apart v us u rest c f y k z = elim (cases_Bool (is_update_at k u.body)) [
-          inr w ↦ w
-        | inl w ↦ absurd (false≢true (sym (uncovered v us u rest c f y k w) ∙ z)) ]
+        | inr w ↦ w
+        | inl w ↦ absurd (false≢true (sym (uncovered v us u rest c f y k w) ∙ z))
+      ]
 
 pub Covers-without_newest : (closed : ℕ → Bool) (t : ℕ) (us : List Record) → Covers closed us → Covers closed (without_newest t us)
 Covers-without_newest closed t [] c = tt
 Covers-without_newest closed t (v ∷ us) c = elim (cases_Bool (v.trans.0 == t)) [
-    inl y ↦ rw y c.1
-  | inr y ↦ rw y (λ k z. All-without_newest (λ u. is_update_at k u.body ≡ true → (u.trans.0 == v.trans.0) ≡ false → closed u.trans.0 ≡ true) t us (c.0 k z), Covers-without_newest closed t us c.1) ]
+  | inl y ↦ rw y c.1
+  | inr y ↦ rw y (λ k z. All-without_newest (λ u. is_update_at k u.body ≡ true → (u.trans.0 == v.trans.0) ≡ false → closed u.trans.0 ≡ true) t us (c.0 k z), Covers-without_newest closed t us c.1)
+]
 
 -- more transactions are closed
 pub Covers-grows : (p q : ℕ → Bool) → ((x : ℕ) → p x ≡ true → q x ≡ true) → (us : List Record) → Covers p us → Covers q us

@@ -1,7 +1,7 @@
 -- The surviving updates of all transactions together: one more record, and the part of one transaction.
-use Rattle.std.proofs.Common.{◌≡◌, ℕ, ◌==◌, Bool, true, false, cond, not, ◌&&◌, ◌||◌, List, [], ◌∷◌, ◌++◌, filter, fold, drop, refl, sym, ap, ◌∙◌, inl, inr, ◌⊎◌, subst, append_assoc, append-nil}
+use Rattle.std.proofs.Common.{◌≡◌, ℕ, ◌==◌, Bool, true, false, cond, ◌&&◌, List, [], ◌∷◌, ◌++◌, filter, fold, drop, refl, sym, ap, ◌∙◌, inl, inr, subst, append_assoc, append-nil}
 use Rattle.std.specs.List.{AllByRecursion}
-use Rattle.std.proofs.lemmas.Bool.{cases_Bool, eqb-true, eq-eqb, false≢true}
+use Rattle.std.proofs.lemmas.Bool.{cases_Bool, eqb-true, false≢true}
 use Rattle.std.proofs.lemmas.List.Sums.{fold_push}
 use Rattle.als_record.specs.declared.record.Body.{Body}
 use Rattle.als_record.specs.declared.record.Body.TheVariants.{Update, Compensation, Commit, Rollback, End, BeginCheckpoint, EndCheckpoint}
@@ -23,14 +23,16 @@ module _ (t : ℕ) where
   by_without_newest-own : (left : List Record) → filter (is_by t) (without_newest t left) ≡ drop 1 (filter (is_by t) left)
   by_without_newest-own [] = refl
   by_without_newest-own (u ∷ rest) = elim (cases_Bool (u.trans.0 == t)) [
-      inl e ↦ simp e
-    | inr e ↦ simp e (by_without_newest-own rest) ]
+    | inl e ↦ simp e
+    | inr e ↦ simp e (by_without_newest-own rest)
+  ]
 
   by_without_newest-other : (s : ℕ) → (s == t) ≡ false → (left : List Record) → filter (is_by t) (without_newest s left) ≡ filter (is_by t) left
   by_without_newest-other s d [] = refl
   by_without_newest-other s d (u ∷ rest) = elim (cases_Bool (u.trans.0 == s)) [
-      inl e ↦ let f : (u.trans.0 == t) ≡ false = ap (λ n. n == t) (eqb-true u.trans.0 s e) ∙ d in simp (e, f)
-    | inr e ↦ simp e (ap (λ us. cond (u.trans.0 == t) (u ∷ us) us) (by_without_newest-other s d rest)) ]
+    | inl e ↦ let f : (u.trans.0 == t) ≡ false = ap (λ n. n == t) (eqb-true u.trans.0 s e) ∙ d in simp (e, f)
+    | inr e ↦ simp e (ap (λ us. cond (u.trans.0 == t) (u ∷ us) us) (by_without_newest-other s d rest))
+  ]
 
   same_both : (b : Bool) (us : List Record) → us ≡ cond b us us
   same_both true us = refl
@@ -40,8 +42,9 @@ module _ (t : ℕ) where
   step : (left : List Record) (r : Record) (b : Body) → filter (is_by t) (survivors_after left r b) ≡ cond (is_transactional b && (r.trans.0 == t)) (to_undo_after (filter (is_by t) left) r b) (filter (is_by t) left)
   step left r (Update key before after) = refl
   step left r (Compensation undo_next key after) = elim (cases_Bool (r.trans.0 == t)) [
-      inl e ↦ simp e (ap (λ s. filter (is_by t) (without_newest s left)) (eqb-true r.trans.0 t e) ∙ by_without_newest-own left)
-    | inr e ↦ simp e (by_without_newest-other r.trans.0 e left) ]
+    | inl e ↦ simp e (ap (λ s. filter (is_by t) (without_newest s left)) (eqb-true r.trans.0 t e) ∙ by_without_newest-own left)
+    | inr e ↦ simp e (by_without_newest-other r.trans.0 e left)
+  ]
   step left r Commit = same_both (r.trans.0 == t) (filter (is_by t) left)
   step left r Rollback = same_both (r.trans.0 == t) (filter (is_by t) left)
   step left r End = same_both (r.trans.0 == t) (filter (is_by t) left)
@@ -109,8 +112,9 @@ All-is_update log = log_induction (λ l. AllByRecursion (λ u. is_update u.body 
 -- a surviving update's transaction has begun
 pub has_begun-survivor : (log : List Record) (t : ℕ) → is_some_left (to_undo log t) ≡ true → has_begun log t ≡ true
 has_begun-survivor log t s = elim (cases_Bool (has_begun log t)) [
-    inl e ↦ e
-  | inr e ↦ absurd (false≢true (sym (ap is_some_left (to_undo-none log t e)) ∙ s)) ]
+  | inl e ↦ e
+  | inr e ↦ absurd (false≢true (sym (ap is_some_left (to_undo-none log t e)) ∙ s))
+]
 
 pub All-has_begun : (log : List Record) → AllByRecursion (λ u. has_begun log u.trans.0 ≡ true) (all_surviving log)
 All-has_begun log = log_induction (λ l. AllByRecursion (λ u. has_begun l u.trans.0 ≡ true) (all_surviving l)) (rw all_surviving-nil tt) more log

@@ -1,12 +1,14 @@
 -- The rows of the transaction table by their places: one row for each unended transaction, found by its number.
-use Rattle.std.proofs.Common.{◌≡◌, ℕ, zero, suc, ◌==◌, ◌+◌, ◌<◌, Bool, true, false, cond, not, ◌&&◌, ◌||◌, List, [], ◌∷◌, ◌++◌, length, map, filter, find, get_or, set, remove, take, drop, Option, Some, None, refl, sym, ap, ◌∙◌, inl, inr, ◌⊎◌, arith, le_of_suc-le-suc, not-suc-le-zero}
-use Rattle.std.specs.List.{list_any}
+use Rattle.std.proofs.Common.{◌≡◌, ℕ, zero, suc, ◌==◌, ◌<◌, Bool, true, false, cond, not, ◌&&◌, ◌||◌, List, [], ◌∷◌, ◌++◌, length, map, filter, get_or, set, remove, refl, sym, ap, ◌∙◌, inl, inr, le_of_suc-le-suc, not-suc-le-zero}
 use Rattle.std.proofs.lemmas.Bool.{cases_Bool, eqb-true, eq-eqb, false≢true, or_parts}
 use Rattle.als_record.specs.declared.record.Record.{Record}
 use Rattle.als_record.specs.declared.transaction_row.TransactionRow.{TransactionRow}
-use Rattle.als_record.specs.Transactions.{is_transactional, is_end, has_begun, is_unended, unended, is_among}
-use Rattle.als_record.specs.Table.{row_of, table_of, row_after}
-use Rattle.als_record.proofs.Numbers.{Apart, eqb-refl, eqb-sym}
+use Rattle.als_record.specs.declared.transaction_state.TransactionState.{TransactionState}
+use Rattle.als_record.specs.declared.transaction_state.TransactionState.TheVariants.{Active, Committed, RollingBack}
+use Rattle.als_record.specs.Transactions.{is_transactional, is_end, is_committed, has_rollback, is_unended, unended, is_among}
+use Rattle.als_record.specs.Table.{state_of, row_of, table_of, row_after}
+use Rattle.als_record.proofs.Numbers.{eqb-refl}
+use Rattle.als_record.specs.Orders.{Apart}
 use Rattle.als_record.proofs.Unended.{is_among-unended, Apart-unended}
 use Rattle.als_record.proofs.Records.{has_begun-unended}
 use Rattle.als_record.proofs.TableSteps.{with_record, is_row_of_other, table_of-more, table_of-end}
@@ -67,8 +69,9 @@ module _ (r : Record) where
 
   differs : (row : TransactionRow) (rest : List TransactionRow) (i : ℕ) (d : TransactionRow) → is_among (numbers rest) row.trans.0 ≡ false → i < length rest → (get_or rest i d).trans.0 ≡ r.trans.0 → (row.trans.0 == r.trans.0) ≡ false
   differs row rest i d n lt q = elim (cases_Bool (row.trans.0 == r.trans.0)) [
-      inl e ↦ absurd (false≢true (sym n ∙ ap (is_among (numbers rest)) (eqb-true row.trans.0 r.trans.0 e ∙ sym q) ∙ among_at rest i d lt))
-    | inr e ↦ e ]
+    | inl e ↦ absurd (false≢true (sym n ∙ ap (is_among (numbers rest)) (eqb-true row.trans.0 r.trans.0 e ∙ sym q) ∙ among_at rest i d lt))
+    | inr e ↦ e
+  ]
 
   pub with_record-set : (rows : List TransactionRow) (i : ℕ) (d : TransactionRow) → Apart (numbers rows) → i < length rows → (get_or rows i d).trans.0 ≡ r.trans.0 → map (with_record r) rows ≡ set rows i (row_after (get_or rows i d) r)
   with_record-set [] i d a lt q = absurd (not-suc-le-zero lt)
@@ -100,3 +103,32 @@ module _ (log : List Record) (r : Record) (i : ℕ) (d : TransactionRow) (lt : i
 
   pub table_of-remove : is_transactional r.body ≡ true → is_end r.body ≡ true → table_of (log ++ r ∷ []) ≡ remove (table_of log) i
   table_of-remove w e = table_of-end log r w e (has_begun-unended log r.trans.0 is_unended-row) ∙ other_rows-remove r (table_of log) i d (Apart-table_of log) lt here
+
+-- ---- what a row's state says
+
+abbrev pub is_committed_state : TransactionState → Bool
+is_committed_state Committed = true
+is_committed_state _ = false
+
+abbrev pub is_rolling_state : TransactionState → Bool
+is_rolling_state RollingBack = true
+is_rolling_state _ = false
+
+pub is_committed-state : (log : List Record) (t : ℕ) → is_committed log t ≡ is_committed_state (state_of log t)
+unfolding state_of
+is_committed-state log t = go (is_committed log t) (has_rollback log t)
+  where
+    go : (c h : Bool) → c ≡ is_committed_state (cond c Committed (cond h RollingBack Active))
+    go true h = refl
+    go false true = refl
+    go false false = refl
+
+pub has_rollback-state : (log : List Record) (t : ℕ) → (has_rollback log t && not (is_committed log t)) ≡ is_rolling_state (state_of log t)
+unfolding state_of
+has_rollback-state log t = go (is_committed log t) (has_rollback log t)
+  where
+    go : (c h : Bool) → (h && not c) ≡ is_rolling_state (cond c Committed (cond h RollingBack Active))
+    go true true = refl
+    go true false = refl
+    go false true = refl
+    go false false = refl

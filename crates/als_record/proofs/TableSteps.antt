@@ -1,18 +1,17 @@
 -- The transaction table with one more record: a row replaced, added at the end, or taken away.
-use Rattle.std.proofs.Common.{◌≡◌, ℕ, ◌==◌, ◌+◌, ◌<◌, Bool, true, false, cond, not, ◌&&◌, ◌||◌, List, [], ◌∷◌, ◌++◌, length, map, filter, find, Option, Some, None, refl, sym, ap, ◌∙◌, inl, inr, ◌⊎◌, arith}
-use Rattle.std.proofs.lemmas.Bool.{cases_Bool, eqb-true, eq-eqb, false≢true, or_parts}
+use Rattle.std.proofs.Common.{◌≡◌, ℕ, ◌==◌, Bool, true, false, cond, not, ◌&&◌, ◌||◌, List, [], ◌∷◌, ◌++◌, map, filter, refl, ap, ◌∙◌, inl, inr}
+use Rattle.std.proofs.lemmas.Bool.{cases_Bool, or_parts}
 use Rattle.std.proofs.lemmas.List.{map_push}
 use Rattle.als_record.specs.declared.record.Body.{Body}
 use Rattle.als_record.specs.declared.record.Body.TheVariants.{Update, Compensation, Commit, Rollback, End, BeginCheckpoint, EndCheckpoint}
 use Rattle.als_record.specs.declared.record.Record.{Record}
-use Rattle.als_record.specs.declared.transaction_state.TransactionState.{TransactionState}
 use Rattle.als_record.specs.declared.transaction_state.TransactionState.TheVariants.{Active, Committed, RollingBack}
 use Rattle.als_record.specs.declared.transaction_row.TransactionRow.{TransactionRow}
-use Rattle.als_record.specs.Transactions.{is_transactional, is_commit, is_rollback, is_end, is_of, has_begun, has_ended, is_committed, has_rollback, is_unended, last_lsn, undo_next_after, undo_next_of, unended, is_among}
+use Rattle.als_record.specs.Transactions.{is_transactional, is_commit, is_rollback, is_end, is_of, has_begun, is_committed, has_rollback, is_unended, last_lsn, unended, is_among}
 use Rattle.als_record.specs.Table.{state_of, row_of, table_of, state_after, fresh_row, row_after}
 use Rattle.als_record.proofs.Records.{is_committed-own, is_committed-other, has_rollback-own, has_rollback-other, last_lsn-own, last_lsn-other, undo_next_of-own, undo_next_of-other, is_committed-none, has_rollback-none, records_of-none, undo_next_of-none, is_unended-none}
-use Rattle.als_record.proofs.Numbers.{Apart, without, eqb-refl, eqb-sym}
-use Rattle.als_record.proofs.Unended.{unended-checkpoint, unended-more, unended-end, unended-new, unended-new_end, is_among-unended, Apart-unended}
+use Rattle.als_record.proofs.Numbers.{without, eqb-refl, eqb-sym}
+use Rattle.als_record.proofs.Unended.{unended-checkpoint, unended-more, unended-end, unended-new, unended-new_end, is_among-unended}
 
 module _ (log : List Record) (r : Record) (t : ℕ) where
   pub row_of-other : is_of t r ≡ false → row_of (log ++ r ∷ []) t ≡ row_of log t
@@ -95,15 +94,17 @@ module _ (log : List Record) (r : Record) where
     where
       one : row_of (log ++ r ∷ []) x ≡ with_record r (row_of log x)
       one = elim (cases_Bool (x == r.trans.0)) [
-          inl e ↦ rw e (row_of-own log r x (on w x e))
-        | inr e ↦ rw e (row_of-other log r x (off x e)) ]
+        | inl e ↦ rw e (row_of-own log r x (on w x e))
+        | inr e ↦ rw e (row_of-other log r x (off x e))
+      ]
 
   rows_end : (xs : List ℕ) → map (row_of (log ++ r ∷ [])) (without r.trans.0 xs) ≡ filter (is_row_of_other r) (map (row_of log) xs)
   unfolding row_of
   rows_end [] = refl
   rows_end (x ∷ rest) = elim (cases_Bool (x == r.trans.0)) [
-      inl e ↦ rw e (rows_end rest)
-    | inr e ↦ rw e (let q : row_of (log ++ r ∷ []) x ≡ row_of log x = row_of-other log r x (off x e) in cc (rows_end rest)) ]
+    | inl e ↦ rw e (rows_end rest)
+    | inr e ↦ rw e (let q : row_of (log ++ r ∷ []) x ≡ row_of log x = row_of-other log r x (off x e) in cc (rows_end rest))
+  ]
 
   -- a checkpoint's record changes no row
   pub table_of-checkpoint : is_transactional r.body ≡ false → table_of (log ++ r ∷ []) ≡ table_of log

@@ -1,23 +1,21 @@
 -- The length of a tail: its sum, and what one more record adds and takes.
-use Rattle.std.proofs.Common.{◌≡◌, ℕ, ◌==◌, ◌+◌, ◌*◌, ◌≤◌, Bool, true, false, cond, not, ◌&&◌, ◌||◌, List, [], ◌∷◌, ◌++◌, length, filter, sum_by, drop, refl, sym, ap, ◌∙◌, inl, inr, ◌⊎◌, subst, arith}
-use Rattle.std.specs.List.{list_any}
-use Rattle.std.proofs.lemmas.Bool.{cases_Bool, eqb-true, eq-eqb, false≢true, and_parts, not-true, not-false}
+use Rattle.std.proofs.Common.{◌≡◌, ℕ, ◌==◌, ◌+◌, ◌*◌, Bool, true, false, not, ◌&&◌, ◌||◌, List, [], ◌∷◌, ◌++◌, length, filter, sum_by, drop, refl, sym, ap, ◌∙◌, inl, inr, subst, arith}
+use Rattle.std.proofs.lemmas.Bool.{cases_Bool, eqb-true, false≢true, and_parts, not-true}
 use Rattle.std.proofs.lemmas.List.Sums.{sum_by-cons}
 use Rattle.std.proofs.lemmas.List.Elements.{filter_agree}
 use Rattle.std.proofs.lemmas.List.{length_push}
-use Rattle.als_record.specs.declared.lsn.Lsn.{Lsn}
 use Rattle.als_record.specs.declared.record.Body.{Body}
 use Rattle.als_record.specs.declared.record.Body.TheVariants.{Update, Compensation, Commit, Rollback, End, BeginCheckpoint, EndCheckpoint}
 use Rattle.als_record.specs.declared.record.Record.{Record}
 use Rattle.als_record.specs.declared.key.Key.{Key}
 use Rattle.als_record.specs.Spelling.{Image, image_len, body_len, record_len}
 use Rattle.als_record.specs.Images.{image_before}
-use Rattle.als_record.specs.Transactions.{is_transactional, is_update, is_compensation, is_commit, is_end, is_of, is_among, to_undo_after, to_undo, is_some_left, is_committed, has_begun, has_ended, is_unended, is_loser, unended, without_newest, survivors_after, all_surviving}
+use Rattle.als_record.specs.Transactions.{is_transactional, is_update, is_compensation, is_commit, is_end, is_of, is_among, to_undo_after, to_undo, is_committed, has_begun, has_ended, is_unended, is_loser, unended, without_newest, survivors_after, all_surviving}
 use Rattle.als_record.specs.Tail.{TailStep, Ends, Undoes, is_finished, ends, undoes, losing, tail_steps, undone, record_for, numbered, tail_of, tail_len, undo_len, undo_bytes}
-use Rattle.als_record.proofs.Records.{to_undo-own, to_undo-other, is_committed-own, is_loser-own, is_loser-other, has_begun-unended, has_ended-unended, is_loser-none, to_undo-none, has_ended-none, is_committed-none}
+use Rattle.als_record.proofs.Records.{to_undo-own, to_undo-other, is_loser-own, is_loser-other, has_ended-unended, to_undo-none, has_ended-none, is_committed-none}
 use Rattle.als_record.proofs.Numbers.{without, eqb-refl, eqb-sym, is_among-filter, length-without}
 use Rattle.als_record.proofs.Survivors.{is_by, all_surviving-push, all_surviving-by}
-use Rattle.als_record.proofs.Unended.{unended-checkpoint, unended-more, unended-end, unended-new, unended-new_end, Apart-unended, is_among-unended}
+use Rattle.als_record.proofs.Unended.{unended-checkpoint, unended-more, unended-new, unended-new_end, Apart-unended, is_among-unended}
 use Rattle.als_record.proofs.TailSteps.{filter-absent, losing-is_update, losing-is_loser, undone-is_compensation, compensation-is_loser, compensation-all_surviving, compensation-unended, compensation-losing, compensation-to_undo, end-unended, end-losing, tail_steps-next}
 use Rattle.als_record.proofs.Takeover.{unended-without_tail}
 
@@ -33,14 +31,16 @@ module _ (f : Record → ℕ) where
       let b : sum_by f (u ∷ filter (is_by t) us) ≡ f u + sum_by f (filter (is_by t) us) = sum_by-cons f u (filter (is_by t) us) in
       let c : sum_by f (u ∷ filter (λ u. p u.trans.0) us) ≡ f u + sum_by f (filter (λ u. p u.trans.0) us) = sum_by-cons f u (filter (λ u. p u.trans.0) us) in
       elim (cases_Bool (u.trans.0 == t)) [
-        inl w ↦
-          let g : u.trans.0 ≡ t = eqb-true u.trans.0 t w in
-          let z : p u.trans.0 ≡ true = ap p g ∙ y in
-          let o : q u.trans.0 ≡ false = ap q g ∙ n in
-          simp (w, z, o) (omega arith)
-      | inr w ↦ elim (cases_Bool (p u.trans.0)) [
-          inl z ↦ let o : q u.trans.0 ≡ true = agree u.trans.0 w ∙ z in simp (w, z, o) (omega arith)
-        | inr z ↦ let o : q u.trans.0 ≡ false = agree u.trans.0 w ∙ z in simp (w, z, o) (omega arith) ] ]
+        | inl w ↦
+            let g : u.trans.0 ≡ t = eqb-true u.trans.0 t w in
+            let z : p u.trans.0 ≡ true = ap p g ∙ y in
+            let o : q u.trans.0 ≡ false = ap q g ∙ n in
+            simp (w, z, o) (omega arith)
+        | inr w ↦ elim (cases_Bool (p u.trans.0)) [
+          | inl z ↦ let o : q u.trans.0 ≡ true = agree u.trans.0 w ∙ z in simp (w, z, o) (omega arith)
+          | inr z ↦ let o : q u.trans.0 ≡ false = agree u.trans.0 w ∙ z in simp (w, z, o) (omega arith)
+        ]
+      ]
 
   -- without the newest one of a transaction
   sum-undone : (p : ℕ → Bool) (t : ℕ) → p t ≡ true → (us : List Record) (u : Record) (rest : List Record) → filter (is_by t) us ≡ u ∷ rest → sum_by f (filter (λ u. p u.trans.0) (without_newest t us)) + f u ≡ sum_by f (filter (λ u. p u.trans.0) us)
@@ -49,18 +49,20 @@ module _ (f : Record → ℕ) where
       let a : sum_by f (v ∷ filter (λ u. p u.trans.0) (without_newest t us)) ≡ f v + sum_by f (filter (λ u. p u.trans.0) (without_newest t us)) = sum_by-cons f v (filter (λ u. p u.trans.0) (without_newest t us)) in
       let c : sum_by f (v ∷ filter (λ u. p u.trans.0) us) ≡ f v + sum_by f (filter (λ u. p u.trans.0) us) = sum_by-cons f v (filter (λ u. p u.trans.0) us) in
       elim (cases_Bool (v.trans.0 == t)) [
-        inl w ↦
-          let z : p v.trans.0 ≡ true = ap p (eqb-true v.trans.0 t w) ∙ y in
-          let g : v ∷ filter (is_by t) us ≡ u ∷ rest = (rw w at e) in
-          let h : v ≡ u = cc g in
-          let i : f v ≡ f u = ap f h in
-          simp (w, z) (omega arith)
-      | inr w ↦
-          let g : filter (is_by t) us ≡ u ∷ rest = (rw w at e) in
-          let ih : sum_by f (filter (λ u. p u.trans.0) (without_newest t us)) + f u ≡ sum_by f (filter (λ u. p u.trans.0) us) = sum-undone p t y us u rest g in
-          elim (cases_Bool (p v.trans.0)) [
-            inl z ↦ simp (w, z) (omega arith)
-          | inr z ↦ simp (w, z) ih ] ]
+        | inl w ↦
+            let z : p v.trans.0 ≡ true = ap p (eqb-true v.trans.0 t w) ∙ y in
+            let g : v ∷ filter (is_by t) us ≡ u ∷ rest = (rw w at e) in
+            let h : v ≡ u = cc g in
+            let i : f v ≡ f u = ap f h in
+            simp (w, z) (omega arith)
+        | inr w ↦
+            let g : filter (is_by t) us ≡ u ∷ rest = (rw w at e) in
+            let ih : sum_by f (filter (λ u. p u.trans.0) (without_newest t us)) + f u ≡ sum_by f (filter (λ u. p u.trans.0) us) = sum-undone p t y us u rest g in
+            elim (cases_Bool (p v.trans.0)) [
+              | inl z ↦ simp (w, z) (omega arith)
+              | inr z ↦ simp (w, z) ih
+            ]
+      ]
 
 -- ---- the sum
 
@@ -169,8 +171,9 @@ module _ (b : Body) (u : is_update b ≡ true) where
 without_newest-absent : (t : ℕ) (us : List Record) → filter (is_by t) us ≡ [] → without_newest t us ≡ us
 without_newest-absent t [] e = refl
 without_newest-absent t (u ∷ rest) e = elim (cases_Bool (u.trans.0 == t)) [
-    inl y ↦ let f : u ∷ filter (is_by t) rest ≡ [] = (rw y at e) in absurd (cc f)
-  | inr y ↦ let f : filter (is_by t) rest ≡ [] = (rw y at e) in rw y (ap (λ us. u ∷ us) (without_newest-absent t rest f)) ]
+  | inl y ↦ let f : u ∷ filter (is_by t) rest ≡ [] = (rw y at e) in absurd (cc f)
+  | inr y ↦ let f : filter (is_by t) rest ≡ [] = (rw y at e) in rw y (ap (λ us. u ∷ us) (without_newest-absent t rest f))
+]
 
 module _ (log : List Record) (r : Record) where
   own_of : is_transactional r.body ≡ true → is_of r.trans.0 r ≡ true
@@ -186,8 +189,9 @@ module _ (log : List Record) (r : Record) where
   -- losers stay as they are where the record's transaction does
   losers_same : is_loser (log ++ r ∷ []) r.trans.0 ≡ is_loser log r.trans.0 → (x : ℕ) → is_loser (log ++ r ∷ []) x ≡ is_loser log x
   losers_same s x = elim (cases_Bool (x == r.trans.0)) [
-      inl e ↦ let q : x ≡ r.trans.0 = eqb-true x r.trans.0 e in ap (is_loser (log ++ r ∷ [])) q ∙ s ∙ ap (is_loser log) (sym q)
-    | inr e ↦ is_loser-other log r x (other_of x e) ]
+    | inl e ↦ let q : x ≡ r.trans.0 = eqb-true x r.trans.0 e in ap (is_loser (log ++ r ∷ [])) q ∙ s ∙ ap (is_loser log) (sym q)
+    | inr e ↦ is_loser-other log r x (other_of x e)
+  ]
 
   losing_same : is_loser (log ++ r ∷ []) r.trans.0 ≡ is_loser log r.trans.0 → all_surviving (log ++ r ∷ []) ≡ all_surviving log → losing (log ++ r ∷ []) ≡ losing log
   unfolding losing
@@ -307,44 +311,44 @@ module _ (log : List Record) (r : Record) where
 
   pub tail_len-end : r.body ≡ End → is_unended log r.trans.0 ≡ true → is_finished log r.trans.0 ≡ true → tail_len (log ++ r ∷ []) + 28 ≡ tail_len log
   tail_len-end b u f =
-        let is : tail_len log ≡ 28 * length (unended log) + sum_by undo_len (losing log) = tail_len-is log in
-        let is' : tail_len (log ++ r ∷ []) ≡ 28 * length (unended (log ++ r ∷ [])) + sum_by undo_len (losing (log ++ r ∷ [])) = tail_len-is (log ++ r ∷ []) in
-        let a : unended (log ++ r ∷ []) ≡ without r.trans.0 (unended log) = end-unended log r b u in
-        let n : length (without r.trans.0 (unended log)) + 1 ≡ length (unended log) = length-without r.trans.0 (unended log) (Apart-unended log) (is_among-unended log r.trans.0 ∙ u) in
-        let a2 : length (unended (log ++ r ∷ [])) ≡ length (without r.trans.0 (unended log)) = ap length a in
-        let c : sum_by undo_len (losing (log ++ r ∷ [])) ≡ sum_by undo_len (losing log) = ap (sum_by undo_len) (end-losing log r b u f) in
-        omega arith
+      let is : tail_len log ≡ 28 * length (unended log) + sum_by undo_len (losing log) = tail_len-is log in
+      let is' : tail_len (log ++ r ∷ []) ≡ 28 * length (unended (log ++ r ∷ [])) + sum_by undo_len (losing (log ++ r ∷ [])) = tail_len-is (log ++ r ∷ []) in
+      let a : unended (log ++ r ∷ []) ≡ without r.trans.0 (unended log) = end-unended log r b u in
+      let n : length (without r.trans.0 (unended log)) + 1 ≡ length (unended log) = length-without r.trans.0 (unended log) (Apart-unended log) (is_among-unended log r.trans.0 ∙ u) in
+      let a2 : length (unended (log ++ r ∷ [])) ≡ length (without r.trans.0 (unended log)) = ap length a in
+      let c : sum_by undo_len (losing (log ++ r ∷ [])) ≡ sum_by undo_len (losing log) = ap (sum_by undo_len) (end-losing log r b u f) in
+      omega arith
 
   -- ---- a new transaction: by an update, by another record, by its end
 
   pub tail_len-new_update : is_update r.body ≡ true → has_begun log r.trans.0 ≡ false → tail_len (log ++ r ∷ []) ≡ tail_len log + 28 + undo_len r
   tail_len-new_update u n =
-        let is : tail_len log ≡ 28 * length (unended log) + sum_by undo_len (losing log) = tail_len-is log in
-        let is' : tail_len (log ++ r ∷ []) ≡ 28 * length (unended (log ++ r ∷ [])) + sum_by undo_len (losing (log ++ r ∷ [])) = tail_len-is (log ++ r ∷ []) in
-        let a : length (unended (log ++ r ∷ [])) ≡ length (unended log) + 1 = ap length (unended-new log r (update-is_transactional r.body u) (update-is_end r.body u) n) ∙ length_push (unended log) r.trans.0 in
-        let b : sum_by undo_len (losing (log ++ r ∷ [])) ≡ undo_len r + sum_by undo_len (losing log) = ap (sum_by undo_len) (here u n) ∙ sum_by-cons undo_len r (losing log) in
-        omega arith
-      where
-        here : is_update r.body ≡ true → has_begun log r.trans.0 ≡ false → losing (log ++ r ∷ []) ≡ r ∷ losing log
-        here u n = losing-push (all_surviving-push log r ∙ update-survivors r.body u (all_surviving log) r)
-            (is_loser-own log r r.trans.0 (own_of (update-is_transactional r.body u)) ∙ rw (update-is_end r.body u, update-is_commit r.body u, has_ended-none log r.trans.0 n, is_committed-none log r.trans.0 n) refl)
-            (losing_clean (to_undo-none log r.trans.0 n))
+      let is : tail_len log ≡ 28 * length (unended log) + sum_by undo_len (losing log) = tail_len-is log in
+      let is' : tail_len (log ++ r ∷ []) ≡ 28 * length (unended (log ++ r ∷ [])) + sum_by undo_len (losing (log ++ r ∷ [])) = tail_len-is (log ++ r ∷ []) in
+      let a : length (unended (log ++ r ∷ [])) ≡ length (unended log) + 1 = ap length (unended-new log r (update-is_transactional r.body u) (update-is_end r.body u) n) ∙ length_push (unended log) r.trans.0 in
+      let b : sum_by undo_len (losing (log ++ r ∷ [])) ≡ undo_len r + sum_by undo_len (losing log) = ap (sum_by undo_len) (here u n) ∙ sum_by-cons undo_len r (losing log) in
+      omega arith
+    where
+      here : is_update r.body ≡ true → has_begun log r.trans.0 ≡ false → losing (log ++ r ∷ []) ≡ r ∷ losing log
+      here u n = losing-push (all_surviving-push log r ∙ update-survivors r.body u (all_surviving log) r)
+          (is_loser-own log r r.trans.0 (own_of (update-is_transactional r.body u)) ∙ rw (update-is_end r.body u, update-is_commit r.body u, has_ended-none log r.trans.0 n, is_committed-none log r.trans.0 n) refl)
+          (losing_clean (to_undo-none log r.trans.0 n))
 
   pub tail_len-new : is_transactional r.body ≡ true → is_update r.body ≡ false → is_end r.body ≡ false → has_begun log r.trans.0 ≡ false → tail_len (log ++ r ∷ []) ≡ tail_len log + 28
   tail_len-new w u e n =
-        let is : tail_len log ≡ 28 * length (unended log) + sum_by undo_len (losing log) = tail_len-is log in
-        let is' : tail_len (log ++ r ∷ []) ≡ 28 * length (unended (log ++ r ∷ [])) + sum_by undo_len (losing (log ++ r ∷ [])) = tail_len-is (log ++ r ∷ []) in
-        let a : length (unended (log ++ r ∷ [])) ≡ length (unended log) + 1 = ap length (unended-new log r w e n) ∙ length_push (unended log) r.trans.0 in
-        let b : sum_by undo_len (losing (log ++ r ∷ [])) ≡ sum_by undo_len (losing log) = ap (sum_by undo_len) (losing_kept u n) in
-        omega arith
+      let is : tail_len log ≡ 28 * length (unended log) + sum_by undo_len (losing log) = tail_len-is log in
+      let is' : tail_len (log ++ r ∷ []) ≡ 28 * length (unended (log ++ r ∷ [])) + sum_by undo_len (losing (log ++ r ∷ [])) = tail_len-is (log ++ r ∷ []) in
+      let a : length (unended (log ++ r ∷ [])) ≡ length (unended log) + 1 = ap length (unended-new log r w e n) ∙ length_push (unended log) r.trans.0 in
+      let b : sum_by undo_len (losing (log ++ r ∷ [])) ≡ sum_by undo_len (losing log) = ap (sum_by undo_len) (losing_kept u n) in
+      omega arith
 
   pub tail_len-new_end : r.body ≡ End → has_begun log r.trans.0 ≡ false → tail_len (log ++ r ∷ []) ≡ tail_len log
   tail_len-new_end b n =
-        let is : tail_len log ≡ 28 * length (unended log) + sum_by undo_len (losing log) = tail_len-is log in
-        let is' : tail_len (log ++ r ∷ []) ≡ 28 * length (unended (log ++ r ∷ [])) + sum_by undo_len (losing (log ++ r ∷ [])) = tail_len-is (log ++ r ∷ []) in
-        let a : length (unended (log ++ r ∷ [])) ≡ length (unended log) = ap length (unended-new_end log r (rw b refl) (rw b refl) n) in
-        let c : sum_by undo_len (losing (log ++ r ∷ [])) ≡ sum_by undo_len (losing log) = ap (sum_by undo_len) (losing_kept (rw b refl) n) in
-        omega arith
+      let is : tail_len log ≡ 28 * length (unended log) + sum_by undo_len (losing log) = tail_len-is log in
+      let is' : tail_len (log ++ r ∷ []) ≡ 28 * length (unended (log ++ r ∷ [])) + sum_by undo_len (losing (log ++ r ∷ [])) = tail_len-is (log ++ r ∷ []) in
+      let a : length (unended (log ++ r ∷ [])) ≡ length (unended log) = ap length (unended-new_end log r (rw b refl) (rw b refl) n) in
+      let c : sum_by undo_len (losing (log ++ r ∷ [])) ≡ sum_by undo_len (losing log) = ap (sum_by undo_len) (losing_kept (rw b refl) n) in
+      omega arith
 
 -- ---- what the undo of one transaction takes
 
@@ -357,7 +361,7 @@ module _ (log : List Record) (r : Record) (t : ℕ) where
   unfolding undo_bytes
   undo_bytes-update o u =
       let e : sum_by undo_len (to_undo (log ++ r ∷ []) t) ≡ undo_len r + sum_by undo_len (to_undo log t) =
-        ap (sum_by undo_len) (to_undo-own log r t o ∙ by_update r.body u (λ b. to_undo_after (to_undo log t) r b ≡ r ∷ to_undo log t) (λ _ _ _. refl)) ∙ sum_by-cons undo_len r (to_undo log t) in
+      ap (sum_by undo_len) (to_undo-own log r t o ∙ by_update r.body u (λ b. to_undo_after (to_undo log t) r b ≡ r ∷ to_undo log t) (λ _ _ _. refl)) ∙ sum_by-cons undo_len r (to_undo log t) in
       omega arith
 
   pub undo_bytes-compensation : is_of t r ≡ true → is_compensation r.body ≡ true → (v : Record) (rest : List Record) → to_undo log t ≡ v ∷ rest → undo_bytes (log ++ r ∷ []) t + undo_len v ≡ undo_bytes log t

@@ -1,18 +1,19 @@
 -- The tail of a log, one record on: what is left to append after its first record.
-use Rattle.std.proofs.Common.{◌≡◌, ℕ, zero, suc, ◌==◌, ◌+◌, Bool, true, false, cond, not, ◌&&◌, ◌||◌, List, [], ◌∷◌, ◌++◌, map, filter, drop, take, refl, sym, ap, ◌∙◌, inl, inr, ◌⊎◌, append_assoc, append-nil, subst}
+use Rattle.std.proofs.Common.{◌≡◌, ℕ, zero, suc, ◌==◌, Bool, true, false, cond, not, ◌&&◌, ◌||◌, List, [], ◌∷◌, ◌++◌, filter, drop, take, refl, sym, ap, ◌∙◌, inl, inr, append_assoc, append-nil, subst}
 use Rattle.std.specs.List.{list_any, AllByRecursion}
-use Rattle.std.proofs.lemmas.Bool.{cases_Bool, eqb-true, eq-eqb, false≢true, true≢false, and_parts, or_parts, not-true}
+use Rattle.std.proofs.lemmas.Bool.{cases_Bool, eqb-true, eq-eqb, false≢true, and_parts, not-true}
 use Rattle.std.proofs.lemmas.List.Elements.{filter_agree}
 use Rattle.als_record.specs.declared.lsn.Lsn.{Lsn}
 use Rattle.als_record.specs.declared.key.Key.{Key}
 use Rattle.als_record.specs.declared.record.Body.{Body}
 use Rattle.als_record.specs.declared.record.Body.TheVariants.{Update, Compensation, Commit, Rollback, End, BeginCheckpoint, EndCheckpoint}
 use Rattle.als_record.specs.declared.record.Record.{Record}
-use Rattle.als_record.specs.Transactions.{is_transactional, is_update, is_compensation, is_commit, is_end, is_of, is_among, to_undo_after, to_undo, is_some_left, is_committed, has_begun, has_ended, is_unended, is_loser, unended, without_newest, survivors_after, all_surviving}
+use Rattle.als_record.specs.Transactions.{is_transactional, is_update, is_compensation, is_commit, is_end, is_of, is_among, to_undo_after, to_undo, is_some_left, is_committed, is_unended, is_loser, unended, without_newest, survivors_after, all_surviving}
 use Rattle.als_record.specs.Spelling.{Image}
 use Rattle.als_record.specs.Tail.{TailStep, Ends, Undoes, is_finished, ends, undoes, losing, tail_steps, undone, record_for, numbered, tail_of}
-use Rattle.als_record.proofs.Records.{to_undo-own, to_undo-other, is_committed-own, is_committed-other, is_loser-own, is_loser-other, is_unended-own, has_begun-unended, has_ended-unended}
-use Rattle.als_record.proofs.Numbers.{Apart, without, eqb-refl, eqb-sym, is_among-filter, Apart-filter, filter-except, without-absent}
+use Rattle.als_record.proofs.Records.{to_undo-own, to_undo-other, is_committed-own, is_committed-other, is_loser-own, is_loser-other, has_begun-unended, has_ended-unended}
+use Rattle.als_record.proofs.Numbers.{without, eqb-refl, eqb-sym, is_among-filter, Apart-filter, filter-except, without-absent}
+use Rattle.als_record.specs.Orders.{Apart}
 use Rattle.als_record.proofs.Survivors.{is_by, all_surviving-push, all_surviving-by, All-is_update}
 use Rattle.als_record.proofs.Unended.{unended-more, unended-end, Apart-unended, is_among-unended}
 
@@ -22,52 +23,61 @@ use Rattle.als_record.proofs.Unended.{unended-more, unended-end, Apart-unended, 
 pub filter-absent : (p q : Record → Bool) (t : ℕ) → ((u : Record) → is_by t u ≡ false → p u ≡ q u) → (us : List Record) → filter (is_by t) us ≡ [] → filter p us ≡ filter q us
 filter-absent p q t agree [] e = refl
 filter-absent p q t agree (u ∷ rest) e = elim (cases_Bool (u.trans.0 == t)) [
-    inl y ↦ let f : u ∷ filter (is_by t) rest ≡ [] = (rw y at e) in absurd (cc f)
-  | inr y ↦ let f : filter (is_by t) rest ≡ [] = (rw y at e) in rw (agree u y) (ap (λ us. cond (q u) (u ∷ us) us) (filter-absent p q t agree rest f)) ]
+  | inl y ↦ let f : u ∷ filter (is_by t) rest ≡ [] = (rw y at e) in absurd (cc f)
+  | inr y ↦ let f : filter (is_by t) rest ≡ [] = (rw y at e) in rw (agree u y) (ap (λ us. cond (q u) (u ∷ us) us) (filter-absent p q t agree rest f))
+]
 
 -- the newest update that a test of transactions keeps, taken away
 pub filter-without_newest : (p : ℕ → Bool) (t : ℕ) → p t ≡ true → (us : List Record) (u : Record) (rest : List Record) → filter (λ v. p v.trans.0) us ≡ u ∷ rest → u.trans.0 ≡ t → filter (λ v. p v.trans.0) (without_newest t us) ≡ rest
 filter-without_newest p t y [] u rest e q = absurd (cc e)
 filter-without_newest p t y (v ∷ us) u rest e q = elim (cases_Bool (v.trans.0 == t)) [
-    inl w ↦ let z : p v.trans.0 ≡ true = ap p (eqb-true v.trans.0 t w) ∙ y in
-        let f : v ∷ filter (λ v. p v.trans.0) us ≡ u ∷ rest = (rw z at e) in simp w (cc f)
+  | inl w ↦ let z : p v.trans.0 ≡ true = ap p (eqb-true v.trans.0 t w) ∙ y in
+      let f : v ∷ filter (λ v. p v.trans.0) us ≡ u ∷ rest = (rw z at e) in simp w (cc f)
   | inr w ↦ elim (cases_Bool (p v.trans.0)) [
-        inl z ↦ let f : v ∷ filter (λ v. p v.trans.0) us ≡ u ∷ rest = (rw z at e) in
-            let g : v ≡ u = cc f in absurd (false≢true (sym w ∙ eq-eqb v.trans.0 t (ap (λ v. v.trans.0) g ∙ q)))
-      | inr z ↦ let f : filter (λ v. p v.trans.0) us ≡ u ∷ rest = (rw z at e) in simp (w, z) (filter-without_newest p t y us u rest f q) ] ]
+    | inl z ↦ let f : v ∷ filter (λ v. p v.trans.0) us ≡ u ∷ rest = (rw z at e) in
+        let g : v ≡ u = cc f in absurd (false≢true (sym w ∙ eq-eqb v.trans.0 t (ap (λ v. v.trans.0) g ∙ q)))
+    | inr z ↦ let f : filter (λ v. p v.trans.0) us ≡ u ∷ rest = (rw z at e) in simp (w, z) (filter-without_newest p t y us u rest f q)
+  ]
+]
 
 -- the records of one transaction among those that a test of transactions keeps
 pub filter-by : (p : ℕ → Bool) (t : ℕ) → p t ≡ true → (us : List Record) → filter (is_by t) (filter (λ v. p v.trans.0) us) ≡ filter (is_by t) us
 filter-by p t y [] = refl
 filter-by p t y (v ∷ us) = elim (cases_Bool (v.trans.0 == t)) [
-    inl w ↦ let z : p v.trans.0 ≡ true = ap p (eqb-true v.trans.0 t w) ∙ y in simp (z, w) (ap (λ us. v ∷ us) (filter-by p t y us))
+  | inl w ↦ let z : p v.trans.0 ≡ true = ap p (eqb-true v.trans.0 t w) ∙ y in simp (z, w) (ap (λ us. v ∷ us) (filter-by p t y us))
   | inr w ↦ elim (cases_Bool (p v.trans.0)) [
-        inl z ↦ simp (z, w) (filter-by p t y us)
-      | inr z ↦ simp (z, w) (filter-by p t y us) ] ]
+    | inl z ↦ simp (z, w) (filter-by p t y us)
+    | inr z ↦ simp (z, w) (filter-by p t y us)
+  ]
+]
 
 pub is_some_left-filter : (p : Record → Bool) (us : List Record) → is_some_left (filter p us) ≡ list_any p us
 is_some_left-filter p [] = refl
 is_some_left-filter p (u ∷ rest) = elim (cases_Bool (p u)) [
-    inl e ↦ simp e
-  | inr e ↦ simp e (is_some_left-filter p rest) ]
+  | inl e ↦ simp e
+  | inr e ↦ simp e (is_some_left-filter p rest)
+]
 
 -- a test that nothing passed, and that one number passes now
 filter-one : (p q : ℕ → Bool) (t : ℕ) → ((x : ℕ) → (x == t) ≡ false → p x ≡ q x) → p t ≡ true → (xs : List ℕ) → Apart xs → is_among xs t ≡ true → filter q xs ≡ [] → filter p xs ≡ t ∷ []
 filter-one p q t agree y [] a m e = absurd (false≢true m)
 filter-one p q t agree y (x ∷ rest) a m e = elim (cases_Bool (q x)) [
-    inl z ↦ let f : x ∷ filter q rest ≡ [] = (rw z at e) in absurd (cc f)
+  | inl z ↦ let f : x ∷ filter q rest ≡ [] = (rw z at e) in absurd (cc f)
   | inr z ↦ let f : filter q rest ≡ [] = (rw z at e) in elim (cases_Bool (x == t)) [
-        inl w ↦ let g : x ≡ t = eqb-true x t w in
-            let none : is_among rest t ≡ false = ap (is_among rest) (sym g) ∙ a.0 in
-            let z2 : p x ≡ true = ap p g ∙ y in
-            simp z2 (ap (λ ys. x ∷ ys) (filter-except p q t agree rest none ∙ f) ∙ ap (λ n. n ∷ []) g)
-      | inr w ↦ let z2 : p x ≡ false = agree x w ∙ z in let n : is_among rest t ≡ true = (rw w at m) in simp z2 (filter-one p q t agree y rest a.1 n f) ] ]
+    | inl w ↦ let g : x ≡ t = eqb-true x t w in
+        let none : is_among rest t ≡ false = ap (is_among rest) (sym g) ∙ a.0 in
+        let z2 : p x ≡ true = ap p g ∙ y in
+        simp z2 (ap (λ ys. x ∷ ys) (filter-except p q t agree rest none ∙ f) ∙ ap (λ n. n ∷ []) g)
+    | inr w ↦ let z2 : p x ≡ false = agree x w ∙ z in let n : is_among rest t ≡ true = (rw w at m) in simp z2 (filter-one p q t agree y rest a.1 n f)
+  ]
+]
 
 without-filter : (t : ℕ) (p : ℕ → Bool) (xs : List ℕ) → filter p (without t xs) ≡ without t (filter p xs)
 without-filter t p [] = refl
 without-filter t p (x ∷ rest) = elim (cases_Bool (x == t)) [
-    inl e ↦ elim (cases_Bool (p x)) [ inl y ↦ simp (e, y) (without-filter t p rest) | inr y ↦ simp (e, y) (without-filter t p rest) ]
-  | inr e ↦ elim (cases_Bool (p x)) [ inl y ↦ simp (e, y) (ap (λ ys. x ∷ ys) (without-filter t p rest)) | inr y ↦ simp (e, y) (without-filter t p rest) ] ]
+  | inl e ↦ elim (cases_Bool (p x)) [ inl y ↦ simp (e, y) (without-filter t p rest) | inr y ↦ simp (e, y) (without-filter t p rest) ]
+  | inr e ↦ elim (cases_Bool (p x)) [ inl y ↦ simp (e, y) (ap (λ ys. x ∷ ys) (without-filter t p rest)) | inr y ↦ simp (e, y) (without-filter t p rest) ]
+]
 
 -- ---- an update undone is a compensation
 
@@ -119,8 +129,9 @@ losing-is_update log u us e = (subst (AllByRecursion (λ v. is_update v.body ≡
     kept : (vs : List Record) → AllByRecursion (λ v. is_update v.body ≡ true) vs → AllByRecursion (λ v. is_update v.body ≡ true) (filter (λ v. is_loser log v.trans.0) vs)
     kept [] a = tt
     kept (v ∷ rest) a = elim (cases_Bool (is_loser log v.trans.0)) [
-        inl y ↦ rw y (a.0, kept rest a.1)
-      | inr y ↦ rw y (kept rest a.1) ]
+      | inl y ↦ rw y (a.0, kept rest a.1)
+      | inr y ↦ rw y (kept rest a.1)
+    ]
 
 pub losing-is_loser : (log : List Record) (u : Record) (us : List Record) → losing log ≡ u ∷ us → is_loser log u.trans.0 ≡ true
 unfolding losing
@@ -129,8 +140,9 @@ losing-is_loser log u us e = (subst (AllByRecursion (λ v. is_loser log v.trans.
     kept : (vs : List Record) → AllByRecursion (λ v. is_loser log v.trans.0 ≡ true) (filter (λ v. is_loser log v.trans.0) vs)
     kept [] = tt
     kept (v ∷ rest) = elim (cases_Bool (is_loser log v.trans.0)) [
-        inl y ↦ rw y (y, kept rest)
-      | inr y ↦ rw y (kept rest) ]
+      | inl y ↦ rw y (y, kept rest)
+      | inr y ↦ rw y (kept rest)
+    ]
 
 -- ---- a loser's compensation
 
@@ -147,8 +159,9 @@ module _ (log : List Record) (r : Record) (c : is_compensation r.body ≡ true) 
 
   pub compensation-is_loser : (x : ℕ) → is_loser (log ++ r ∷ []) x ≡ is_loser log x
   compensation-is_loser x = elim (cases_Bool (x == r.trans.0)) [
-      inl e ↦ let q : x ≡ r.trans.0 = eqb-true x r.trans.0 e in ap (is_loser (log ++ r ∷ [])) q ∙ here ∙ ap (is_loser log) (sym q)
-    | inr e ↦ is_loser-other log r x (other x e) ]
+    | inl e ↦ let q : x ≡ r.trans.0 = eqb-true x r.trans.0 e in ap (is_loser (log ++ r ∷ [])) q ∙ here ∙ ap (is_loser log) (sym q)
+    | inr e ↦ is_loser-other log r x (other x e)
+  ]
     where
       here : is_loser (log ++ r ∷ []) r.trans.0 ≡ is_loser log r.trans.0
       here = is_loser-own log r r.trans.0 own
@@ -156,8 +169,9 @@ module _ (log : List Record) (r : Record) (c : is_compensation r.body ≡ true) 
 
   pub compensation-is_committed : (x : ℕ) → is_committed (log ++ r ∷ []) x ≡ is_committed log x
   compensation-is_committed x = elim (cases_Bool (x == r.trans.0)) [
-      inl e ↦ let q : x ≡ r.trans.0 = eqb-true x r.trans.0 e in ap (is_committed (log ++ r ∷ [])) q ∙ here ∙ ap (is_committed log) (sym q)
-    | inr e ↦ is_committed-other log r x (other x e) ]
+    | inl e ↦ let q : x ≡ r.trans.0 = eqb-true x r.trans.0 e in ap (is_committed (log ++ r ∷ [])) q ∙ here ∙ ap (is_committed log) (sym q)
+    | inr e ↦ is_committed-other log r x (other x e)
+  ]
     where
       here : is_committed (log ++ r ∷ []) r.trans.0 ≡ is_committed log r.trans.0
       here = is_committed-own log r r.trans.0 own
@@ -204,11 +218,13 @@ module _ (log : List Record) (r : Record) (c : is_compensation r.body ≡ true) 
   -- where no other transaction was finished, this one is after its last update
   pub compensation-finished : (u : Record) (rest : List Record) → losing log ≡ u ∷ rest → u.trans.0 ≡ r.trans.0 → filter (is_finished log) (unended log) ≡ [] → filter (is_finished (log ++ r ∷ [])) (unended (log ++ r ∷ [])) ≡ cond (list_any (is_by r.trans.0) rest) [] (r.trans.0 ∷ [])
   compensation-finished u rest e q none = ap (filter (is_finished (log ++ r ∷ []))) compensation-unended ∙ elim (cases_Bool (list_any (is_by r.trans.0) rest)) [
-      inl y ↦ rw y (filter_agree (is_finished (log ++ r ∷ [])) (is_finished log) (λ x. elim (cases_Bool (x == r.trans.0)) [
-            inl w ↦ let g : x ≡ r.trans.0 = eqb-true x r.trans.0 w in
-                ap (is_finished (log ++ r ∷ [])) g ∙ finished_here u rest e q ∙ ap not y ∙ sym (unfinished_before u rest e q) ∙ ap (is_finished log) (sym g)
-          | inr w ↦ finished_others x w ]) (unended log) ∙ none)
-    | inr y ↦ rw y (filter-one (is_finished (log ++ r ∷ [])) (is_finished log) r.trans.0 finished_others (finished_here u rest e q ∙ ap not y) (unended log) (Apart-unended log) (is_among-unended log r.trans.0 ∙ parts.0) none) ]
+    | inl y ↦ rw y (filter_agree (is_finished (log ++ r ∷ [])) (is_finished log) (λ x. elim (cases_Bool (x == r.trans.0)) [
+      | inl w ↦ let g : x ≡ r.trans.0 = eqb-true x r.trans.0 w in
+          ap (is_finished (log ++ r ∷ [])) g ∙ finished_here u rest e q ∙ ap not y ∙ sym (unfinished_before u rest e q) ∙ ap (is_finished log) (sym g)
+      | inr w ↦ finished_others x w
+    ]) (unended log) ∙ none)
+    | inr y ↦ rw y (filter-one (is_finished (log ++ r ∷ [])) (is_finished log) r.trans.0 finished_others (finished_here u rest e q ∙ ap not y) (unended log) (Apart-unended log) (is_among-unended log r.trans.0 ∙ parts.0) none)
+  ]
 
 -- ---- the end of a finished transaction
 
@@ -228,16 +244,18 @@ module _ (log : List Record) (r : Record) (b : r.body ≡ End) (u : is_unended l
 
   pub end-is_committed : (x : ℕ) → is_committed (log ++ r ∷ []) x ≡ is_committed log x
   end-is_committed x = elim (cases_Bool (x == r.trans.0)) [
-      inl e ↦ let q : x ≡ r.trans.0 = eqb-true x r.trans.0 e in ap (is_committed (log ++ r ∷ [])) q ∙ here ∙ ap (is_committed log) (sym q)
-    | inr e ↦ is_committed-other log r x (end_other x e) ]
+    | inl e ↦ let q : x ≡ r.trans.0 = eqb-true x r.trans.0 e in ap (is_committed (log ++ r ∷ [])) q ∙ here ∙ ap (is_committed log) (sym q)
+    | inr e ↦ is_committed-other log r x (end_other x e)
+  ]
     where
       here : is_committed (log ++ r ∷ []) r.trans.0 ≡ is_committed log r.trans.0
       here = is_committed-own log r r.trans.0 end_own ∙ rw b (or-false (is_committed log r.trans.0))
 
   pub end-to_undo : (x : ℕ) → to_undo (log ++ r ∷ []) x ≡ to_undo log x
   end-to_undo x = elim (cases_Bool (x == r.trans.0)) [
-      inl e ↦ let q : x ≡ r.trans.0 = eqb-true x r.trans.0 e in ap (to_undo (log ++ r ∷ [])) q ∙ here ∙ ap (to_undo log) (sym q)
-    | inr e ↦ to_undo-other log r x (end_other x e) ]
+    | inl e ↦ let q : x ≡ r.trans.0 = eqb-true x r.trans.0 e in ap (to_undo (log ++ r ∷ [])) q ∙ here ∙ ap (to_undo log) (sym q)
+    | inr e ↦ to_undo-other log r x (end_other x e)
+  ]
     where
       here : to_undo (log ++ r ∷ []) r.trans.0 ≡ to_undo log r.trans.0
       here = to_undo-own log r r.trans.0 end_own ∙ rw b refl
@@ -261,9 +279,10 @@ module _ (log : List Record) (r : Record) (b : r.body ≡ End) (u : is_unended l
   pub end-losing : is_finished log r.trans.0 ≡ true → losing (log ++ r ∷ []) ≡ losing log
   unfolding losing is_finished is_loser
   end-losing f = ap (filter (λ u. is_loser (log ++ r ∷ []) u.trans.0)) end-all_surviving ∙ elim (cases_Bool (is_committed log r.trans.0)) [
-      inl c ↦ filter_agree (λ (v : Record). is_loser (log ++ r ∷ []) v.trans.0) (λ v. is_loser log v.trans.0) (λ v. committed c v.trans.0) (all_surviving log)
+    | inl c ↦ filter_agree (λ (v : Record). is_loser (log ++ r ∷ []) v.trans.0) (λ v. is_loser log v.trans.0) (λ v. committed c v.trans.0) (all_surviving log)
     | inr c ↦ filter-absent (λ v. is_loser (log ++ r ∷ []) v.trans.0) (λ v. is_loser log v.trans.0) r.trans.0 (λ v w. is_loser-other log r v.trans.0 (end_other v.trans.0 w)) (all_surviving log)
-        (all_surviving-by r.trans.0 log ∙ nothing (to_undo log r.trans.0) (rw c at f)) ]
+        (all_surviving-by r.trans.0 log ∙ nothing (to_undo log r.trans.0) (rw c at f))
+  ]
     where
       nothing : (left : List Record) → not (is_some_left left) ≡ true → left ≡ []
       nothing [] e = refl
@@ -275,9 +294,10 @@ module _ (log : List Record) (r : Record) (b : r.body ≡ End) (u : is_unended l
 
       committed : is_committed log r.trans.0 ≡ true → (x : ℕ) → is_loser (log ++ r ∷ []) x ≡ is_loser log x
       committed c x = elim (cases_Bool (x == r.trans.0)) [
-          inl e ↦ let q : x ≡ r.trans.0 = eqb-true x r.trans.0 e in
-              rw (q, end-is_committed r.trans.0, c) (off (is_unended (log ++ r ∷ []) r.trans.0) ∙ sym (off (is_unended log r.trans.0)))
-        | inr e ↦ is_loser-other log r x (end_other x e) ]
+        | inl e ↦ let q : x ≡ r.trans.0 = eqb-true x r.trans.0 e in
+            rw (q, end-is_committed r.trans.0, c) (off (is_unended (log ++ r ∷ []) r.trans.0) ∙ sym (off (is_unended log r.trans.0)))
+        | inr e ↦ is_loser-other log r x (end_other x e)
+      ]
 
 -- ---- one step
 

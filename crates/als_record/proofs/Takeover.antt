@@ -1,25 +1,22 @@
 -- A takeover: the tail may follow its log, ends every transaction, and leaves what the committed ones wrote.
-use Rattle.std.proofs.Common.{◌≡◌, ℕ, zero, suc, ◌==◌, ◌+◌, ◌≤◌, ◌<◌, nat_le, nat_lt, Bool, true, false, cond, not, ◌&&◌, ◌||◌, List, [], ◌∷◌, ◌++◌, length, filter, find, drop, Option, Some, None, option_map, refl, sym, ap, ◌∙◌, inl, inr, ◌⊎◌, subst, arith, append_assoc, append-nil}
-use Rattle.std.specs.List.{list_any, AllByRecursion}
-use Rattle.std.proofs.lemmas.Bool.{cases_Bool, eqb-true, eq-eqb, false≢true, true≢false, and_parts, and_from, or_parts, not-true, not-false, ltb-false, le-ltb}
-use Rattle.als_record.specs.declared.lsn.Lsn.{Lsn}
+use Rattle.std.proofs.Common.{◌≡◌, ℕ, ◌==◌, ◌+◌, ◌≤◌, nat_lt, Bool, true, false, cond, not, ◌&&◌, ◌||◌, List, [], ◌∷◌, ◌++◌, length, filter, find, Some, refl, sym, ap, ◌∙◌, inl, inr, subst, arith, append_assoc, append-nil}
+use Rattle.std.specs.List.{AllByRecursion}
+use Rattle.std.proofs.lemmas.Bool.{cases_Bool, eqb-true, false≢true, and_parts, and_from, or_parts, not-true, not-false, ltb-false, le-ltb}
 use Rattle.als_record.specs.declared.key.Key.{Key}
 use Rattle.als_record.specs.declared.record.Body.{Body}
 use Rattle.als_record.specs.declared.record.Body.TheVariants.{Update, Compensation, Commit, Rollback, End, BeginCheckpoint, EndCheckpoint}
 use Rattle.als_record.specs.declared.record.Record.{Record}
 use Rattle.als_record.specs.Spelling.{Image}
-use Rattle.als_record.specs.LogText.{end_of}
-use Rattle.als_record.specs.Transactions.{is_transactional, is_update, is_compensation, is_commit, is_end, is_among, to_undo, is_some_left, is_committed, has_rollback, has_begun, has_ended, is_unended, is_loser, last_lsn, transactions, unended, greatest_trans, without_newest, all_surviving}
-use Rattle.als_record.specs.Images.{same_key, same_image, image_now, is_update_at, image_before, image_of_found, won}
-use Rattle.als_record.specs.Validity.{prev_of, bad_prev, old_transaction, wrong_state, is_forward, goes_on_after, wrong_undo_next, undoes_newest, wrong_compensation, holder, held_by, saw_now, before_image, too_many, open_checkpoint, bad_checkpoint, may_follow, may_follow_all, is_valid}
+use Rattle.als_record.specs.Transactions.{is_update, is_compensation, is_among, to_undo, is_some_left, is_committed, has_rollback, has_begun, has_ended, is_unended, is_loser, last_lsn, transactions, unended, without_newest, all_surviving}
+use Rattle.als_record.specs.Images.{same_image, image_now, is_update_at, image_before, image_of_found, won}
+use Rattle.als_record.specs.Validity.{prev_of, bad_prev, old_transaction, wrong_state, goes_on_after, wrong_undo_next, undoes_newest, wrong_compensation, held_by, before_image, too_many, bad_checkpoint, may_follow, is_valid}
 use Rattle.als_record.specs.Tail.{TailStep, Ends, Undoes, is_finished, ends, undoes, losing, tail_steps, undone, record_for, numbered, tail_of}
-use Rattle.als_record.proofs.Records.{has_begun-unended, to_undo-none}
-use Rattle.als_record.proofs.Numbers.{without, eqb-refl, is_among-filter, length-without, without-absent}
+use Rattle.als_record.proofs.Numbers.{without, eqb-refl, is_among-filter, length-without}
 use Rattle.als_record.proofs.Survivors.{is_by, all_surviving-by, All-has_begun, All-weaken}
 use Rattle.als_record.proofs.Unended.{Apart-unended, is_among-unended}
-use Rattle.als_record.proofs.Validity.{is_valid-append, is_valid-push, Admitted, may_follow-admitted, Admitted-may_follow, valid_induction}
-use Rattle.als_record.proofs.TailSteps.{filter-by, losing-is_update, losing-is_loser, undone-is_compensation, compensation-is_transactional, compensation-is_end, compensation-all_surviving, compensation-is_committed, compensation-unended, loser-to_undo, end-all_surviving, end-is_committed, end-unended, tail_steps-next}
-use Rattle.als_record.proofs.Standing.{same_key-refl, same_image-refl, standing}
+use Rattle.als_record.proofs.Validity.{is_valid-push, Admitted, may_follow-admitted, valid_induction}
+use Rattle.als_record.proofs.TailSteps.{filter-by, losing-is_update, losing-is_loser, undone-is_compensation, compensation-all_surviving, compensation-is_committed, compensation-unended, loser-to_undo, end-all_surviving, end-is_committed, end-unended, tail_steps-next}
+use Rattle.als_record.proofs.Standing.{same_key-refl, same_image-refl}
 use Rattle.als_record.proofs.Sound.{Sound, Sound-valid}
 
 -- ---- no valid log has more than 256 unended transactions
@@ -50,7 +47,8 @@ module _ (log : List Record) (v : is_valid log ≡ true) where
     held = refl;
     image = refl;
     many = le-ltb 256 (length (unended (log ++ r ∷ []))) shorter;
-    checkpoint = refl }
+    checkpoint = refl;
+  }
     where
       r : Record
       r = record_for log (Ends t)
@@ -108,7 +106,8 @@ module _ (log : List Record) (v : is_valid log ≡ true) where
         held = rw c refl;
         image = rw c refl;
         many = le-ltb 256 (length (unended (log ++ record_for log (Undoes u) ∷ []))) (rw (compensation-unended log (record_for log (Undoes u)) comp loser) (length-unended log v));
-        checkpoint = rw c refl }
+        checkpoint = rw c refl;
+      }
         where
           rolling : (h : Bool) → ((false && true) || (h && true && false) || (false && true && is_some_left (to_undo log u.trans.0))) ≡ false
           rolling true = refl
@@ -131,10 +130,12 @@ module _ (log : List Record) (v : is_valid log ≡ true) where
 find-without_newest : (p : Record → Bool) (t : ℕ) → ((u : Record) → (u.trans.0 == t) ≡ true → p u ≡ false) → (us : List Record) → find p (without_newest t us) ≡ find p us
 find-without_newest p t f [] = refl
 find-without_newest p t f (u ∷ rest) = elim (cases_Bool (u.trans.0 == t)) [
-    inl y ↦ let z : p u ≡ false = f u y in simp (y, z)
+  | inl y ↦ let z : p u ≡ false = f u y in simp (y, z)
   | inr y ↦ elim (cases_Bool (p u)) [
-        inl z ↦ simp (y, z)
-      | inr z ↦ simp (y, z) (find-without_newest p t f rest) ] ]
+    | inl z ↦ simp (y, z)
+    | inr z ↦ simp (y, z) (find-without_newest p t f rest)
+  ]
+]
 
 find-agree : (p q : Record → Bool) → ((u : Record) → p u ≡ q u) → (us : List Record) → find p us ≡ find q us
 find-agree p q f [] = refl
@@ -237,8 +238,9 @@ All-some_left log = All-weaken (λ u. is_some_left (filter (is_by u.trans.0) (al
 find-where : (p q : Record → Bool) (us : List Record) → AllByRecursion (λ u. q u ≡ true) us → find p us ≡ find (λ u. p u && q u) us
 find-where p q [] a = refl
 find-where p q (u ∷ rest) a = rw a.0 (elim (cases_Bool (p u)) [
-    inl y ↦ simp y
-  | inr y ↦ simp y (find-where p q rest a.1) ])
+  | inl y ↦ simp y
+  | inr y ↦ simp y (find-where p q rest a.1)
+])
 
 -- where nothing is unended, each surviving update is committed
 All-is_committed : (log : List Record) → Sound log → unended log ≡ [] → AllByRecursion (λ u. is_committed log u.trans.0 ≡ true) (all_surviving log)
@@ -285,7 +287,8 @@ taken_over (step ∷ rest) log v e = joined (taken_over rest (log ++ record_for 
         record {
           valid = ap is_valid (sym a) ∙ t.valid;
           ended = ap unended (sym a) ∙ t.ended;
-          images = λ k. ap (λ l. image_now l k) (sym a) ∙ t.images k ∙ one.stays k }
+          images = λ k. ap (λ l. image_now l k) (sym a) ∙ t.images k ∙ one.stays k;
+        }
 
 pub tail_of-takes_over : (log : List Record) → is_valid log ≡ true → TakenOver log (tail_of log)
 unfolding tail_of

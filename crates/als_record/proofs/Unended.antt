@@ -1,14 +1,14 @@
 -- The transactions of a log, and those unended, with one more record.
-use Rattle.std.proofs.Common.{◌≡◌, ℕ, ◌==◌, ◌+◌, ◌≤◌, ◌<◌, max, Bool, true, false, cond, not, ◌&&◌, ◌||◌, List, [], ◌∷◌, ◌++◌, length, filter, fold, refl, sym, ap, ◌∙◌, inl, inr, ◌⊎◌, arith, append-nil}
-use Rattle.std.specs.List.{list_any}
-use Rattle.std.proofs.lemmas.Bool.{cases_Bool, eqb-true, eq-eqb, ne_eqb, or_parts, or_from, false≢true, and_parts}
+use Rattle.std.proofs.Common.{◌≡◌, ℕ, ◌==◌, ◌+◌, max, Bool, true, false, cond, not, ◌&&◌, ◌||◌, List, [], ◌∷◌, ◌++◌, length, filter, fold, refl, sym, ap, ◌∙◌, inl, inr, append-nil}
+use Rattle.std.proofs.lemmas.Bool.{cases_Bool, eqb-true}
 use Rattle.std.proofs.lemmas.List.{length_push}
 use Rattle.std.proofs.lemmas.List.Elements.{filter-append, filter_agree}
 use Rattle.std.proofs.lemmas.List.Sums.{fold_push}
 use Rattle.als_record.specs.declared.record.Record.{Record}
-use Rattle.als_record.specs.Transactions.{is_transactional, is_end, is_of, is_among, is_some_left, records_of, has_begun, has_ended, is_committed, is_unended, is_loser, with_transaction, transactions, unended, losers, greatest_trans}
-use Rattle.als_record.proofs.Records.{is_unended-other, is_unended-own, has_begun-own, has_ended-none, has_begun-unended, has_ended-unended}
-use Rattle.als_record.proofs.Numbers.{Apart, without, eqb-refl, eqb-sym, is_among-append, is_among-filter, Apart-push, Apart-filter, filter-except, filter-without, without-absent, length-without}
+use Rattle.als_record.specs.Transactions.{is_transactional, is_end, is_of, is_among, is_some_left, records_of, has_begun, has_ended, is_unended, with_transaction, transactions, unended, greatest_trans}
+use Rattle.als_record.proofs.Records.{is_unended-other, is_unended-own, has_ended-none, has_begun-unended, has_ended-unended}
+use Rattle.als_record.proofs.Numbers.{without, eqb-refl, eqb-sym, is_among-append, is_among-filter, Apart-push, Apart-filter, filter-except, filter-without, length-without}
+use Rattle.als_record.specs.Orders.{Apart}
 
 pub transactions-push : (log : List Record) (r : Record) → transactions (log ++ r ∷ []) ≡ with_transaction (transactions log) r
 unfolding transactions
@@ -22,12 +22,15 @@ greatest_trans-push log r = fold_push (λ greatest (u : Record). max greatest u.
 
 among_step : (ids : List ℕ) (r : Record) (t : ℕ) → is_among (with_transaction ids r) t ≡ (is_among ids t || is_of t r)
 among_step ids r t = elim (cases_Bool (is_transactional r.body)) [
-    inl w ↦ elim (cases_Bool (is_among ids r.trans.0)) [
-        inl e ↦ simp (w, e) (elim (cases_Bool (r.trans.0 == t)) [
-            inl y ↦ let m : is_among ids t ≡ true = ap (is_among ids) (sym (eqb-true r.trans.0 t y)) ∙ e in simp (y, m)
-          | inr y ↦ simp y (sym (or_false (is_among ids t))) ])
-      | inr e ↦ simp (w, e) (is_among-append ids (r.trans.0 ∷ []) t ∙ ap (λ b. is_among ids t || b) (or_false (r.trans.0 == t))) ]
-  | inr w ↦ simp w (sym (or_false (is_among ids t))) ]
+  | inl w ↦ elim (cases_Bool (is_among ids r.trans.0)) [
+    | inl e ↦ simp (w, e) (elim (cases_Bool (r.trans.0 == t)) [
+      | inl y ↦ let m : is_among ids t ≡ true = ap (is_among ids) (sym (eqb-true r.trans.0 t y)) ∙ e in simp (y, m)
+      | inr y ↦ simp y (sym (or_false (is_among ids t)))
+    ])
+    | inr e ↦ simp (w, e) (is_among-append ids (r.trans.0 ∷ []) t ∙ ap (λ b. is_among ids t || b) (or_false (r.trans.0 == t)))
+  ]
+  | inr w ↦ simp w (sym (or_false (is_among ids t)))
+]
   where
     or_false : (b : Bool) → (b || false) ≡ b
     or_false true = refl
@@ -70,8 +73,9 @@ Apart-unended log = Apart-filter (is_unended log) (transactions log) (Apart-tran
 pub is_among-unended : (log : List Record) (t : ℕ) → is_among (unended log) t ≡ is_unended log t
 unfolding unended
 is_among-unended log t = is_among-filter (is_unended log) t (transactions log) ∙ ap (λ b. is_unended log t && b) (is_among-transactions log t) ∙ elim (cases_Bool (is_unended log t)) [
-    inl e ↦ let b : has_begun log t ≡ true = has_begun-unended log t e in simp (e, b)
-  | inr e ↦ simp e ]
+  | inl e ↦ let b : has_begun log t ≡ true = has_begun-unended log t e in simp (e, b)
+  | inr e ↦ simp e
+]
 
 -- ---- one more record
 
@@ -86,8 +90,9 @@ module _ (log : List Record) (r : Record) where
 
   same_if_same : is_unended (log ++ r ∷ []) r.trans.0 ≡ is_unended log r.trans.0 → (x : ℕ) → is_unended (log ++ r ∷ []) x ≡ is_unended log x
   same_if_same s x = elim (cases_Bool (x == r.trans.0)) [
-      inl e ↦ let q : x ≡ r.trans.0 = eqb-true x r.trans.0 e in ap (is_unended (log ++ r ∷ [])) q ∙ s ∙ ap (is_unended log) (sym q)
-    | inr e ↦ others x e ]
+    | inl e ↦ let q : x ≡ r.trans.0 = eqb-true x r.trans.0 e in ap (is_unended (log ++ r ∷ [])) q ∙ s ∙ ap (is_unended log) (sym q)
+    | inr e ↦ others x e
+  ]
 
   own_of : is_transactional r.body ≡ true → is_of r.trans.0 r ≡ true
   own_of w = rw (w, eqb-refl r.trans.0)

@@ -11,3 +11,5 @@ pub mod Images
 pub mod Validity
 pub mod Tail
 pub mod Commits
+pub mod Orders
+pub mod UndoChain
