@@ -1,6 +1,6 @@
 -- Laws of histories: each call accounts for its bytes, and what is read does not depend on when it is read.
-use Rattle.std.proofs.Common.{◌≡◌, ℕ, ◌+◌, ◌-◌, ◌<◌, ◌≤◌, Bool, true, false, IsTrue, MatchBool, MatchOption, ◌&&◌, List, [], ◌∷◌, ◌++◌, length, take, drop, Option, Some, None, Result, Ok, Err, refl, ap, ap₂, sym, ◌∙◌, subst, arith, append_assoc, append-nil, length-append, flat_map, sum_by, ◌==◌, eq-eqb}
-use Rattle.std.proofs.lemmas.Bool.{and_from, cases_Bool}
+use Rattle.std.proofs.Common.{◌≡◌, ℕ, ◌+◌, ◌-◌, Bool, true, false, IsTrue, MatchBool, MatchOption, List, [], ◌∷◌, ◌++◌, length, drop, Option, Some, None, Result, Ok, Err, refl, ap, ap₂, sym, ◌∙◌, subst, arith, append_assoc, append-nil, length-append, flat_map, sum_by, ◌==◌, eq-eqb}
+use Rattle.std.proofs.lemmas.Bool.{and_from}
 use Rattle.std.proofs.lemmas.List.{take_at, drop_at}
 use Rattle.std.proofs.lemmas.List.Concat.{flat_map-append}
 use Rattle.std.proofs.lemmas.List.Sums.{sum_by-cons}
@@ -11,8 +11,8 @@ use Rattle.als_record.specs.Spelling.{record_len, spelling, IsRecord}
 use Rattle.als_record.specs.LogText.{spellings, follow_from}
 use Rattle.als_record.specs.Reading.{read_record}
 use Rattle.als_receiver.specs.declared.refusal.Refusal.{Refusal}
-use Rattle.als_receiver.specs.Reception.{Reception, fresh, with_kept, with_refusal, HandsOut, Waits, is_memory, RefusesBytes, Refuses, Answers}
-use Rattle.als_receiver.specs.History.{Call, Does, Runs, handed_by, handed, bytes_after, KeepsAll, reading_of, IsEmptied, Accounts, EndAlike}
+use Rattle.als_receiver.specs.Reception.{Reception, fresh, is_memory, RefusesBytes, Refuses}
+use Rattle.als_receiver.specs.History.{Call, Runs, handed, bytes_after, KeepsAll, reading_of, IsEmptied, Accounts, EndAlike}
 use Rattle.als_receiver.specs.History.Call.{Push, Next, Drop}
 use Rattle.als_receiver.proofs.ReadingLaws.{read_record-more}
 
@@ -34,8 +34,9 @@ refuses-same old e new h = by_refusal old.refusal h
     by_fault false refused = record {
       pages = ap (λ (s : Reception). s.pages) refused.stays;
       wanted = ap (λ (s : Reception). s.wanted) refused.stays;
-      kept = ap (λ (s : Reception). s.kept) refused.stays
+      kept = ap (λ (s : Reception). s.kept) refused.stays;
     }
+
     by_refusal : (o : Option Refusal) → MatchOption o ((e.lsn.0 ≡ old.wanted) × MatchBool (is_memory e.fault) (new ≡ old) (RefusesBytes old e new)) (λ before. (e ≡ before) × (new ≡ old))
         → SameBytes old new
     by_refusal None h = by_fault (is_memory e.fault) h.1
@@ -56,8 +57,8 @@ accounted done s (Push piece ∷ calls) t (between, does, rest) =
     ∙ accounted done between calls t rest
 accounted done s (Next (Ok (Some r)) ∷ calls) t (between, does, rest) =
     ap (λ bytes. bytes_after bytes calls)
-      (ap (λ bytes. spellings done ++ bytes) does.bytes ∙ sym (append_assoc (spellings done) (spelling r) between.kept)
-      ∙ ap (λ bytes. bytes ++ between.kept) (sym (spellings-push done r)))
+    (ap (λ bytes. spellings done ++ bytes) does.bytes ∙ sym (append_assoc (spellings done) (spelling r) between.kept)
+    ∙ ap (λ bytes. bytes ++ between.kept) (sym (spellings-push done r)))
     ∙ accounted (done ++ r ∷ []) between calls t rest
     ∙ ap (λ rs. spellings rs ++ t.kept) (append_assoc done (r ∷ []) (handed calls))
 accounted done s (Next (Ok None) ∷ calls) t (between, does, rest) =
@@ -93,7 +94,7 @@ placed-at s between rs t pages wanted p = record {
   follow = subst (λ n. IsTrue (follow_from n rs)) wanted p.follow;
   records = subst (λ n. AllByRecursion (IsRecord n) rs) pages p.records;
   next = p.next ∙ ap (λ n. end_at n rs) wanted;
-  pages = p.pages ∙ pages
+  pages = p.pages ∙ pages;
 }
 
 placed-same : (s between : Reception) (rs : List Record) (t : Reception) → SameBytes s between → Placed between rs t → Placed s rs t
@@ -110,10 +111,10 @@ placed s (Next (Ok (Some r)) ∷ calls) t (between, does, rest) =
     let pages : between.pages ≡ s.pages = ap (λ (u : Reception). u.pages) does.after in
     record {
       follow = and_from (r.lsn.0 == s.wanted) (follow_from (s.wanted + record_len r) (handed calls)) (eq-eqb r.lsn.0 s.wanted does.place)
-        (subst (λ n. IsTrue (follow_from n (handed calls))) wanted p.follow);
+          (subst (λ n. IsTrue (follow_from n (handed calls))) wanted p.follow);
       records = (does.fits, subst (λ n. AllByRecursion (IsRecord n) (handed calls)) pages p.records);
       next = p.next ∙ ap (λ n. end_at n (handed calls)) wanted;
-      pages = p.pages ∙ pages
+      pages = p.pages ∙ pages;
     }
 placed s (Next (Ok None) ∷ calls) t (between, does, rest) = placed-same s between (handed calls) t (same s between does.same) (placed between calls t rest)
 placed s (Next (Err e) ∷ calls) t (between, does, rest) = placed-same s between (handed calls) t (refuses-same s e between does) (placed between calls t rest)
@@ -157,29 +158,29 @@ reads-from : (s between : Reception) (calls : List Call) (t : Reception) → Sam
     → Reads s.pages s.wanted (bytes_after s.kept calls) (handed calls) t.kept
 reads-from s between calls t h r =
     reads-same between.pages s.pages between.wanted s.wanted (bytes_after between.kept calls) (bytes_after s.kept calls) (handed calls) t.kept
-      h.pages h.wanted (ap (λ bytes. bytes_after bytes calls) h.kept) r
+    h.pages h.wanted (ap (λ bytes. bytes_after bytes calls) h.kept) r
 
 reads : (s : Reception) (calls : List Call) (t : Reception) → Runs s calls t → KeepsAll calls → Reads s.pages s.wanted (bytes_after s.kept calls) (handed calls) t.kept
 reads s [] t h all = sym (ap (λ (u : Reception). u.kept) h)
 reads s (Push piece ∷ calls) t (between, does, rest) all =
     reads-same between.pages s.pages between.wanted s.wanted (bytes_after between.kept calls) (bytes_after (s.kept ++ piece) calls) (handed calls) t.kept
-      (ap (λ (u : Reception). u.pages) does) (ap (λ (u : Reception). u.wanted) does) (ap (λ (u : Reception). bytes_after u.kept calls) does) (reads between calls t rest all)
+    (ap (λ (u : Reception). u.pages) does) (ap (λ (u : Reception). u.wanted) does) (ap (λ (u : Reception). bytes_after u.kept calls) does) (reads between calls t rest all)
 reads s (Next (Ok (Some r)) ∷ calls) t (between, does, rest) all =
     let more = pushed calls in
     let whole : bytes_after s.kept calls ≡ s.kept ++ more = bytes_after-pushed s.kept calls all in
-    let after = bytes_after between.kept calls in
-    (after,
-     ap (read_record s.pages s.wanted) whole ∙ read_record-more s.pages s.wanted s.kept more (λ none. some-none (r, record_len r) (sym does.reading ∙ none)) ∙ does.reading,
-     whole ∙ ap (λ bytes. bytes ++ more) does.bytes ∙ append_assoc (spelling r) between.kept more ∙ ap (λ bytes. spelling r ++ bytes) (sym (bytes_after-pushed between.kept calls all)),
-     reads-same between.pages s.pages between.wanted (s.wanted + record_len r) after after (handed calls) t.kept
-       (ap (λ (u : Reception). u.pages) does.after) (ap (λ (u : Reception). u.wanted) does.after) refl (reads between calls t rest all))
+    let after = bytes_after between.kept calls in (
+      after,
+      ap (read_record s.pages s.wanted) whole ∙ read_record-more s.pages s.wanted s.kept more (λ none. some-none (r, record_len r) (sym does.reading ∙ none)) ∙ does.reading,
+      whole ∙ ap (λ bytes. bytes ++ more) does.bytes ∙ append_assoc (spelling r) between.kept more ∙ ap (λ bytes. spelling r ++ bytes) (sym (bytes_after-pushed between.kept calls all)),
+      reads-same between.pages s.pages between.wanted (s.wanted + record_len r) after after (handed calls) t.kept
+          (ap (λ (u : Reception). u.pages) does.after) (ap (λ (u : Reception). u.wanted) does.after) refl (reads between calls t rest all),
+    )
   where
     some-none : (x : Record × ℕ) → ◌≡◌ {A = Result (Option (Record × ℕ)) Fault} (Ok (Some x)) (Ok None) → ⊥
     some-none x h = cc
 reads s (Next (Ok None) ∷ calls) t (between, does, rest) all = reads-from s between calls t (same s between does.same) (reads between calls t rest all)
 reads s (Next (Err e) ∷ calls) t (between, does, rest) all = reads-from s between calls t (refuses-same s e between does) (reads between calls t rest all)
 reads s (Drop bytes ∷ calls) t (between, does, rest) all = absurd all
-
 
 -- two readings of the same bytes that leave no whole record are one
 record OneReading (rs others : List Record) (rest left : List ℕ) : Type 0 where
@@ -200,13 +201,14 @@ one-reading pages at bytes (r ∷ rs) (o ∷ others) rest left (after, read, is,
     let head : r ≡ o = first-found (r, record_len r) (o, record_len o) both in
     let tail : after ≡ after' = cancel r o after after' head (sym is ∙ is') in
     let moved : Reads pages (at + record_len r) after others left
-          = reads-same pages pages (at + record_len o) (at + record_len r) after' after others left refl (ap (λ (x : Record). at + record_len x) (sym head)) (sym tail) more' in
+    = reads-same pages pages (at + record_len o) (at + record_len r) after' after others left refl (ap (λ (x : Record). at + record_len x) (sym head)) (sym tail) more' in
     let rest-one = one-reading pages (at + record_len r) after rs others rest left more moved none
-          (subst (λ (x : Record). Emptied pages (end_at (at + record_len x) others) left) (sym head) none') in
+    (subst (λ (x : Record). Emptied pages (end_at (at + record_len x) others) left) (sym head) none') in
     record { records = ap₂ (λ x xs. x ∷ xs) head rest-one.records; kept = rest-one.kept }
   where
     first-found : (x y : Record × ℕ) → ◌≡◌ {A = Result (Option (Record × ℕ)) Fault} (Ok (Some x)) (Ok (Some y)) → x.0 ≡ y.0
     first-found x y h = let pair : x ≡ y = cc h in ap (λ (z : Record × ℕ). z.0) pair
+
     cancel : (r o : Record) (after after' : List ℕ) → r ≡ o → spelling r ++ after ≡ spelling o ++ after' → after ≡ after'
     cancel r o after after' head is =
         sym (drop_at (spelling r) after (length (spelling r)) refl) ∙ ap (drop (length (spelling r))) (is ∙ ap (λ (x : Record). spelling x ++ after') (sym head))
@@ -229,14 +231,16 @@ refuses-own s e new h own = by_refusal s.refusal h
   where
     stays : new ≡ s → IsOwnRefusal new
     stays is = subst IsOwnRefusal (sym is) own
+
     by_fault : (b : Bool) → e.lsn.0 ≡ s.wanted → MatchBool b (new ≡ s) (RefusesBytes s e new) → IsOwnRefusal new
     by_fault true place is = stays is
     by_fault false place refused = subst IsOwnRefusal (sym refused.stays) (λ f found.
-      let one : e ≡ f = some-same e f found in
-      subst (λ (x : Refusal). (read_record s.pages s.wanted s.kept ≡ Err x.fault) × (x.lsn.0 ≡ s.wanted)) one (refused.reading, place))
+        let one : e ≡ f = some-same e f found in
+        subst (λ (x : Refusal). (read_record s.pages s.wanted s.kept ≡ Err x.fault) × (x.lsn.0 ≡ s.wanted)) one (refused.reading, place))
       where
         some-same : (x y : Refusal) → ◌≡◌ {A = Option Refusal} (Some x) (Some y) → x ≡ y
         some-same x y h = cc h
+
     by_refusal : (o : Option Refusal) → MatchOption o ((e.lsn.0 ≡ s.wanted) × MatchBool (is_memory e.fault) (new ≡ s) (RefusesBytes s e new)) (λ before. (e ≡ before) × (new ≡ s))
         → IsOwnRefusal new
     by_refusal None h = by_fault (is_memory e.fault) h.0 h.1
@@ -246,8 +250,8 @@ own-refusal : (s : Reception) (calls : List Call) (t : Reception) → Runs s cal
 own-refusal s [] t h all own = subst IsOwnRefusal (sym h) own
 own-refusal s (Push piece ∷ calls) t (between, does, rest) all own =
     own-refusal between calls t rest all (subst IsOwnRefusal (sym does) (λ e found.
-      let (reading, place) = own e found in
-      (read_record-more s.pages s.wanted s.kept piece (λ none. err-none e.fault (sym reading ∙ none)) ∙ reading, place)))
+    let (reading, place) = own e found in
+    (read_record-more s.pages s.wanted s.kept piece (λ none. err-none e.fault (sym reading ∙ none)) ∙ reading, place)))
 own-refusal s (Next (Ok (Some r)) ∷ calls) t (between, does, rest) all own =
     own-refusal between calls t rest all (λ e found. absurd (none-some e (sym (ap (λ (u : Reception). u.refusal) does.after) ∙ found)))
 own-refusal s (Next (Ok None) ∷ calls) t (between, does, rest) all own = own-refusal between calls t rest all (subst IsOwnRefusal (sym does.same) own)
@@ -263,11 +267,11 @@ histories-alike wanted pages first second s t hs ht all all' bytes none none' =
     let ps = placed start first s hs in
     let pt = placed start second t ht in
     let moved : Reads pages wanted (bytes_after [] first) (handed second) t.kept
-          = reads-same pages pages wanted wanted (bytes_after [] second) (bytes_after [] first) (handed second) t.kept refl refl (sym bytes) (reads start second t ht all') in
+    = reads-same pages pages wanted wanted (bytes_after [] second) (bytes_after [] first) (handed second) t.kept refl refl (sym bytes) (reads start second t ht all') in
     let none-s : Emptied pages (end_at wanted (handed first)) s.kept
-          = λ found read. none.none found (ap₂ (λ p n. read_record p n s.kept) ps.pages ps.next ∙ read) in
+    = λ found read. none.none found (ap₂ (λ p n. read_record p n s.kept) ps.pages ps.next ∙ read) in
     let none-t : Emptied pages (end_at wanted (handed second)) t.kept
-          = λ found read. none'.none found (ap₂ (λ p n. read_record p n t.kept) pt.pages pt.next ∙ read) in
+    = λ found read. none'.none found (ap₂ (λ p n. read_record p n t.kept) pt.pages pt.next ∙ read) in
     let one = one-reading pages wanted (bytes_after [] first) (handed first) (handed second) s.kept t.kept (reads start first s hs all) moved none-s none-t in
     let place : s.wanted ≡ t.wanted = ps.next ∙ ap (end_at wanted) one.records ∙ sym pt.next in
     let no-refusal : IsOwnRefusal start = λ e found. absurd (none-some e found) in
@@ -276,11 +280,11 @@ histories-alike wanted pages first second s t hs ht all all' bytes none none' =
       kept = one.kept;
       wanted = place;
       refusal = λ e f e-is f-is.
-        let (reading, at) = own-refusal start first s hs all no-refusal e e-is in
-        let (reading', at') = own-refusal start second t ht all' no-refusal f f-is in
-        let same-reading : reading_of s ≡ reading_of t
-              = ap₂ (λ p n. read_record p n s.kept) (ps.pages ∙ sym pt.pages) place ∙ ap (read_record t.pages t.wanted) one.kept in
-        one-refusal e f (at ∙ place ∙ sym at') (sym reading ∙ same-reading ∙ reading')
+          let (reading, at) = own-refusal start first s hs all no-refusal e e-is in
+          let (reading', at') = own-refusal start second t ht all' no-refusal f f-is in
+          let same-reading : reading_of s ≡ reading_of t
+          = ap₂ (λ p n. read_record p n s.kept) (ps.pages ∙ sym pt.pages) place ∙ ap (read_record t.pages t.wanted) one.kept in
+          one-refusal e f (at ∙ place ∙ sym at') (sym reading ∙ same-reading ∙ reading');
     }
   where
     one-refusal : (e f : Refusal) → e.lsn.0 ≡ f.lsn.0 → ◌≡◌ {A = Result (Option (Record × ℕ)) Fault} (Err e.fault) (Err f.fault) → e ≡ f

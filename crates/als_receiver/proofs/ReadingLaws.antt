@@ -1,10 +1,10 @@
 -- Laws of how bytes are read as a record: where more are needed, and that more change nothing that was read.
-use Rattle.std.proofs.Common.{◌≡◌, ℕ, ◌+◌, ◌*◌, ◌<◌, ◌≤◌, Bool, true, false, not, cond, ◌&&◌, if◌then◌else◌, List, ◌++◌, length, get_or, slice_index, take, drop, Option, Some, None, Result, Ok, Err, nat_lt, nat_le, ◌==◌, refl, ap, ap₂, sym, ◌∙◌, subst, arith, inl, inr, length-append, le-ltb, lt-ltb, leb-true, eqb-true, ltb-true, ltb-false}
-use Rattle.std.proofs.lemmas.Bool.{cases_lt, cases_Bool, cases_cond, cond-true, cond-false, and_parts}
+use Rattle.std.proofs.Common.{◌≡◌, ℕ, ◌+◌, ◌<◌, ◌≤◌, Bool, true, false, not, ◌&&◌, if◌then◌else◌, List, ◌++◌, length, slice_index, take, drop, Option, Some, None, Result, Ok, Err, nat_lt, nat_le, ◌==◌, refl, ap, ap₂, sym, ◌∙◌, arith, inl, inr, length-append, le-ltb, lt-ltb, leb-true, eqb-true}
+use Rattle.std.proofs.lemmas.Bool.{cases_lt, cases_cond, cond-true, cond-false, and_parts}
 use Rattle.std.proofs.lemmas.List.{take-append-le, drop-append-le, length-drop, get_or_append_left}
 use Rattle.std.specs.Int.{w32, w64, from_be_bytes}
 use Rattle.als_record.specs.declared.fault.Fault.{Fault}
-use Rattle.als_record.specs.declared.fault.Fault.TheVariants.{BadHeader, BadLength, BadType, BadReserved, WrongLsn, BadKey, BadValue, Memory}
+use Rattle.als_record.specs.declared.fault.Fault.TheVariants.{BadLength, BadType, BadReserved, WrongLsn}
 use Rattle.als_record.specs.declared.record.Body.{Body}
 use Rattle.als_record.specs.declared.record.Record.{Record}
 use Rattle.als_record.specs.Reading.{◌>>=◌, is_within, is_size, is_type, is_reserved_zero, size_at, type_at, word_at, long_at, read_body, read_record}
@@ -35,7 +35,7 @@ steps pages at size kind zeros own prev trans short body =
 
 read_record-steps : (pages at : ℕ) (bytes : List ℕ) → 28 ≤ length bytes
     → read_record pages at bytes ≡ steps pages at (size_at bytes) (type_at bytes) (is_reserved_zero bytes) (long_at 8 bytes) (long_at 16 bytes) (word_at 24 bytes)
-        (nat_lt (length bytes) (size_at bytes)) (drop 28 (take (size_at bytes) bytes))
+    (nat_lt (length bytes) (size_at bytes)) (drop 28 (take (size_at bytes) bytes))
 unfolding read_record
 read_record-steps pages at bytes le = cond-false (nat_lt (length bytes) 28) (Ok None) _ (le-ltb (length bytes) 28 le)
 
@@ -55,15 +55,15 @@ part-more i n bytes more le =
 steps-more : (pages at size kind own prev trans : ℕ) (zeros : Bool) (bytes more : List ℕ)
     → (steps pages at size kind zeros own prev trans (nat_lt (length bytes) size) (drop 28 (take size bytes)) ≡ Ok None → ⊥)
     → steps pages at size kind zeros own prev trans (nat_lt (length (bytes ++ more)) size) (drop 28 (take size (bytes ++ more)))
-      ≡ steps pages at size kind zeros own prev trans (nat_lt (length bytes) size) (drop 28 (take size bytes))
+    ≡ steps pages at size kind zeros own prev trans (nat_lt (length bytes) size) (drop 28 (take size bytes))
 steps-more pages at size kind own prev trans zeros bytes more some' =
     let body : Bool → List ℕ → Read = λ short part. if short then Ok None else whole pages at size kind prev trans part in
     let all : Read → Read = λ rest. guarded (not (is_size kind size)) (not (is_type kind)) (not zeros) (not (own == at)) rest in
     elim (cases_lt (length bytes) size) [
-        inl lt ↦
+      | inl lt ↦
           let none : body (nat_lt (length bytes) size) (drop 28 (take size bytes)) ≡ Ok None = ap (λ b. body b (drop 28 (take size bytes))) (lt-ltb (length bytes) size lt) in
           guarded-rest (not (is_size kind size)) (not (is_type kind)) (not zeros) (not (own == at)) (body (nat_lt (length bytes) size) (drop 28 (take size bytes)))
-            (body (nat_lt (length (bytes ++ more)) size) (drop 28 (take size (bytes ++ more)))) (λ same. some' (same ∙ none))
+          (body (nat_lt (length (bytes ++ more)) size) (drop 28 (take size (bytes ++ more)))) (λ same. some' (same ∙ none))
       | inr le ↦
           let le' : size ≤ length (bytes ++ more) = omega (arith, le, length-append bytes more) in
           let test : nat_lt (length (bytes ++ more)) size ≡ nat_lt (length bytes) size = le-ltb (length (bytes ++ more)) size le' ∙ sym (le-ltb (length bytes) size le) in
@@ -74,7 +74,7 @@ steps-more pages at size kind own prev trans zeros bytes more some' =
 pub read_record-more : (pages at : ℕ) (bytes more : List ℕ) → (read_record pages at bytes ≡ Ok None → ⊥) → read_record pages at (bytes ++ more) ≡ read_record pages at bytes
 read_record-more pages at bytes more some' =
     elim (cases_lt (length bytes) 28) [
-        inl lt ↦ absurd (some' (read_record-none pages at bytes lt))
+      | inl lt ↦ absurd (some' (read_record-none pages at bytes lt))
       | inr le ↦
           let le' : 28 ≤ length (bytes ++ more) = omega (arith, le, length-append bytes more) in
           let was = read_record-steps pages at bytes le in
@@ -82,7 +82,7 @@ read_record-more pages at bytes more some' =
           let byte : (i : ℕ) → i < 28 → slice_index (bytes ++ more) i ≡ slice_index bytes i = λ i lt. get_or_append_left bytes more 0 i (omega (arith, le, lt)) in
           let kind : type_at (bytes ++ more) ≡ type_at bytes = byte 4 (omega arith) in
           let zeros : is_reserved_zero (bytes ++ more) ≡ is_reserved_zero bytes
-                = ap₂ ◌&&◌ (ap₂ ◌&&◌ (ap (λ n. n == 0) (byte 5 (omega arith))) (ap (λ n. n == 0) (byte 6 (omega arith)))) (ap (λ n. n == 0) (byte 7 (omega arith))) in
+          = ap₂ ◌&&◌ (ap₂ ◌&&◌ (ap (λ n. n == 0) (byte 5 (omega arith))) (ap (λ n. n == 0) (byte 6 (omega arith)))) (ap (λ n. n == 0) (byte 7 (omega arith))) in
           let own : long_at 8 (bytes ++ more) ≡ long_at 8 bytes = ap (from_be_bytes w64) (part-more 8 8 bytes more (omega (arith, le))) in
           let prev : long_at 16 (bytes ++ more) ≡ long_at 16 bytes = ap (from_be_bytes w64) (part-more 16 8 bytes more (omega (arith, le))) in
           let trans : word_at 24 (bytes ++ more) ≡ word_at 24 bytes = ap (from_be_bytes w32) (part-more 24 4 bytes more (omega (arith, le))) in
@@ -110,17 +110,17 @@ is_size-most kind size h =
     let rest3 : Bool = if kind == 7 then is_within 32 54560 size else rest4 in
     let rest2 : Bool = if kind == 2 then is_within 42 73 size else rest3 in
     elim (cases_cond (kind == 1) (is_within 35 97 size) rest2 true (sym h)) [
-        inl one ↦ omega (arith, within-most 35 97 size one)
+      | inl one ↦ omega (arith, within-most 35 97 size one)
       | inr more ↦ elim (cases_cond (kind == 2) (is_within 42 73 size) rest3 true more) [
-          inl two ↦ omega (arith, within-most 42 73 size two)
+        | inl two ↦ omega (arith, within-most 42 73 size two)
         | inr more ↦ elim (cases_cond (kind == 7) (is_within 32 54560 size) rest4 true more) [
-            inl seven ↦ omega (arith, within-most 32 54560 size seven)
+          | inl seven ↦ omega (arith, within-most 32 54560 size seven)
           | inr more ↦ elim (cases_cond (is_type kind) (size == 28) (is_within 28 54560 size) true more) [
-              inl plain ↦ omega (arith, eqb-true size 28 (sym plain))
+            | inl plain ↦ omega (arith, eqb-true size 28 (sym plain))
             | inr none ↦ omega (arith, within-most 28 54560 size none)
-            ]
           ]
         ]
+      ]
     ]
 
 guarded-ok : (a b c d : Bool) (rest : Read) (x : Option (Record × ℕ)) → guarded a b c d rest ≡ Ok x → (a ≡ false) × (rest ≡ Ok x)
@@ -142,17 +142,17 @@ not-false false h = absurd cc
 pub read_record-short : (pages at : ℕ) (bytes : List ℕ) → read_record pages at bytes ≡ Ok None → length bytes < 54560
 read_record-short pages at bytes none =
     elim (cases_lt (length bytes) 28) [
-        inl lt ↦ omega (arith, lt)
+      | inl lt ↦ omega (arith, lt)
       | inr le ↦
           let size = size_at bytes in
           let kind = type_at bytes in
           let body = drop 28 (take size bytes) in
           let (sized, rest) = guarded-ok (not (is_size kind size)) (not (is_type kind)) (not (is_reserved_zero bytes)) (not (long_at 8 bytes == at))
-                (if nat_lt (length bytes) size then Ok None else whole pages at size kind (long_at 16 bytes) (word_at 24 bytes) body) None
-                (sym (read_record-steps pages at bytes le) ∙ none) in
+          (if nat_lt (length bytes) size then Ok None else whole pages at size kind (long_at 16 bytes) (word_at 24 bytes) body) None
+          (sym (read_record-steps pages at bytes le) ∙ none) in
           let most : size ≤ 54560 = is_size-most kind size (not-false (is_size kind size) sized) in
           elim (cases_lt (length bytes) size) [
-              inl lt ↦ omega (arith, lt, most)
+            | inl lt ↦ omega (arith, lt, most)
             | inr le ↦ absurd (bind-some (read_body pages kind body)
                 (λ b. (record { lsn = record { 0 = at }; prev = record { 0 = long_at 16 bytes }; trans = record { 0 = word_at 24 bytes }; body = b }, size))
                 (sym (cond-false (nat_lt (length bytes) size) (Ok None) (whole pages at size kind (long_at 16 bytes) (word_at 24 bytes) body) (le-ltb (length bytes) size le)) ∙ rest))

@@ -62,8 +62,8 @@ pub record RefusesBytes (old : Reception) (refusal : Refusal) (new : Reception) 
 abbrev pub Refuses : Reception → Refusal → Reception → Type 0
 Refuses old refusal new =
     MatchOption old.refusal
-      ((refusal.lsn.0 ≡ old.wanted) × MatchBool (is_memory refusal.fault) (new ≡ old) (RefusesBytes old refusal new))
-      (λ before. (refusal ≡ before) × (new ≡ old))
+    ((refusal.lsn.0 ≡ old.wanted) × MatchBool (is_memory refusal.fault) (new ≡ old) (RefusesBytes old refusal new))
+    (λ before. (refusal ≡ before) × (new ≡ old))
 
 -- what a call for the next record answers, and what it leaves
 abbrev pub Answers : Reception → Result (Option Record) Refusal → Reception → Type 0

@@ -11,5 +11,4 @@ pub fn each_cutting_hands_out_the_same()
     ensures alike { (wanted pages : ℕ) (first second : List Call) (s t : Reception) → Runs (fresh wanted pages) first s
         → Runs (fresh wanted pages) second t → KeepsAll first → KeepsAll second
         → bytes_after [] first ≡ bytes_after [] second → IsEmptied s → IsEmptied t → EndAlike first second s t }
-{
-}
+{}

@@ -61,7 +61,12 @@ impl Receiver {
         if let Some(refusal) = self.refusal {
             return Err(refusal);
         }
-        match decode(*self.kept.allocator(), self.kept.as_slice(), self.wanted, self.pages) {
+        match decode(
+            *self.kept.allocator(),
+            self.kept.as_slice(),
+            self.wanted,
+            self.pages,
+        ) {
             Ok(None) => Ok(None),
             Ok(Some((record, len))) => {
                 self.kept.advance(len);

@@ -14,12 +14,17 @@ const LOG: [u8; 92] = [
 
 // An end_chkpt at 16 with one transaction row.
 const CHECKPOINT: [u8; 53] = [
-    0, 0, 0, 53, 7, 0, 0, 0, 0, 0, 0, 0, 0, 0, 0, 0x10, 0, 0, 0, 0, 0, 0, 0, 0, 0, 0, 0, 0, 0, 1, 0, 0,
-    0, 0, 0, 1, 1, 0, 0, 0, 0, 0, 0, 0, 16, 0, 0, 0, 0, 0, 0, 0, 16,
+    0, 0, 0, 53, 7, 0, 0, 0, 0, 0, 0, 0, 0, 0, 0, 0x10, 0, 0, 0, 0, 0, 0, 0, 0, 0, 0, 0, 0, 0, 1,
+    0, 0, 0, 0, 0, 1, 1, 0, 0, 0, 0, 0, 0, 0, 16, 0, 0, 0, 0, 0, 0, 0, 16,
 ];
 
 // Pushes a piece, and collects where the records stand that are whole then.
-fn feed(rt: &impl Abort, receiver: &mut Receiver, piece: &[u8], found: &mut Vec<Lsn>) -> Result<(), Fail> {
+fn feed(
+    rt: &impl Abort,
+    receiver: &mut Receiver,
+    piece: &[u8],
+    found: &mut Vec<Lsn>,
+) -> Result<(), Fail> {
     assert!(rt; receiver.position() < 1000);
     receiver.push(piece)?;
     for _ in 0..10 {
@@ -81,9 +86,9 @@ fn a_refusal_stays(rt: HostRuntime) -> Result<(), Fail> {
 
 // Pushes a piece, again where memory is refused.
 fn push_twice(receiver: &mut Receiver, rt: &impl Abort) {
+    assert!(rt; receiver.position() == 16);
     if receiver.push(&CHECKPOINT).is_err() {
         assert_eq!(rt; receiver.partial(), 0);
-        assert!(rt; receiver.position() == 16);
         assert!(rt; receiver.push(&CHECKPOINT).is_ok());
     }
 }
@@ -94,7 +99,13 @@ fn want_of_memory_is_not_kept(rt: HostRuntime) {
     push_twice(&mut receiver, &rt);
     let mut answer = receiver.next();
     if let Err(refusal) = answer {
-        assert!(rt; refusal == Refusal { lsn: Lsn(16), fault: Fault::Memory });
+        assert!(rt;
+            refusal
+                == Refusal {
+                    lsn: Lsn(16),
+                    fault: Fault::Memory
+                }
+        );
         assert_eq!(rt; receiver.partial(), CHECKPOINT.len());
         answer = receiver.next();
     }

@@ -10,5 +10,5 @@ returns-in-Ok-None c =
     let inside = c.self.inside in
     let found : Option (Record × ℕ) → Result (Option (Record × ℕ)) Fault = λ o. Ok o in
     let read : read_record inside.pages inside.wanted.0 inside.kept.items ≡ Ok None
-          = sym (ap (λ (bytes : List ℕ). read_record inside.pages inside.wanted.0 bytes) c.as_slice.ensures) ∙ c.in-Ok-None.ensures.exact ∙ ap found c.in-Ok-None.field-0-is in
+    = sym (ap (λ (bytes : List ℕ). read_record inside.pages inside.wanted.0 bytes) c.as_slice.ensures) ∙ c.in-Ok-None.ensures.exact ∙ ap found c.in-Ok-None.field-0-is in
     rw (← c.self.view_is) (record { unrefused = search rules; reading = read; short = read_record-short inside.pages inside.wanted.0 inside.kept.items read; same = refl })
