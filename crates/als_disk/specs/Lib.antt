@@ -1,0 +1,7 @@
+pub mod Count
+pub mod Crash
+pub mod Failures
+pub mod MemDisk
+pub mod Slot
+pub mod Store
+pub mod Unsynced
