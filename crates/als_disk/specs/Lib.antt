@@ -1,6 +1,7 @@
 pub mod Count
 pub mod Crash
 pub mod Failures
+pub mod FileDisk
 pub mod MemDisk
 pub mod Slot
 pub mod Store

@@ -5,6 +5,10 @@ use Rattle.als_disk.specs.Count.{number}
 use Rattle.als_disk.specs.Slot.{Slot}
 use Rattle.als_disk.specs.Store.{slot_of}
 
+-- how many blocks there are
+abbrev pub mem_blocks : MemDisk → ℕ
+mem_blocks disk = disk.blocks
+
 -- what stands in each block
 abbrev pub mem_slot : MemDisk → ℕ → Slot
 mem_slot disk = slot_of disk.synced disk.unsynced

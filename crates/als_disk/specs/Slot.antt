@@ -7,9 +7,13 @@ pub record Slot : Type 0 where
   pub candidates : List (List ℕ)
   pub readable : List (List ℕ)
 
--- the block has one content, and it is synced
+-- a block with one content, which is synced
 abbrev pub only : List ℕ → Slot
 only content = record { candidates = content ∷ []; readable = content ∷ [] }
+
+-- the block has one content, and it is synced
+abbrev pub IsSettled : Slot → Type 0
+IsSettled slot = (content : List ℕ) × (slot ≡ only content)
 
 -- after a write that succeeded: a crash may leave its content too, and a read gives it
 abbrev pub written : Slot → List ℕ → Slot

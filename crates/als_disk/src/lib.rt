@@ -22,10 +22,13 @@ mod countdown;
 mod fuse;
 // a device that fails where its fuse burns
 mod failing_disk;
+// a device over a file
+mod file_disk;
 
 pub use block_disk::BlockDisk;
 pub use device_error::DeviceError;
 pub use failing_disk::FailingDisk;
+pub use file_disk::FileDisk;
 pub use fuse::Fuse;
 pub use mem_disk::MemDisk;
 pub use restart::Restart;

@@ -39,9 +39,9 @@ impl MemDisk {
 }
 
 impl BlockDisk for MemDisk {
-    ghost use Rattle.als_disk.specs.MemDisk.{mem_slot, mem_failures};
+    ghost use Rattle.als_disk.specs.MemDisk.{mem_blocks, mem_slot, mem_failures};
 
-    ghost block_count = { λ disk. disk.blocks };
+    ghost block_count = { mem_blocks };
 
     ghost slot = { mem_slot };
 
