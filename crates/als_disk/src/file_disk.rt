@@ -35,7 +35,7 @@ fn mirror_of(alloc: Global, file: &File, blocks: u64) -> io::Result<MemDisk>
     ensures count { IfOk result (λ mirror. mem_blocks mirror ≡ blocks) }
     ensures settled { IfOk result (λ mirror. (k : ℕ) → IsSettled (mem_slot mirror k)) }
 {
-    let mut mirror = MemDisk::new(alloc, blocks)?;
+    let mut mirror = MemDisk::new(alloc, blocks);
     let mut block = [0; 512];
     for i in 0..blocks {
         file.read_exact_at(&mut block, i * 512)?;
@@ -85,7 +85,7 @@ impl FileDisk {
             .open(rt, path)?;
         file.set_len(len)?;
         file.sync_all()?;
-        let mirror = MemDisk::new(rt.alloc(), blocks)?;
+        let mirror = MemDisk::new(rt.alloc(), blocks);
         Ok(FileDisk {
             file,
             mirror,
@@ -166,5 +166,33 @@ impl BlockDisk for FileDisk {
             return Err(DeviceError);
         }
         self.mirror.sync()
+    }
+}
+
+#[cfg(test)]
+mod tests {
+    use super::*;
+    use std::fs;
+    use std::test::Fail;
+
+    #[test]
+    fn a_file_that_failed_stays_failed(rt: HostRuntime) -> Result<(), Fail> {
+        let path = "read_only.blk";
+        fs::write(&rt, path, "")?;
+        let mut disk = FileDisk {
+            file: OpenOptions::new().read(true).open(&rt, path)?,
+            mirror: MemDisk::new(rt.alloc(), 1),
+            broken: false,
+            failed: Count::Zero,
+        };
+        let mut block = [0; 512];
+        assert_eq!(rt; disk.read(0, &mut block), Ok(()));
+        assert_eq!(rt; disk.sync(), Ok(()));
+        assert_eq!(rt; disk.write(0, &[1; 512]), Err(DeviceError));
+        assert_eq!(rt; disk.read(0, &mut block), Err(DeviceError));
+        assert_eq!(rt; disk.sync(), Err(DeviceError));
+        assert_eq!(rt; disk.write(0, &[1; 512]), Err(DeviceError));
+        fs::remove_file(&rt, path)?;
+        Ok(())
     }
 }

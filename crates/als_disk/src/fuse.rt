@@ -7,7 +7,7 @@ use std::sync::atomic::{AtomicU64, Ordering};
 
 /// A handle by which a test makes a device fail at a call of its choice. Its clones are the same
 /// fuse.
-#[derive(Drop)]
+#[derive(Clone, Drop)]
 pub struct Fuse {
     left: Arc<AtomicU64>,
 }
@@ -15,13 +15,7 @@ pub struct Fuse {
 impl Fuse {
     /// A fuse that does not burn until it is set.
     pub fn new(alloc: Global) -> Result<Fuse, AllocError> {
-        let left = Arc::new(alloc, AtomicU64::new(0))?;
-        Ok(Fuse { left })
-    }
-
-    /// Another handle of the same fuse.
-    pub fn share(&self) -> Result<Fuse, AllocError> {
-        let left = Arc::try_clone(&self.left)?;
+        let left = Arc::new(alloc, AtomicU64::new(Countdown::NEVER))?;
         Ok(Fuse { left })
     }
 

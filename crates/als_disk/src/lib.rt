@@ -25,6 +25,9 @@ mod failing_disk;
 // a device over a file
 mod file_disk;
 
+#[cfg(test)]
+mod tests;
+
 pub use block_disk::BlockDisk;
 pub use device_error::DeviceError;
 pub use failing_disk::FailingDisk;

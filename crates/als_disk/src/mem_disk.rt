@@ -1,4 +1,4 @@
-ghost use Rattle.std.specs.Prelude.{◌≡◌, ℕ, IfOk};
+ghost use Rattle.std.specs.Prelude.{◌≡◌, ℕ};
 ghost use Rattle.als_disk.specs.Slot.{only, HoldsBlocks};
 ghost use Rattle.als_disk.specs.Store.{zeros, slot_of, HasRoom, IsInRange, slot_of-gives_candidates};
 
@@ -22,19 +22,19 @@ pub struct MemDisk {
 }
 
 impl MemDisk {
-    /// A device of so many blocks of zeros.
-    pub fn new(alloc: Global, blocks: u64) -> Result<MemDisk, AllocError>
-        ensures count { IfOk result (λ disk. ⟦<MemDisk as BlockDisk>⟧.block_count disk ≡ blocks) }
-        ensures zeros { IfOk result (λ disk. (k : ℕ) → ⟦<MemDisk as BlockDisk>⟧.slot disk k ≡ only zeros) }
-        ensures failures { IfOk result (λ disk. ⟦<MemDisk as BlockDisk>⟧.failures disk ≡ 0) }
+    /// A device of so many blocks of zeros, all of it synced. It takes no memory.
+    pub fn new(alloc: Global, blocks: u64) -> MemDisk
+        ensures count { ⟦<MemDisk as BlockDisk>⟧.block_count result ≡ blocks }
+        ensures zeros { (k : ℕ) → ⟦<MemDisk as BlockDisk>⟧.slot result k ≡ only zeros }
+        ensures failures { ⟦<MemDisk as BlockDisk>⟧.failures result ≡ 0 }
     {
-        Ok(MemDisk {
+        MemDisk {
             alloc,
             blocks,
             synced: BTreeMap::new(alloc),
             unsynced: BTreeMap::new(alloc),
             failed: Count::Zero,
-        })
+        }
     }
 }
 

@@ -7,7 +7,7 @@ use Rattle.als_disk.proofs.file_disk.mirror_of.Goals as goal
 use Rattle.als_disk.proofs.file_disk.mirror_of.Goals.{then-ne+in_ok-keep, else-ne}
 
 pub loop-i-init : goal.loop-i-init
-loop-i-init c = record { count = c.in_ok-mirror.ensures.count; settled = λ k. (zeros, c.in_ok-mirror.ensures.zeros k) }
+loop-i-init c = record { count = c.new-mirror.ensures.count; settled = λ k. (zeros, c.new-mirror.ensures.zeros k) }
 
 pub loop-i-preserved : goal.loop-i-preserved
 loop-i-preserved c = elim c.if-ne.branch [
