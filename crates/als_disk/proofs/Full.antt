@@ -1,31 +1,31 @@
 -- Each content stays that of a block, through every change.
-use Rattle.std.proofs.Common.{◌≡◌, ◌≢◌, ◌⊎◌, ◌<◌, ◌-◌, min, replicate, arith, ℕ, zero, suc, List, [], ◌∷◌, ◌++◌, length, refl, sym, ◌∙◌, ap, subst, inl, inr}
+use Rattle.std.proofs.Common.{◌≡◌, ◌<◌, ◌-◌, min, replicate, arith, ℕ, zero, suc, List, [], ◌∷◌, ◌++◌, length, refl, subst, inl, inr}
 use Rattle.std.proofs.lemmas.Bool.{cases_eq}
 use Rattle.std.proofs.lemmas.List.Elements.{Contains-get_or, Contains-push_cases}
 use Rattle.std.specs.Prelude.{Contains, slice_index}
-use Rattle.als_disk.specs.Slot.{Slot, only, written, SameBlocks, SameBlocksBut, KeepsReadable, KeepsCandidate, IsBlock, HoldsBlocks, GivesCandidates}
+use Rattle.als_disk.specs.Slot.{Slot, written, SameBlocks, SameBlocksBut, KeepsReadable, KeepsCandidate, IsBlock, HoldsBlocks, GivesCandidates}
 use Rattle.als_disk.specs.Crash.{picked, pick_of, picked_content, LeavesPicked}
 use Rattle.als_disk.specs.Store.{Contains-one, zeros}
 
 module _ (old new : ℕ → Slot) (blocks : HoldsBlocks old) where
   pub HoldsBlocks-same : SameBlocks old new → HoldsBlocks new
   HoldsBlocks-same same k content has =
-    blocks k content (subst (λ (s : Slot). Contains s.candidates content) (same k) has)
+      blocks k content (subst (λ (s : Slot). Contains s.candidates content) (same k) has)
 
   pub HoldsBlocks-candidate : ((k : ℕ) → KeepsCandidate (old k) (new k)) → HoldsBlocks new
   HoldsBlocks-candidate kept k content has =
-    let left : Contains ((kept k).content ∷ []) content = subst (λ (s : Slot). Contains s.candidates content) (kept k).left has in
-    subst (λ (x : List ℕ). IsBlock x) (Contains-one left) (blocks k (kept k).content (kept k).was_candidate)
+      let left : Contains ((kept k).content ∷ []) content = subst (λ (s : Slot). Contains s.candidates content) (kept k).left has in
+      subst (λ (x : List ℕ). IsBlock x) (Contains-one left) (blocks k (kept k).content (kept k).was_candidate)
 
   pub HoldsBlocks-written : (i : ℕ) (block : List ℕ) → IsBlock block → new i ≡ written (old i) block → SameBlocksBut i old new → HoldsBlocks new
   HoldsBlocks-written i block is_block here others k content has = elim (cases_eq k i) [
-    inl at ↦
-      let added : Contains ((old i).candidates ++ block ∷ []) content =
+    | inl at ↦
+        let added : Contains ((old i).candidates ++ block ∷ []) content =
         subst (λ (s : Slot). Contains s.candidates content) here (subst (λ (j : ℕ). Contains (new j).candidates content) at has) in
-      elim (Contains-push_cases (old i).candidates block content added) [
-        inl earlier ↦ blocks i content earlier
-        | inr is ↦ subst (λ (x : List ℕ). IsBlock x) is is_block
-      ]
+        elim (Contains-push_cases (old i).candidates block content added) [
+          | inl earlier ↦ blocks i content earlier
+          | inr is ↦ subst (λ (x : List ℕ). IsBlock x) is is_block
+        ]
     | inr apart ↦ blocks k content (subst (λ (s : Slot). Contains s.candidates content) (others k apart) has)
   ]
 

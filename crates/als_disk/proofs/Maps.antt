@@ -1,5 +1,5 @@
 -- What a change of the two maps of a device in memory does to its blocks.
-use Rattle.std.proofs.Common.{◌≡◌, ◌≢◌, ◌<◌, ◌+◌, ℕ, List, [], ◌∷◌, Some, None, true, false, is_some, slice_index, Option, IsSome, length-append, refl, sym, ◌∙◌, ap, arith}
+use Rattle.std.proofs.Common.{◌≡◌, ◌≢◌, ℕ, List, [], ◌∷◌, Some, None, true, false, is_some, slice_index, Option, IsSome, length-append, refl, sym, ◌∙◌, ap, arith}
 use Rattle.std.proofs.lemmas.Grind.{common_steps}
 use Rattle.std.proofs.lemmas.Bool.{false≢true}
 use Rattle.std.proofs.lemmas.Map.Keys.{le_from_not_gt}
@@ -10,7 +10,7 @@ use Rattle.als_disk.specs.Crash.{has_choice, choices_below, pick_of, picked, pic
 use Rattle.als_disk.specs.Slot.{only}
 use Rattle.als_disk.specs.Store.{synced_content, slot_with, slot_of, zeros}
 use Rattle.als_disk.specs.Unsynced.{contents}
-use Rattle.als_disk.proofs.Picks.{NoneBelow, TakesFirst, choices_below-none, picked-no_choice}
+use Rattle.als_disk.proofs.Picks.{TakesFirst, choices_below-none, picked-no_choice}
 
 -- zeros kept for a block of which nothing was kept change nothing
 pub synced_content-zeros : (m n : BTreeMap ℕ (List ℕ)) (i : ℕ) → false ≡ is_some (get nat_cmp m i) → Updates nat_cmp m n i (Some zeros) → (k : ℕ) → synced_content n k ≡ synced_content m k
@@ -39,17 +39,19 @@ module _ (s t : BTreeMap ℕ (List ℕ)) (u v : BTreeMap ℕ Unsynced) (i : ℕ)
       → ((k : ℕ) → k ≢ i → synced_content t k ≡ synced_content s k)
       → TakesFirst (slot_of s u) picks i (slot_of t v)
   TakesFirst-pop found least updates left others = record {
-    first = record { none = λ j lt. 
-        let absent : get nat_cmp u j ≡ None = none_from_not_some (get nat_cmp u j) (λ has. omega (arith, le_from_not_gt i j (least j has))) in
-        ap (λ o. has_choice (slot_with (synced_content s j) o)) absent };
+    first = record {
+      none = λ j lt.
+          let absent : get nat_cmp u j ≡ None = none_from_not_some (get nat_cmp u j) (λ has. omega (arith, le_from_not_gt i j (least j has))) in
+          ap (λ o. has_choice (slot_with (synced_content s j) o)) absent;
+    };
     had_choice = ap (λ o. has_choice (slot_with (synced_content s i) o)) found ∙ has_choice-unsynced (synced_content s i) w;
     left =
-      ap (slot_with (synced_content t i)) updates.1
+        ap (slot_with (synced_content t i)) updates.1
         ∙ ap only left
         ∙ ap (λ o. only (picked (slot_with (synced_content s i) o).candidates (slice_index picks 0))) (sym found);
     others = λ k apart.
-      ap (slot_with (synced_content t k)) (updates.2 k (is_at-other i k apart))
-        ∙ ap (λ content. slot_with content (get nat_cmp u k)) (others k apart)
+        ap (slot_with (synced_content t k)) (updates.2 k (is_at-other i k apart))
+        ∙ ap (λ content. slot_with content (get nat_cmp u k)) (others k apart);
   }
 
 module _ (s : BTreeMap ℕ (List ℕ)) (u : BTreeMap ℕ Unsynced) (empty : u.entries ≡ []) where
@@ -64,7 +66,7 @@ module _ (s : BTreeMap ℕ (List ℕ)) (u : BTreeMap ℕ Unsynced) (empty : u.en
   -- and is left as it is, whatever the picks
   pub picked_content-empty : (picks : List ℕ) (k : ℕ) → picked_content (slot_of s u) picks k ≡ synced_content s k
   picked_content-empty picks k =
-    ap (λ slot. picked slot.candidates (pick_of (slot_of s u) picks k)) (slot_of-empty k)
+      ap (λ slot. picked slot.candidates (pick_of (slot_of s u) picks k)) (slot_of-empty k)
       ∙ picked-no_choice (only (synced_content s k)) refl (pick_of (slot_of s u) picks k) 0
 
 -- no block is unsynced

@@ -1,5 +1,5 @@
 -- How the blocks that have a choice take the picks of a crash.
-use Rattle.std.proofs.Common.{◌≡◌, ◌≢◌, ◌<◌, ◌≤◌, ◌+◌, ◌-◌, ◌⊎◌, ℕ, zero, suc, Bool, true, false, cond, nat_lt, min, List, [], ◌∷◌, length, drop, refl, sym, ◌∙◌, ap, arith, subst, length-drop, inl, inr}
+use Rattle.std.proofs.Common.{◌≡◌, ◌≢◌, ◌<◌, ◌≤◌, ◌+◌, ℕ, zero, suc, true, false, cond, min, List, [], length, drop, refl, sym, ◌∙◌, ap, arith, length-drop, inl, inr}
 use Rattle.std.specs.Prelude.{slice_index, slice_index_or}
 use Rattle.std.proofs.lemmas.Grind.{get_or_after_one}
 use Rattle.std.proofs.lemmas.Bool.{cases_order, cases_lt}
@@ -46,22 +46,24 @@ module _ (old new : ℕ → Slot) (picks : List ℕ) (i : ℕ) (taken : TakesFir
 
   -- and no block before it has
   none_up_to : NoneBelow new (suc i)
-  none_up_to = record { none = λ j lt. elim (cases_lt j i) [
-    inl before ↦ let apart : j ≢ i = omega arith in ap has_choice (taken.others j apart) ∙ taken.first.none j before
-    | inr le ↦ let here : j ≡ i = omega arith in rw here has_choice-new
-  ] }
+  none_up_to = record {
+    none = λ j lt. elim (cases_lt j i) [
+      | inl before ↦ let apart : j ≢ i = omega arith in ap has_choice (taken.others j apart) ∙ taken.first.none j before
+      | inr le ↦ let here : j ≡ i = omega arith in rw here has_choice-new
+    ];
+  }
 
   -- block i had the first choice
   choices_below-here : choices_below old (suc i) ≡ 1
   choices_below-here =
-    let before : choices_below old i ≡ 0 = choices_below-none old i taken.first in
-    choices_below-suc old i ∙ rw (taken.had_choice, before) refl
+      let before : choices_below old i ≡ 0 = choices_below-none old i taken.first in
+      choices_below-suc old i ∙ rw (taken.had_choice, before) refl
 
   -- after it, there is one choice less
   choices_below-after : (k : ℕ) → i < k → choices_below old k ≡ choices_below new k + 1
   choices_below-after zero lt = absurd (omega arith)
   choices_below-after (suc k) lt = elim (cases_lt i k) [
-    inl after ↦
+    | inl after ↦
         let apart : k ≢ i = omega arith in
         let same : ◌≡◌ {A = ℕ} (cond (has_choice (new k)) 1 0) (cond (has_choice (old k)) 1 0) = ap (λ s. cond (has_choice s) 1 0) (taken.others k apart) in
         omega (arith, same, choices_below-after k after, choices_below-suc old k, choices_below-suc new k)
@@ -72,26 +74,26 @@ module _ (old new : ℕ → Slot) (picks : List ℕ) (i : ℕ) (taken : TakesFir
 
   rest_before : (k : ℕ) → k < i → picked_content new (drop 1 picks) k ≡ picked_content old picks k
   rest_before k before =
-    let apart : k ≢ i = omega arith in
-    ap (λ s. picked s.candidates (pick_of new (drop 1 picks) k)) (taken.others k apart) ∙ picked-no_choice (old k) (taken.first.none k before) _ _
+      let apart : k ≢ i = omega arith in
+      ap (λ s. picked s.candidates (pick_of new (drop 1 picks) k)) (taken.others k apart) ∙ picked-no_choice (old k) (taken.first.none k before) _ _
 
   rest_here : picked_content new (drop 1 picks) i ≡ picked_content old picks i
   rest_here =
-    picked-no_choice (new i) has_choice-new _ 0
+      picked-no_choice (new i) has_choice-new _ 0
       ∙ ap (λ s. picked s.candidates 0) taken.left
       ∙ ap (λ n. picked (old i).candidates (slice_index picks n)) (sym (choices_below-none old i taken.first))
 
   rest_after : (k : ℕ) → i < k → picked_content new (drop 1 picks) k ≡ picked_content old picks k
   rest_after k after =
-    let apart : k ≢ i = omega arith in
-    let pick : pick_of new (drop 1 picks) k ≡ pick_of old picks k =
+      let apart : k ≢ i = omega arith in
+      let pick : pick_of new (drop 1 picks) k ≡ pick_of old picks k =
       get_or_after_one picks (choices_below new k) 0 ∙ ap (slice_index picks) (omega (arith, choices_below-after k after)) in
-    ap (λ s. picked s.candidates (pick_of new (drop 1 picks) k)) (taken.others k apart) ∙ ap (picked (old k).candidates) pick
+      ap (λ s. picked s.candidates (pick_of new (drop 1 picks) k)) (taken.others k apart) ∙ ap (picked (old k).candidates) pick
 
   -- the other blocks take the other picks
   pub picked_content-rest : (k : ℕ) → picked_content new (drop 1 picks) k ≡ picked_content old picks k
   picked_content-rest k = elim (cases_order k i) [
-    inl here ↦ rw here rest_here
+    | inl here ↦ rw here rest_here
     | inr apart ↦ elim apart [ inl before ↦ rest_before k before | inr after ↦ rest_after k after ]
   ]
 

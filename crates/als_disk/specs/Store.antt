@@ -1,5 +1,5 @@
 -- What a device in memory keeps: the contents of the last sync, and what was written since.
-use Rattle.std.specs.Prelude.{◌≡◌, ◌<◌, ℕ, List, [], ◌∷◌, length, replicate, Contains, Option, Some, None, unwrap_or, slice_index_or}
+use Rattle.std.specs.Prelude.{◌≡◌, ◌<◌, ℕ, List, [], ◌∷◌, replicate, Contains, Option, Some, None, unwrap_or, slice_index_or}
 use Rattle.std.proofs.Common.{arith, refl, subst}
 use Rattle.std.proofs.lemmas.List.Elements.{Contains-push}
 use Rattle.std.specs.Ordering.{nat_cmp}
@@ -59,6 +59,6 @@ pub slot_of-gives_candidates : (synced : BTreeMap ℕ (List ℕ)) (unsynced : BT
 slot_of-gives_candidates synced unsynced = record {
   gives = λ k. rw (readable_is_newest (synced_content synced k) (get nat_cmp unsynced k)) (omega arith);
   candidates = λ k content has.
-    let from_newest : Contains (newest_of synced unsynced k ∷ []) content = subst (λ (xs : List (List ℕ)). Contains xs content) (readable_is_newest (synced_content synced k) (get nat_cmp unsynced k)) has in
-    subst (λ (x : List ℕ). Contains (slot_of synced unsynced k).candidates x) (Contains-one from_newest) (newest_is_candidate (synced_content synced k) (get nat_cmp unsynced k))
+      let from_newest : Contains (newest_of synced unsynced k ∷ []) content = subst (λ (xs : List (List ℕ)). Contains xs content) (readable_is_newest (synced_content synced k) (get nat_cmp unsynced k)) has in
+      subst (λ (x : List ℕ). Contains (slot_of synced unsynced k).candidates x) (Contains-one from_newest) (newest_is_candidate (synced_content synced k) (get nat_cmp unsynced k));
 }

@@ -29,9 +29,11 @@ impl Fuse {
 
     /// Counts a call, and tells whether it fails.
     pub(crate) fn burn(&self) -> bool {
-        let before = self.left.fetch_update(Ordering::SeqCst, Ordering::SeqCst, |left| {
-            Some(Countdown::new(left).next().left())
-        });
+        let before = self
+            .left
+            .fetch_update(Ordering::SeqCst, Ordering::SeqCst, |left| {
+                Some(Countdown::new(left).next().left())
+            });
         match before {
             Ok(left) => Countdown::new(left).burns(),
             Err(_) => false,

@@ -24,7 +24,6 @@ mod fuse;
 mod failing_disk;
 // a device over a file
 mod file_disk;
-
 #[cfg(test)]
 mod tests;
 

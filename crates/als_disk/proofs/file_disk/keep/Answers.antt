@@ -1,4 +1,4 @@
-use Rattle.std.proofs.Common.{◌≡◌, List, ℕ, ◌∷◌, [], ◌∙◌, ap, subst, sym}
+use Rattle.std.proofs.Common.{◌∷◌, [], ◌∙◌, ap, subst, sym}
 use Rattle.std.specs.Prelude.{Contains}
 use Rattle.als_disk.specs.Slot.{Slot, only}
 use Rattle.als_disk.specs.Store.{Contains-one}

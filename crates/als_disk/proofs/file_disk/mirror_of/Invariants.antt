@@ -6,5 +6,5 @@ use Rattle.als_disk.proofs.file_disk.mirror_of.Given as goal
 abbrev pub invariant-loop-i : goal.invariant-loop-i
 invariant-loop-i l = record {
   count : mem_blocks l.mirror ≡ l.blocks;
-  settled : (k : ℕ) → IsSettled (mem_slot l.mirror k)
+  settled : (k : ℕ) → IsSettled (mem_slot l.mirror k);
 }

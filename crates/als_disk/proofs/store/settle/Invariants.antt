@@ -6,7 +6,7 @@ use Rattle.als_disk.proofs.store.settle.Given as goal
 abbrev pub invariant-loop-i : goal.invariant-loop-i
 invariant-loop-i l = record {
   newest : (k : ℕ) → newest_of l.synced l.unsynced k ≡ newest_of l.initial.synced l.initial.unsynced k;
-  room : HasRoom l.synced l.unsynced
+  room : HasRoom l.synced l.unsynced;
 }
 
 abbrev pub decreases-loop-i : goal.decreases-loop-i

@@ -10,9 +10,9 @@ invariant-loop-i l = record {
   room : HasRoom l.synced l.unsynced;
   in_range : (blocks : ℕ) → IsInRange l.initial.unsynced blocks → IsInRange l.unsynced blocks;
   used : (blocks : ℕ) → IsInRange l.initial.unsynced blocks →
-    min (length l.left) (choices_below (slot_of l.synced l.unsynced) blocks) + length l.picks
+      min (length l.left) (choices_below (slot_of l.synced l.unsynced) blocks) + length l.picks
       ≡ min (length l.picks) (choices_below (slot_of l.initial.synced l.initial.unsynced) blocks) + length l.left;
-  shorter : length l.left ≤ length l.picks
+  shorter : length l.left ≤ length l.picks;
 }
 
 abbrev pub decreases-loop-i : goal.decreases-loop-i

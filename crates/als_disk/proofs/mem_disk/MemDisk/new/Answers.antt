@@ -1,6 +1,5 @@
-use Rattle.std.proofs.Common.{rules, ◌≡◌, ◌∙◌, ap, sym, List, ℕ, subst}
+use Rattle.std.proofs.Common.{List, ℕ, subst}
 use Rattle.als_disk.specs.Slot.{Slot, IsBlock}
-use Rattle.als_disk.specs.Crash.{picked}
 use Rattle.std.specs.Prelude.{Contains}
 use Rattle.als_disk.specs.Store.{Contains-one}
 use Rattle.als_disk.proofs.Full.{IsBlock-zeros}
@@ -12,6 +11,6 @@ invariant_of-result c = record {
   room = λ k has. absurd (ContainsKey-empty c.new-2.result c.new-2.ensures.empty k has);
   in_range = λ k has. absurd (ContainsKey-empty c.new-2.result c.new-2.ensures.empty k has);
   contents = λ k content has.
-    let zeros_only = slot_of-empty c.new.result c.new-2.result c.new-2.ensures.empty k in
-    subst (λ (x : List ℕ). IsBlock x) (Contains-one (subst (λ (s : Slot). Contains s.candidates content) zeros_only has)) (rw c.new.ensures.empty IsBlock-zeros)
+      let zeros_only = slot_of-empty c.new.result c.new-2.result c.new-2.ensures.empty k in
+      subst (λ (x : List ℕ). IsBlock x) (Contains-one (subst (λ (s : Slot). Contains s.candidates content) zeros_only has)) (rw c.new.ensures.empty IsBlock-zeros);
 }

@@ -8,5 +8,5 @@ invariant_of-self c = record {
   room = λ k has. absurd (ContainsKey-empty c.settle.new.unsynced c.settle.ensures.empty k has);
   in_range = λ k has. absurd (ContainsKey-empty c.settle.new.unsynced c.settle.ensures.empty k has);
   contents = HoldsBlocks-candidate _ (slot_of c.settle.new.synced c.settle.new.unsynced) c.args.self.now.contents
-    (KeepsCandidate-readable _ _ (slot_of-gives_candidates c.args.self.now.synced c.args.self.now.unsynced) c.settle.ensures.readable)
+      (KeepsCandidate-readable _ _ (slot_of-gives_candidates c.args.self.now.synced c.args.self.now.unsynced) c.settle.ensures.readable);
 }

@@ -8,7 +8,7 @@ invariant_of-disk c = record {
   room = λ k has. absurd (ContainsKey-empty c.settle_by-used.new.unsynced c.settle_by-used.ensures.empty k has);
   in_range = λ k has. absurd (ContainsKey-empty c.settle_by-used.new.unsynced c.settle_by-used.ensures.empty k has);
   contents = HoldsBlocks-candidate _ (slot_of c.settle_by-used.new.synced c.settle_by-used.new.unsynced) c.args.self.contents
-    (KeepsCandidate-picked _ _ c.args.picks.now (slot_of-gives_candidates c.args.self.synced c.args.self.unsynced) c.settle_by-used.ensures.picked)
+      (KeepsCandidate-picked _ _ c.args.picks.now (slot_of-gives_candidates c.args.self.synced c.args.self.unsynced) c.settle_by-used.ensures.picked);
 }
 
 pub returns-clause-candidate : goal.returns-clause-candidate
