@@ -5,7 +5,8 @@ use Rattle.std.proofs.lemmas.List.Elements.{Contains-get_or, Contains-push_cases
 use Rattle.std.specs.Prelude.{Contains, slice_index}
 use Rattle.als_disk.specs.Slot.{Slot, written, SameBlocks, SameBlocksBut, KeepsReadable, KeepsCandidate, IsBlock, HoldsBlocks, GivesCandidates}
 use Rattle.als_disk.specs.Crash.{picked, pick_of, picked_content, LeavesPicked}
-use Rattle.als_disk.specs.Store.{Contains-one, zeros}
+use Rattle.als_disk.specs.SlotLaws.{Contains-one}
+use Rattle.als_disk.specs.Store.{zeros}
 
 module _ (old new : ℕ → Slot) (blocks : HoldsBlocks old) where
   pub HoldsBlocks-same : SameBlocks old new → HoldsBlocks new

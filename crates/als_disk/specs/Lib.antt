@@ -4,5 +4,6 @@ pub mod Failures
 pub mod FileDisk
 pub mod MemDisk
 pub mod Slot
+pub mod SlotLaws
 pub mod Store
 pub mod Unsynced

@@ -1,11 +1,12 @@
 -- What a device in memory keeps: the contents of the last sync, and what was written since.
-use Rattle.std.specs.Prelude.{◌≡◌, ◌<◌, ℕ, List, [], ◌∷◌, replicate, Contains, Option, Some, None, unwrap_or, slice_index_or}
+use Rattle.std.specs.Prelude.{◌≡◌, ◌<◌, ℕ, List, [], ◌∷◌, replicate, Contains, Option, Some, None, unwrap_or}
 use Rattle.std.proofs.Common.{arith, refl, subst}
 use Rattle.std.proofs.lemmas.List.Elements.{Contains-push}
 use Rattle.std.specs.Ordering.{nat_cmp}
 use Rattle.std.specs.BTreeMap.{BTreeMap, get, ContainsKey}
 use Rattle.als_disk.specs.declared.unsynced.Unsynced.{Unsynced}
 use Rattle.als_disk.specs.Slot.{Slot, only, GivesCandidates}
+use Rattle.als_disk.specs.SlotLaws.{Contains-one}
 use Rattle.als_disk.specs.Unsynced.{contents}
 
 -- a block of zeros
@@ -41,10 +42,6 @@ HasRoom synced unsynced = (k : ℕ) → ContainsKey nat_cmp unsynced k → Conta
 -- each block that was written since the last sync is below this number
 abbrev pub IsInRange : BTreeMap ℕ Unsynced → ℕ → Type 0
 IsInRange unsynced blocks = (k : ℕ) → ContainsKey nat_cmp unsynced k → k < blocks
-
--- the one element of a list
-pub Contains-one : {X : Type 0} {x y : X} → Contains (x ∷ []) y → x ≡ y
-Contains-one {X} {x} {y} (k, below, is) = let first : k ≡ 0 = omega arith in subst (λ (n : ℕ). slice_index_or (x ∷ []) n y ≡ y) first is
 
 -- a read gives the newest content, which a crash may leave
 newest_is_candidate : (content : List ℕ) (writes : Option Unsynced) → Contains (slot_with content writes).candidates (newest content writes)

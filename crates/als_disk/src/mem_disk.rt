@@ -8,7 +8,8 @@ use crate::{BlockDisk, DeviceError, Restart};
 use std::alloc::{AllocError, Global};
 use std::collections::BTreeMap;
 
-/// A device in memory. Only the blocks that were written take room.
+/// A device in memory. Only the blocks that were written take room. A write for whose content there
+/// is no memory fails and changes nothing; nothing else fails.
 #[derive(Drop)]
 pub struct MemDisk {
     alloc: Global,

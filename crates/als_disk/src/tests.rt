@@ -1,4 +1,4 @@
-ghost use Rattle.std.specs.Prelude.{◌≡◌, ◌<◌, ℕ, List, Contains, IfOk, OnOk};
+ghost use Rattle.std.specs.Prelude.{◌≡◌, ◌<◌, ◌⊎◌, ℕ, List, Contains, IfOk, OnOk};
 
 use crate::{BlockDisk, DeviceError, FailingDisk, FileDisk, Fuse, MemDisk, Restart};
 use std::alloc::Global;
@@ -191,4 +191,17 @@ fn devices_can_be_sent(rt: HostRuntime) -> Result<(), Fail> {
     can_be_sent(FailingDisk::new(MemDisk::new(rt.alloc(), 1), fuse.clone()?));
     can_be_sent(fuse);
     Ok(())
+}
+
+/// After a write that may have failed, a crash leaves nothing but what it left before or the block,
+/// and a read gives nothing but what it gave before or the block.
+fn overwrite<D: BlockDisk>(disk: &mut D, i: u64, block: &[u8; 512])
+    requires { i < D.block_count disk.old }
+    ensures candidates { (content : List ℕ) → Contains (D.slot disk.new i).candidates content → Contains (D.slot disk.old i).candidates content ⊎ (block.now ≡ content) }
+    ensures readable { (content : List ℕ) → Contains (D.slot disk.new i).readable content → Contains (D.slot disk.old i).readable content ⊎ (block.now ≡ content) }
+{
+    match disk.write(i, block) {
+        Ok(()) => {}
+        Err(DeviceError) => {}
+    }
 }

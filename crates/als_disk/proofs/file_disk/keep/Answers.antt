@@ -1,7 +1,7 @@
 use Rattle.std.proofs.Common.{◌∷◌, [], ◌∙◌, ap, subst, sym}
 use Rattle.std.specs.Prelude.{Contains}
 use Rattle.als_disk.specs.Slot.{Slot, only}
-use Rattle.als_disk.specs.Store.{Contains-one}
+use Rattle.als_disk.specs.SlotLaws.{Contains-one}
 use Rattle.als_disk.proofs.file_disk.keep.Goals as goal
 
 pub returns-in-Ok-sync-clause-settled : goal.returns-in-Ok-sync-clause-settled

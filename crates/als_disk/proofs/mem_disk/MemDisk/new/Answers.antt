@@ -1,7 +1,7 @@
 use Rattle.std.proofs.Common.{List, ℕ, subst}
 use Rattle.als_disk.specs.Slot.{Slot, IsBlock}
 use Rattle.std.specs.Prelude.{Contains}
-use Rattle.als_disk.specs.Store.{Contains-one}
+use Rattle.als_disk.specs.SlotLaws.{Contains-one}
 use Rattle.als_disk.proofs.Full.{IsBlock-zeros}
 use Rattle.als_disk.proofs.Maps.{ContainsKey-empty, slot_of-empty}
 use Rattle.als_disk.proofs.mem_disk.MemDisk.new.Goals as goal
