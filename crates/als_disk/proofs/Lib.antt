@@ -1,0 +1,3 @@
+mod Full
+mod Maps
+mod Picks

@@ -1,0 +1,8 @@
+use Rattle.als_disk.specs.Store.{zeros}
+use Rattle.als_disk.proofs.Maps.{synced_content-zeros}
+use Rattle.als_disk.proofs.store.keep.Goals as goal
+
+pub returns-in_ok-insert-clause-same : goal.returns-in_ok-insert-clause-same
+unfolding zeros
+returns-in_ok-insert-clause-same c =
+    synced_content-zeros c.args.synced.now c.insert.new.self c.args.i c.if-not-contains_key.ensures c.in_ok-insert.ensures.updates

@@ -1,0 +1,61 @@
+-- What a device in memory keeps: the contents of the last sync, and what was written since.
+use Rattle.std.specs.Prelude.{◌≡◌, ◌<◌, ℕ, List, [], ◌∷◌, replicate, Contains, Option, Some, None, unwrap_or}
+use Rattle.std.proofs.Common.{arith, refl, subst}
+use Rattle.std.proofs.lemmas.List.Elements.{Contains-push}
+use Rattle.std.specs.Ordering.{nat_cmp}
+use Rattle.std.specs.BTreeMap.{BTreeMap, get, ContainsKey}
+use Rattle.als_disk.specs.declared.unsynced.Unsynced.{Unsynced}
+use Rattle.als_disk.specs.Slot.{Slot, only, GivesCandidates}
+use Rattle.als_disk.specs.SlotLaws.{Contains-one}
+use Rattle.als_disk.specs.Unsynced.{contents}
+
+-- a block of zeros
+unfoldable pub zeros : List ℕ
+zeros = replicate 512 0
+
+-- the content of a block at the last sync: zeros, if none is kept
+abbrev pub synced_content : BTreeMap ℕ (List ℕ) → ℕ → List ℕ
+synced_content synced k = unwrap_or (get nat_cmp synced k) zeros
+
+-- a block with this synced content, and with what was written since
+abbrev pub slot_with : List ℕ → Option Unsynced → Slot
+slot_with content None = only content
+slot_with content (Some writes) = record { candidates = content ∷ contents writes; readable = writes.last ∷ [] }
+
+-- what stands in each block
+abbrev pub slot_of : BTreeMap ℕ (List ℕ) → BTreeMap ℕ Unsynced → ℕ → Slot
+slot_of synced unsynced k = slot_with (synced_content synced k) (get nat_cmp unsynced k)
+
+-- the newest of a synced content and what was written since
+abbrev pub newest : List ℕ → Option Unsynced → List ℕ
+newest content None = content
+newest content (Some writes) = writes.last
+
+-- the newest content of each block
+abbrev pub newest_of : BTreeMap ℕ (List ℕ) → BTreeMap ℕ Unsynced → ℕ → List ℕ
+newest_of synced unsynced k = newest (synced_content synced k) (get nat_cmp unsynced k)
+
+-- each block that was written since the last sync has room for its next synced content
+abbrev pub HasRoom : BTreeMap ℕ (List ℕ) → BTreeMap ℕ Unsynced → Type 0
+HasRoom synced unsynced = (k : ℕ) → ContainsKey nat_cmp unsynced k → ContainsKey nat_cmp synced k
+
+-- each block that was written since the last sync is below this number
+abbrev pub IsInRange : BTreeMap ℕ Unsynced → ℕ → Type 0
+IsInRange unsynced blocks = (k : ℕ) → ContainsKey nat_cmp unsynced k → k < blocks
+
+-- a read gives the newest content, which a crash may leave
+newest_is_candidate : (content : List ℕ) (writes : Option Unsynced) → Contains (slot_with content writes).candidates (newest content writes)
+newest_is_candidate content None = (0, omega arith, refl)
+newest_is_candidate content (Some writes) = Contains-push (content ∷ writes.earlier.items) writes.last
+
+readable_is_newest : (content : List ℕ) (writes : Option Unsynced) → (slot_with content writes).readable ≡ newest content writes ∷ []
+readable_is_newest content None = refl
+readable_is_newest content (Some writes) = refl
+
+pub slot_of-gives_candidates : (synced : BTreeMap ℕ (List ℕ)) (unsynced : BTreeMap ℕ Unsynced) → GivesCandidates (slot_of synced unsynced)
+slot_of-gives_candidates synced unsynced = record {
+  gives = λ k. rw (readable_is_newest (synced_content synced k) (get nat_cmp unsynced k)) (omega arith);
+  candidates = λ k content has.
+      let from_newest : Contains (newest_of synced unsynced k ∷ []) content = subst (λ (xs : List (List ℕ)). Contains xs content) (readable_is_newest (synced_content synced k) (get nat_cmp unsynced k)) has in
+      subst (λ (x : List ℕ). Contains (slot_of synced unsynced k).candidates x) (Contains-one from_newest) (newest_is_candidate (synced_content synced k) (get nat_cmp unsynced k));
+}

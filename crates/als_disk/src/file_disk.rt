@@ -1,0 +1,198 @@
+ghost use Rattle.std.specs.Prelude.{◌≡◌, ◌<◌, ◌*◌, ◌^◌, ℕ, IfOk, OnOk};
+ghost use Rattle.als_disk.specs.MemDisk.{mem_blocks, mem_slot};
+ghost use Rattle.als_disk.specs.Slot.{only, IsSettled};
+ghost use Rattle.als_disk.specs.Store.{zeros};
+
+use crate::count::Count;
+use crate::{BlockDisk, DeviceError, MemDisk};
+use std::alloc::{AllocError, Global};
+use std::fs::{File, OpenOptions};
+use std::io;
+use std::os::unix::fs::FileExt;
+use std::path::AsPath;
+use std::rt::Files;
+
+/// A device over a file of the system, of its length / 512 blocks.
+///
+/// It keeps a mirror of the file in memory, in which a block of zeros takes no room, and serves
+/// reads from it. A write goes to the mirror and then to the file; a sync to the file and then to
+/// the mirror. Once the file has failed, each call fails.
+///
+/// So what a read gives is proved and not taken from the file. One premise is left, which no clause
+/// can say: the next opening reads in each block one of the candidates of this run.
+#[derive(Drop)]
+pub struct FileDisk {
+    file: File,
+    mirror: MemDisk,
+    broken: bool,
+    failed: Count,
+    ghost fits: { mem_blocks mirror * 512 < 2 ^ 64 },
+}
+
+/// The contents of the file's blocks, each read once.
+fn mirror_of(alloc: Global, file: &File, blocks: u64) -> io::Result<MemDisk>
+    requires { blocks * 512 < 2 ^ 64 }
+    ensures count { IfOk result (λ mirror. mem_blocks mirror ≡ blocks) }
+    ensures settled { IfOk result (λ mirror. (k : ℕ) → IsSettled (mem_slot mirror k)) }
+{
+    let mut mirror = MemDisk::new(alloc, blocks);
+    let mut block = [0; 512];
+    for i in 0..blocks {
+        file.read_exact_at(&mut block, i * 512)?;
+        if block != [0; 512] {
+            keep(&mut mirror, i, &block)?;
+        }
+    }
+    Ok(mirror)
+}
+
+/// Makes this the one content of a block.
+fn keep(mirror: &mut MemDisk, i: u64, block: &[u8; 512]) -> Result<(), AllocError>
+    requires { i < mem_blocks mirror.old }
+    ensures count { mem_blocks mirror.new ≡ mem_blocks mirror.old }
+    ensures kept { OnOk result (mem_slot mirror.new i ≡ only block.now) }
+    ensures settled { OnOk result ((k : ℕ) → IsSettled (mem_slot mirror.new k)) }
+{
+    match mirror.write(i, block) {
+        Ok(()) => {}
+        Err(DeviceError) => return Err(AllocError),
+    }
+    match mirror.sync() {
+        Ok(()) => Ok(()),
+        Err(DeviceError) => Err(AllocError),
+    }
+}
+
+impl FileDisk {
+    /// Makes the file, or empties it, and gives it so many blocks of zeros. It fails where the file
+    /// does, or where there is no memory.
+    pub fn create<R: Files<File = File> + AllocGlobal, P: AsPath>(
+        rt: &R,
+        path: P,
+        blocks: u64,
+    ) -> io::Result<FileDisk>
+        ensures count { IfOk result (λ disk. ⟦<FileDisk as BlockDisk>⟧.block_count disk ≡ blocks) }
+        ensures zeros { IfOk result (λ disk. (k : ℕ) → ⟦<FileDisk as BlockDisk>⟧.slot disk k ≡ only zeros) }
+    {
+        let Some(len) = blocks.checked_mul(512) else {
+            return Err(io::ErrorKind::InvalidInput.into());
+        };
+        let file = OpenOptions::new()
+            .read(true)
+            .write(true)
+            .create(true)
+            .truncate(true)
+            .open(rt, path)?;
+        file.set_len(len)?;
+        file.sync_all()?;
+        let mirror = MemDisk::new(rt.alloc(), blocks);
+        Ok(FileDisk {
+            file,
+            mirror,
+            broken: false,
+            failed: Count::Zero,
+        })
+    }
+
+    /// Opens a file, whatever it holds. It fails where the file does, or where there is no memory.
+    pub fn open<R: Files<File = File> + AllocGlobal, P: AsPath>(
+        rt: &R,
+        path: P,
+    ) -> io::Result<FileDisk>
+        ensures settled { IfOk result (λ disk. (k : ℕ) → IsSettled (⟦<FileDisk as BlockDisk>⟧.slot disk k)) }
+    {
+        let file = OpenOptions::new().read(true).write(true).open(rt, path)?;
+        // What an earlier run wrote may still be on its way: what is read has to be on the disk.
+        file.sync_all()?;
+        let blocks = file.metadata()?.len() / 512;
+        let mirror = mirror_of(rt.alloc(), &file, blocks)?;
+        Ok(FileDisk {
+            file,
+            mirror,
+            broken: false,
+            failed: Count::Zero,
+        })
+    }
+}
+
+impl BlockDisk for FileDisk {
+    ghost use Rattle.als_disk.specs.FileDisk.{file_blocks, file_slot, file_failures};
+    ghost use Rattle.als_disk.specs.Store.{slot_of-gives_candidates};
+
+    ghost block_count = { file_blocks };
+
+    ghost slot = { file_slot };
+
+    ghost failures = { file_failures };
+
+    ghost gives_candidates = { λ disk. slot_of-gives_candidates disk.mirror.synced disk.mirror.unsynced };
+
+    ghost holds_blocks = { λ disk. disk.mirror.contents };
+
+    fn blocks(&self) -> u64 {
+        self.mirror.blocks()
+    }
+
+    fn read(&mut self, i: u64, into: &mut [u8; 512]) -> Result<(), DeviceError> {
+        if self.broken {
+            self.failed.step();
+            return Err(DeviceError);
+        }
+        self.mirror.read(i, into)
+    }
+
+    fn write(&mut self, i: u64, block: &[u8; 512]) -> Result<(), DeviceError> {
+        if self.broken {
+            self.failed.step();
+            return Err(DeviceError);
+        }
+        self.mirror.write(i, block)?;
+        if self.file.write_all_at(block, i * 512).is_err() {
+            self.broken = true;
+            self.failed.step();
+            return Err(DeviceError);
+        }
+        Ok(())
+    }
+
+    fn sync(&mut self) -> Result<(), DeviceError> {
+        if self.broken {
+            self.failed.step();
+            return Err(DeviceError);
+        }
+        if self.file.sync_data().is_err() {
+            self.broken = true;
+            self.failed.step();
+            return Err(DeviceError);
+        }
+        self.mirror.sync()
+    }
+}
+
+#[cfg(test)]
+mod tests {
+    use super::*;
+    use std::fs;
+    use std::test::Fail;
+
+    #[test]
+    fn a_file_that_failed_stays_failed(rt: HostRuntime) -> Result<(), Fail> {
+        let path = "read_only.blk";
+        fs::write(&rt, path, "")?;
+        let mut disk = FileDisk {
+            file: OpenOptions::new().read(true).open(&rt, path)?,
+            mirror: MemDisk::new(rt.alloc(), 1),
+            broken: false,
+            failed: Count::Zero,
+        };
+        let mut block = [0; 512];
+        assert_eq!(rt; disk.read(0, &mut block), Ok(()));
+        assert_eq!(rt; disk.sync(), Ok(()));
+        assert_eq!(rt; disk.write(0, &[1; 512]), Err(DeviceError));
+        assert_eq!(rt; disk.read(0, &mut block), Err(DeviceError));
+        assert_eq!(rt; disk.sync(), Err(DeviceError));
+        assert_eq!(rt; disk.write(0, &[1; 512]), Err(DeviceError));
+        fs::remove_file(&rt, path)?;
+        Ok(())
+    }
+}

@@ -1,0 +1,36 @@
+//! Block devices: what reads give, and what a crash may leave.
+#![tactic(auto)]
+
+// what a failed call answers
+mod device_error;
+// a device, as the layers above it see it
+mod block_disk;
+// a device that can crash and start again
+mod restart;
+// a count that never wraps
+mod count;
+// what was written to a block since the last sync
+mod unsynced;
+// the contents that a device in memory keeps
+mod store;
+// a device in memory
+mod mem_disk;
+
+// which of the next calls fails
+mod countdown;
+// a shared handle that makes a device fail
+mod fuse;
+// a device that fails where its fuse burns
+mod failing_disk;
+// a device over a file
+mod file_disk;
+#[cfg(test)]
+mod tests;
+
+pub use block_disk::BlockDisk;
+pub use device_error::DeviceError;
+pub use failing_disk::FailingDisk;
+pub use file_disk::FileDisk;
+pub use fuse::Fuse;
+pub use mem_disk::MemDisk;
+pub use restart::Restart;

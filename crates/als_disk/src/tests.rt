@@ -1,0 +1,207 @@
+ghost use Rattle.std.specs.Prelude.{◌≡◌, ◌<◌, ◌⊎◌, ℕ, List, Contains, IfOk, OnOk};
+
+use crate::{BlockDisk, DeviceError, FailingDisk, FileDisk, Fuse, MemDisk, Restart};
+use std::alloc::Global;
+use std::fs;
+use std::test::Fail;
+
+/// A block is written and synced, so that a crash leaves nothing else.
+fn store<D: BlockDisk>(disk: &mut D, i: u64, block: &[u8; 512]) -> Result<(), DeviceError>
+    requires { i < D.block_count disk.old }
+    ensures count { D.block_count disk.new ≡ D.block_count disk.old }
+    ensures stored { OnOk result ((content : List ℕ) → Contains (D.slot disk.new i).candidates content → content ≡ block.now) }
+{
+    disk.write(i, block)?;
+    disk.sync()?;
+    Ok(())
+}
+
+/// A block filled with one byte.
+fn filled(byte: u8) -> [u8; 512] {
+    [byte; 512]
+}
+
+/// The first byte of a block.
+fn first<D: BlockDisk>(disk: &mut D, i: u64) -> Result<u8, DeviceError>
+    requires { i < D.block_count disk.old }
+    ensures count { D.block_count disk.new ≡ D.block_count disk.old }
+{
+    let mut block = [0; 512];
+    disk.read(i, &mut block)?;
+    Ok(block[0])
+}
+
+/// Three blocks, of which the first was written three times since the last sync, the second not,
+/// and the third once.
+fn three(alloc: Global) -> Result<MemDisk, DeviceError>
+    ensures count { IfOk result (λ disk. ⟦<MemDisk as BlockDisk>⟧.block_count disk ≡ 3) }
+{
+    let mut disk = MemDisk::new(alloc, 3);
+    store(&mut disk, 0, &filled(10))?;
+    store(&mut disk, 1, &filled(20))?;
+    disk.write(0, &filled(11))?;
+    disk.write(2, &filled(31))?;
+    disk.write(0, &filled(11))?;
+    disk.write(0, &filled(12))?;
+    Ok(disk)
+}
+
+#[test]
+fn a_crash_picks(rt: HostRuntime) -> Result<(), Fail> {
+    let rows: [(&[u8], [u8; 3], usize); 8] = [
+        (&[], [10, 20, 0], 0),
+        (&[0, 0], [10, 20, 0], 2),
+        (&[1], [11, 20, 0], 1),
+        (&[2, 1], [11, 20, 31], 2),
+        (&[3, 0], [12, 20, 0], 2),
+        (&[4, 2], [12, 20, 31], 2),
+        (&[255, 255, 255, 255], [12, 20, 31], 2),
+        (&[0, 1, 7], [10, 20, 31], 2),
+    ];
+    for (picks, left, count) in rows {
+        let (mut disk, used) = three(rt.alloc())?.crash(picks);
+        assert_eq!(rt; used, count, "{picks:?}");
+        assert_eq!(rt; first(&mut disk, 0)?, left[0], "{picks:?}");
+        assert_eq!(rt; first(&mut disk, 1)?, left[1], "{picks:?}");
+        assert_eq!(rt; first(&mut disk, 2)?, left[2], "{picks:?}");
+        let (_, used_again) = disk.crash(picks);
+        assert_eq!(rt; used_again, 0, "{picks:?}");
+    }
+    Ok(())
+}
+
+/// How a round of a write, a sync and a read of block 0 goes: which of them failed, and what is
+/// read in the end.
+fn round<D: BlockDisk>(disk: &mut D, byte: u8) -> [bool; 3]
+    requires { 0 < D.block_count disk.old }
+    ensures count { D.block_count disk.new ≡ D.block_count disk.old }
+{
+    let wrote = disk.write(0, &filled(byte));
+    let synced = disk.sync();
+    let mut block = [0; 512];
+    let read = disk.read(0, &mut block);
+    [wrote.is_err(), synced.is_err(), read.is_err()]
+}
+
+#[test]
+fn a_fuse_fails_one_call(rt: HostRuntime) -> Result<(), Fail> {
+    let rows: [(u64, [bool; 3], [bool; 3]); 5] = [
+        (1, [true, false, false], [false; 3]),
+        (2, [false, true, false], [false; 3]),
+        (3, [false, false, true], [false; 3]),
+        (4, [false; 3], [true, false, false]),
+        (7, [false; 3], [false; 3]),
+    ];
+    for (call, now, then) in rows {
+        let fuse = Fuse::new(rt.alloc())?;
+        let mut disk = FailingDisk::new(MemDisk::new(rt.alloc(), 1), fuse.clone()?);
+        assert_eq!(rt; round(&mut disk, 1), [false; 3], "{call}");
+        assert!(rt; 0 < call);
+        fuse.fail_at(100);
+        fuse.fail_at(call);
+        assert_eq!(rt; round(&mut disk, 2), now, "{call}");
+        assert_eq!(rt; round(&mut disk, 3), then, "{call}");
+        assert_eq!(rt; round(&mut disk, 4), [call == 7, false, false], "{call}");
+        assert_eq!(rt; round(&mut disk, 5), [false; 3], "{call}");
+    }
+    Ok(())
+}
+
+#[test]
+fn a_failed_write_reaches_the_device(rt: HostRuntime) -> Result<(), Fail> {
+    let fuse = Fuse::new(rt.alloc())?;
+    let mut disk = FailingDisk::new(MemDisk::new(rt.alloc(), 1), fuse.clone()?);
+    store(&mut disk, 0, &filled(1))?;
+    fuse.fail_at(1);
+    assert_eq!(rt; disk.write(0, &filled(2)), Err(DeviceError));
+    fuse.fail_at(1);
+    assert_eq!(rt; disk.sync(), Err(DeviceError));
+    fuse.fail_at(1);
+    assert_eq!(rt; first(&mut disk, 0), Err(DeviceError));
+    assert_eq!(rt; first(&mut disk, 0), Ok(2));
+
+    // The write is not synced, and the fuse stays that of the device after the crash.
+    fuse.fail_at(2);
+    let (mut disk, used) = disk.crash(&[0]);
+    assert_eq!(rt; used, 1);
+    assert_eq!(rt; first(&mut disk, 0), Ok(1));
+    assert_eq!(rt; disk.sync(), Err(DeviceError));
+    assert_eq!(rt; disk.sync(), Ok(()));
+    Ok(())
+}
+
+#[test]
+fn zeros_take_no_room(rt: HostRuntime) -> Result<(), Fail> {
+    let mut disk = MemDisk::new(rt.alloc(), 4_194_304);
+    assert_eq!(rt; disk.blocks(), 4_194_304);
+    store(&mut disk, 4_194_303, &filled(7))?;
+    disk.write(4_194_303, &filled(8))?;
+    let (mut disk, used) = disk.crash(&[1]);
+    assert_eq!(rt; used, 1);
+    assert_eq!(rt; first(&mut disk, 4_194_303)?, 8);
+    assert_eq!(rt; first(&mut disk, 1_000_000)?, 0);
+    Ok(())
+}
+
+/// Each write that finds no memory changes nothing, and the next one is taken.
+#[test]
+fn a_write_without_memory(rt: HostRuntime) -> Result<(), Fail> {
+    let mut disk = MemDisk::new(rt.alloc(), 2);
+    for byte in 1..9 {
+        assert!(rt; 1 < disk.blocks());
+        let before = first(&mut disk, 1)?;
+        if disk.write(1, &filled(byte)).is_err() {
+            assert_eq!(rt; first(&mut disk, 1)?, before);
+            disk.write(1, &filled(byte))?;
+        }
+        assert_eq!(rt; first(&mut disk, 1)?, byte);
+    }
+    assert!(rt; 1 < disk.blocks());
+    let (mut disk, used) = disk.crash(&[3]);
+    assert_eq!(rt; used, 1);
+    assert_eq!(rt; first(&mut disk, 1)?, 3);
+    Ok(())
+}
+
+#[test]
+fn a_file_is_a_device(rt: HostRuntime) -> Result<(), Fail> {
+    let path = "device.blk";
+    let mut disk = FileDisk::create(&rt, path, 3)?;
+    assert_eq!(rt; disk.blocks(), 3);
+    store(&mut disk, 1, &filled(1))?;
+    disk.write(2, &filled(2))?;
+    assert_eq!(rt; first(&mut disk, 2)?, 2);
+    drop(disk);
+    let mut disk = FileDisk::open(&rt, path)?;
+    assert_eq!(rt; disk.blocks(), 3);
+    assert_eq!(rt; first(&mut disk, 0)?, 0);
+    assert_eq!(rt; first(&mut disk, 1)?, 1);
+    assert_eq!(rt; first(&mut disk, 2)?, 2);
+    drop(disk);
+    fs::remove_file(&rt, path)?;
+    assert!(rt; FileDisk::open(&rt, path).is_err());
+    Ok(())
+}
+
+fn can_be_sent<T: Send + Drop>(_: T) {}
+
+#[test]
+fn devices_can_be_sent(rt: HostRuntime) -> Result<(), Fail> {
+    let fuse = Fuse::new(rt.alloc())?;
+    can_be_sent(FailingDisk::new(MemDisk::new(rt.alloc(), 1), fuse.clone()?));
+    can_be_sent(fuse);
+    Ok(())
+}
+
+/// After a write that may have failed, a crash leaves nothing but what it left before or the block,
+/// and a read gives nothing but what it gave before or the block.
+fn overwrite<D: BlockDisk>(disk: &mut D, i: u64, block: &[u8; 512])
+    requires { i < D.block_count disk.old }
+    ensures candidates { (content : List ℕ) → Contains (D.slot disk.new i).candidates content → Contains (D.slot disk.old i).candidates content ⊎ (block.now ≡ content) }
+    ensures readable { (content : List ℕ) → Contains (D.slot disk.new i).readable content → Contains (D.slot disk.old i).readable content ⊎ (block.now ≡ content) }
+{
+    match disk.write(i, block) {
+        Ok(()) => {}
+        Err(DeviceError) => {}
+    }
+}
