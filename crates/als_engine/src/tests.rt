@@ -7,8 +7,9 @@ use std::test::Fail;
 /// An update of 0/0 to `aa` at 16, its commit at 52 and its end at 80.
 const TEXT: [u8; 92] = [
     0, 0, 0, 36, 1, 0, 0, 0, 0, 0, 0, 0, 0, 0, 0, 16, 0, 0, 0, 0, 0, 0, 0, 0, 0, 0, 0, 1, 0, 0, 0,
-    0, 0, 255, 1, 170, 0, 0, 0, 28, 3, 0, 0, 0, 0, 0, 0, 0, 0, 0, 0, 52, 0, 0, 0, 0, 0, 0, 0, 16, 0,
-    0, 0, 1, 0, 0, 0, 28, 5, 0, 0, 0, 0, 0, 0, 0, 0, 0, 0, 80, 0, 0, 0, 0, 0, 0, 0, 52, 0, 0, 0, 1,
+    0, 0, 255, 1, 170, 0, 0, 0, 28, 3, 0, 0, 0, 0, 0, 0, 0, 0, 0, 0, 52, 0, 0, 0, 0, 0, 0, 0, 16,
+    0, 0, 0, 1, 0, 0, 0, 28, 5, 0, 0, 0, 0, 0, 0, 0, 0, 0, 0, 80, 0, 0, 0, 0, 0, 0, 0, 52, 0, 0, 0,
+    1,
 ];
 
 const CONFIG: Config = Config {
@@ -19,7 +20,9 @@ const CONFIG: Config = Config {
 };
 
 fn engine(rt: &impl Abort, alloc: Global) -> Engine {
-    Engine::empty(alloc, CONFIG).ok().expect(rt, "a small world fits")
+    Engine::empty(alloc, CONFIG)
+        .ok()
+        .expect(rt, "a small world fits")
 }
 
 /// The faults that `feed` may answer here: none, or want of memory.
@@ -58,7 +61,12 @@ fn a_log_in_pieces_makes_warm_pages(rt: HostRuntime) -> Result<(), Fail> {
 #[test]
 fn a_run_answers_each_step(rt: HostRuntime) -> Result<(), Fail> {
     let world = World::new(engine(&rt, rt.alloc()));
-    let steps = [Step::Feed(&TEXT), Step::Apply(0), Step::Resync, Step::Apply(9)];
+    let steps = [
+        Step::Feed(&TEXT),
+        Step::Apply(0),
+        Step::Resync,
+        Step::Apply(9),
+    ];
     let (world, replies) = run(rt.alloc(), world, &steps).ok().ok_or("replies fit")?;
     assert_eq!(rt; replies.len(), 4);
     let wanted = [
