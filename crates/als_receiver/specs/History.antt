@@ -26,12 +26,13 @@ abbrev pub Runs : Reception → List Call → Reception → Type 0
 Runs old [] new = new ≡ old
 Runs old (call ∷ calls) new = (between : Reception) × Does old call between × Runs between calls new
 
--- the records handed out, in order
+-- the record that an answer hands out, if it does
 abbrev pub handed_by : Result (Option Record) Refusal → List Record
 handed_by (Ok (Some r)) = r ∷ []
 handed_by (Ok None) = []
 handed_by (Err refusal) = []
 
+-- the records handed out, in order
 abbrev pub handed : List Call → List Record
 handed [] = []
 handed (Push piece ∷ calls) = handed calls
