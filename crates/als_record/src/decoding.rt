@@ -90,7 +90,11 @@ fn read(alloc: Global, bytes: &[u8], at: Lsn, pages: u32) -> Result<Option<(Reco
 }
 
 /// The record at the front of the bytes, and its length in bytes, for a log in which it stands at `at` and a database of
-/// `pages` pages. `None`: more bytes are needed. Only an end_chkpt record's rows take memory.
+/// `pages` pages. `None`: more bytes are needed.
+///
+/// The first of these that applies decides: `BadLength` for a length that its type may not have, `BadType`, `BadReserved`,
+/// `WrongLsn` for another own LSN than `at`, `None` for a record that is not whole, `BadKey`, `BadValue`, and `BadLength` for
+/// a length that its fields do not make. `Memory`: the rows of an end_chkpt found no room.
 pub fn decode(
     alloc: Global,
     bytes: &[u8],
