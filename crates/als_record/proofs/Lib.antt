@@ -19,3 +19,4 @@ pub mod Falling
 pub mod CommitSteps
 pub mod Chain
 pub mod TailFirst
+pub mod SeenCommits
