@@ -20,3 +20,4 @@ pub mod CommitSteps
 pub mod Chain
 pub mod TailFirst
 pub mod SeenCommits
+pub mod PageImages

@@ -1,7 +1,7 @@
 -- Readers of the commits of a valid log see what has won.
-use Rattle.std.proofs.Common.{◌≡◌, ℕ, ◌==◌, Bool, true, false, cond, not, ◌&&◌, ◌||◌, List, [], ◌∷◌, ◌++◌, filter, filter_map, flat_map, find, fold, reverse, Option, Some, None, refl, sym, ap, ◌∙◌, inl, inr, ◌⊎◌, append-nil}
+use Rattle.std.proofs.Common.{◌≡◌, ℕ, ◌==◌, Bool, true, false, cond, ◌&&◌, ◌||◌, List, [], ◌∷◌, ◌++◌, filter, filter_map, flat_map, find, fold, reverse, Option, Some, None, refl, sym, ap, ◌∙◌, inl, inr, append-nil}
 use Rattle.std.specs.List.{cons_option, AllByRecursion}
-use Rattle.std.proofs.lemmas.Bool.{cases_Bool, eqb-true, false≢true, and_parts, and_from}
+use Rattle.std.proofs.lemmas.Bool.{cases_Bool, eqb-true, false≢true, and_from}
 use Rattle.std.proofs.lemmas.Grind.{flat_map-append}
 use Rattle.std.proofs.lemmas.List.{reverse-append}
 use Rattle.std.proofs.lemmas.List.Elements.{filter_map-append}
@@ -12,10 +12,10 @@ use Rattle.als_record.specs.declared.record.Body.{Body}
 use Rattle.als_record.specs.declared.record.Body.TheVariants.{Update, Compensation, Commit, Rollback, End, BeginCheckpoint, EndCheckpoint}
 use Rattle.als_record.specs.declared.record.Record.{Record}
 use Rattle.als_record.specs.Spelling.{Image}
-use Rattle.als_record.specs.Transactions.{is_transactional, is_update, is_compensation, is_commit, is_end, is_of, to_undo, surviving, is_committed, has_ended, without_newest, survivors_after, all_surviving}
+use Rattle.als_record.specs.Transactions.{is_transactional, is_commit, is_end, is_of, to_undo, surviving, is_committed, has_ended, without_newest, survivors_after, all_surviving}
 use Rattle.als_record.specs.Images.{same_key, is_update_at, image_written, image_of_found, won}
 use Rattle.als_record.specs.Validity.{is_valid, may_follow}
-use Rattle.als_record.specs.Commits.{Write, Commit as AnyCommit, write_of, writes_of, commits_of, after_write, seen_after}
+use Rattle.als_record.specs.Commits.{Commit as AnyCommit, write_of, writes_of, commits_of, after_write, seen_after}
 use Rattle.als_record.proofs.Records.{is_committed-own, is_committed-other, has_ended-unended, has_begun-ended}
 use Rattle.als_record.proofs.Numbers.{eqb-refl, eqb-sym}
 use Rattle.als_record.proofs.Survivors.{is_by, all_surviving-push, all_surviving-by}
@@ -68,32 +68,38 @@ module _ (closed : ℕ → Bool) (t : ℕ) (open_ : closed t ≡ false) (k : Key
   covered : (v : Record) (us : List Record) → (v.trans.0 == t) ≡ false → AllByRecursion (λ u. is_update_at k u.body ≡ true → (u.trans.0 == v.trans.0) ≡ false → closed u.trans.0 ≡ true) us → find (λ u. is_update_at k u.body) (filter (is_by t) us) ≡ None
   covered v [] d c = refl
   covered v (u ∷ us) d c = elim (cases_Bool (u.trans.0 == t)) [
-      inr y ↦ rw y (covered v us d c.1)
+    | inr y ↦ rw y (covered v us d c.1)
     | inl y ↦ elim (cases_Bool (is_update_at k u.body)) [
-          inr z ↦ simp (y, z) (covered v us d c.1)
-        | inl z ↦
-            let q : u.trans.0 ≡ t = eqb-true u.trans.0 t y in
-            let f : closed u.trans.0 ≡ true = c.0 z (ap (λ n. n == v.trans.0) q ∙ eqb-sym t v.trans.0 ∙ d) in
-            absurd (false≢true (sym open_ ∙ ap closed (sym q) ∙ f)) ] ]
+      | inr z ↦ simp (y, z) (covered v us d c.1)
+      | inl z ↦
+          let q : u.trans.0 ≡ t = eqb-true u.trans.0 t y in
+          let f : closed u.trans.0 ≡ true = c.0 z (ap (λ n. n == v.trans.0) q ∙ eqb-sym t v.trans.0 ∙ d) in
+          absurd (false≢true (sym open_ ∙ ap closed (sym q) ∙ f))
+    ]
+  ]
 
   -- its newest update of a key wins there
   wins : (c d : ℕ → Bool) → c t ≡ false → d t ≡ true → ((x : ℕ) → (x == t) ≡ false → d x ≡ c x) → (us : List Record) → Covers closed us → image_of_found (find (λ u. is_update_at k u.body && d u.trans.0) us) ≡ found_or (image_of_found (find (λ u. is_update_at k u.body && c u.trans.0) us)) (find (λ u. is_update_at k u.body) (filter (is_by t) us))
   wins c d before now same [] v = refl
   wins c d before now same (u ∷ us) v = elim (cases_Bool (u.trans.0 == t)) [
-      inl y ↦
+    | inl y ↦
         let q : u.trans.0 ≡ t = eqb-true u.trans.0 t y in
         let a : d u.trans.0 ≡ true = ap d q ∙ now in
         let b : c u.trans.0 ≡ false = ap c q ∙ before in
         elim (cases_Bool (is_update_at k u.body)) [
-          inl z ↦ simp (y, a, b, z)
-        | inr z ↦ simp (y, a, b, z) (wins c d before now same us v.1) ]
+          | inl z ↦ simp (y, a, b, z)
+          | inr z ↦ simp (y, a, b, z) (wins c d before now same us v.1)
+        ]
     | inr y ↦
         let a : d u.trans.0 ≡ c u.trans.0 = same u.trans.0 y in
         elim (cases_Bool (is_update_at k u.body)) [
-          inr z ↦ simp (y, z) (wins c d before now same us v.1)
-        | inl z ↦ elim (cases_Bool (c u.trans.0)) [
-              inl w ↦ let b : d u.trans.0 ≡ true = a ∙ w in let n : find (λ u. is_update_at k u.body) (filter (is_by t) us) ≡ None = covered u us y (v.0 k z) in simp (y, z, w, b, n)
-            | inr w ↦ let b : d u.trans.0 ≡ false = a ∙ w in simp (y, z, w, b) (wins c d before now same us v.1) ] ] ]
+          | inr z ↦ simp (y, z) (wins c d before now same us v.1)
+          | inl z ↦ elim (cases_Bool (c u.trans.0)) [
+            | inl w ↦ let b : d u.trans.0 ≡ true = a ∙ w in let n : find (λ u. is_update_at k u.body) (filter (is_by t) us) ≡ None = covered u us y (v.0 k z) in simp (y, z, w, b, n)
+            | inr w ↦ let b : d u.trans.0 ≡ false = a ∙ w in simp (y, z, w, b) (wins c d before now same us v.1)
+          ]
+        ]
+  ]
 
 -- ---- one more record
 
@@ -101,8 +107,9 @@ module _ (log : List Record) (r : Record) (s : Sound log) (a : Admitted log r) w
   -- a record that is no commit commits nothing
   committed_same : is_commit r.body ≡ false → (x : ℕ) → is_committed (log ++ r ∷ []) x ≡ is_committed log x
   committed_same c x = elim (cases_Bool (is_of x r)) [
-      inr o ↦ is_committed-other log r x o
-    | inl o ↦ is_committed-own log r x o ∙ ap (λ b. is_committed log x || b) c ∙ or-false (is_committed log x) ]
+    | inr o ↦ is_committed-other log r x o
+    | inl o ↦ is_committed-own log r x o ∙ ap (λ b. is_committed log x || b) c ∙ or-false (is_committed log x)
+  ]
     where
       or-false : (b : Bool) → (b || false) ≡ b
       or-false true = refl
@@ -147,7 +154,7 @@ module _ (log : List Record) (r : Record) (s : Sound log) (a : Admitted log r) w
   won-commit b k =
       ap (λ us. image_of_found (find (λ u. is_update_at k u.body && is_committed (log ++ r ∷ []) u.trans.0) us)) (all_surviving-push log r ∙ ap (survivors_after (all_surviving log) r) b)
       ∙ wins (is_closed log) r.trans.0 (ap (λ c. c || has_ended log r.trans.0) uncommitted ∙ unended_one) k (is_committed log) (is_committed (log ++ r ∷ [])) uncommitted committed
-          (λ x e. is_committed-other log r x (ap (λ c. is_transactional c && (r.trans.0 == x)) b ∙ eqb-sym r.trans.0 x ∙ e)) (all_surviving log) s.covers
+      (λ x e. is_committed-other log r x (ap (λ c. is_transactional c && (r.trans.0 == x)) b ∙ eqb-sym r.trans.0 x ∙ e)) (all_surviving log) s.covers
       ∙ ap (λ us. found_or (image_of_found (find (λ u. is_update_at k u.body && is_committed log u.trans.0) (all_surviving log))) (find (λ u. is_update_at k u.body) us)) (all_surviving-by r.trans.0 log)
     where
       uncommitted : is_committed log r.trans.0 ≡ false
@@ -155,8 +162,9 @@ module _ (log : List Record) (r : Record) (s : Sound log) (a : Admitted log r) w
 
       unended_one : has_ended log r.trans.0 ≡ false
       unended_one = elim (cases_Bool (has_ended log r.trans.0)) [
-          inr e ↦ e
-        | inl e ↦ has_ended-unended log r.trans.0 (goes_on log r s a (ap is_transactional b) (has_begun-ended log r.trans.0 e)) ]
+        | inr e ↦ e
+        | inl e ↦ has_ended-unended log r.trans.0 (goes_on log r s a (ap is_transactional b) (has_begun-ended log r.trans.0 e))
+      ]
 
       or-true : (c : Bool) → (c || true) ≡ true
       or-true true = refl

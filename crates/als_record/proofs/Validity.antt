@@ -24,6 +24,10 @@ pub is_valid-append : (log more : List Record) → is_valid (log ++ more) ≡ (i
 unfolding is_valid
 is_valid-append log more = may_follow_all-append [] log more
 
+-- each front of a valid log is valid
+pub is_valid-front : (log more : List Record) → is_valid (log ++ more) ≡ true → is_valid log ≡ true
+is_valid-front log more v = (and_parts (is_valid log) (may_follow_all log more) (sym (is_valid-append log more) ∙ v)).0
+
 -- one more record
 pub is_valid-push : (log : List Record) (r : Record) → is_valid (log ++ r ∷ []) ≡ (is_valid log && may_follow log r)
 unfolding may_follow_all
