@@ -44,7 +44,7 @@ Admitted-prev log r s a w =
 abbrev pub follows : Record → Type 0
 follows r = r.prev.0 < r.lsn.0
 
-first_of_chain : (P : Record → Type 0) (n : ℕ) (rs : List Record) (u : Record) (us : List Record) → AllByRecursion P rs → undo_chain n rs ≡ u ∷ us → P u
+pub first_of_chain : (P : Record → Type 0) (n : ℕ) (rs : List Record) (u : Record) (us : List Record) → AllByRecursion P rs → undo_chain n rs ≡ u ∷ us → P u
 unfolding undo_chain
 first_of_chain P n [] u us a e = absurd (cc e)
 first_of_chain P n (r ∷ rest) u us a e = elim (cases_Bool (r.lsn.0 == n)) [
@@ -131,7 +131,8 @@ module _ (log : List Record) (r : Record) (s : Sound log) (a : Admitted log r) w
         link = λ c. rw (same, next, last) (h.link (sym (is_busy-other log r t o) ∙ c));
         falling = rw same h.falling;
         below = rw same (All-weaken (λ u. u.lsn.0 < end_of log) (λ u. u.lsn.0 < end_of (log ++ r ∷ [])) (λ u b. omega arith) (backwards log t) h.below);
-        follow = rw same h.follow; onward = rw same h.onward;
+        follow = rw same h.follow;
+        onward = rw same h.onward;
         last_below = rw last (omega arith);
         next_below = rw next (omega arith);
       }
