@@ -6,6 +6,9 @@
 mod takeover;
 // What a valid log is like.
 mod valid_logs;
+// What redo and readers make of a log.
+mod outcomes;
 
+pub use outcomes::{pages_show_keys, readers_see_what_won};
 pub use takeover::{tail_goes_on, tail_is_a_sum, tail_takes_over};
 pub use valid_logs::{one_loser_holds_a_key, rows_rise, sweep_falls, undo_chain_meets_survivors};

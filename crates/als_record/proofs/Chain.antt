@@ -44,7 +44,7 @@ Admitted-prev log r s a w =
 abbrev pub follows : Record → Type 0
 follows r = r.prev.0 < r.lsn.0
 
-first_of_chain : (P : Record → Type 0) (n : ℕ) (rs : List Record) (u : Record) (us : List Record) → AllByRecursion P rs → undo_chain n rs ≡ u ∷ us → P u
+pub first_of_chain : (P : Record → Type 0) (n : ℕ) (rs : List Record) (u : Record) (us : List Record) → AllByRecursion P rs → undo_chain n rs ≡ u ∷ us → P u
 unfolding undo_chain
 first_of_chain P n [] u us a e = absurd (cc e)
 first_of_chain P n (r ∷ rest) u us a e = elim (cases_Bool (r.lsn.0 == n)) [
@@ -109,6 +109,7 @@ pub record Threaded (log : List Record) (t : ℕ) : Type 0 where
   pub falling : Falling (backwards log t)
   pub below : AllByRecursion (λ u. u.lsn.0 < end_of log) (backwards log t)
   pub follow : AllByRecursion follows (backwards log t)
+  pub onward : AllByRecursion (λ u. goes_to u u.body < u.lsn.0) (backwards log t)
   pub last_below : last_lsn log t < end_of log
   pub next_below : undo_next_of log t < end_of log
 
@@ -131,6 +132,7 @@ module _ (log : List Record) (r : Record) (s : Sound log) (a : Admitted log r) w
         falling = rw same h.falling;
         below = rw same (All-weaken (λ u. u.lsn.0 < end_of log) (λ u. u.lsn.0 < end_of (log ++ r ∷ [])) (λ u b. omega arith) (backwards log t) h.below);
         follow = rw same h.follow;
+        onward = rw same h.onward;
         last_below = rw last (omega arith);
         next_below = rw next (omega arith);
       }
@@ -162,6 +164,9 @@ module _ (log : List Record) (r : Record) (s : Sound log) (a : Admitted log r) w
 
     follow-own : AllByRecursion follows (backwards (log ++ r ∷ []) r.trans.0)
     follow-own = rw longer (follows_last, h.follow)
+
+    onward-own : goes_to r r.body < r.lsn.0 → AllByRecursion (λ u. goes_to u u.body < u.lsn.0) (backwards (log ++ r ∷ []) r.trans.0)
+    onward-own g = rw longer (g, h.onward)
 
     last-own : last_lsn (log ++ r ∷ []) r.trans.0 < end_of (log ++ r ∷ [])
     last-own =
@@ -207,6 +212,7 @@ module _ (log : List Record) (r : Record) (s : Sound log) (a : Admitted log r) w
             falling = falling-own;
             below = below-own;
             follow = follow-own;
+            onward = onward-own (rw b follows_last);
             last_below = last-own;
             next_below = omega arith;
           }
@@ -251,6 +257,7 @@ module _ (log : List Record) (r : Record) (s : Sound log) (a : Admitted log r) w
             falling = falling-own;
             below = below-own;
             follow = follow-own;
+            onward = onward-own (rw b (omega arith));
             last_below = last-own;
             next_below = omega arith;
           }
@@ -264,6 +271,15 @@ module _ (log : List Record) (r : Record) (s : Sound log) (a : Admitted log r) w
       kept End u c = (refl, refl)
       kept BeginCheckpoint u c = (refl, refl)
       kept (EndCheckpoint transactions pages) u c = (refl, refl)
+
+      onto : (b : Body) → is_compensation b ≡ false → goes_to r b ≡ r.prev.0
+      onto (Update key before after) c = refl
+      onto (Compensation undo_next key after) c = absurd (false≢true (sym c))
+      onto Commit c = refl
+      onto Rollback c = refl
+      onto End c = refl
+      onto BeginCheckpoint c = refl
+      onto (EndCheckpoint transactions pages) c = refl
 
       idle : is_busy (log ++ r ∷ []) r.trans.0 ≡ true → ⊥
       unfolding is_busy
@@ -308,6 +324,7 @@ module _ (log : List Record) (r : Record) (s : Sound log) (a : Admitted log r) w
             falling = falling-own;
             below = below-own;
             follow = follow-own;
+            onward = onward-own (rw (onto r.body quiet_too) follows_last);
             last_below = last-own;
             next_below = omega arith;
           }
@@ -335,7 +352,7 @@ module _ (log : List Record) (r : Record) (s : Sound log) (a : Admitted log r) w
 
 Threaded-nil : (t : ℕ) → Threaded [] t
 unfolding undo_chain undo_next_of last_lsn to_undo records_of end_of
-Threaded-nil t = record { chain = refl; link = λ c. refl; falling = tt; below = tt; follow = tt; last_below = omega arith; next_below = omega arith }
+Threaded-nil t = record { chain = refl; link = λ c. refl; falling = tt; below = tt; follow = tt; onward = tt; last_below = omega arith; next_below = omega arith }
 
 pub Threaded-valid : (log : List Record) → is_valid log ≡ true → (t : ℕ) → Threaded log t
 Threaded-valid log v t = valid_induction (λ l. Threaded l t) (Threaded-nil t) (λ l r w h a. Threaded-push l r (Sound-valid l w) a t h) log v

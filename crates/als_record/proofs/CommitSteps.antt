@@ -1,5 +1,5 @@
 -- The commits of a valid log, with one more record: a commit record adds one, others none.
-use Rattle.std.proofs.Common.{◌≡◌, ℕ, ◌==◌, Bool, true, false, cond, List, [], ◌∷◌, ◌++◌, map, filter, filter_map, reverse, refl, sym, ap, ◌∙◌, inl, inr, append-nil}
+use Rattle.std.proofs.Common.{◌≡◌, ℕ, ◌==◌, Bool, true, false, cond, List, [], ◌∷◌, ◌++◌, map, filter, filter_map, reverse, refl, sym, ap, ◌∙◌, inl, inr, append-nil, append_assoc}
 use Rattle.std.specs.List.{list_any, AllByRecursion}
 use Rattle.std.proofs.lemmas.Bool.{cases_Bool, eqb-true, false≢true, and_parts, or_right}
 use Rattle.std.proofs.lemmas.List.{map-append}
@@ -13,7 +13,7 @@ use Rattle.als_record.specs.Commits.{Commit as AnyCommit, write_of, writes_of, c
 use Rattle.als_record.proofs.Records.{to_undo-own, to_undo-other, is_committed-own, is_committed-grows}
 use Rattle.als_record.proofs.Numbers.{eqb-refl}
 use Rattle.als_record.proofs.Survivors.{All-weaken, log_induction}
-use Rattle.als_record.proofs.Validity.{Admitted, Admitted-may_follow, is_valid-push}
+use Rattle.als_record.proofs.Validity.{is_valid-front, Admitted, Admitted-may_follow, is_valid-push}
 use Rattle.als_record.proofs.Sound.{Sound, Sound-valid, only_ends}
 
 -- a commit record's commit
@@ -139,3 +139,13 @@ is_committed-commits_of log t = go log
     go : (us : List Record) → list_any (λ u. is_commit u.body) (filter (is_of t) us) ≡ list_any (λ c. c.trans.0 == t) (map (commit_by log) (filter (λ u. is_commit u.body) us))
     go [] = refl
     go (r ∷ rest) = step r (filter (is_of t) rest) (filter (λ u. is_commit u.body) rest) (go rest)
+
+-- the commits of a front are a front of the commits
+pub commits_of-front : (log more : List Record) → is_valid (log ++ more) ≡ true → (cs : List AnyCommit) × (commits_of (log ++ more) ≡ commits_of log ++ cs)
+commits_of-front log [] v = ([], ap commits_of (append-nil log) ∙ sym (append-nil (commits_of log)))
+commits_of-front log (r ∷ rest) v =
+    let a : (log ++ r ∷ []) ++ rest ≡ log ++ (r ∷ rest) = append_assoc log (r ∷ []) rest in
+    let w : is_valid ((log ++ r ∷ []) ++ rest) ≡ true = ap is_valid a ∙ v in
+    let one : List AnyCommit = cond (is_commit r.body) (commit_by log r ∷ []) [] in
+    let later : (cs : List AnyCommit) × (commits_of ((log ++ r ∷ []) ++ rest) ≡ commits_of (log ++ r ∷ []) ++ cs) = commits_of-front (log ++ r ∷ []) rest w in
+    (one ++ later.0, ap commits_of (sym a) ∙ later.1 ∙ ap (λ cs. cs ++ later.0) (commits_of-push log r (is_valid-front (log ++ r ∷ []) rest w)) ∙ append_assoc (commits_of log) one later.0)

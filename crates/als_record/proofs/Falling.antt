@@ -14,7 +14,7 @@ use Rattle.als_record.proofs.Survivors.{is_by, all_surviving-push, all_surviving
 use Rattle.als_record.proofs.Validity.{Admitted, valid_induction}
 use Rattle.als_record.proofs.TailSteps.{filter-by, losing-is_loser}
 use Rattle.als_record.proofs.Places.{end_of-push, record_len-head}
-use Rattle.als_record.specs.Orders.{Falling}
+pub use Rattle.als_record.specs.Orders.{Falling}
 
 Falling-without_newest : (t : ℕ) (us : List Record) → Falling us → Falling (without_newest t us)
 Falling-without_newest t [] f = tt

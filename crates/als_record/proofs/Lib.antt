@@ -27,4 +27,7 @@ pub mod HeldCounts
 pub mod Falling
 pub mod CommitSteps
 pub mod Chain
+pub mod ChainReads
 pub mod TailFirst
+pub mod SeenCommits
+pub mod PageImages

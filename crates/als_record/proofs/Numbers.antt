@@ -2,7 +2,7 @@
 use Rattle.std.proofs.Common.{◌≡◌, ℕ, ◌==◌, ◌+◌, Bool, true, false, cond, not, ◌&&◌, ◌||◌, List, [], ◌∷◌, ◌++◌, length, filter, refl, sym, ap, ◌∙◌, inl, inr, arith}
 use Rattle.std.proofs.lemmas.Bool.{cases_Bool, eqb-true, eq-eqb, ne_eqb, or_parts, false≢true}
 use Rattle.als_record.specs.Transactions.{is_among}
-use Rattle.als_record.specs.Orders.{Apart}
+pub use Rattle.als_record.specs.Orders.{Apart, Rising}
 
 -- the list without a number
 abbrev pub without : ℕ → List ℕ → List ℕ

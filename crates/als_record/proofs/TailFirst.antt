@@ -16,12 +16,12 @@ use Rattle.als_record.specs.Tail.{TailStep, Ends, Undoes, is_finished, ends, und
 use Rattle.als_record.proofs.Numbers.{is_among-filter, eqb-refl}
 use Rattle.als_record.proofs.Survivors.{all_surviving-push, all_surviving-nil, All-without_newest, log_induction}
 use Rattle.als_record.proofs.Unended.{is_among-unended, transactions-push}
-use Rattle.als_record.proofs.Validity.{is_valid-push, may_follow-admitted, Admitted}
+use Rattle.als_record.proofs.Validity.{is_valid-front, is_valid-push, may_follow-admitted, Admitted, Admitted-may_follow}
 use Rattle.als_record.proofs.TailSteps.{tail_of-front, losing-is_update}
 use Rattle.als_record.proofs.Takeover.{Steps, tail_steps-first, unended-without_tail}
 use Rattle.als_record.proofs.Falling.{losing-none, All-filter}
 use Rattle.als_record.proofs.Chain.{Threaded-valid}
-use Rattle.als_record.proofs.Places.{transactions-nil}
+use Rattle.als_record.proofs.Places.{transactions-nil, end_of-push}
 
 -- ---- which one
 
@@ -63,6 +63,13 @@ module _ (log : List Record) (r : Record) (rest : List Record) (e : tail_of log 
   pub tail_len-next : record_len r + tail_len (log ++ r ∷ []) ≡ tail_len log
   unfolding tail_len
   tail_len-next = ap (λ rs. record_len r + sum_by record_len rs) tail_of-next ∙ sym (sum_by-cons record_len r rest) ∙ ap (sum_by record_len) (sym e)
+
+  -- the room that the log and its tail take stays
+  pub room-next : end_of (log ++ r ∷ []) + tail_len (log ++ r ∷ []) ≡ end_of log + tail_len log
+  room-next =
+      let a : end_of (log ++ r ∷ []) ≡ end_of log + record_len r = end_of-push log r in
+      let b : record_len r + tail_len (log ++ r ∷ []) ≡ tail_len log = tail_len-next in
+      omega arith
 
   -- it is the record of the tail's first step
   stepped : (step : TailStep) × (steps : List TailStep) × (tail_steps log ≡ step ∷ steps) × (r ≡ record_for log step)
@@ -209,4 +216,31 @@ pub IsValidLog-next : (pages : ℕ) (log : List Record) (r : Record) (rest : Lis
 IsValidLog-next pages log r rest l room e = record {
   text = IsLog-push pages log r l.text (tail_of-admitted log r rest e l.valid).place (tail_of-IsRecord pages log r rest l room e);
   valid = tail_of-is_valid log r rest e l.valid;
+}
+
+-- ---- fronts
+
+follow_from-front : (at : ℕ) (log more : List Record) → follow_from at (log ++ more) ≡ true → follow_from at log ≡ true
+unfolding follow_from
+follow_from-front at [] more f = refl
+follow_from-front at (u ∷ us) more f =
+    let p : ((u.lsn.0 == at) ≡ true) × (follow_from (at + record_len u) (us ++ more) ≡ true) = and_parts (u.lsn.0 == at) (follow_from (at + record_len u) (us ++ more)) f in
+    and_from (u.lsn.0 == at) (follow_from (at + record_len u) us) p.0 (follow_from-front (at + record_len u) us more p.1)
+
+All-take : (P : Record → Type 0) (log more : List Record) → AllByRecursion P (log ++ more) → AllByRecursion P log
+All-take P [] more a = tt
+All-take P (u ∷ us) more a = (a.0, All-take P us more a.1)
+
+-- each front of a valid log is a valid log
+pub IsValidLog-front : (pages : ℕ) (log more : List Record) → IsValidLog pages (log ++ more) → IsValidLog pages log
+IsValidLog-front pages log more l = record {
+  text = record { laid_out = follow_from-front 16 log more l.text.laid_out; records = All-take (IsRecord pages) log more l.text.records };
+  valid = is_valid-front log more l.valid;
+}
+
+-- and a valid log with one more record
+pub IsValidLog-push : (pages : ℕ) (log : List Record) (r : Record) → IsValidLog pages log → may_follow log r ≡ true → IsRecord pages r → IsValidLog pages (log ++ r ∷ [])
+IsValidLog-push pages log r l m p = record {
+  text = IsLog-push pages log r l.text (Admitted-may_follow log r m).place p;
+  valid = is_valid-push log r ∙ and_from (is_valid log) (may_follow log r) l.valid m;
 }

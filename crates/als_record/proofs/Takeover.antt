@@ -127,7 +127,7 @@ module _ (log : List Record) (v : is_valid log ≡ true) where
 
 -- ---- what has won stays through a tail
 
-find-without_newest : (p : Record → Bool) (t : ℕ) → ((u : Record) → (u.trans.0 == t) ≡ true → p u ≡ false) → (us : List Record) → find p (without_newest t us) ≡ find p us
+pub find-without_newest : (p : Record → Bool) (t : ℕ) → ((u : Record) → (u.trans.0 == t) ≡ true → p u ≡ false) → (us : List Record) → find p (without_newest t us) ≡ find p us
 find-without_newest p t f [] = refl
 find-without_newest p t f (u ∷ rest) = elim (cases_Bool (u.trans.0 == t)) [
   | inl y ↦ let z : p u ≡ false = f u y in simp (y, z)
@@ -137,7 +137,7 @@ find-without_newest p t f (u ∷ rest) = elim (cases_Bool (u.trans.0 == t)) [
   ]
 ]
 
-find-agree : (p q : Record → Bool) → ((u : Record) → p u ≡ q u) → (us : List Record) → find p us ≡ find q us
+pub find-agree : (p q : Record → Bool) → ((u : Record) → p u ≡ q u) → (us : List Record) → find p us ≡ find q us
 find-agree p q f [] = refl
 find-agree p q f (u ∷ rest) = rw (f u) (ap (cond (q u) (Some u)) (find-agree p q f rest))
 

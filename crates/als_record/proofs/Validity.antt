@@ -24,6 +24,10 @@ pub is_valid-append : (log more : List Record) → is_valid (log ++ more) ≡ (i
 unfolding is_valid
 is_valid-append log more = may_follow_all-append [] log more
 
+-- each front of a valid log is valid
+pub is_valid-front : (log more : List Record) → is_valid (log ++ more) ≡ true → is_valid log ≡ true
+is_valid-front log more v = (and_parts (is_valid log) (may_follow_all log more) (sym (is_valid-append log more) ∙ v)).0
+
 -- one more record
 pub is_valid-push : (log : List Record) (r : Record) → is_valid (log ++ r ∷ []) ≡ (is_valid log && may_follow log r)
 unfolding may_follow_all
@@ -100,3 +104,10 @@ valid_induction P start step log v = along [] log refl start v
         let parts : (may_follow front r ≡ true) × (may_follow_all (front ++ r ∷ []) rest ≡ true) = and_parts _ _ m in
         let next : is_valid (front ++ r ∷ []) ≡ true = is_valid-push front r ∙ and_from (is_valid front) (may_follow front r) w parts.0 in
         subst P (append_assoc front (r ∷ []) rest) (along (front ++ r ∷ []) rest next (step front r w p (Admitted-may_follow front r parts.0)) parts.1)
+
+-- ---- what a validator decides
+
+-- a record at the end of a valid log: the log stays valid exactly where there is no cause
+pub is_valid-first_bad : (log : List Record) (r : Record) → is_valid log ≡ true → r.lsn.0 ≡ end_of log → is_valid (log ++ r ∷ []) ≡ is_none (first_bad log r)
+unfolding may_follow
+is_valid-first_bad log r v e = is_valid-push log r ∙ ap (λ b. b && may_follow log r) v ∙ ap (λ b. b && is_none (first_bad log r)) (eq-eqb r.lsn.0 (end_of log) e)

@@ -1,5 +1,5 @@
 -- Worked logs: what the definitions of transactions, tables, causes, tails and commits compute for them.
-use Rattle.std.proofs.Common.{◌≡◌, ℕ, zero, suc, ◌+◌, ◌-◌, ◌*◌, true, List, [], ◌∷◌, Some, None, refl}
+use Rattle.std.proofs.Common.{◌≡◌, ℕ, zero, suc, ◌+◌, ◌-◌, ◌*◌, true, List, [], ◌∷◌, Some, None, replicate, refl}
 use Rattle.als_record.specs.declared.key.Key.{Key}
 use Rattle.als_record.specs.declared.record.Body.{Body}
 use Rattle.als_record.specs.declared.record.Body.TheVariants.{Update, Compensation, Commit, Rollback, End, BeginCheckpoint, EndCheckpoint}
@@ -16,6 +16,11 @@ use Rattle.als_record.specs.Images.{image_now, won}
 use Rattle.als_record.specs.Validity.{prev_of, bad_prev, old_transaction, wrong_state, wrong_undo_next, wrong_compensation, held_by, before_image, too_many, open_checkpoint, bad_checkpoint, first_bad, may_follow, may_follow_all, is_valid}
 use Rattle.als_record.specs.Tail.{is_finished, undoes, losing, tail_steps, numbered, tail_of, tail_len}
 use Rattle.als_record.specs.Commits.{writes_of, commits_of}
+
+-- opens all definitions
+definitions : Unit {0}
+unfolding record_len end_of records_of to_undo surviving has_begun is_committed has_rollback has_ended is_unended is_loser last_lsn undo_next_of transactions unended losers greatest_trans all_surviving state_of row_of table_of image_now won prev_of bad_prev old_transaction wrong_state wrong_undo_next wrong_compensation held_by before_image too_many open_checkpoint bad_checkpoint first_bad may_follow may_follow_all is_valid is_finished undoes losing tail_steps numbered tail_of tail_len writes_of commits_of
+definitions = tt
 
 -- ---- how the logs are written here: a record by its LSN, PrevLSN and TransID
 
@@ -42,19 +47,19 @@ abbrev open_update : List Record
 open_update = (at 16 0 1 (Update (key 0 0) None (one 0xaa))) ∷ []
 
 open_update-valid : is_valid open_update ≡ true
-unfolding record_len end_of records_of to_undo surviving has_begun is_committed has_rollback has_ended is_unended is_loser last_lsn undo_next_of transactions unended losers greatest_trans all_surviving state_of row_of table_of image_now won prev_of bad_prev old_transaction wrong_state wrong_undo_next wrong_compensation held_by before_image too_many open_checkpoint bad_checkpoint first_bad may_follow may_follow_all is_valid is_finished undoes losing tail_steps numbered tail_of tail_len writes_of commits_of
+unfolding definitions
 open_update-valid = refl
 
 open_update-tail : tail_of open_update ≡ ((clr 52 16 1 (key 0 0) None 0) ∷ (at 94 52 1 End) ∷ [])
-unfolding record_len end_of records_of to_undo surviving has_begun is_committed has_rollback has_ended is_unended is_loser last_lsn undo_next_of transactions unended losers greatest_trans all_surviving state_of row_of table_of image_now won prev_of bad_prev old_transaction wrong_state wrong_undo_next wrong_compensation held_by before_image too_many open_checkpoint bad_checkpoint first_bad may_follow may_follow_all is_valid is_finished undoes losing tail_steps numbered tail_of tail_len writes_of commits_of
+unfolding definitions
 open_update-tail = refl
 
 open_update-len : end_of open_update + tail_len open_update ≡ 122
-unfolding record_len end_of records_of to_undo surviving has_begun is_committed has_rollback has_ended is_unended is_loser last_lsn undo_next_of transactions unended losers greatest_trans all_surviving state_of row_of table_of image_now won prev_of bad_prev old_transaction wrong_state wrong_undo_next wrong_compensation held_by before_image too_many open_checkpoint bad_checkpoint first_bad may_follow may_follow_all is_valid is_finished undoes losing tail_steps numbered tail_of tail_len writes_of commits_of
+unfolding definitions
 open_update-len = refl
 
 open_update-won : won open_update (key 0 0) ≡ None
-unfolding record_len end_of records_of to_undo surviving has_begun is_committed has_rollback has_ended is_unended is_loser last_lsn undo_next_of transactions unended losers greatest_trans all_surviving state_of row_of table_of image_now won prev_of bad_prev old_transaction wrong_state wrong_undo_next wrong_compensation held_by before_image too_many open_checkpoint bad_checkpoint first_bad may_follow may_follow_all is_valid is_finished undoes losing tail_steps numbered tail_of tail_len writes_of commits_of
+unfolding definitions
 open_update-won = refl
 
 -- ---- a committed transaction, and one over it that did not commit
@@ -64,35 +69,35 @@ abbrev overwritten : List Record
 overwritten = (at 16 0 1 (Update (key 0 0) None (one 0xaa))) ∷ (at 52 16 1 Commit) ∷ (at 80 0 2 (Update (key 0 1) None (one 0xbb))) ∷ (at 116 80 2 (Update (key 0 0) (one 0xaa) (one 0xcc))) ∷ []
 
 overwritten-valid : is_valid overwritten ≡ true
-unfolding record_len end_of records_of to_undo surviving has_begun is_committed has_rollback has_ended is_unended is_loser last_lsn undo_next_of transactions unended losers greatest_trans all_surviving state_of row_of table_of image_now won prev_of bad_prev old_transaction wrong_state wrong_undo_next wrong_compensation held_by before_image too_many open_checkpoint bad_checkpoint first_bad may_follow may_follow_all is_valid is_finished undoes losing tail_steps numbered tail_of tail_len writes_of commits_of
+unfolding definitions
 overwritten-valid = refl
 
 overwritten-table : table_of overwritten ≡ (row 1 Committed 52 16 ∷ row 2 Active 116 116 ∷ [])
-unfolding record_len end_of records_of to_undo surviving has_begun is_committed has_rollback has_ended is_unended is_loser last_lsn undo_next_of transactions unended losers greatest_trans all_surviving state_of row_of table_of image_now won prev_of bad_prev old_transaction wrong_state wrong_undo_next wrong_compensation held_by before_image too_many open_checkpoint bad_checkpoint first_bad may_follow may_follow_all is_valid is_finished undoes losing tail_steps numbered tail_of tail_len writes_of commits_of
+unfolding definitions
 overwritten-table = refl
 
 overwritten-tail : tail_of overwritten ≡ ((at 153 52 1 End) ∷ (clr 181 116 2 (key 0 0) (one 0xaa) 80) ∷ (clr 224 181 2 (key 0 1) None 0) ∷ (at 266 224 2 End) ∷ [])
-unfolding record_len end_of records_of to_undo surviving has_begun is_committed has_rollback has_ended is_unended is_loser last_lsn undo_next_of transactions unended losers greatest_trans all_surviving state_of row_of table_of image_now won prev_of bad_prev old_transaction wrong_state wrong_undo_next wrong_compensation held_by before_image too_many open_checkpoint bad_checkpoint first_bad may_follow may_follow_all is_valid is_finished undoes losing tail_steps numbered tail_of tail_len writes_of commits_of
+unfolding definitions
 overwritten-tail = refl
 
 overwritten-len : end_of overwritten + tail_len overwritten ≡ 294
-unfolding record_len end_of records_of to_undo surviving has_begun is_committed has_rollback has_ended is_unended is_loser last_lsn undo_next_of transactions unended losers greatest_trans all_surviving state_of row_of table_of image_now won prev_of bad_prev old_transaction wrong_state wrong_undo_next wrong_compensation held_by before_image too_many open_checkpoint bad_checkpoint first_bad may_follow may_follow_all is_valid is_finished undoes losing tail_steps numbered tail_of tail_len writes_of commits_of
+unfolding definitions
 overwritten-len = refl
 
 overwritten-won : won overwritten (key 0 0) ≡ one 0xaa
-unfolding record_len end_of records_of to_undo surviving has_begun is_committed has_rollback has_ended is_unended is_loser last_lsn undo_next_of transactions unended losers greatest_trans all_surviving state_of row_of table_of image_now won prev_of bad_prev old_transaction wrong_state wrong_undo_next wrong_compensation held_by before_image too_many open_checkpoint bad_checkpoint first_bad may_follow may_follow_all is_valid is_finished undoes losing tail_steps numbered tail_of tail_len writes_of commits_of
+unfolding definitions
 overwritten-won = refl
 
 overwritten-lost : won overwritten (key 0 1) ≡ None
-unfolding record_len end_of records_of to_undo surviving has_begun is_committed has_rollback has_ended is_unended is_loser last_lsn undo_next_of transactions unended losers greatest_trans all_surviving state_of row_of table_of image_now won prev_of bad_prev old_transaction wrong_state wrong_undo_next wrong_compensation held_by before_image too_many open_checkpoint bad_checkpoint first_bad may_follow may_follow_all is_valid is_finished undoes losing tail_steps numbered tail_of tail_len writes_of commits_of
+unfolding definitions
 overwritten-lost = refl
 
 overwritten-now : image_now overwritten (key 0 0) ≡ one 0xcc
-unfolding record_len end_of records_of to_undo surviving has_begun is_committed has_rollback has_ended is_unended is_loser last_lsn undo_next_of transactions unended losers greatest_trans all_surviving state_of row_of table_of image_now won prev_of bad_prev old_transaction wrong_state wrong_undo_next wrong_compensation held_by before_image too_many open_checkpoint bad_checkpoint first_bad may_follow may_follow_all is_valid is_finished undoes losing tail_steps numbered tail_of tail_len writes_of commits_of
+unfolding definitions
 overwritten-now = refl
 
 overwritten-commits : commits_of overwritten ≡ (record { trans = record { 0 = 1 }; lsn = record { 0 = 52 }; writes = record { key = key 0 0; after = one 0xaa } ∷ [] } ∷ [])
-unfolding record_len end_of records_of to_undo surviving has_begun is_committed has_rollback has_ended is_unended is_loser last_lsn undo_next_of transactions unended losers greatest_trans all_surviving state_of row_of table_of image_now won prev_of bad_prev old_transaction wrong_state wrong_undo_next wrong_compensation held_by before_image too_many open_checkpoint bad_checkpoint first_bad may_follow may_follow_all is_valid is_finished undoes losing tail_steps numbered tail_of tail_len writes_of commits_of
+unfolding definitions
 overwritten-commits = refl
 
 -- ---- a rollback by compensations, and then another transaction at the same key
@@ -102,19 +107,19 @@ abbrev rolled_back : List Record
 rolled_back = (at 16 0 1 (Update (key 0 0) None (one 0x11))) ∷ (clr 52 16 1 (key 0 0) None 0) ∷ (at 94 0 2 (Update (key 0 0) None (one 0x22))) ∷ (at 130 94 2 Commit) ∷ []
 
 rolled_back-valid : is_valid rolled_back ≡ true
-unfolding record_len end_of records_of to_undo surviving has_begun is_committed has_rollback has_ended is_unended is_loser last_lsn undo_next_of transactions unended losers greatest_trans all_surviving state_of row_of table_of image_now won prev_of bad_prev old_transaction wrong_state wrong_undo_next wrong_compensation held_by before_image too_many open_checkpoint bad_checkpoint first_bad may_follow may_follow_all is_valid is_finished undoes losing tail_steps numbered tail_of tail_len writes_of commits_of
+unfolding definitions
 rolled_back-valid = refl
 
 rolled_back-tail : tail_of rolled_back ≡ ((at 158 52 1 End) ∷ (at 186 130 2 End) ∷ [])
-unfolding record_len end_of records_of to_undo surviving has_begun is_committed has_rollback has_ended is_unended is_loser last_lsn undo_next_of transactions unended losers greatest_trans all_surviving state_of row_of table_of image_now won prev_of bad_prev old_transaction wrong_state wrong_undo_next wrong_compensation held_by before_image too_many open_checkpoint bad_checkpoint first_bad may_follow may_follow_all is_valid is_finished undoes losing tail_steps numbered tail_of tail_len writes_of commits_of
+unfolding definitions
 rolled_back-tail = refl
 
 rolled_back-len : end_of rolled_back + tail_len rolled_back ≡ 214
-unfolding record_len end_of records_of to_undo surviving has_begun is_committed has_rollback has_ended is_unended is_loser last_lsn undo_next_of transactions unended losers greatest_trans all_surviving state_of row_of table_of image_now won prev_of bad_prev old_transaction wrong_state wrong_undo_next wrong_compensation held_by before_image too_many open_checkpoint bad_checkpoint first_bad may_follow may_follow_all is_valid is_finished undoes losing tail_steps numbered tail_of tail_len writes_of commits_of
+unfolding definitions
 rolled_back-len = refl
 
 rolled_back-won : won rolled_back (key 0 0) ≡ one 0x22
-unfolding record_len end_of records_of to_undo surviving has_begun is_committed has_rollback has_ended is_unended is_loser last_lsn undo_next_of transactions unended losers greatest_trans all_surviving state_of row_of table_of image_now won prev_of bad_prev old_transaction wrong_state wrong_undo_next wrong_compensation held_by before_image too_many open_checkpoint bad_checkpoint first_bad may_follow may_follow_all is_valid is_finished undoes losing tail_steps numbered tail_of tail_len writes_of commits_of
+unfolding definitions
 rolled_back-won = refl
 
 -- ---- a rollback to a savepoint
@@ -124,19 +129,19 @@ abbrev savepoint : List Record
 savepoint = (at 16 0 1 (Update (key 0 0) None (one 0x11))) ∷ (at 52 16 1 (Update (key 0 1) None (one 0x22))) ∷ (clr 88 52 1 (key 0 1) None 16) ∷ (at 130 88 1 (Update (key 0 2) None (one 0x33))) ∷ []
 
 savepoint-valid : is_valid savepoint ≡ true
-unfolding record_len end_of records_of to_undo surviving has_begun is_committed has_rollback has_ended is_unended is_loser last_lsn undo_next_of transactions unended losers greatest_trans all_surviving state_of row_of table_of image_now won prev_of bad_prev old_transaction wrong_state wrong_undo_next wrong_compensation held_by before_image too_many open_checkpoint bad_checkpoint first_bad may_follow may_follow_all is_valid is_finished undoes losing tail_steps numbered tail_of tail_len writes_of commits_of
+unfolding definitions
 savepoint-valid = refl
 
 savepoint-table : table_of savepoint ≡ (row 1 Active 130 130 ∷ [])
-unfolding record_len end_of records_of to_undo surviving has_begun is_committed has_rollback has_ended is_unended is_loser last_lsn undo_next_of transactions unended losers greatest_trans all_surviving state_of row_of table_of image_now won prev_of bad_prev old_transaction wrong_state wrong_undo_next wrong_compensation held_by before_image too_many open_checkpoint bad_checkpoint first_bad may_follow may_follow_all is_valid is_finished undoes losing tail_steps numbered tail_of tail_len writes_of commits_of
+unfolding definitions
 savepoint-table = refl
 
 savepoint-tail : tail_of savepoint ≡ ((clr 166 130 1 (key 0 2) None 88) ∷ (clr 208 166 1 (key 0 0) None 0) ∷ (at 250 208 1 End) ∷ [])
-unfolding record_len end_of records_of to_undo surviving has_begun is_committed has_rollback has_ended is_unended is_loser last_lsn undo_next_of transactions unended losers greatest_trans all_surviving state_of row_of table_of image_now won prev_of bad_prev old_transaction wrong_state wrong_undo_next wrong_compensation held_by before_image too_many open_checkpoint bad_checkpoint first_bad may_follow may_follow_all is_valid is_finished undoes losing tail_steps numbered tail_of tail_len writes_of commits_of
+unfolding definitions
 savepoint-tail = refl
 
 savepoint-len : end_of savepoint + tail_len savepoint ≡ 278
-unfolding record_len end_of records_of to_undo surviving has_begun is_committed has_rollback has_ended is_unended is_loser last_lsn undo_next_of transactions unended losers greatest_trans all_surviving state_of row_of table_of image_now won prev_of bad_prev old_transaction wrong_state wrong_undo_next wrong_compensation held_by before_image too_many open_checkpoint bad_checkpoint first_bad may_follow may_follow_all is_valid is_finished undoes losing tail_steps numbered tail_of tail_len writes_of commits_of
+unfolding definitions
 savepoint-len = refl
 
 -- ---- ten savepoints one after another
@@ -146,19 +151,19 @@ abbrev savepoints : List Record
 savepoints = (at 16 0 1 (Update (key 0 0) None (one 0x11))) ∷ (at 52 16 1 (Update (key 0 1) None (one 0x22))) ∷ (clr 88 52 1 (key 0 1) None 16) ∷ (at 130 88 1 (Update (key 0 1) None (one 0x22))) ∷ (clr 166 130 1 (key 0 1) None 88) ∷ (at 208 166 1 (Update (key 0 1) None (one 0x22))) ∷ (clr 244 208 1 (key 0 1) None 166) ∷ (at 286 244 1 (Update (key 0 1) None (one 0x22))) ∷ (clr 322 286 1 (key 0 1) None 244) ∷ (at 364 322 1 (Update (key 0 1) None (one 0x22))) ∷ (clr 400 364 1 (key 0 1) None 322) ∷ (at 442 400 1 (Update (key 0 1) None (one 0x22))) ∷ (clr 478 442 1 (key 0 1) None 400) ∷ (at 520 478 1 (Update (key 0 1) None (one 0x22))) ∷ (clr 556 520 1 (key 0 1) None 478) ∷ (at 598 556 1 (Update (key 0 1) None (one 0x22))) ∷ (clr 634 598 1 (key 0 1) None 556) ∷ (at 676 634 1 (Update (key 0 1) None (one 0x22))) ∷ (clr 712 676 1 (key 0 1) None 634) ∷ (at 754 712 1 (Update (key 0 1) None (one 0x22))) ∷ (clr 790 754 1 (key 0 1) None 712) ∷ []
 
 savepoints-valid : is_valid savepoints ≡ true
-unfolding record_len end_of records_of to_undo surviving has_begun is_committed has_rollback has_ended is_unended is_loser last_lsn undo_next_of transactions unended losers greatest_trans all_surviving state_of row_of table_of image_now won prev_of bad_prev old_transaction wrong_state wrong_undo_next wrong_compensation held_by before_image too_many open_checkpoint bad_checkpoint first_bad may_follow may_follow_all is_valid is_finished undoes losing tail_steps numbered tail_of tail_len writes_of commits_of
+unfolding definitions
 savepoints-valid = refl
 
 savepoints-end : end_of savepoints ≡ 832
-unfolding record_len end_of records_of to_undo surviving has_begun is_committed has_rollback has_ended is_unended is_loser last_lsn undo_next_of transactions unended losers greatest_trans all_surviving state_of row_of table_of image_now won prev_of bad_prev old_transaction wrong_state wrong_undo_next wrong_compensation held_by before_image too_many open_checkpoint bad_checkpoint first_bad may_follow may_follow_all is_valid is_finished undoes losing tail_steps numbered tail_of tail_len writes_of commits_of
+unfolding definitions
 savepoints-end = refl
 
 savepoints-table : table_of savepoints ≡ (row 1 Active 790 712 ∷ [])
-unfolding record_len end_of records_of to_undo surviving has_begun is_committed has_rollback has_ended is_unended is_loser last_lsn undo_next_of transactions unended losers greatest_trans all_surviving state_of row_of table_of image_now won prev_of bad_prev old_transaction wrong_state wrong_undo_next wrong_compensation held_by before_image too_many open_checkpoint bad_checkpoint first_bad may_follow may_follow_all is_valid is_finished undoes losing tail_steps numbered tail_of tail_len writes_of commits_of
+unfolding definitions
 savepoints-table = refl
 
 savepoints-tail : tail_of savepoints ≡ ((clr 832 790 1 (key 0 0) None 0) ∷ (at 874 832 1 End) ∷ [])
-unfolding record_len end_of records_of to_undo surviving has_begun is_committed has_rollback has_ended is_unended is_loser last_lsn undo_next_of transactions unended losers greatest_trans all_surviving state_of row_of table_of image_now won prev_of bad_prev old_transaction wrong_state wrong_undo_next wrong_compensation held_by before_image too_many open_checkpoint bad_checkpoint first_bad may_follow may_follow_all is_valid is_finished undoes losing tail_steps numbered tail_of tail_len writes_of commits_of
+unfolding definitions
 savepoints-tail = refl
 
 -- ---- the first cause against a record
@@ -168,7 +173,7 @@ abbrev held : List Record
 held = (at 16 0 1 (Update (key 0 0) None (one 0x11))) ∷ []
 
 held-by : first_bad held (at 52 0 2 (Update (key 0 0) (one 0x11) (one 0x22))) ≡ Some (RecordHeld (record { 0 = 1 }))
-unfolding record_len end_of records_of to_undo surviving has_begun is_committed has_rollback has_ended is_unended is_loser last_lsn undo_next_of transactions unended losers greatest_trans all_surviving state_of row_of table_of image_now won prev_of bad_prev old_transaction wrong_state wrong_undo_next wrong_compensation held_by before_image too_many open_checkpoint bad_checkpoint first_bad may_follow may_follow_all is_valid is_finished undoes losing tail_steps numbered tail_of tail_len writes_of commits_of
+unfolding definitions
 held-by = refl
 
 -- an update, committed
@@ -176,11 +181,11 @@ abbrev committed : List Record
 committed = (at 16 0 1 (Update (key 0 0) None (one 0xaa))) ∷ (at 52 16 1 Commit) ∷ []
 
 committed-before : first_bad committed (at 80 0 2 (Update (key 0 0) (one 0xab) (one 0xcc))) ≡ Some BeforeImage
-unfolding record_len end_of records_of to_undo surviving has_begun is_committed has_rollback has_ended is_unended is_loser last_lsn undo_next_of transactions unended losers greatest_trans all_surviving state_of row_of table_of image_now won prev_of bad_prev old_transaction wrong_state wrong_undo_next wrong_compensation held_by before_image too_many open_checkpoint bad_checkpoint first_bad may_follow may_follow_all is_valid is_finished undoes losing tail_steps numbered tail_of tail_len writes_of commits_of
+unfolding definitions
 committed-before = refl
 
 open_update-prev : first_bad open_update (at 52 0 1 Commit) ≡ Some BadPrev
-unfolding record_len end_of records_of to_undo surviving has_begun is_committed has_rollback has_ended is_unended is_loser last_lsn undo_next_of transactions unended losers greatest_trans all_surviving state_of row_of table_of image_now won prev_of bad_prev old_transaction wrong_state wrong_undo_next wrong_compensation held_by before_image too_many open_checkpoint bad_checkpoint first_bad may_follow may_follow_all is_valid is_finished undoes losing tail_steps numbered tail_of tail_len writes_of commits_of
+unfolding definitions
 open_update-prev = refl
 
 -- a transaction with a greater number came first
@@ -188,19 +193,19 @@ abbrev second : List Record
 second = (at 16 0 2 (Update (key 0 0) None (one 0xaa))) ∷ []
 
 second-old : first_bad second (at 52 0 1 (Update (key 0 1) None (one 0xbb))) ≡ Some OldTransaction
-unfolding record_len end_of records_of to_undo surviving has_begun is_committed has_rollback has_ended is_unended is_loser last_lsn undo_next_of transactions unended losers greatest_trans all_surviving state_of row_of table_of image_now won prev_of bad_prev old_transaction wrong_state wrong_undo_next wrong_compensation held_by before_image too_many open_checkpoint bad_checkpoint first_bad may_follow may_follow_all is_valid is_finished undoes losing tail_steps numbered tail_of tail_len writes_of commits_of
+unfolding definitions
 second-old = refl
 
 open_update-end : first_bad open_update (at 52 16 1 End) ≡ Some WrongState
-unfolding record_len end_of records_of to_undo surviving has_begun is_committed has_rollback has_ended is_unended is_loser last_lsn undo_next_of transactions unended losers greatest_trans all_surviving state_of row_of table_of image_now won prev_of bad_prev old_transaction wrong_state wrong_undo_next wrong_compensation held_by before_image too_many open_checkpoint bad_checkpoint first_bad may_follow may_follow_all is_valid is_finished undoes losing tail_steps numbered tail_of tail_len writes_of commits_of
+unfolding definitions
 open_update-end = refl
 
 held-next : first_bad held (clr 52 16 1 (key 0 0) None 16) ≡ Some WrongUndoNext
-unfolding record_len end_of records_of to_undo surviving has_begun is_committed has_rollback has_ended is_unended is_loser last_lsn undo_next_of transactions unended losers greatest_trans all_surviving state_of row_of table_of image_now won prev_of bad_prev old_transaction wrong_state wrong_undo_next wrong_compensation held_by before_image too_many open_checkpoint bad_checkpoint first_bad may_follow may_follow_all is_valid is_finished undoes losing tail_steps numbered tail_of tail_len writes_of commits_of
+unfolding definitions
 held-next = refl
 
 held-image : first_bad held (clr 52 16 1 (key 0 0) (one 0x22) 0) ≡ Some WrongCompensation
-unfolding record_len end_of records_of to_undo surviving has_begun is_committed has_rollback has_ended is_unended is_loser last_lsn undo_next_of transactions unended losers greatest_trans all_surviving state_of row_of table_of image_now won prev_of bad_prev old_transaction wrong_state wrong_undo_next wrong_compensation held_by before_image too_many open_checkpoint bad_checkpoint first_bad may_follow may_follow_all is_valid is_finished undoes losing tail_steps numbered tail_of tail_len writes_of commits_of
+unfolding definitions
 held-image = refl
 
 -- a checkpoint that has ended
@@ -208,37 +213,37 @@ abbrev checkpoint : List Record
 checkpoint = (at 16 0 0 BeginCheckpoint) ∷ (at 44 16 0 (EndCheckpoint [] [])) ∷ []
 
 checkpoint-valid : is_valid checkpoint ≡ true
-unfolding record_len end_of records_of to_undo surviving has_begun is_committed has_rollback has_ended is_unended is_loser last_lsn undo_next_of transactions unended losers greatest_trans all_surviving state_of row_of table_of image_now won prev_of bad_prev old_transaction wrong_state wrong_undo_next wrong_compensation held_by before_image too_many open_checkpoint bad_checkpoint first_bad may_follow may_follow_all is_valid is_finished undoes losing tail_steps numbered tail_of tail_len writes_of commits_of
+unfolding definitions
 checkpoint-valid = refl
 
 checkpoint-again : first_bad checkpoint (at 76 16 0 (EndCheckpoint [] [])) ≡ Some BadCheckpoint
-unfolding record_len end_of records_of to_undo surviving has_begun is_committed has_rollback has_ended is_unended is_loser last_lsn undo_next_of transactions unended losers greatest_trans all_surviving state_of row_of table_of image_now won prev_of bad_prev old_transaction wrong_state wrong_undo_next wrong_compensation held_by before_image too_many open_checkpoint bad_checkpoint first_bad may_follow may_follow_all is_valid is_finished undoes losing tail_steps numbered tail_of tail_len writes_of commits_of
+unfolding definitions
 checkpoint-again = refl
 
 -- ---- corners: the end of a checkpoint that never began; the number 0; a checkpoint's record that names a transaction
 
 empty-checkpoint : first_bad [] (at 16 0 0 (EndCheckpoint [] [])) ≡ Some BadCheckpoint
-unfolding record_len end_of records_of to_undo surviving has_begun is_committed has_rollback has_ended is_unended is_loser last_lsn undo_next_of transactions unended losers greatest_trans all_surviving state_of row_of table_of image_now won prev_of bad_prev old_transaction wrong_state wrong_undo_next wrong_compensation held_by before_image too_many open_checkpoint bad_checkpoint first_bad may_follow may_follow_all is_valid is_finished undoes losing tail_steps numbered tail_of tail_len writes_of commits_of
+unfolding definitions
 empty-checkpoint = refl
 
 empty-zero : first_bad [] (at 16 0 0 (Update (key 0 0) None (one 0xaa))) ≡ Some OldTransaction
-unfolding record_len end_of records_of to_undo surviving has_begun is_committed has_rollback has_ended is_unended is_loser last_lsn undo_next_of transactions unended losers greatest_trans all_surviving state_of row_of table_of image_now won prev_of bad_prev old_transaction wrong_state wrong_undo_next wrong_compensation held_by before_image too_many open_checkpoint bad_checkpoint first_bad may_follow may_follow_all is_valid is_finished undoes losing tail_steps numbered tail_of tail_len writes_of commits_of
+unfolding definitions
 empty-zero = refl
 
 committed-checkpoint : first_bad committed (at 80 0 1 BeginCheckpoint) ≡ Some WrongState
-unfolding record_len end_of records_of to_undo surviving has_begun is_committed has_rollback has_ended is_unended is_loser last_lsn undo_next_of transactions unended losers greatest_trans all_surviving state_of row_of table_of image_now won prev_of bad_prev old_transaction wrong_state wrong_undo_next wrong_compensation held_by before_image too_many open_checkpoint bad_checkpoint first_bad may_follow may_follow_all is_valid is_finished undoes losing tail_steps numbered tail_of tail_len writes_of commits_of
+unfolding definitions
 committed-checkpoint = refl
 
 open_update-checkpoint : first_bad open_update (at 52 0 1 BeginCheckpoint) ≡ Some BadCheckpoint
-unfolding record_len end_of records_of to_undo surviving has_begun is_committed has_rollback has_ended is_unended is_loser last_lsn undo_next_of transactions unended losers greatest_trans all_surviving state_of row_of table_of image_now won prev_of bad_prev old_transaction wrong_state wrong_undo_next wrong_compensation held_by before_image too_many open_checkpoint bad_checkpoint first_bad may_follow may_follow_all is_valid is_finished undoes losing tail_steps numbered tail_of tail_len writes_of commits_of
+unfolding definitions
 open_update-checkpoint = refl
 
 empty-commit : first_bad [] (at 16 0 1 Commit) ≡ None
-unfolding record_len end_of records_of to_undo surviving has_begun is_committed has_rollback has_ended is_unended is_loser last_lsn undo_next_of transactions unended losers greatest_trans all_surviving state_of row_of table_of image_now won prev_of bad_prev old_transaction wrong_state wrong_undo_next wrong_compensation held_by before_image too_many open_checkpoint bad_checkpoint first_bad may_follow may_follow_all is_valid is_finished undoes losing tail_steps numbered tail_of tail_len writes_of commits_of
+unfolding definitions
 empty-commit = refl
 
 empty-end : first_bad [] (at 16 0 1 End) ≡ None
-unfolding record_len end_of records_of to_undo surviving has_begun is_committed has_rollback has_ended is_unended is_loser last_lsn undo_next_of transactions unended losers greatest_trans all_surviving state_of row_of table_of image_now won prev_of bad_prev old_transaction wrong_state wrong_undo_next wrong_compensation held_by before_image too_many open_checkpoint bad_checkpoint first_bad may_follow may_follow_all is_valid is_finished undoes losing tail_steps numbered tail_of tail_len writes_of commits_of
+unfolding definitions
 empty-end = refl
 
 -- ---- many transactions
@@ -249,13 +254,30 @@ rollbacks zero t = []
 rollbacks (suc n) t = at (28 * t - 12) 0 t Rollback ∷ rollbacks n (t + 1)
 
 rollbacks-few : first_bad (rollbacks 20 1) (at 576 0 21 Rollback) ≡ None
-unfolding record_len end_of records_of to_undo surviving has_begun is_committed has_rollback has_ended is_unended is_loser last_lsn undo_next_of transactions unended losers greatest_trans all_surviving state_of row_of table_of image_now won prev_of bad_prev old_transaction wrong_state wrong_undo_next wrong_compensation held_by before_image too_many open_checkpoint bad_checkpoint first_bad may_follow may_follow_all is_valid is_finished undoes losing tail_steps numbered tail_of tail_len writes_of commits_of
+unfolding definitions
 rollbacks-few = refl
 
 rollbacks-many : first_bad (rollbacks 256 1) (at 7184 0 257 Rollback) ≡ Some TooManyTransactions
-unfolding record_len end_of records_of to_undo surviving has_begun is_committed has_rollback has_ended is_unended is_loser last_lsn undo_next_of transactions unended losers greatest_trans all_surviving state_of row_of table_of image_now won prev_of bad_prev old_transaction wrong_state wrong_undo_next wrong_compensation held_by before_image too_many open_checkpoint bad_checkpoint first_bad may_follow may_follow_all is_valid is_finished undoes losing tail_steps numbered tail_of tail_len writes_of commits_of
+unfolding definitions
 rollbacks-many = refl
 
 rollbacks-end : end_of (rollbacks 256 1) ≡ 7184
-unfolding record_len end_of records_of to_undo surviving has_begun is_committed has_rollback has_ended is_unended is_loser last_lsn undo_next_of transactions unended losers greatest_trans all_surviving state_of row_of table_of image_now won prev_of bad_prev old_transaction wrong_state wrong_undo_next wrong_compensation held_by before_image too_many open_checkpoint bad_checkpoint first_bad may_follow may_follow_all is_valid is_finished undoes losing tail_steps numbered tail_of tail_len writes_of commits_of
+unfolding definitions
 rollbacks-end = refl
+
+-- ---- a device of one block
+
+abbrev six : ℕ → List Record
+six bytes =
+    at 16 0 1 (Update (key 0 0) None (one 1)) ∷ at 52 16 1 (Update (key 0 1) None (one 1)) ∷ at 88 52 1 (Update (key 0 2) None (one 1))
+    ∷ at 124 88 1 (Update (key 0 3) None (one 1)) ∷ at 160 124 1 (Update (key 0 4) None (one 1))
+    ∷ at 196 160 1 (Update (key 0 5) None (Some (record { items = replicate bytes 1 }))) ∷ []
+
+-- with one byte in the sixth value the log and its tail fill it, with two they do not fit
+six-fits : end_of (six 1) + tail_len (six 1) ≡ 512
+unfolding definitions
+six-fits = refl
+
+six-too_long : end_of (six 2) + tail_len (six 2) ≡ 513
+unfolding definitions
+six-too_long = refl

@@ -1,5 +1,5 @@
 -- The commits of a log with what they write: what readers of a standby may see.
-use Rattle.std.specs.Prelude.{ℕ, List, map, filter, filter_map, Option, Some, None}
+use Rattle.std.specs.Prelude.{ℕ, List, map, filter, filter_map, flat_map, fold, Option, Some, None, if◌then◌else◌}
 use Rattle.als_record.specs.declared.lsn.Lsn.{Lsn}
 use Rattle.als_record.specs.declared.trans_id.TransId.{TransId}
 use Rattle.als_record.specs.declared.key.Key.{Key}
@@ -7,6 +7,7 @@ use Rattle.als_record.specs.declared.record.Body.{Body}
 use Rattle.als_record.specs.declared.record.Body.TheVariants.{Update}
 use Rattle.als_record.specs.declared.record.Record.{Record}
 use Rattle.als_record.specs.Spelling.{Image}
+use Rattle.als_record.specs.Images.{same_key}
 use Rattle.als_record.specs.Transactions.{is_commit, surviving}
 
 -- a key and the image that it gets
@@ -32,3 +33,11 @@ writes_of log t = filter_map (λ u. write_of u.body) (surviving log t)
 -- the commits of a log, in order
 unfoldable pub commits_of : List Record → List Commit
 commits_of log = map (λ r. record { trans = r.trans; lsn = r.lsn; writes = writes_of log r.trans.0 }) (filter (λ r. is_commit r.body) log)
+
+-- what a key has after one more write
+abbrev pub after_write : Key → Image → Write → Image
+after_write k image w = if same_key w.key k then w.after else image
+
+-- what readers see at a key after these commits, one after another: the last write there, absent if there is none
+unfoldable pub seen_after : List Commit → Key → Image
+seen_after commits k = fold (after_write k) None (flat_map (λ c. c.writes) commits)

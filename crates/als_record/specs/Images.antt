@@ -1,4 +1,4 @@
--- What the keys of the database have: now, and after a takeover.
+-- What the keys of the database have: now, by history repeated (Mohan et al., TODS 1992, section 3), and after a takeover.
 use Rattle.std.specs.Prelude.{◌==◌, Bool, false, ◌&&◌, List, Option, Some, None, fold, find, filter_map, if◌then◌else◌}
 use Rattle.std.specs.Str.{bytes_eq}
 use Rattle.als_record.specs.declared.key.Key.{Key}

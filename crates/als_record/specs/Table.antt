@@ -1,5 +1,5 @@
 -- The transaction table: what the analysis pass of ARIES makes of a log from its first record (Mohan et al., TODS 1992,
--- sections 4.2 and 6.1).
+-- sections 4.3 and 6.1).
 use Rattle.std.specs.Prelude.{ℕ, List, map, if◌then◌else◌}
 use Rattle.als_record.specs.declared.record.Body.{Body}
 use Rattle.als_record.specs.declared.record.Body.TheVariants.{Commit, Rollback}

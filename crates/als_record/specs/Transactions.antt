@@ -1,4 +1,4 @@
--- Transactions in a log, each seen through its own records. (Mohan et al., TODS 1992, section 3: what the LSNs, TransIDs
+-- Transactions in a log, each seen through its own records. (Mohan et al., TODS 1992, sections 3 and 4.1: what the LSNs, TransIDs
 -- and compensation records of a log say of a transaction.)
 use Rattle.std.specs.Prelude.{ℕ, ◌==◌, Bool, true, false, not, ◌&&◌, List, [], ◌∷◌, ◌++◌, drop, reverse, filter, fold, max, if◌then◌else◌}
 use Rattle.std.specs.List.{list_any}

@@ -1,4 +1,4 @@
--- How the undo of one transaction walks its records (Mohan et al., TODS 1992, section 3: compensation records point past
+-- How the undo of one transaction walks its records (Mohan et al., TODS 1992, sections 3 and 5.2: compensation records point past
 -- what is undone).
 use Rattle.std.specs.Prelude.{ℕ, ◌==◌, List, [], ◌∷◌, ◌++◌, reverse, if◌then◌else◌}
 use Rattle.als_record.specs.declared.record.Body.{Body}
