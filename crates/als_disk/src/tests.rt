@@ -20,6 +20,7 @@ fn store<D: BlockDisk>(disk: &mut D, i: u64, block: &[u8; 512]) -> Result<(), De
 /// and a read gives nothing but what it gave before or the block.
 fn overwrite<D: BlockDisk>(disk: &mut D, i: u64, block: &[u8; 512])
     requires { i < D.block_count disk.old }
+    ensures count { D.block_count disk.new ≡ D.block_count disk.old }
     ensures candidates { (content : List ℕ) → Contains (D.slot disk.new i).candidates content → Contains (D.slot disk.old i).candidates content ⊎ (block.now ≡ content) }
     ensures readable { (content : List ℕ) → Contains (D.slot disk.new i).readable content → Contains (D.slot disk.old i).readable content ⊎ (block.now ≡ content) }
 {
