@@ -1,8 +1,8 @@
 -- What is among the candidates and the readable contents of a block, before and after a change.
-use Rattle.std.specs.Prelude.{◌≡◌, ◌⊎◌, ℕ, List, [], ◌∷◌, ◌++◌, Contains, slice_index_or}
-use Rattle.std.proofs.Common.{arith, refl, subst, inl, inr, sym}
+use Rattle.std.specs.Prelude.{◌≡◌, ◌⊎◌, ℕ, List, [], ◌∷◌, Contains, slice_index_or}
+use Rattle.std.proofs.Common.{arith, subst, inl, inr, sym}
 use Rattle.std.proofs.lemmas.List.Elements.{Contains-append_left, Contains-push_cases}
-use Rattle.als_disk.specs.Slot.{Slot, only, written, tried, FailsToWrite}
+use Rattle.als_disk.specs.Slot.{Slot, written, FailsToWrite}
 
 -- the one element of a list
 pub Contains-one : {X : Type 0} {x y : X} → Contains (x ∷ []) y → x ≡ y

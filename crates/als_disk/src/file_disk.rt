@@ -9,7 +9,7 @@ use std::alloc::{AllocError, Global};
 use std::fs::{File, OpenOptions};
 use std::io;
 use std::os::unix::fs::FileExt;
-use std::path::AsPath;
+use std::path::{AsPath, Path};
 use std::rt::Files;
 
 /// A device over a file of the system, of its length / 512 blocks.
@@ -63,6 +63,15 @@ fn keep(mirror: &mut MemDisk, i: u64, block: &[u8; 512]) -> Result<(), AllocErro
     }
 }
 
+/// Makes the name of a new file last through a crash.
+fn sync_folder<R: Files<File = File>>(rt: &R, path: Path<'_>) -> io::Result<()> {
+    let folder = match path.parent() {
+        Some(folder) if !folder.path_text().is_empty() => folder,
+        _ => Path::new("."),
+    };
+    File::open(rt, folder)?.sync_all()
+}
+
 impl FileDisk {
     /// Makes the file, or empties it, and gives it so many blocks of zeros. It fails where the file
     /// does, or where there is no memory.
@@ -74,6 +83,7 @@ impl FileDisk {
         ensures count { IfOk result (λ disk. ⟦<FileDisk as BlockDisk>⟧.block_count disk ≡ blocks) }
         ensures zeros { IfOk result (λ disk. (k : ℕ) → ⟦<FileDisk as BlockDisk>⟧.slot disk k ≡ only zeros) }
     {
+        let path = Path::new(path.path_text());
         let Some(len) = blocks.checked_mul(512) else {
             return Err(io::ErrorKind::InvalidInput.into());
         };
@@ -85,6 +95,7 @@ impl FileDisk {
             .open(rt, path)?;
         file.set_len(len)?;
         file.sync_all()?;
+        sync_folder(rt, path)?;
         let mirror = MemDisk::new(rt.alloc(), blocks);
         Ok(FileDisk {
             file,

