@@ -1,5 +1,5 @@
 -- What is kept of a transaction that has not ended.
-use Rattle.std.specs.Prelude.{◌≡◌, ℕ, ◌+◌, ◌-◌, ◌*◌, ◌≤◌, ◌<◌, ◌^◌, List, [], ◌∷◌, ◌++◌, length, take}
+use Rattle.std.specs.Prelude.{◌≡◌, ℕ, ◌+◌, ◌-◌, ◌*◌, ◌≤◌, ◌<◌, ◌^◌, List, [], ◌∷◌, ◌++◌, length, take, map}
 use Rattle.std.specs.List.{sum_by, All}
 use Rattle.als_record.specs.declared.record.Body.{Body}
 use Rattle.als_record.specs.declared.record.Body.TheVariants.{Update, Compensation}
@@ -48,3 +48,11 @@ pub record IsCounted (left : List Record) (bytes : ℕ) : Type 0 where
   pub counted : bytes ≡ sum_by undo_len left
   pub short : All (λ u. undo_len u ≤ 73) left
   pub limit : length left ≤ left_limit
+
+-- the rows of transactions
+abbrev pub rows_of : List Open → List TransactionRow
+rows_of entries = map (λ o. o.row) entries
+
+-- the surviving updates of each
+abbrev pub left_of : List Open → List (List Record)
+left_of entries = map (λ o. o.left) entries

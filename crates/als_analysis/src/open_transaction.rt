@@ -1,4 +1,4 @@
-ghost use Rattle.std.specs.Prelude.{◌≡◌, ◌≢◌, ℕ, ◌<◌, ◌≤◌, ◌+◌, [], IfOk, OnOk, OnErr, IfErr};
+ghost use Rattle.std.specs.Prelude.{◌≡◌, ◌↔◌, IsTrue, ℕ, ◌<◌, ◌≤◌, ◌+◌, [], IfOk, OnOk, OnErr};
 ghost use Rattle.als_record.specs.Spelling.{image_len};
 ghost use Rattle.als_record.specs.Images.{image_before};
 ghost use Rattle.als_record.specs.Table.{row_after, state_after, state_after_rollback, fresh_row};
@@ -117,6 +117,13 @@ impl OpenTransaction {
             TransactionState::Committed => 0,
             TransactionState::Active | TransactionState::RollingBack => self.undo_bytes,
         }
+    }
+
+    /// Whether one more update can be kept without memory.
+    pub(crate) fn has_room(&self) -> bool
+        ensures { IsTrue result ↔ (0 < self.now.room) }
+    {
+        self.left.len() < LEFT_LIMIT && self.left.len() < self.left.capacity()
     }
 
     /// Makes room for one more update. An `Err` changes nothing.
