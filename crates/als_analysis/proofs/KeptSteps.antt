@@ -1,16 +1,18 @@
 -- The table as it is kept, through one more record: an entry replaced, added or taken away.
 use Rattle.std.proofs.Common.{◌≡◌, ◌≢◌, ℕ, ◌+◌, ◌-◌, ◌*◌, ◌≤◌, ◌<◌, ◌^◌, Bool, true, false, List, [], ◌∷◌, ◌++◌, length, get_or, set, map, inl, inr, ◌⊎◌, refl, sym, ap, ◌∙◌, subst, arith, length-append, zero, suc, take, drop, le_of_suc-le-suc, not-suc-le-zero}
 use Rattle.std.specs.List.{All, AllPairs, sum_by, remove}
-use Rattle.std.proofs.lemmas.Bool.{cases_eq, cases_lt, false≢true}
-use Rattle.std.proofs.lemmas.List.{length-set, length_push, get_or-set_same, get_or-set_other, get_or_default, get_or_append_left, get_or-map, set_past, map-set, set-get_or}
+use Rattle.std.proofs.lemmas.Bool.{cases_eq, cases_lt, ne_eqb, false≢true}
+use Rattle.std.proofs.lemmas.List.{length-map, length-set, length_push, get_or-set_same, get_or-set_other, get_or_default, get_or_append_left, get_or-map, set_past, map-set, set-get_or}
 use Rattle.std.proofs.lemmas.List.Sums.{sum_by_push, sum_by-le, sum_by-set, sum_by-remove, get_or-le-sum_by}
 use Rattle.std.proofs.lemmas.List.Elements.{All-push, All-set}
 use Rattle.std.proofs.lemmas.List.Quantifiers.{all_pairs_push, all_pairs_remove}
 use Rattle.std.proofs.lemmas.List.Edits.{length-remove, get_or-remove_below, get_or-remove_above}
 use Rattle.std.specs.List.Sorted.{IsNonDecreasingBy}
 use Rattle.als_record.specs.declared.transaction_row.TransactionRow.{TransactionRow}
-use Rattle.als_analysis.specs.Open.{Open, owed, owed_limit}
-use Rattle.als_analysis.specs.Kept.{IsRising, HasRoom, IsKept, MakesRoom}
+use Rattle.als_record.specs.Transactions.{is_among}
+use Rattle.als_record.specs.Table.{fresh_row}
+use Rattle.als_analysis.specs.Open.{Open, owed, owed_limit, rows_of}
+use Rattle.als_analysis.specs.Kept.{IsRising, IsPlace, numbers, HasRoom, IsKept, MakesRoom}
 
 pub rising-sorted : (xs : List Open) → IsRising xs → IsNonDecreasingBy (λ o. o.row.trans.0) xs
 rising-sorted xs r i j d le lt = elim (cases_lt i j) [
@@ -134,3 +136,42 @@ module _ {X Y : Type 0} (f : X → Y) where
   remove-map [] i lt = absurd (not-suc-le-zero lt)
   remove-map (x ∷ xs) zero lt = refl
   remove-map (x ∷ xs) (suc i) lt = ap (λ ys. f x ∷ ys) (remove-map xs i (le_of_suc-le-suc lt))
+
+-- ---- places and rows
+
+abbrev entry_of : TransactionRow → Open
+entry_of row = record { row = row; left = []; room = 0 }
+
+pub place-above : (xs : List Open) (t p : ℕ) → IsPlace xs t p → p ≡ length xs → All (λ row. row.trans.0 < t) (rows_of xs)
+place-above xs t p h e k d lt =
+    let n : length (rows_of xs) ≡ length xs = length-map xs (λ o. o.row) in
+    let l : k < length xs = omega arith in
+    subst (λ (row : TransactionRow). row.trans.0 < t) (sym (get_or-map (λ (o : Open). o.row) xs k (entry_of d) d l)) (h.below k (entry_of d) (omega arith))
+
+pub above-place : (xs : List Open) (t p : ℕ) → IsPlace xs t p → All (λ row. row.trans.0 < t) (rows_of xs) → p ≡ length xs
+above-place xs t p h a = elim (cases_lt p (length xs)) [
+    inr g ↦ let w : p ≤ length xs = h.within in omega arith
+  | inl l ↦
+      let n : length (rows_of xs) ≡ length xs = length-map xs (λ o. o.row) in
+      let low : t ≤ (get_or xs p (entry_of (fresh_row 0))).row.trans.0 = h.above p (entry_of (fresh_row 0)) (omega arith) l in
+      let high : (get_or xs p (entry_of (fresh_row 0))).row.trans.0 < t = subst (λ (row : TransactionRow). row.trans.0 < t) (get_or-map (λ (o : Open). o.row) xs p (entry_of (fresh_row 0)) (fresh_row 0) l) (a p (fresh_row 0) (omega arith)) in
+      absurd (omega arith) ]
+
+not-among : (rows : List TransactionRow) (t : ℕ) → ((k : ℕ) (d : TransactionRow) → k < length rows → (get_or rows k d).trans.0 ≡ t → ⊥) → is_among (numbers rows) t ≡ false
+not-among [] t h = refl
+not-among (row ∷ rest) t h = rw (ne_eqb row.trans.0 t (h 0 row (omega arith))) (not-among rest t (λ k d l. h (suc k) d (omega arith)))
+
+pub absent-place : (xs : List Open) (t p : ℕ) → IsRising xs → IsPlace xs t p → ((o : Open) → p < length xs → (get_or xs p o).row.trans.0 ≡ t → ⊥) → is_among (numbers (rows_of xs)) t ≡ false
+absent-place xs t p r h ne = not-among (rows_of xs) t (λ k d lt q.
+    let n : length (rows_of xs) ≡ length xs = length-map xs (λ o. o.row) in
+    let l : k < length xs = omega arith in
+    let e : (get_or xs k (entry_of d)).row.trans.0 ≡ t = ap (λ (row : TransactionRow). row.trans.0) (sym (get_or-map (λ (o : Open). o.row) xs k (entry_of d) d l)) ∙ q in
+    elim (cases_lt k p) [
+        inl b ↦ let low : (get_or xs k (entry_of d)).row.trans.0 < t = h.below k (entry_of d) b in omega arith
+      | inr b ↦ elim (cases_eq k p) [
+            inl s ↦ ne (entry_of d) (subst (λ k. k < length xs) s l) (subst (λ k. (get_or xs k (entry_of d)).row.trans.0 ≡ t) s e)
+          | inr s ↦
+              let pk : p < k = omega arith in
+              let low : t ≤ (get_or xs p (entry_of d)).row.trans.0 = h.above p (entry_of d) (omega arith) (omega arith) in
+              let up : (get_or xs p (entry_of d)).row.trans.0 < (get_or xs k (entry_of d)).row.trans.0 = r p k (entry_of d) pk l in
+              omega arith ] ])
