@@ -155,7 +155,7 @@ row-found log table i t h within here =
 pub row-absent : (log : List Record) (table : Table) (t : ℕ) → IsTableOf table log → is_among (numbers table.rows) t ≡ false → is_unended log t ≡ false
 row-absent log table t h absent = sym (is_among-table_of log t) ∙ subst (λ (rows : List TransactionRow). is_among (numbers rows) t ≡ false) h.rows absent
 
-pub undo_next_of-row : (log : List Record) (t : ℕ) → (row_of log t).undo_next.0 ≡ undo_next_of log t
+pub undo_next_of-row : (log : List Record) (t : ℕ) → (row_of log t).undo_next ≡ record { 0 = undo_next_of log t }
 unfolding row_of
 undo_next_of-row log t = refl
 

@@ -110,11 +110,11 @@ undoes_len u e = go u.prev u.body e
 
 ends-len : (p : ℕ → Bool) (ts : List ℕ) → sum_by step_len (ends (filter p ts)) ≡ sum_by (λ t. cond (p t) 28 0) ts
 ends-len p [] = refl
-ends-len p (t ∷ ts) = go (p t) ∙ sym (sum_by-cons (λ (t : ℕ). cond (p t) 28 0) t ts)
+ends-len p (t ∷ ts) = go (p t) (ends-len p ts) ∙ sym (sum_by-cons (λ (t : ℕ). cond (p t) 28 0) t ts)
   where
-    go : (b : Bool) → sum_by step_len (ends (cond b (t ∷ filter p ts) (filter p ts))) ≡ cond b 28 0 + sum_by (λ t. cond (p t) 28 0) ts
-    go true = sum_by-cons step_len (Ends t) (ends (filter p ts)) ∙ ap (λ n. 28 + n) (ends-len p ts)
-    go false = let r : sum_by step_len (ends (filter p ts)) ≡ sum_by (λ t. cond (p t) 28 0) ts = ends-len p ts in omega arith
+    go : (b : Bool) → sum_by step_len (ends (filter p ts)) ≡ sum_by (λ t. cond (p t) 28 0) ts → sum_by step_len (ends (cond b (t ∷ filter p ts) (filter p ts))) ≡ cond b 28 0 + sum_by (λ t. cond (p t) 28 0) ts
+    go true r = sum_by-cons step_len (Ends t) (ends (filter p ts)) ∙ ap (λ n. 28 + n) r
+    go false r = omega arith
 
 -- ---- compensations
 

@@ -9,6 +9,9 @@ mod open_transaction;
 // All of them.
 mod trans_table;
 
+#[cfg(test)]
+mod tests;
+
 pub use fault::Fault;
 pub use open_transaction::OpenTransaction;
 pub use trans_table::TransTable;
