@@ -44,8 +44,9 @@ module _ {Y : Type 0} (f g : ℕ → Y) (t : ℕ) (agree : (x : ℕ) → (x == t
 
   differs : (x : ℕ) (rest : List ℕ) (i : ℕ) → is_among rest x ≡ false → i < length rest → get_or rest i 0 ≡ t → (x == t) ≡ false
   differs x rest i n lt q = elim (cases_Bool (x == t)) [
-      inl e ↦ absurd (false≢true (sym n ∙ ap (is_among rest) (eqb-true x t e) ∙ among-at rest i lt q))
-    | inr e ↦ e ]
+    | inl e ↦ absurd (false≢true (sym n ∙ ap (is_among rest) (eqb-true x t e) ∙ among-at rest i lt q))
+    | inr e ↦ e
+  ]
 
   map-at : (xs : List ℕ) (i : ℕ) → Apart xs → i < length xs → get_or xs i 0 ≡ t → map f xs ≡ set (map g xs) i (f t)
   map-at [] i a lt q = absurd (not-suc-le-zero lt)
@@ -104,24 +105,27 @@ begun-le-greatest log = log_induction (λ l. (t : ℕ) → has_begun l t ≡ tru
   where
     more : (l : List Record) (r : Record) → ((t : ℕ) → has_begun l t ≡ true → t ≤ greatest_trans l) → (t : ℕ) → has_begun (l ++ r ∷ []) t ≡ true → t ≤ greatest_trans (l ++ r ∷ [])
     more l r h t b = rw (greatest_trans-push l r) (elim (cases_Bool (is_of t r)) [
-        inl o ↦ let e : r.trans.0 ≡ t = eqb-true r.trans.0 t (and_parts (is_transactional r.body) (r.trans.0 == t) o).1 in omega arith
-      | inr o ↦ let k : t ≤ greatest_trans l = h t (sym (has_begun-other l r t o) ∙ b) in omega arith ])
+      | inl o ↦ let e : r.trans.0 ≡ t = eqb-true r.trans.0 t (and_parts (is_transactional r.body) (r.trans.0 == t) o).1 in omega arith
+      | inr o ↦ let k : t ≤ greatest_trans l = h t (sym (has_begun-other l r t o) ∙ b) in omega arith
+    ])
 
 -- a transaction without a row, of which a record may follow, has not begun
 pub fresh-follows : (log : List Record) (r : Record) → may_follow log r ≡ true → is_transactional r.body ≡ true → is_unended log r.trans.0 ≡ false → greatest_trans log < r.trans.0
 unfolding old_transaction
 fresh-follows log r m w u = elim (cases_lt (greatest_trans log) r.trans.0) [
-    inl lt ↦ lt
+  | inl lt ↦ lt
   | inr ge ↦
       let a : Admitted log r = Admitted-may_follow log r m in
       let l : nat_le r.trans.0 (greatest_trans log) ≡ true = le-leb r.trans.0 (greatest_trans log) ge in
       let f : (is_transactional r.body && not (is_unended log r.trans.0) && nat_le r.trans.0 (greatest_trans log)) ≡ true = rw (w, u, l) refl in
-      absurd (false≢true (sym a.old ∙ f)) ]
+      absurd (false≢true (sym a.old ∙ f))
+]
 
 pub not_begun : (log : List Record) (t : ℕ) → greatest_trans log < t → has_begun log t ≡ false
 not_begun log t g = elim (cases_Bool (has_begun log t)) [
-    inr e ↦ e
-  | inl e ↦ let h : t ≤ greatest_trans log = begun-le-greatest log t e in absurd (omega arith) ]
+  | inr e ↦ e
+  | inl e ↦ let h : t ≤ greatest_trans log = begun-le-greatest log t e in absurd (omega arith)
+]
 
 -- ---- the rows of the table
 
@@ -258,8 +262,9 @@ module _ (log : List Record) (r : Record) where
           let n : length (unended (log ++ r ∷ [])) ≡ length (unended log) + 1 = ap length (unended-new log r w e begins) ∙ length_push (unended log) r.trans.0 in
           let k : length old.rows ≡ length (unended log) = ap length h.rows ∙ length-table_of log in
           elim (cases_lt (length old.rows) 256) [
-              inl l ↦ l
-            | inr g ↦ absurd (false≢true (sym a.many ∙ lt-ltb 256 (length (unended (log ++ r ∷ []))) (omega arith))) ]
+            | inl l ↦ l
+            | inr g ↦ absurd (false≢true (sym a.many ∙ lt-ltb 256 (length (unended (log ++ r ∷ []))) (omega arith)))
+          ]
 
       pub new-above : All (λ row. row.trans.0 < r.trans.0) old.rows
       new-above i d within =

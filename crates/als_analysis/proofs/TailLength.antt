@@ -29,8 +29,9 @@ module _ (f g : ℕ → ℕ) where
   sum-agree : (p : ℕ → Bool) → ((t : ℕ) → p t ≡ true → f t ≡ g t) → (xs : List ℕ) → sum_by f (filter p xs) ≡ sum_by g (filter p xs)
   sum-agree p h [] = refl
   sum-agree p h (x ∷ xs) = elim (cases_Bool (p x)) [
-      inl e ↦ rw e (sum_by-cons f x (filter p xs) ∙ (let q : f x ≡ g x = h x e in let r : sum_by f (filter p xs) ≡ sum_by g (filter p xs) = sum-agree p h xs in let s : f x + sum_by f (filter p xs) ≡ g x + sum_by g (filter p xs) = cc in s) ∙ sym (sum_by-cons g x (filter p xs)))
-    | inr e ↦ rw e (sum-agree p h xs) ]
+    | inl e ↦ rw e (sum_by-cons f x (filter p xs) ∙ (let q : f x ≡ g x = h x e in let r : sum_by f (filter p xs) ≡ sum_by g (filter p xs) = sum-agree p h xs in let s : f x + sum_by f (filter p xs) ≡ g x + sum_by g (filter p xs) = cc in s) ∙ sym (sum_by-cons g x (filter p xs)))
+    | inr e ↦ rw e (sum-agree p h xs)
+  ]
 
   sum-add : (xs : List ℕ) → sum_by f xs + sum_by g xs ≡ sum_by (λ x. f x + g x) xs
   sum-add [] = refl
@@ -58,16 +59,17 @@ module _ (f g : ℕ → ℕ) where
         let b : sum_by f (x ∷ xs) ≡ f x + sum_by f xs = sum_by-cons f x xs in
         let c : sum_by g (x ∷ xs) ≡ g x + sum_by g xs = sum_by-cons g x xs in
         elim (cases_Bool (x == t)) [
-          inl y ↦
-            let q : x ≡ t = eqb-true x t y in
-            let p : f x ≡ g x + d = ap f q ∙ e ∙ ap (λ n. g n + d) (sym q) in
-            let r : sum_by f xs ≡ sum_by g xs = sum-absent xs (ap (is_among xs) (sym q) ∙ a.0) in
-            omega arith
-        | inr y ↦
-            let n : is_among xs t ≡ true = (rw y at m) in
-            let p : f x ≡ g x = agree x y in
-            let r : sum_by f xs ≡ sum_by g xs + d = sum-except d e xs a.1 n in
-            omega arith ]
+          | inl y ↦
+              let q : x ≡ t = eqb-true x t y in
+              let p : f x ≡ g x + d = ap f q ∙ e ∙ ap (λ n. g n + d) (sym q) in
+              let r : sum_by f xs ≡ sum_by g xs = sum-absent xs (ap (is_among xs) (sym q) ∙ a.0) in
+              omega arith
+          | inr y ↦
+              let n : is_among xs t ≡ true = (rw y at m) in
+              let p : f x ≡ g x = agree x y in
+              let r : sum_by f xs ≡ sum_by g xs + d = sum-except d e xs a.1 n in
+              omega arith
+        ]
 
 sum-zero : (xs : List ℕ) → sum_by (λ _. 0) xs ≡ 0
 sum-zero [] = refl
@@ -138,7 +140,7 @@ undoes-len ts a (u ∷ rest) h =
     let later : Bool = list_any (λ v. v.trans.0 == u.trans.0) rest in
     let r : sum_by step_len (undoes rest) ≡ sum_by (λ t. weight (filter (is_by t) rest)) ts = undoes-len ts a rest h.1 in
     let e : sum_by (λ t. weight (filter (is_by t) (u ∷ rest))) ts ≡ sum_by (λ t. weight (filter (is_by t) rest)) ts + (undo_len u + cond later 0 28) =
-        sum-except (λ t. weight (filter (is_by t) (u ∷ rest))) (λ t. weight (filter (is_by t) rest)) u.trans.0 others (undo_len u + cond later 0 28) own ts a h.0.1 in
+    sum-except (λ t. weight (filter (is_by t) (u ∷ rest))) (λ t. weight (filter (is_by t) rest)) u.trans.0 others (undo_len u + cond later 0 28) own ts a h.0.1 in
     let s : sum_by step_len (Undoes u ∷ cond later (undoes rest) (Ends u.trans.0 ∷ undoes rest)) ≡ step_len (Undoes u) + sum_by step_len (cond later (undoes rest) (Ends u.trans.0 ∷ undoes rest)) = sum_by-cons step_len (Undoes u) (cond later (undoes rest) (Ends u.trans.0 ∷ undoes rest)) in
     let l : step_len (Undoes u) ≡ undo_len u = undoes_len u h.0.0 in
     let m : sum_by step_len (cond later (undoes rest) (Ends u.trans.0 ∷ undoes rest)) ≡ cond later 0 28 + sum_by step_len (undoes rest) = closing later in
@@ -161,10 +163,12 @@ undoes-len ts a (u ∷ rest) h =
 filter-none : (p : ℕ → Bool) (t : ℕ) → p t ≡ false → (us : List Record) → filter (is_by t) (filter (λ v. p v.trans.0) us) ≡ []
 filter-none p t n [] = refl
 filter-none p t n (v ∷ us) = elim (cases_Bool (p v.trans.0)) [
-    inl z ↦ elim (cases_Bool (v.trans.0 == t)) [
-        inl w ↦ absurd (false≢true (sym n ∙ ap p (sym (eqb-true v.trans.0 t w)) ∙ z))
-      | inr w ↦ simp (z, w) (filter-none p t n us) ]
-  | inr z ↦ simp z (filter-none p t n us) ]
+  | inl z ↦ elim (cases_Bool (v.trans.0 == t)) [
+    | inl w ↦ absurd (false≢true (sym n ∙ ap p (sym (eqb-true v.trans.0 t w)) ∙ z))
+    | inr w ↦ simp (z, w) (filter-none p t n us)
+  ]
+  | inr z ↦ simp z (filter-none p t n us)
+]
 
 undo_owed-open : (s : TransactionState) (h : Bool) (left : List Record) → s ≡ cond h RollingBack Active → undo_owed s left ≡ sum_by undo_len left
 undo_owed-open s true left e = ap (λ s. undo_owed s left) e
@@ -174,13 +178,14 @@ module _ (log : List Record) (t : ℕ) (u : is_unended log t ≡ true) where
   owed-one : cond (is_finished log t) 28 0 + weight (filter (is_by t) (losing log)) ≡ 28 + undo_owed (state_of log t) (surviving log t)
   unfolding is_finished losing state_of is_loser surviving
   owed-one = elim (cases_Bool (is_committed log t)) [
-      inl c ↦
+    | inl c ↦
         let none : filter (is_by t) (filter (λ v. is_loser log v.trans.0) (all_surviving log)) ≡ [] = filter-none (is_loser log) t (rw (u, c) refl) (all_surviving log) in
         rw (none, c) refl
     | inr c ↦
         let some : filter (is_by t) (filter (λ v. is_loser log v.trans.0) (all_surviving log)) ≡ to_undo log t = filter-by (is_loser log) t (rw (u, c) refl) (all_surviving log) ∙ all_surviving-by t log in
         let back : sum_by undo_len (reverse (to_undo log t)) ≡ sum_by undo_len (to_undo log t) = sum_by-IsPermutation undo_len (to_undo log t) (reverse (to_undo log t)) (IsPermutation-reverse (to_undo log t)) in
-        rw (some, c) (alone (to_undo log t) ∙ ap (λ n. 28 + n) (sym back ∙ sym (undo_owed-open (cond (has_rollback log t) RollingBack Active) (has_rollback log t) (reverse (to_undo log t)) refl))) ]
+        rw (some, c) (alone (to_undo log t) ∙ ap (λ n. 28 + n) (sym back ∙ sym (undo_owed-open (cond (has_rollback log t) RollingBack Active) (has_rollback log t) (reverse (to_undo log t)) refl)))
+  ]
     where
       alone : (left : List Record) → cond (not (is_some_left left)) 28 0 + weight left ≡ 28 + sum_by undo_len left
       alone [] = refl
@@ -195,8 +200,9 @@ losing-undoes log = kept (all_surviving log) (All-is_update log)
     kept : (vs : List Record) → AllByRecursion (λ v. is_update v.body ≡ true) vs → AllByRecursion (IsUndoOf (unended log)) (filter (λ v. is_loser log v.trans.0) vs)
     kept [] a = tt
     kept (v ∷ rest) a = elim (cases_Bool (is_loser log v.trans.0)) [
-        inl y ↦ rw y ((a.0, is_among-unended log v.trans.0 ∙ (and_parts (is_unended log v.trans.0) (not (is_committed log v.trans.0)) y).0), kept rest a.1)
-      | inr y ↦ rw y (kept rest a.1) ]
+      | inl y ↦ rw y ((a.0, is_among-unended log v.trans.0 ∙ (and_parts (is_unended log v.trans.0) (not (is_committed log v.trans.0)) y).0), kept rest a.1)
+      | inr y ↦ rw y (kept rest a.1)
+    ]
 
 pub tail_len-sum : (log : List Record) → tail_len log ≡ sum_by (λ t. 28 + undo_owed (state_of log t) (surviving log t)) (unended log)
 unfolding tail_len tail_of tail_steps unended
@@ -204,8 +210,8 @@ tail_len-sum log =
     numbered-len log (tail_steps log)
     ∙ sum_by-append step_len (ends (filter (is_finished log) (unended log))) (undoes (losing log))
     ∙ (let p : sum_by step_len (ends (filter (is_finished log) (unended log))) ≡ sum_by (λ t. cond (is_finished log t) 28 0) (unended log) = ends-len (is_finished log) (unended log) in
-       let q : sum_by step_len (undoes (losing log)) ≡ sum_by (λ t. weight (filter (is_by t) (losing log))) (unended log) = undoes-len (unended log) (Apart-unended log) (losing log) (losing-undoes log) in
-       let s : sum_by step_len (ends (filter (is_finished log) (unended log))) + sum_by step_len (undoes (losing log)) ≡ sum_by (λ t. cond (is_finished log t) 28 0) (unended log) + sum_by (λ t. weight (filter (is_by t) (losing log))) (unended log) = cc in s)
+    let q : sum_by step_len (undoes (losing log)) ≡ sum_by (λ t. weight (filter (is_by t) (losing log))) (unended log) = undoes-len (unended log) (Apart-unended log) (losing log) (losing-undoes log) in
+    let s : sum_by step_len (ends (filter (is_finished log) (unended log))) + sum_by step_len (undoes (losing log)) ≡ sum_by (λ t. cond (is_finished log t) 28 0) (unended log) + sum_by (λ t. weight (filter (is_by t) (losing log))) (unended log) = cc in s)
     ∙ sum-add (λ t. cond (is_finished log t) 28 0) (λ t. weight (filter (is_by t) (losing log))) (unended log)
     ∙ sum-agree (λ t. cond (is_finished log t) 28 0 + weight (filter (is_by t) (losing log))) (λ t. 28 + undo_owed (state_of log t) (surviving log t)) (is_unended log) (λ t u. owed-one log t u) (transactions log)
 

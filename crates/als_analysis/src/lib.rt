@@ -7,10 +7,9 @@ mod fault;
 // One transaction that has not ended.
 mod open_transaction;
 // All of them.
-mod trans_table;
-
 #[cfg(test)]
 mod tests;
+mod trans_table;
 
 pub use fault::Fault;
 pub use open_transaction::OpenTransaction;

@@ -1,7 +1,5 @@
 use crate::{Fault, TransTable};
-use als_record::{
-    Body, Image, Key, Lsn, Record, TransId, TransactionRow, TransactionState, Value,
-};
+use als_record::{Body, Image, Key, Lsn, Record, TransId, TransactionRow, TransactionState, Value};
 use std::process::Abort;
 
 // A value of one byte.
@@ -132,7 +130,12 @@ fn a_partial_rollback(rt: HostRuntime) {
     expect_survivors(&rt, &table, 1, &[16, 130]);
     assert_eq!(rt; table.reserve_bytes(), 278 - 166);
     note(&rt, &mut table, &record(166, 130, 1, Body::Rollback));
-    expect_row(&rt, &table, 0, row(1, TransactionState::RollingBack, 166, 130));
+    expect_row(
+        &rt,
+        &table,
+        0,
+        row(1, TransactionState::RollingBack, 166, 130),
+    );
     note(&rt, &mut table, &record(194, 0, 0, Body::BeginCheckpoint));
     assert_eq!(rt; table.rows().len(), 1);
 }

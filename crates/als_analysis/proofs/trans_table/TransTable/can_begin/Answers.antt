@@ -19,4 +19,4 @@ returns-then-len-lt-TRANSACTION_LIMIT c =
     let all : n ≡ length xs = omega (arith, c.len-then-len-lt-TRANSACTION_LIMIT.ensures) in
     let few : length (rows_of xs) < 256 = omega (arith, length-map xs (λ (o : Open). o.row), c.len.ensures, c.if-len-lt-TRANSACTION_LIMIT.true) in
     subst (λ (t' : Table). (IsTrue (nat_eq p n) → (length t'.rows < 256 × All (λ row. row.trans.0 < t) t'.rows)) × ((length t'.rows < 256 × All (λ row. row.trans.0 < t) t'.rows) → IsTrue (nat_eq p n))) c.self.view_is
-      (λ e. (few, place-above xs t p place (eqb-true p n e ∙ all)), λ a. eq-eqb p n (above-place xs t p place a.1 ∙ sym all))
+    (λ e. (few, place-above xs t p place (eqb-true p n e ∙ all)), λ a. eq-eqb p n (above-place xs t p place a.1 ∙ sym all))

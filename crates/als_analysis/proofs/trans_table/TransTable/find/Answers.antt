@@ -30,4 +30,4 @@ returns-then-row-trans-clause-none c =
     let here : e ≡ get_or xs p e = c.index-entries-at.is ∙ ap (λ (zs : List Open). get_or zs p e) same in
     let row : c.row-row.result ≡ e.row = c.row-row.ensures in
     subst (λ (t' : Table). is_among (numbers t'.rows) t ≡ false) c.self.view_is (absent-place xs t p c.self.invariant.rising place (λ o lt q.
-        c.if-row-trans.true (ap (λ (r : TransactionRow). r.trans.0) row ∙ ap (λ (o : Open). o.row.trans.0) (here ∙ get_or_default xs p e o lt) ∙ q)))
+    c.if-row-trans.true (ap (λ (r : TransactionRow). r.trans.0) row ∙ ap (λ (o : Open). o.row.trans.0) (here ∙ get_or_default xs p e o lt) ∙ q)))
