@@ -1,14 +1,12 @@
 -- The bytes of the compensations to come, as an update comes or goes.
-use Rattle.std.proofs.Common.{◌≡◌, ℕ, ◌+◌, ◌-◌, ◌*◌, ◌≤◌, ◌<◌, ◌^◌, List, [], ◌∷◌, ◌++◌, length, refl, sym, ap, ◌∙◌, subst, arith, length-append}
-use Rattle.std.specs.List.{sum_by, All}
+use Rattle.std.proofs.Common.{◌≡◌, ℕ, ◌+◌, ◌-◌, ◌*◌, ◌≤◌, ◌<◌, ◌^◌, List, [], ◌∷◌, ◌++◌, length, sym, ap, ◌∙◌, arith}
+use Rattle.std.specs.List.{sum_by}
 use Rattle.std.proofs.lemmas.List.{length_push}
 use Rattle.std.proofs.lemmas.List.Sums.{sum_by_push, sum_by-le}
-use Rattle.std.proofs.lemmas.List.Elements.{All-push, All-pop, All-nil}
+use Rattle.std.proofs.lemmas.List.Elements.{All-push, All-pop}
 use Rattle.std.specs.Prelude.{Some}
 use Rattle.als_record.specs.declared.record.Record.{Record}
-use Rattle.als_record.specs.declared.transaction_state.TransactionState.{TransactionState}
-use Rattle.als_record.specs.declared.transaction_state.TransactionState.TheVariants.{Active, Committed, RollingBack}
-use Rattle.als_analysis.specs.Open.{undo_len, undo_owed, left_limit, owed_limit, IsCounted}
+use Rattle.als_analysis.specs.Open.{undo_len, left_limit, IsCounted}
 
 pub counted-push : (left : List Record) (u : Record) (bytes : ℕ) → IsCounted left bytes → undo_len u ≤ 73 → length left < left_limit → IsCounted (left ++ u ∷ []) (bytes + undo_len u)
 counted-push left u bytes c s l = record {

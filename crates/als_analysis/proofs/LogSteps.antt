@@ -1,8 +1,7 @@
 -- The table of a log, through one more record.
-use Rattle.std.proofs.Common.{◌≡◌, ◌≢◌, ℕ, ◌==◌, ◌+◌, ◌-◌, ◌≤◌, ◌<◌, max, nat_le, Bool, true, false, cond, not, ◌&&◌, ◌||◌, List, [], ◌∷◌, ◌++◌, length, get_or, set, map, filter, reverse, take, inl, inr, ◌⊎◌, refl, sym, ap, ◌∙◌, subst, arith, zero, suc, le_of_suc-le-suc, not-suc-le-zero}
-use Rattle.std.specs.Prelude.{Option, Some, None, IsTrue}
+use Rattle.std.proofs.Common.{◌≡◌, ℕ, ◌==◌, ◌+◌, ◌≤◌, ◌<◌, nat_le, Bool, true, false, not, ◌&&◌, ◌||◌, List, [], ◌∷◌, ◌++◌, length, get_or, set, map, reverse, inl, inr, refl, sym, ap, ◌∙◌, subst, arith, zero, suc, le_of_suc-le-suc, not-suc-le-zero}
 use Rattle.std.specs.List.{All, remove}
-use Rattle.std.proofs.lemmas.Bool.{cases_Bool, cases_eq, cases_lt, eqb-true, eq-eqb, false≢true, and_parts, le-leb, or_parts, not-true, lt-ltb}
+use Rattle.std.proofs.lemmas.Bool.{cases_Bool, cases_lt, eqb-true, eq-eqb, false≢true, and_parts, le-leb, or_parts, lt-ltb}
 use Rattle.std.proofs.lemmas.List.{get_or-map, length-map, map_push, length_push}
 use Rattle.als_record.specs.declared.record.Body.{Body}
 use Rattle.als_record.specs.declared.record.Body.TheVariants.{Update, Compensation, Commit, Rollback, End, BeginCheckpoint, EndCheckpoint}
@@ -11,7 +10,7 @@ use Rattle.als_record.specs.declared.transaction_row.TransactionRow.{Transaction
 use Rattle.als_record.specs.Transactions.{is_transactional, is_end, is_update, is_compensation, is_of, to_undo_after, to_undo, surviving, has_begun, records_of, is_unended, unended, is_among, greatest_trans, undo_next_of}
 use Rattle.als_record.specs.Table.{row_of, table_of, row_after, fresh_row}
 use Rattle.als_record.specs.Validity.{old_transaction, too_many, may_follow}
-use Rattle.als_record.proofs.Records.{to_undo-own, surviving-other, surviving-own_update, surviving-own_compensation, to_undo-none, has_begun-own, has_begun-other, has_begun-unended}
+use Rattle.als_record.proofs.Records.{to_undo-own, surviving-other, surviving-own_update, surviving-own_compensation, to_undo-none, has_begun-other, has_begun-unended}
 use Rattle.als_record.proofs.Numbers.{Apart, without, eqb-refl, eqb-sym, is_among-filter}
 use Rattle.als_record.proofs.Survivors.{log_induction}
 use Rattle.als_record.proofs.Unended.{unended-checkpoint, unended-more, unended-end, unended-new, unended-new_end, Apart-unended, is_among-unended, greatest_trans-push}

@@ -1,4 +1,4 @@
-use Rattle.std.proofs.Common.{◌≡◌, ◌-◌, ◌≤◌, ◌<◌, ◌*◌, ◌^◌, min, length, vec_len, vec_capacity, subst, sym, ap, refl, arith}
+use Rattle.std.proofs.Common.{◌-◌, ◌≤◌, ◌<◌, ◌*◌, ◌^◌, min, length, vec_len, vec_capacity, subst, sym, arith}
 use Rattle.als_analysis.specs.Open.{Open, left_limit}
 use Rattle.als_analysis.proofs.Counting.{counted-pop, counted-push, counted-limit}
 use Rattle.als_analysis.proofs.open_transaction.OpenTransaction.extend.Goals as goal

@@ -1,4 +1,4 @@
-use Rattle.std.proofs.Common.{◌≤◌, ◌*◌, ◌^◌, ◌+◌, arith, Fits, w64}
+use Rattle.std.proofs.Common.{◌≤◌, ◌*◌, ◌^◌, arith}
 use Rattle.als_analysis.proofs.Counting.{counted-limit}
 use Rattle.als_analysis.proofs.open_transaction.OpenTransaction.owed.Goals as goal
 use Rattle.als_analysis.proofs.open_transaction.OpenTransaction.owed.Goals.{in-Committed, in-Active}

@@ -1,5 +1,5 @@
-use Rattle.std.proofs.Common.{◌≡◌, refl, ap}
-use Rattle.als_record.specs.Transactions.{transactions, unended, surviving}
+use Rattle.std.proofs.Common.{ap}
+use Rattle.als_record.specs.Transactions.{transactions, unended}
 use Rattle.als_record.specs.Table.{table_of}
 use Rattle.als_analysis.specs.Open.{rows_of, left_of}
 use Rattle.als_analysis.proofs.trans_table.TransTable.new.Goals as goal

@@ -1,4 +1,4 @@
-use Rattle.std.proofs.Common.{◌≡◌, [], sym}
+use Rattle.std.proofs.Common.{[], sym}
 use Rattle.als_record.specs.Table.{fresh_row}
 use Rattle.als_analysis.proofs.LogSteps.{step-more, step-end}
 use Rattle.als_analysis.proofs.trans_table.TransTable.note_known.Goals as goal

@@ -1,4 +1,4 @@
-use Rattle.std.proofs.Common.{◌≡◌, sym, refl, ◌∙◌, false}
+use Rattle.std.proofs.Common.{sym, refl, ◌∙◌}
 use Rattle.std.proofs.lemmas.Bool.{false≢true}
 use Rattle.als_analysis.proofs.LogSteps.{step-new, step-new_end, new-few, new-above}
 use Rattle.als_analysis.proofs.trans_table.TransTable.note_new.Goals as goal

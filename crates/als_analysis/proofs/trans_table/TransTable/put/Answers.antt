@@ -1,4 +1,4 @@
-use Rattle.std.proofs.Common.{◌≡◌, sym, refl}
+use Rattle.std.proofs.Common.{sym, refl}
 use Rattle.als_analysis.proofs.LogSteps.{step-checkpoint}
 use Rattle.als_analysis.proofs.trans_table.TransTable.put.Goals as goal
 

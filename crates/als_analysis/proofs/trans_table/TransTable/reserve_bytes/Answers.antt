@@ -1,4 +1,4 @@
-use Rattle.std.proofs.Common.{◌≡◌, ap, ◌∙◌}
+use Rattle.std.proofs.Common.{ap, ◌∙◌}
 use Rattle.als_analysis.specs.Noted.{Table}
 use Rattle.als_analysis.proofs.TailLength.{owed-tail}
 use Rattle.als_analysis.proofs.trans_table.TransTable.reserve_bytes.Goals as goal

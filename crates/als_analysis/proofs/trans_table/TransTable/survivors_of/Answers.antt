@@ -1,6 +1,5 @@
-use Rattle.std.proofs.Common.{◌≡◌, ℕ, ◌<◌, true, List, [], length, get_or, refl, sym, ap, ◌∙◌, subst, arith}
+use Rattle.std.proofs.Common.{◌≡◌, ◌<◌, [], length, get_or, refl, sym, ap, ◌∙◌, arith}
 use Rattle.std.proofs.lemmas.List.{get_or-map, length-map}
-use Rattle.als_record.specs.declared.record.Record.{Record}
 use Rattle.als_analysis.specs.Open.{Open, rows_of, left_of}
 use Rattle.als_analysis.specs.Noted.{Table}
 use Rattle.als_analysis.proofs.LogSteps.{Found, row-found, row-absent}
