@@ -23,3 +23,6 @@ pub mod Takeover
 pub mod TailLength
 pub mod Places
 pub mod Held
+pub mod Falling
+pub mod CommitSteps
+pub mod Chain
