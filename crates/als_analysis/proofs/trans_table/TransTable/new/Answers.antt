@@ -1,0 +1,9 @@
+use Rattle.std.proofs.Common.{◌≡◌, refl, ap}
+use Rattle.als_record.specs.Transactions.{transactions, unended, surviving}
+use Rattle.als_record.specs.Table.{table_of}
+use Rattle.als_analysis.specs.Open.{rows_of, left_of}
+use Rattle.als_analysis.proofs.trans_table.TransTable.new.Goals as goal
+
+pub returns : goal.returns
+unfolding table_of unended transactions
+returns c = record { rows = ap rows_of c.new.ensures.items; left = ap left_of c.new.ensures.items }
