@@ -1,0 +1,13 @@
+//! Which record may follow a valid log: what is kept of the log, and the causes for which a record is refused.
+#![tactic(auto)]
+
+// Why a record is not admitted.
+mod fault;
+// Images compared and copied.
+mod images;
+// What is kept of a key.
+mod key_state;
+// What is kept of all keys.
+mod keys;
+
+pub use fault::Fault;
