@@ -1,29 +1,33 @@
 -- The table as it is kept, through one more record: an entry replaced, added or taken away.
 use Rattle.std.proofs.Common.{◌≡◌, ◌≢◌, ℕ, ◌+◌, ◌-◌, ◌*◌, ◌≤◌, ◌<◌, ◌^◌, Bool, true, false, List, [], ◌∷◌, ◌++◌, length, get_or, set, map, inl, inr, ◌⊎◌, refl, sym, ap, ◌∙◌, subst, arith, length-append, zero, suc, take, drop, le_of_suc-le-suc, not-suc-le-zero}
 use Rattle.std.specs.List.{All, AllPairs, sum_by, remove}
-use Rattle.std.proofs.lemmas.Bool.{cases_eq, cases_lt, false≢true}
-use Rattle.std.proofs.lemmas.List.{length-set, length_push, get_or-set_same, get_or-set_other, get_or_default, get_or_append_left, get_or-map, set_past, map-set, set-get_or}
+use Rattle.std.proofs.lemmas.Bool.{cases_eq, cases_lt, ne_eqb, false≢true}
+use Rattle.std.proofs.lemmas.List.{length-map, length-set, length_push, get_or-set_same, get_or-set_other, get_or_default, get_or_append_left, get_or-map, set_past, map-set, set-get_or}
 use Rattle.std.proofs.lemmas.List.Sums.{sum_by_push, sum_by-le, sum_by-set, sum_by-remove, get_or-le-sum_by}
 use Rattle.std.proofs.lemmas.List.Elements.{All-push, All-set}
 use Rattle.std.proofs.lemmas.List.Quantifiers.{all_pairs_push, all_pairs_remove}
 use Rattle.std.proofs.lemmas.List.Edits.{length-remove, get_or-remove_below, get_or-remove_above}
 use Rattle.std.specs.List.Sorted.{IsNonDecreasingBy}
 use Rattle.als_record.specs.declared.transaction_row.TransactionRow.{TransactionRow}
-use Rattle.als_analysis.specs.Open.{Open, owed, owed_limit}
-use Rattle.als_analysis.specs.Kept.{IsRising, HasRoom, IsKept, MakesRoom}
+use Rattle.als_record.specs.Transactions.{is_among}
+use Rattle.als_record.specs.Table.{fresh_row}
+use Rattle.als_analysis.specs.Open.{Open, owed, owed_limit, rows_of}
+use Rattle.als_analysis.specs.Kept.{IsRising, IsPlace, numbers, HasRoom, IsKept, MakesRoom}
 
 pub rising-sorted : (xs : List Open) → IsRising xs → IsNonDecreasingBy (λ o. o.row.trans.0) xs
 rising-sorted xs r i j d le lt = elim (cases_lt i j) [
-    inl l ↦ let h : (get_or xs i d).row.trans.0 < (get_or xs j d).row.trans.0 = r i j d l lt in omega arith
-  | inr g ↦ let e : i ≡ j = omega arith in subst (λ k. (get_or xs i d).row.trans.0 ≤ (get_or xs k d).row.trans.0) e (omega arith) ]
+  | inl l ↦ let h : (get_or xs i d).row.trans.0 < (get_or xs j d).row.trans.0 = r i j d l lt in omega arith
+  | inr g ↦ let e : i ≡ j = omega arith in subst (λ k. (get_or xs i d).row.trans.0 ≤ (get_or xs k d).row.trans.0) e (omega arith)
+]
 
 -- what is true of each element is so of each that is left
 pub All-remove : {X : Type 0} (P : X → Type 0) (xs : List X) (i : ℕ) → i < length xs → All P xs → All P (remove xs i)
 All-remove {X} P xs i lt a k d l =
     let n : length (remove xs i) + 1 ≡ length xs = length-remove xs i lt in
     elim (cases_lt k i) [
-        inl b ↦ subst P (sym (get_or-remove_below xs i d k b lt)) (a k d (omega arith))
-      | inr b ↦ subst P (sym (get_or-remove_above xs i d k b lt)) (a (k + 1) d (omega arith)) ]
+      | inl b ↦ subst P (sym (get_or-remove_below xs i d k b lt)) (a k d (omega arith))
+      | inr b ↦ subst P (sym (get_or-remove_above xs i d k b lt)) (a (k + 1) d (omega arith))
+    ]
 
 -- all that is owed is far below 2^64
 pub owed-bound : (xs : List Open) → length xs ≤ 256 → All (λ o. owed o ≤ owed_limit) xs → sum_by owed xs ≤ 256 * owed_limit
@@ -36,8 +40,9 @@ module _ (xs ys : List Open) (reserve tight capacity : ℕ) (k : IsKept xs ys re
   module _ (i : ℕ) (d o : Open) (lt : i < length xs) (same : o.row.trans.0 ≡ (get_or xs i d).row.trans.0) where
     trans-set : (x : ℕ) (e : Open) → (get_or (set xs i o) x e).row.trans.0 ≡ (get_or xs x e).row.trans.0
     trans-set x e = elim (cases_eq x i) [
-        inl q ↦ ap (λ x. (get_or (set xs i o) x e).row.trans.0) q ∙ ap (λ (p : Open). p.row.trans.0) (get_or-set_same xs i o e lt) ∙ same ∙ ap (λ (p : Open). p.row.trans.0) (get_or_default xs i d e lt) ∙ ap (λ x. (get_or xs x e).row.trans.0) (sym q)
-      | inr n ↦ ap (λ (p : Open). p.row.trans.0) (get_or-set_other xs i x o e n) ]
+      | inl q ↦ ap (λ x. (get_or (set xs i o) x e).row.trans.0) q ∙ ap (λ (p : Open). p.row.trans.0) (get_or-set_same xs i o e lt) ∙ same ∙ ap (λ (p : Open). p.row.trans.0) (get_or_default xs i d e lt) ∙ ap (λ x. (get_or xs x e).row.trans.0) (sym q)
+      | inr n ↦ ap (λ (p : Open). p.row.trans.0) (get_or-set_other xs i x o e n)
+    ]
 
     pub kept-set : owed o ≤ owed_limit → IsKept (set xs i o) ys (reserve - owed (get_or xs i d) + owed o) i false capacity
     kept-set small = record {
@@ -76,14 +81,24 @@ module _ (xs ys : List Open) (reserve tight capacity : ℕ) (has_room : Bool) (k
   -- nothing is said of room
   pub kept-unready : (ys' : List Open) (capacity' : ℕ) → All (λ o. 0 < o.room) ys' → IsKept xs ys' reserve tight false capacity'
   kept-unready ys' capacity' spared = record {
-    rising = k.rising; few = k.few; limit = k.limit; counted = k.counted; spared = spared; but_one = k.but_one;
+    rising = k.rising;
+    few = k.few;
+    limit = k.limit;
+    counted = k.counted;
+    spared = spared;
+    but_one = k.but_one;
     room = λ f. absurd (false≢true f);
   }
 
   -- room where it was missing
   pub kept-ready : (ys' : List Open) (capacity' : ℕ) → All (λ o. 0 < o.room) ys' → length xs < capacity' → 0 < length ys' → length xs ≤ tight → IsKept xs ys' reserve tight true capacity'
   kept-ready ys' capacity' spared place spare past = record {
-    rising = k.rising; few = k.few; limit = k.limit; counted = k.counted; spared = spared; but_one = k.but_one;
+    rising = k.rising;
+    few = k.few;
+    limit = k.limit;
+    counted = k.counted;
+    spared = spared;
+    but_one = k.but_one;
     room = λ _. record { each = λ x e l. k.but_one x e l (λ q. absurd (omega arith)); place = place; spare = spare };
   }
 
@@ -103,24 +118,28 @@ module _ (xs ys : List Open) (reserve tight capacity : ℕ) (has_room : Bool) (k
     where
       trans : (x : ℕ) (e : Open) → (get_or (set xs tight o) x e).row.trans.0 ≡ (get_or xs x e).row.trans.0
       trans x e = elim (cases_eq x tight) [
-          inl q ↦ ap (λ x. (get_or (set xs tight o) x e).row.trans.0) q ∙ ap (λ (p : Open). p.row.trans.0) (get_or-set_same xs tight o e lt) ∙ ap (λ (r : TransactionRow). r.trans.0) row ∙ ap (λ (p : Open). p.row.trans.0) (get_or_default xs tight d e lt) ∙ ap (λ x. (get_or xs x e).row.trans.0) (sym q)
-        | inr n ↦ ap (λ (p : Open). p.row.trans.0) (get_or-set_other xs tight x o e n) ]
+        | inl q ↦ ap (λ x. (get_or (set xs tight o) x e).row.trans.0) q ∙ ap (λ (p : Open). p.row.trans.0) (get_or-set_same xs tight o e lt) ∙ ap (λ (r : TransactionRow). r.trans.0) row ∙ ap (λ (p : Open). p.row.trans.0) (get_or_default xs tight d e lt) ∙ ap (λ x. (get_or xs x e).row.trans.0) (sym q)
+        | inr n ↦ ap (λ (p : Open). p.row.trans.0) (get_or-set_other xs tight x o e n)
+      ]
 
       rooms : (x : ℕ) (e : Open) → x < length xs → 0 < (get_or (set xs tight o) x e).room
       rooms x e l = elim (cases_eq x tight) [
-          inl q ↦ subst (λ (p : Open). 0 < p.room) (sym (ap (λ x. get_or (set xs tight o) x e) q ∙ get_or-set_same xs tight o e lt)) room
-        | inr n ↦ subst (λ (p : Open). 0 < p.room) (sym (get_or-set_other xs tight x o e n)) (k.but_one x e l n) ]
+        | inl q ↦ subst (λ (p : Open). 0 < p.room) (sym (ap (λ x. get_or (set xs tight o) x e) q ∙ get_or-set_same xs tight o e lt)) room
+        | inr n ↦ subst (λ (p : Open). 0 < p.room) (sym (get_or-set_other xs tight x o e n)) (k.but_one x e l n)
+      ]
 
   pub kept-made : (xs' ys' : List Open) (capacity' : ℕ) → All (λ o. 0 < o.room) ys' → length xs < capacity' → 0 < length ys' → MakesRoom xs xs' tight → IsKept xs' ys' reserve tight true capacity'
   kept-made xs' ys' capacity' spared place spare m = elim (cases_lt tight (length xs)) [
-      inl lt ↦ subst (λ zs. IsKept zs ys' reserve tight true capacity') (sym m.is) (kept-ready_at ys' capacity' m.entry m.entry spared place spare lt (m.row m.entry lt) (m.left m.entry lt) (m.room lt))
-    | inr ge ↦ subst (λ zs. IsKept zs ys' reserve tight true capacity') (sym (m.is ∙ set_past xs tight m.entry ge)) (kept-ready ys' capacity' spared place spare ge) ]
+    | inl lt ↦ subst (λ zs. IsKept zs ys' reserve tight true capacity') (sym m.is) (kept-ready_at ys' capacity' m.entry m.entry spared place spare lt (m.row m.entry lt) (m.left m.entry lt) (m.room lt))
+    | inr ge ↦ subst (λ zs. IsKept zs ys' reserve tight true capacity') (sym (m.is ∙ set_past xs tight m.entry ge)) (kept-ready ys' capacity' spared place spare ge)
+  ]
 
 -- a place's entry replaced by one that a function does not tell from it
 pub map-made : {X Y : Type 0} (f : X → Y) (xs : List X) (i : ℕ) (o : X) → (i < length xs → f o ≡ f (get_or xs i o)) → map f (set xs i o) ≡ map f xs
 map-made {X} {Y} f xs i o same = elim (cases_lt i (length xs)) [
-    inl lt ↦ map-set f xs i o ∙ ap (λ y. set (map f xs) i y) (same lt ∙ sym (get_or-map f xs i o (f o) lt)) ∙ set-get_or (map f xs) i (f o)
-  | inr ge ↦ ap (map f) (set_past xs i o ge) ]
+  | inl lt ↦ map-set f xs i o ∙ ap (λ y. set (map f xs) i y) (same lt ∙ sym (get_or-map f xs i o (f o) lt)) ∙ set-get_or (map f xs) i (f o)
+  | inr ge ↦ ap (map f) (set_past xs i o ge)
+]
 
 -- ---- maps of lists, by places
 
@@ -134,3 +153,45 @@ module _ {X Y : Type 0} (f : X → Y) where
   remove-map [] i lt = absurd (not-suc-le-zero lt)
   remove-map (x ∷ xs) zero lt = refl
   remove-map (x ∷ xs) (suc i) lt = ap (λ ys. f x ∷ ys) (remove-map xs i (le_of_suc-le-suc lt))
+
+-- ---- places and rows
+
+abbrev entry_of : TransactionRow → Open
+entry_of row = record { row = row; left = []; room = 0 }
+
+pub place-above : (xs : List Open) (t p : ℕ) → IsPlace xs t p → p ≡ length xs → All (λ row. row.trans.0 < t) (rows_of xs)
+place-above xs t p h e k d lt =
+    let n : length (rows_of xs) ≡ length xs = length-map xs (λ o. o.row) in
+    let l : k < length xs = omega arith in
+    subst (λ (row : TransactionRow). row.trans.0 < t) (sym (get_or-map (λ (o : Open). o.row) xs k (entry_of d) d l)) (h.below k (entry_of d) (omega arith))
+
+pub above-place : (xs : List Open) (t p : ℕ) → IsPlace xs t p → All (λ row. row.trans.0 < t) (rows_of xs) → p ≡ length xs
+above-place xs t p h a = elim (cases_lt p (length xs)) [
+  | inr g ↦ let w : p ≤ length xs = h.within in omega arith
+  | inl l ↦
+      let n : length (rows_of xs) ≡ length xs = length-map xs (λ o. o.row) in
+      let low : t ≤ (get_or xs p (entry_of (fresh_row 0))).row.trans.0 = h.above p (entry_of (fresh_row 0)) (omega arith) l in
+      let high : (get_or xs p (entry_of (fresh_row 0))).row.trans.0 < t = subst (λ (row : TransactionRow). row.trans.0 < t) (get_or-map (λ (o : Open). o.row) xs p (entry_of (fresh_row 0)) (fresh_row 0) l) (a p (fresh_row 0) (omega arith)) in
+      absurd (omega arith)
+]
+
+not-among : (rows : List TransactionRow) (t : ℕ) → ((k : ℕ) (d : TransactionRow) → k < length rows → (get_or rows k d).trans.0 ≡ t → ⊥) → is_among (numbers rows) t ≡ false
+not-among [] t h = refl
+not-among (row ∷ rest) t h = rw (ne_eqb row.trans.0 t (h 0 row (omega arith))) (not-among rest t (λ k d l. h (suc k) d (omega arith)))
+
+pub absent-place : (xs : List Open) (t p : ℕ) → IsRising xs → IsPlace xs t p → ((o : Open) → p < length xs → (get_or xs p o).row.trans.0 ≡ t → ⊥) → is_among (numbers (rows_of xs)) t ≡ false
+absent-place xs t p r h ne = not-among (rows_of xs) t (λ k d lt q.
+    let n : length (rows_of xs) ≡ length xs = length-map xs (λ o. o.row) in
+    let l : k < length xs = omega arith in
+    let e : (get_or xs k (entry_of d)).row.trans.0 ≡ t = ap (λ (row : TransactionRow). row.trans.0) (sym (get_or-map (λ (o : Open). o.row) xs k (entry_of d) d l)) ∙ q in
+    elim (cases_lt k p) [
+      | inl b ↦ let low : (get_or xs k (entry_of d)).row.trans.0 < t = h.below k (entry_of d) b in omega arith
+      | inr b ↦ elim (cases_eq k p) [
+        | inl s ↦ ne (entry_of d) (subst (λ k. k < length xs) s l) (subst (λ k. (get_or xs k (entry_of d)).row.trans.0 ≡ t) s e)
+        | inr s ↦
+            let pk : p < k = omega arith in
+            let low : t ≤ (get_or xs p (entry_of d)).row.trans.0 = h.above p (entry_of d) (omega arith) (omega arith) in
+            let up : (get_or xs p (entry_of d)).row.trans.0 < (get_or xs k (entry_of d)).row.trans.0 = r p k (entry_of d) pk l in
+            omega arith
+      ]
+    ])

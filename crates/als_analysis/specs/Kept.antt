@@ -1,7 +1,12 @@
 -- How the table is kept: in order, counted, and with room but at one place.
-use Rattle.std.specs.Prelude.{◌≡◌, ℕ, ◌≤◌, ◌<◌, Bool, true, List, length, slice_index_or, slice_set}
+use Rattle.std.specs.Prelude.{◌≡◌, ℕ, ◌≤◌, ◌<◌, Bool, true, List, length, slice_index_or, slice_set, map}
 use Rattle.std.specs.List.{All, AllPairs, sum_by}
+use Rattle.als_record.specs.declared.transaction_row.TransactionRow.{TransactionRow}
 use Rattle.als_analysis.specs.Open.{Open, owed, owed_limit}
+
+-- the TransIDs of rows
+abbrev pub numbers : List TransactionRow → List ℕ
+numbers rows = map (λ row. row.trans.0) rows
 
 -- the transactions stand in rising TransID
 abbrev pub IsRising : List Open → Type 0

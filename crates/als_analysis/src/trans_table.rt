@@ -1,13 +1,13 @@
-ghost use Rattle.std.specs.Prelude.{◌≡◌, ◌≢◌, ℕ, ◌<◌, ◌≤◌, ◌+◌, true, false, IsTrue, List, [], ◌∷◌, ◌++◌, length, vec_len, vec_capacity, slice_index_or, slice_set, Some, None, IfOk, OnOk, OnErr, IsOk, Ok, Err, if◌then◌else◌};
+ghost use Rattle.std.specs.Prelude.{◌≡◌, ◌≢◌, ℕ, ◌<◌, ◌≤◌, ◌+◌, true, false, IsTrue, List, [], ◌∷◌, ◌++◌, length, vec_len, vec_capacity, slice_index_or, slice_set, IfSome, IfNone, OnOk, OnErr, IsOk, ◌↔◌, if◌then◌else◌};
 ghost use Rattle.std.specs.List.{remove, All};
 ghost use Rattle.als_record.specs.declared.record.Record.{Record};
 ghost use Rattle.als_record.specs.declared.transaction_row.TransactionRow.{TransactionRow};
-ghost use Rattle.als_record.specs.Transactions.{is_transactional, is_end, is_unended, surviving, undo_next_of};
+ghost use Rattle.als_record.specs.Transactions.{is_transactional, is_end, is_among, is_unended, surviving, undo_next_of};
 ghost use Rattle.als_record.specs.Table.{table_of, row_after, fresh_row};
 ghost use Rattle.als_record.specs.Tail.{tail_len};
 ghost use Rattle.als_record.specs.Validity.{may_follow};
-ghost use Rattle.als_analysis.specs.Open.{left_after, rows_of};
-ghost use Rattle.als_analysis.specs.Kept.{IsRising, IsPlace, MakesRoom};
+ghost use Rattle.als_analysis.specs.Open.{left_after, rows_of, left_of};
+ghost use Rattle.als_analysis.specs.Kept.{IsRising, IsPlace, MakesRoom, numbers};
 ghost use Rattle.als_analysis.specs.Noted.{IsTableOf};
 
 use crate::fault::Fault;
@@ -43,6 +43,20 @@ impl Model for TransTable {
     ghost view = { λ t. record { rows = rows_of t.entries.items; left = left_of t.entries.items; has_room = t.has_room } };
 
     ghost invariant = { λ t. IsKept t.entries.items t.spares.items t.reserve t.tight t.has_room (vec_capacity t.entries) };
+}
+
+/// Whether a record ends its transaction.
+fn is_end_record(body: &Body) -> bool
+    ensures { result ≡ is_end body.now }
+{
+    matches!(body, Body::End)
+}
+
+/// Whether a record belongs to a transaction: all but those of checkpoints.
+fn is_transaction_record(body: &Body) -> bool
+    ensures { result ≡ is_transactional body.now }
+{
+    !matches!(body, Body::BeginCheckpoint | Body::EndCheckpoint { .. })
 }
 
 /// The first place whose transaction is not below this one.
@@ -109,6 +123,7 @@ impl TransTable {
     pub fn reserve(&mut self) -> Result<(), Fault>
         ensures ok { OnOk result (self.new ≡ record self.old { has_room = true }) }
         ensures err { OnErr result (self.new ≡ self.old) }
+        ensures reserved { self.old.has_room ≡ true → IsOk result }
     {
         if self.has_room {
             return Ok(());
@@ -168,5 +183,126 @@ impl TransTable {
             }
             None => unreachable!(),
         }
+    }
+
+    /// The place of a transaction's row.
+    fn find(&self, trans: TransId) -> Option<usize>
+        ensures within { IfSome result (λ i. i < length self.now.rows) }
+        ensures here { IfSome result (λ i. (d : TransactionRow) → (slice_index_or self.now.rows i d).trans.0 ≡ trans.0) }
+        ensures none { IfNone result (is_among (numbers self.now.rows) trans.0 ≡ false) }
+    {
+        let entries = self.entries.as_slice();
+        let at = place_of(entries, trans);
+        if at >= entries.len() {
+            return None;
+        }
+        let row = entries[at].row();
+        if row.trans.0 != trans.0 {
+            return None;
+        }
+        Some(at)
+    }
+
+    /// Whether there is place for a transaction above all others.
+    fn can_begin(&self, trans: TransId) -> bool
+        ensures { IsTrue result ↔ ((length self.now.rows < 256) × All (λ row. row.trans.0 < trans.0) self.now.rows) }
+    {
+        self.entries.len() < TRANSACTION_LIMIT
+            && place_of(self.entries.as_slice(), trans) == self.entries.len()
+    }
+
+    /// A record of a transaction with a row.
+    fn note_known(&mut self, at: usize, logged: &Record)
+        requires room { self.old.has_room ≡ true }
+        requires within { at < length self.old.rows }
+        requires here { (d : TransactionRow) → (slice_index_or self.old.rows at d).trans.0 ≡ logged.now.trans.0 }
+        requires kind { is_transactional logged.now.body ≡ true }
+        ensures { (log : List Record) → IsTableOf self.old log → IsTrue (may_follow log logged.now) → IsTableOf self.new (log ++ logged.now ∷ []) }
+    {
+        if is_end_record(&logged.body) {
+            self.close(at);
+            return;
+        }
+        self.extend(at, logged);
+    }
+
+    /// A record of a transaction without a row. One that can't follow a valid log may be passed over.
+    fn note_new(&mut self, logged: &Record)
+        requires room { self.old.has_room ≡ true }
+        requires absent { is_among (numbers self.old.rows) logged.now.trans.0 ≡ false }
+        requires kind { is_transactional logged.now.body ≡ true }
+        ensures { (log : List Record) → IsTableOf self.old log → IsTrue (may_follow log logged.now) → IsTableOf self.new (log ++ logged.now ∷ []) }
+    {
+        if is_end_record(&logged.body) {
+            return;
+        }
+        if !self.can_begin(logged.trans) {
+            return;
+        }
+        self.begin(logged);
+    }
+
+    /// A record for which there is room.
+    fn put(&mut self, logged: &Record)
+        requires room { self.old.has_room ≡ true }
+        ensures { (log : List Record) → IsTableOf self.old log → IsTrue (may_follow log logged.now) → IsTableOf self.new (log ++ logged.now ∷ []) }
+    {
+        if !is_transaction_record(&logged.body) {
+            return;
+        }
+        match self.find(logged.trans) {
+            Some(at) => self.note_known(at, logged),
+            None => self.note_new(logged),
+        }
+    }
+
+    /// Notes a record: of the table of a log it makes the table of the log with that record, where the record may follow.
+    /// Of any other record it is only said that nothing breaks. An `Err` (Memory) changes nothing, and does not come right
+    /// after `reserve`. The cost does not depend on how long the log is, nor on how many updates of a transaction survive.
+    pub fn note(&mut self, logged: &Record) -> Result<(), Fault>
+        ensures ok { OnOk result ((log : List Record) → IsTableOf self.old log → IsTrue (may_follow log logged.now) → IsTableOf self.new (log ++ logged.now ∷ [])) }
+        ensures err { OnErr result (self.new ≡ self.old) }
+        ensures reserved { self.old.has_room ≡ true → IsOk result }
+    {
+        self.reserve()?;
+        self.put(logged);
+        Ok(())
+    }
+
+    /// The rows of the transaction table in rising TransID, each with the updates that survive of its transaction.
+    pub fn rows(&self) -> &[OpenTransaction]
+        ensures table { (log : List Record) → IsTableOf self.now log → rows_of result.now ≡ table_of log }
+        ensures rows { rows_of result.now ≡ self.now.rows }
+        ensures left { left_of result.now ≡ self.now.left }
+        ensures rising { IsRising result.now }
+    {
+        self.entries.as_slice()
+    }
+
+    /// UndoNxtLSN of a transaction's row: where its undo goes on, 0 where there is nothing to undo. `None`: it has no row.
+    pub fn undo_next_of(&self, trans: TransId) -> Option<Lsn>
+        ensures { (log : List Record) → IsTableOf self.now log → result ≡ (if is_unended log trans.0 then Some (record { 0 = undo_next_of log trans.0 }) else None) }
+    {
+        match self.find(trans) {
+            Some(at) => Some(self.entries[at].row().undo_next),
+            None => None,
+        }
+    }
+
+    /// The updates of an unended transaction that no compensation has undone, in order; none for any other.
+    pub fn survivors_of(&self, trans: TransId) -> &[Record]
+        ensures { (log : List Record) → IsTableOf self.now log → result.now ≡ (if is_unended log trans.0 then surviving log trans.0 else []) }
+    {
+        match self.find(trans) {
+            Some(at) => self.entries[at].survivors(),
+            None => &[],
+        }
+    }
+
+    /// The bytes that a takeover would append: a kept sum.
+    pub fn reserve_bytes(&self) -> u64
+        ensures { (log : List Record) → IsTableOf self.now log → result ≡ tail_len log }
+    {
+        self.reserve
     }
 }

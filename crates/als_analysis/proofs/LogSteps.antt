@@ -1,0 +1,275 @@
+-- The table of a log, through one more record.
+use Rattle.std.proofs.Common.{◌≡◌, ◌≢◌, ℕ, ◌==◌, ◌+◌, ◌-◌, ◌≤◌, ◌<◌, max, nat_le, Bool, true, false, cond, not, ◌&&◌, ◌||◌, List, [], ◌∷◌, ◌++◌, length, get_or, set, map, filter, reverse, take, inl, inr, ◌⊎◌, refl, sym, ap, ◌∙◌, subst, arith, zero, suc, le_of_suc-le-suc, not-suc-le-zero}
+use Rattle.std.specs.Prelude.{Option, Some, None, IsTrue}
+use Rattle.std.specs.List.{All, remove}
+use Rattle.std.proofs.lemmas.Bool.{cases_Bool, cases_eq, cases_lt, eqb-true, eq-eqb, false≢true, and_parts, le-leb, or_parts, not-true, lt-ltb}
+use Rattle.std.proofs.lemmas.List.{get_or-map, length-map, map_push, length_push}
+use Rattle.als_record.specs.declared.record.Body.{Body}
+use Rattle.als_record.specs.declared.record.Body.TheVariants.{Update, Compensation, Commit, Rollback, End, BeginCheckpoint, EndCheckpoint}
+use Rattle.als_record.specs.declared.record.Record.{Record}
+use Rattle.als_record.specs.declared.transaction_row.TransactionRow.{TransactionRow}
+use Rattle.als_record.specs.Transactions.{is_transactional, is_end, is_update, is_compensation, is_of, to_undo_after, to_undo, surviving, has_begun, records_of, is_unended, unended, is_among, greatest_trans, undo_next_of}
+use Rattle.als_record.specs.Table.{row_of, table_of, row_after, fresh_row}
+use Rattle.als_record.specs.Validity.{old_transaction, too_many, may_follow}
+use Rattle.als_record.proofs.Records.{to_undo-own, surviving-other, surviving-own_update, surviving-own_compensation, to_undo-none, has_begun-own, has_begun-other, has_begun-unended}
+use Rattle.als_record.proofs.Numbers.{Apart, without, eqb-refl, eqb-sym, is_among-filter}
+use Rattle.als_record.proofs.Survivors.{log_induction}
+use Rattle.als_record.proofs.Unended.{unended-checkpoint, unended-more, unended-end, unended-new, unended-new_end, Apart-unended, is_among-unended, greatest_trans-push}
+use Rattle.als_record.proofs.TableSteps.{table_of-checkpoint, table_of-new, table_of-new_end}
+use Rattle.als_record.proofs.TableRows.{numbers, numbers-table_of, is_among-table_of, get_or-table_of, is_unended-row, table_of-set, table_of-remove}
+use Rattle.als_record.proofs.Validity.{Admitted, Admitted-may_follow}
+use Rattle.als_analysis.specs.Open.{left_after}
+use Rattle.als_analysis.specs.Noted.{Table, IsTableOf}
+use Rattle.als_analysis.proofs.KeptSteps.{remove-map}
+
+-- ---- maps of numbers that are apart
+
+module _ {Y : Type 0} (f g : ℕ → Y) (t : ℕ) (agree : (x : ℕ) → (x == t) ≡ false → f x ≡ g x) where
+  map-absent : (xs : List ℕ) → is_among xs t ≡ false → map f xs ≡ map g xs
+  map-absent [] n = refl
+  map-absent (x ∷ rest) n =
+      let parts : ((x == t) ≡ false) × (is_among rest t ≡ false) = or_parts (x == t) (is_among rest t) n in
+      let p : f x ≡ g x = agree x parts.0 in
+      let q : map f rest ≡ map g rest = map-absent rest parts.1 in
+      cc
+
+  among-at : (xs : List ℕ) (i : ℕ) → i < length xs → get_or xs i 0 ≡ t → is_among xs t ≡ true
+  among-at [] i lt q = absurd (not-suc-le-zero lt)
+  among-at (x ∷ rest) zero lt q = rw (eq-eqb x t q) refl
+  among-at (x ∷ rest) (suc i) lt q = rw (among-at rest i (le_of_suc-le-suc lt) q) (either (x == t))
+    where
+      either : (b : Bool) → (b || true) ≡ true
+      either true = refl
+      either false = refl
+
+  differs : (x : ℕ) (rest : List ℕ) (i : ℕ) → is_among rest x ≡ false → i < length rest → get_or rest i 0 ≡ t → (x == t) ≡ false
+  differs x rest i n lt q = elim (cases_Bool (x == t)) [
+    | inl e ↦ absurd (false≢true (sym n ∙ ap (is_among rest) (eqb-true x t e) ∙ among-at rest i lt q))
+    | inr e ↦ e
+  ]
+
+  map-at : (xs : List ℕ) (i : ℕ) → Apart xs → i < length xs → get_or xs i 0 ≡ t → map f xs ≡ set (map g xs) i (f t)
+  map-at [] i a lt q = absurd (not-suc-le-zero lt)
+  map-at (x ∷ rest) zero a lt q =
+      let p : f x ≡ f t = ap f q in
+      let m : map f rest ≡ map g rest = map-absent rest (ap (is_among rest) (sym q) ∙ a.0) in
+      cc
+  map-at (x ∷ rest) (suc i) a lt q =
+      let p : f x ≡ g x = agree x (differs x rest i a.0 (le_of_suc-le-suc lt) q) in
+      let m : map f rest ≡ set (map g rest) i (f t) = map-at rest i a.1 (le_of_suc-le-suc lt) q in
+      cc
+
+module _ (t : ℕ) where
+  without-all : (xs : List ℕ) → is_among xs t ≡ false → without t xs ≡ xs
+  without-all [] n = refl
+  without-all (x ∷ rest) n =
+      let parts : ((x == t) ≡ false) × (is_among rest t ≡ false) = or_parts (x == t) (is_among rest t) n in
+      rw parts.0 (ap (λ ys. x ∷ ys) (without-all rest parts.1))
+
+  without-remove : (xs : List ℕ) (i : ℕ) → Apart xs → i < length xs → get_or xs i 0 ≡ t → without t xs ≡ remove xs i
+  without-remove [] i a lt q = absurd (not-suc-le-zero lt)
+  without-remove (x ∷ rest) zero a lt q = rw (eq-eqb x t q) (without-all rest (ap (is_among rest) (sym q) ∙ a.0))
+  without-remove (x ∷ rest) (suc i) a lt q = rw (differs (λ n. n) (λ n. n) t (λ n e. refl) x rest i a.0 (le_of_suc-le-suc lt) q) (ap (λ ys. x ∷ ys) (without-remove rest i a.1 (le_of_suc-le-suc lt) q))
+
+-- ---- the survivors of one transaction
+
+module _ (log : List Record) (r : Record) (t : ℕ) (own : is_of t r ≡ true) where
+  pub surviving-own : surviving (log ++ r ∷ []) t ≡ left_after (surviving log t) r r.body
+  unfolding surviving
+  surviving-own = go r.body refl
+    where
+      same : (b : Body) → r.body ≡ b → to_undo_after (to_undo log t) r b ≡ to_undo log t → surviving (log ++ r ∷ []) t ≡ surviving log t
+      same b e s = ap reverse (to_undo-own log r t own ∙ ap (to_undo_after (to_undo log t) r) e ∙ s)
+
+      go : (b : Body) → r.body ≡ b → surviving (log ++ r ∷ []) t ≡ left_after (surviving log t) r b
+      go (Update key before after) e = surviving-own_update log r t own (ap is_update e)
+      go (Compensation undo_next key after) e = surviving-own_compensation log r t own (ap is_compensation e)
+      go Commit e = same Commit e refl
+      go Rollback e = same Rollback e refl
+      go End e = same End e refl
+      go BeginCheckpoint e = same BeginCheckpoint e refl
+      go (EndCheckpoint transactions pages) e = same (EndCheckpoint transactions pages) e refl
+
+surviving-none : (log : List Record) (t : ℕ) → has_begun log t ≡ false → surviving log t ≡ []
+unfolding surviving
+surviving-none log t n = ap reverse (to_undo-none log t n)
+
+-- ---- a transaction that has begun is not above the greatest
+
+has_begun-nil : (t : ℕ) → has_begun [] t ≡ false
+unfolding has_begun records_of
+has_begun-nil t = refl
+
+pub begun-le-greatest : (log : List Record) (t : ℕ) → has_begun log t ≡ true → t ≤ greatest_trans log
+begun-le-greatest log = log_induction (λ l. (t : ℕ) → has_begun l t ≡ true → t ≤ greatest_trans l) (λ t b. absurd (false≢true (sym (has_begun-nil t) ∙ b))) more log
+  where
+    more : (l : List Record) (r : Record) → ((t : ℕ) → has_begun l t ≡ true → t ≤ greatest_trans l) → (t : ℕ) → has_begun (l ++ r ∷ []) t ≡ true → t ≤ greatest_trans (l ++ r ∷ [])
+    more l r h t b = rw (greatest_trans-push l r) (elim (cases_Bool (is_of t r)) [
+      | inl o ↦ let e : r.trans.0 ≡ t = eqb-true r.trans.0 t (and_parts (is_transactional r.body) (r.trans.0 == t) o).1 in omega arith
+      | inr o ↦ let k : t ≤ greatest_trans l = h t (sym (has_begun-other l r t o) ∙ b) in omega arith
+    ])
+
+-- a transaction without a row, of which a record may follow, has not begun
+pub fresh-follows : (log : List Record) (r : Record) → may_follow log r ≡ true → is_transactional r.body ≡ true → is_unended log r.trans.0 ≡ false → greatest_trans log < r.trans.0
+unfolding old_transaction
+fresh-follows log r m w u = elim (cases_lt (greatest_trans log) r.trans.0) [
+  | inl lt ↦ lt
+  | inr ge ↦
+      let a : Admitted log r = Admitted-may_follow log r m in
+      let l : nat_le r.trans.0 (greatest_trans log) ≡ true = le-leb r.trans.0 (greatest_trans log) ge in
+      let f : (is_transactional r.body && not (is_unended log r.trans.0) && nat_le r.trans.0 (greatest_trans log)) ≡ true = rw (w, u, l) refl in
+      absurd (false≢true (sym a.old ∙ f))
+]
+
+pub not_begun : (log : List Record) (t : ℕ) → greatest_trans log < t → has_begun log t ≡ false
+not_begun log t g = elim (cases_Bool (has_begun log t)) [
+  | inr e ↦ e
+  | inl e ↦ let h : t ≤ greatest_trans log = begun-le-greatest log t e in absurd (omega arith)
+]
+
+-- ---- the rows of the table
+
+-- each unended transaction at its row's place
+pub get_or-unended : (log : List Record) (i : ℕ) (d : TransactionRow) → i < length (table_of log) → get_or (unended log) i 0 ≡ (get_or (table_of log) i d).trans.0
+get_or-unended log i d lt = ap (λ xs. get_or xs i 0) (sym (numbers-table_of log)) ∙ get_or-map (λ (row : TransactionRow). row.trans.0) (table_of log) i d 0 lt
+
+pub length-table_of : (log : List Record) → length (table_of log) ≡ length (unended log)
+length-table_of log = sym (length-map (table_of log) (λ row. row.trans.0)) ∙ ap length (numbers-table_of log)
+
+-- a transaction with a row is unended
+pub unended-at : (log : List Record) (i t : ℕ) (d : TransactionRow) → i < length (table_of log) → (get_or (table_of log) i d).trans.0 ≡ t → is_unended log t ≡ true
+unended-at log i t d lt e = sym (is_among-unended log t) ∙ among-at (λ n. n) (λ n. n) t (λ n q. refl) (unended log) i (subst (λ n. i < n) (length-table_of log) lt) (get_or-unended log i d lt ∙ e)
+
+-- what stands at a row's place
+pub record Found (log : List Record) (table : Table) (i t : ℕ) : Type 0 where
+  pub is_open : is_unended log t ≡ true
+  pub row : (d : TransactionRow) → get_or table.rows i d ≡ row_of log t
+  pub left : get_or table.left i [] ≡ surviving log t
+
+pub row-found : (log : List Record) (table : Table) (i t : ℕ) → IsTableOf table log → i < length table.rows → ((d : TransactionRow) → (get_or table.rows i d).trans.0 ≡ t) → Found log table i t
+row-found log table i t h within here =
+    let lt : i < length (table_of log) = subst (λ (rows : List TransactionRow). i < length rows) h.rows within in
+    let at : (get_or (table_of log) i (fresh_row 0)).trans.0 ≡ t = subst (λ (rows : List TransactionRow). (get_or rows i (fresh_row 0)).trans.0 ≡ t) h.rows (here (fresh_row 0)) in
+    record {
+      is_open = unended-at log i t (fresh_row 0) lt at;
+      row = λ d. ap (λ rows. get_or rows i d) h.rows ∙ get_or-table_of log i d lt ∙ ap (row_of log) (sym (ap (λ (rows : List TransactionRow). (get_or rows i d).trans.0) h.rows) ∙ here d);
+      left = ap (λ left. get_or left i []) h.left ∙ get_or-map (surviving log) (unended log) i 0 [] (subst (λ n. i < n) (length-table_of log) lt) ∙ ap (surviving log) (get_or-unended log i (fresh_row 0) lt ∙ at);
+    }
+
+pub row-absent : (log : List Record) (table : Table) (t : ℕ) → IsTableOf table log → is_among (numbers table.rows) t ≡ false → is_unended log t ≡ false
+row-absent log table t h absent = sym (is_among-table_of log t) ∙ subst (λ (rows : List TransactionRow). is_among (numbers rows) t ≡ false) h.rows absent
+
+pub undo_next_of-row : (log : List Record) (t : ℕ) → (row_of log t).undo_next ≡ record { 0 = undo_next_of log t }
+unfolding row_of
+undo_next_of-row log t = refl
+
+-- ---- one more record
+
+module _ (log : List Record) (r : Record) where
+  own : is_transactional r.body ≡ true → is_of r.trans.0 r ≡ true
+  own w = rw (w, eqb-refl r.trans.0) refl
+
+  off : (x : ℕ) → (x == r.trans.0) ≡ false → is_of x r ≡ false
+  off x e = go (is_transactional r.body) (eqb-sym r.trans.0 x ∙ e)
+    where
+      go : (w : Bool) → (r.trans.0 == x) ≡ false → (w && (r.trans.0 == x)) ≡ false
+      go true e = e
+      go false e = refl
+
+  agree : (x : ℕ) → (x == r.trans.0) ≡ false → surviving (log ++ r ∷ []) x ≡ surviving log x
+  agree x e = surviving-other log r x (off x e)
+
+  map-all : is_transactional r.body ≡ false → (xs : List ℕ) → map (surviving (log ++ r ∷ [])) xs ≡ map (surviving log) xs
+  map-all w [] = refl
+  map-all w (x ∷ rest) =
+      let p : surviving (log ++ r ∷ []) x ≡ surviving log x = surviving-other log r x (rw w refl) in
+      let q : map (surviving (log ++ r ∷ [])) rest ≡ map (surviving log) rest = map-all w rest in
+      cc
+
+  module _ (old new : Table) (h : IsTableOf old log) where
+    pub step-checkpoint : is_transactional r.body ≡ false → new.rows ≡ old.rows → new.left ≡ old.left → IsTableOf new (log ++ r ∷ [])
+    step-checkpoint w p q = record {
+      rows = p ∙ h.rows ∙ sym (table_of-checkpoint log r w);
+      left = q ∙ h.left ∙ sym (ap (map (surviving (log ++ r ∷ []))) (unended-checkpoint log r w) ∙ map-all w (unended log));
+    }
+
+    module _ (w : is_transactional r.body ≡ true) (i : ℕ) (d : TransactionRow) (within : i < length old.rows) (at : (get_or old.rows i d).trans.0 ≡ r.trans.0) where
+      lt : i < length (table_of log)
+      lt = subst (λ (rows : List TransactionRow). i < length rows) h.rows within
+
+      here : (get_or (table_of log) i d).trans.0 ≡ r.trans.0
+      here = subst (λ (rows : List TransactionRow). (get_or rows i d).trans.0 ≡ r.trans.0) h.rows at
+
+      place : get_or (unended log) i 0 ≡ r.trans.0
+      place = get_or-unended log i d lt ∙ here
+
+      inside : i < length (unended log)
+      inside = subst (λ n. i < n) (length-table_of log) lt
+
+      open_ : is_unended log r.trans.0 ≡ true
+      open_ = is_unended-row log r i d lt here
+
+      pub step-more : is_end r.body ≡ false → new.rows ≡ set old.rows i (row_after (get_or old.rows i d) r) → new.left ≡ set old.left i (left_after (get_or old.left i []) r r.body) → IsTableOf new (log ++ r ∷ [])
+      step-more e p q = record {
+        rows = p ∙ ap (λ rows. set rows i (row_after (get_or rows i d) r)) h.rows ∙ sym (table_of-set log r i d lt here w e);
+        left = q ∙ ap (λ left. set left i (left_after (get_or left i []) r r.body)) h.left
+            ∙ ap (λ us. set (map (surviving log) (unended log)) i (left_after us r r.body)) (get_or-map (surviving log) (unended log) i 0 [] inside ∙ ap (surviving log) place)
+            ∙ ap (λ us. set (map (surviving log) (unended log)) i us) (sym (surviving-own log r r.trans.0 (own w)))
+            ∙ sym (ap (map (surviving (log ++ r ∷ []))) (unended-more log r w e open_) ∙ map-at (surviving (log ++ r ∷ [])) (surviving log) r.trans.0 agree (unended log) i (Apart-unended log) inside place);
+      }
+
+      pub step-end : is_end r.body ≡ true → new.rows ≡ remove old.rows i → new.left ≡ remove old.left i → IsTableOf new (log ++ r ∷ [])
+      step-end e p q = record {
+        rows = p ∙ ap (λ rows. remove rows i) h.rows ∙ sym (table_of-remove log r i d lt here w e);
+        left = q ∙ ap (λ left. remove left i) h.left ∙ remove-map (surviving log) (unended log) i inside
+            ∙ ap (map (surviving log)) (sym (without-remove r.trans.0 (unended log) i (Apart-unended log) inside place))
+            ∙ sym (ap (map (surviving (log ++ r ∷ []))) (unended-end log r w e (has_begun-unended log r.trans.0 open_)) ∙ map-absent (surviving (log ++ r ∷ [])) (surviving log) r.trans.0 agree (without r.trans.0 (unended log)) gone);
+      }
+        where
+          gone : is_among (without r.trans.0 (unended log)) r.trans.0 ≡ false
+          gone = is_among-filter (λ x. not (x == r.trans.0)) r.trans.0 (unended log) ∙ rw (eqb-refl r.trans.0) refl
+
+    module _ (w : is_transactional r.body ≡ true) (m : may_follow log r ≡ true) (absent : is_among (numbers old.rows) r.trans.0 ≡ false) where
+      closed : is_unended log r.trans.0 ≡ false
+      closed = sym (is_among-table_of log r.trans.0) ∙ subst (λ (rows : List TransactionRow). is_among (numbers rows) r.trans.0 ≡ false) h.rows absent
+
+      begins : has_begun log r.trans.0 ≡ false
+      begins = not_begun log r.trans.0 (fresh-follows log r m w closed)
+
+      not_among : is_among (unended log) r.trans.0 ≡ false
+      not_among = is_among-unended log r.trans.0 ∙ closed
+
+      pub step-new_end : is_end r.body ≡ true → new.rows ≡ old.rows → new.left ≡ old.left → IsTableOf new (log ++ r ∷ [])
+      step-new_end e p q = record {
+        rows = p ∙ h.rows ∙ sym (table_of-new_end log r w e begins);
+        left = q ∙ h.left ∙ sym (ap (map (surviving (log ++ r ∷ []))) (unended-new_end log r w e begins) ∙ map-absent (surviving (log ++ r ∷ [])) (surviving log) r.trans.0 agree (unended log) not_among);
+      }
+
+      pub step-new : is_end r.body ≡ false → new.rows ≡ old.rows ++ row_after (fresh_row r.trans.0) r ∷ [] → new.left ≡ old.left ++ left_after [] r r.body ∷ [] → IsTableOf new (log ++ r ∷ [])
+      step-new e p q = record {
+        rows = p ∙ ap (λ rows. rows ++ row_after (fresh_row r.trans.0) r ∷ []) h.rows ∙ sym (table_of-new log r w e begins);
+        left = q ∙ ap (λ left. left ++ left_after [] r r.body ∷ []) h.left
+            ∙ ap (λ us. map (surviving log) (unended log) ++ us ∷ []) (ap (λ us. left_after us r r.body) (sym (surviving-none log r.trans.0 begins)) ∙ sym (surviving-own log r r.trans.0 (own w)))
+            ∙ ap (λ xs. xs ++ surviving (log ++ r ∷ []) r.trans.0 ∷ []) (sym (map-absent (surviving (log ++ r ∷ [])) (surviving log) r.trans.0 agree (unended log) not_among))
+            ∙ sym (ap (map (surviving (log ++ r ∷ []))) (unended-new log r w e begins) ∙ map_push (surviving (log ++ r ∷ [])) (unended log) r.trans.0);
+      }
+
+      -- there is place for it, above all rows
+      pub new-few : is_end r.body ≡ false → length old.rows < 256
+      unfolding too_many
+      new-few e =
+          let a : Admitted log r = Admitted-may_follow log r m in
+          let n : length (unended (log ++ r ∷ [])) ≡ length (unended log) + 1 = ap length (unended-new log r w e begins) ∙ length_push (unended log) r.trans.0 in
+          let k : length old.rows ≡ length (unended log) = ap length h.rows ∙ length-table_of log in
+          elim (cases_lt (length old.rows) 256) [
+            | inl l ↦ l
+            | inr g ↦ absurd (false≢true (sym a.many ∙ lt-ltb 256 (length (unended (log ++ r ∷ []))) (omega arith)))
+          ]
+
+      pub new-above : All (λ row. row.trans.0 < r.trans.0) old.rows
+      new-above i d within =
+          let lt : i < length (table_of log) = subst (λ (rows : List TransactionRow). i < length rows) h.rows within in
+          let u : is_unended log (get_or (table_of log) i d).trans.0 ≡ true = unended-at log i (get_or (table_of log) i d).trans.0 d lt refl in
+          let b : (get_or (table_of log) i d).trans.0 ≤ greatest_trans log = begun-le-greatest log (get_or (table_of log) i d).trans.0 (has_begun-unended log (get_or (table_of log) i d).trans.0 u) in
+          let g : greatest_trans log < r.trans.0 = fresh-follows log r m w closed in
+          subst (λ (rows : List TransactionRow). (get_or rows i d).trans.0 < r.trans.0) (sym h.rows) (omega arith)

@@ -1,0 +1,33 @@
+use Rattle.std.proofs.Common.{◌≡◌, ℕ, ◌<◌, ◌≤◌, false, List, length, get_or, sym, ap, ◌∙◌, subst, arith}
+use Rattle.std.proofs.lemmas.List.{get_or_default}
+use Rattle.als_record.specs.declared.transaction_row.TransactionRow.{TransactionRow}
+use Rattle.als_record.specs.Transactions.{is_among}
+use Rattle.als_analysis.specs.Open.{Open, rows_of}
+use Rattle.als_analysis.specs.Kept.{IsPlace, numbers}
+use Rattle.als_analysis.specs.Noted.{Table}
+use Rattle.als_analysis.proofs.KeptSteps.{absent-place}
+use Rattle.als_analysis.proofs.trans_table.TransTable.find.Goals as goal
+
+pub returns-then-at-entries-clause-none : goal.returns-then-at-entries-clause-none
+returns-then-at-entries-clause-none c =
+    let xs = c.self.inside.entries.items in
+    let t = c.args.trans.0 in
+    let p = c.place_of-at.result in
+    let same : c.as_slice-entries.result.now ≡ xs = c.as_slice-entries.ensures.value in
+    let place = subst (λ (zs : List Open). IsPlace zs t p) same c.place_of-at.ensures in
+    let past : length c.as_slice-entries.result.now ≤ p = c.if-at-entries.true in
+    let all : length c.as_slice-entries.result.now ≡ length xs = ap (λ (zs : List Open). length zs) same in
+    subst (λ (t' : Table). is_among (numbers t'.rows) t ≡ false) c.self.view_is (absent-place xs t p c.self.invariant.rising place (λ o lt q. absurd (omega arith)))
+
+pub returns-then-row-trans-clause-none : goal.returns-then-row-trans-clause-none
+returns-then-row-trans-clause-none c =
+    let xs = c.self.inside.entries.items in
+    let t = c.args.trans.0 in
+    let p = c.place_of-at.result in
+    let e = c.index-entries-at.result in
+    let same : c.as_slice-entries.result.now ≡ xs = c.as_slice-entries.ensures.value in
+    let place = subst (λ (zs : List Open). IsPlace zs t p) same c.place_of-at.ensures in
+    let here : e ≡ get_or xs p e = c.index-entries-at.is ∙ ap (λ (zs : List Open). get_or zs p e) same in
+    let row : c.row-row.result ≡ e.row = c.row-row.ensures in
+    subst (λ (t' : Table). is_among (numbers t'.rows) t ≡ false) c.self.view_is (absent-place xs t p c.self.invariant.rising place (λ o lt q.
+    c.if-row-trans.true (ap (λ (r : TransactionRow). r.trans.0) row ∙ ap (λ (o : Open). o.row.trans.0) (here ∙ get_or_default xs p e o lt) ∙ q)))

@@ -1,0 +1,9 @@
+use Rattle.std.proofs.Common.{◌≡◌, ap, ◌∙◌}
+use Rattle.als_analysis.specs.Noted.{Table}
+use Rattle.als_analysis.proofs.TailLength.{owed-tail}
+use Rattle.als_analysis.proofs.trans_table.TransTable.reserve_bytes.Goals as goal
+
+pub returns : goal.returns
+returns c log h =
+    c.self.invariant.counted
+    ∙ owed-tail log c.self.inside.entries.items (ap (λ (t : Table). t.rows) c.self.view_is ∙ h.rows) (ap (λ (t : Table). t.left) c.self.view_is ∙ h.left)

@@ -1,0 +1,155 @@
+use crate::{Fault, TransTable};
+use als_record::{Body, Image, Key, Lsn, Record, TransId, TransactionRow, TransactionState, Value};
+use std::process::Abort;
+
+// A value of one byte.
+fn byte(value: u8) -> Image {
+    let mut bytes = Value::new();
+    match bytes.try_push(value) {
+        Ok(()) => Some(bytes),
+        Err(_) => None,
+    }
+}
+
+fn record(lsn: u64, prev: u64, trans: u32, body: Body) -> Record {
+    Record {
+        lsn: Lsn(lsn),
+        prev: Lsn(prev),
+        trans: TransId(trans),
+        body,
+    }
+}
+
+// An update of a slot of page 0.
+fn update(lsn: u64, prev: u64, trans: u32, slot: u8, before: Image) -> Record {
+    let key = Key { page: 0, slot };
+    let after = byte(1);
+    record(lsn, prev, trans, Body::Update { key, before, after })
+}
+
+fn undo(lsn: u64, prev: u64, trans: u32, slot: u8, next: u64) -> Record {
+    let key = Key { page: 0, slot };
+    let undo_next = Lsn(next);
+    record(
+        lsn,
+        prev,
+        trans,
+        Body::Compensation {
+            undo_next,
+            key,
+            after: None,
+        },
+    )
+}
+
+fn row(trans: u32, state: TransactionState, last: u64, undo_next: u64) -> TransactionRow {
+    TransactionRow {
+        trans: TransId(trans),
+        state,
+        last: Lsn(last),
+        undo_next: Lsn(undo_next),
+    }
+}
+
+// Notes a record. A refused growth changes nothing, and is met once at most: the record is noted at the next try.
+fn note(rt: &impl Abort, table: &mut TransTable, logged: &Record) {
+    let open = table.rows().len();
+    let reserve = table.reserve_bytes();
+    if let Err(fault) = table.note(logged) {
+        assert_eq!(rt; fault, Fault::Memory);
+        assert_eq!(rt; fault.number(), 32);
+        assert_eq!(rt; fault.name(), "Memory");
+        assert_eq!(rt; table.rows().len(), open);
+        assert_eq!(rt; table.reserve_bytes(), reserve);
+        assert!(rt; table.note(logged).is_ok());
+    }
+}
+
+fn expect_row(rt: &impl Abort, table: &TransTable, place: usize, row: TransactionRow) {
+    match table.rows().get(place) {
+        None => panic!(rt; "no row at {place}"),
+        Some(open) => {
+            assert_eq!(rt; open.row(), row);
+            assert_eq!(rt; table.undo_next_of(row.trans), Some(row.undo_next));
+            assert_eq!(rt; table.survivors_of(row.trans).len(), open.survivors().len());
+        }
+    }
+}
+
+fn expect_survivors(rt: &impl Abort, table: &TransTable, trans: u32, lsns: &[u64]) {
+    let left = table.survivors_of(TransId(trans));
+    assert_eq!(rt; left.len(), lsns.len(), "of {trans}");
+    for (update, lsn) in left.iter().zip(lsns) {
+        assert_eq!(rt; update.lsn.0, *lsn, "of {trans}");
+    }
+}
+
+#[test]
+fn a_committed_and_an_active_transaction(rt: HostRuntime) {
+    let mut table = TransTable::new(rt.alloc());
+    note(&rt, &mut table, &update(16, 0, 1, 0, None));
+    assert_eq!(rt; table.reserve_bytes(), 70);
+    note(&rt, &mut table, &record(52, 16, 1, Body::Commit));
+    assert_eq!(rt; table.reserve_bytes(), 28);
+    note(&rt, &mut table, &update(80, 0, 2, 1, None));
+    note(&rt, &mut table, &update(116, 80, 2, 0, byte(0xaa)));
+    assert_eq!(rt; table.rows().len(), 2);
+    expect_row(&rt, &table, 0, row(1, TransactionState::Committed, 52, 16));
+    expect_row(&rt, &table, 1, row(2, TransactionState::Active, 116, 116));
+    expect_survivors(&rt, &table, 1, &[16]);
+    expect_survivors(&rt, &table, 2, &[80, 116]);
+    assert_eq!(rt; table.reserve_bytes(), 294 - 153);
+    note(&rt, &mut table, &record(153, 52, 1, Body::End));
+    assert_eq!(rt; table.rows().len(), 1);
+    assert_eq!(rt; table.undo_next_of(TransId(1)), None);
+    expect_survivors(&rt, &table, 1, &[]);
+    assert_eq!(rt; table.reserve_bytes(), 294 - 181);
+}
+
+#[test]
+fn a_transaction_rolled_back_to_its_start(rt: HostRuntime) {
+    let mut table = TransTable::new(rt.alloc());
+    note(&rt, &mut table, &update(16, 0, 1, 0, None));
+    note(&rt, &mut table, &undo(52, 16, 1, 0, 0));
+    note(&rt, &mut table, &update(94, 0, 2, 0, None));
+    note(&rt, &mut table, &record(130, 94, 2, Body::Commit));
+    expect_row(&rt, &table, 0, row(1, TransactionState::Active, 52, 0));
+    expect_row(&rt, &table, 1, row(2, TransactionState::Committed, 130, 94));
+    expect_survivors(&rt, &table, 1, &[]);
+    assert_eq!(rt; table.reserve_bytes(), 214 - 158);
+}
+
+#[test]
+fn a_partial_rollback(rt: HostRuntime) {
+    let mut table = TransTable::new(rt.alloc());
+    note(&rt, &mut table, &update(16, 0, 1, 0, None));
+    note(&rt, &mut table, &update(52, 16, 1, 1, None));
+    note(&rt, &mut table, &undo(88, 52, 1, 1, 16));
+    note(&rt, &mut table, &update(130, 88, 1, 2, None));
+    expect_row(&rt, &table, 0, row(1, TransactionState::Active, 130, 130));
+    expect_survivors(&rt, &table, 1, &[16, 130]);
+    assert_eq!(rt; table.reserve_bytes(), 278 - 166);
+    note(&rt, &mut table, &record(166, 130, 1, Body::Rollback));
+    expect_row(
+        &rt,
+        &table,
+        0,
+        row(1, TransactionState::RollingBack, 166, 130),
+    );
+    note(&rt, &mut table, &record(194, 0, 0, Body::BeginCheckpoint));
+    assert_eq!(rt; table.rows().len(), 1);
+}
+
+#[test]
+fn room_once_made_is_enough(rt: HostRuntime) {
+    let mut table = TransTable::new(rt.alloc());
+    for k in 0..40u32 {
+        if table.reserve().is_err() {
+            assert!(rt; table.reserve().is_ok());
+        }
+        let logged = update(16, 0, 1 + k % 4, 0, None);
+        assert!(rt; table.note(&logged).is_ok());
+    }
+    assert_eq!(rt; table.rows().len(), 4);
+    assert_eq!(rt; table.reserve_bytes(), 4 * 28 + 40 * 42);
+}
