@@ -1,5 +1,5 @@
 -- How large the counts are, and what a valid log with one more record says of that record.
-use Rattle.std.proofs.Common.{◌≡◌, ℕ, ◌==◌, ◌+◌, ◌*◌, ◌≤◌, ◌<◌, nat_lt, Bool, true, false, cond, not, ◌&&◌, ◌||◌, List, [], ◌∷◌, ◌++◌, length, count_by, refl, sym, ap, ◌∙◌, inl, inr, ◌⊎◌, subst, arith}
+use Rattle.std.proofs.Common.{◌≡◌, ℕ, ◌==◌, ◌+◌, ◌*◌, ◌≤◌, ◌<◌, nat_lt, Bool, true, false, cond, not, ◌&&◌, ◌||◌, List, [], ◌∷◌, ◌++◌, length, refl, sym, ap, ◌∙◌, inl, inr, ◌⊎◌, subst, arith}
 use Rattle.std.specs.List.{AllByRecursion}
 use Rattle.std.proofs.lemmas.Bool.{cases_Bool, false≢true, and_parts, ltb-false}
 use Rattle.als_record.specs.declared.key.Key.{Key}
@@ -48,7 +48,7 @@ updates_at-after k left r Commit = omega arith
 updates_at-after k left r Rollback = omega arith
 updates_at-after k left r End = omega arith
 updates_at-after k left r BeginCheckpoint = omega arith
-updates_at-after k left r (EndCheckpoint transactions pages) = omega arith
+updates_at-after k left r (EndCheckpoint rows pages) = omega arith
 
 updates_at-start : (k : Key) (t : ℕ) → updates_at k (to_undo [] t) * 2 + 16 ≤ end_of []
 unfolding to_undo records_of end_of

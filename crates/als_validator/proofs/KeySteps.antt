@@ -1,5 +1,5 @@
 -- What is kept of the keys, with one more record.
-use Rattle.std.proofs.Common.{◌≡◌, ◌≢◌, ℕ, ◌==◌, ◌+◌, ◌-◌, ◌*◌, ◌^◌, ◌≤◌, ◌<◌, min, Bool, true, false, cond, not, ◌&&◌, ◌||◌, List, [], ◌∷◌, ◌++◌, length, get_or, set, drop, count_by, Option, Some, None, refl, sym, ap, ◌∙◌, inl, inr, ◌⊎◌, subst, arith, get_or-set_other, get_or-set_same}
+use Rattle.std.proofs.Common.{◌≡◌, ◌≢◌, ℕ, ◌==◌, ◌+◌, ◌-◌, ◌*◌, ◌^◌, ◌≤◌, ◌<◌, min, Bool, true, false, cond, not, ◌&&◌, ◌||◌, List, [], ◌∷◌, ◌++◌, length, get_or, set, drop, Option, Some, None, refl, sym, ap, ◌∙◌, inl, inr, ◌⊎◌, subst, arith, get_or-set_other, get_or-set_same}
 use Rattle.std.specs.List.{list_any}
 use Rattle.std.proofs.lemmas.Bool.{cases_Bool, eqb-true, eq-eqb, ne_eqb, false≢true, true≢false, and_parts, or_parts}
 use Rattle.std.proofs.lemmas.List.{length-set}
@@ -31,11 +31,11 @@ before : (f g : Bool) → (f ≡ true → g ≡ true) → g ≡ false → f ≡ 
 before true g h e = absurd (false≢true (sym e ∙ h refl))
 before false g h e = refl
 
-count-none : (p : Record → Bool) (us : List Record) → list_any p us ≡ false → count_by p us ≡ 0
-count-none p [] e = refl
-count-none p (u ∷ us) e =
-    let parts : (p u ≡ false) × (list_any p us ≡ false) = or_parts (p u) (list_any p us) e in
-    rw parts.0 (count-none p us parts.1)
+count-none : (k : Key) (us : List Record) → list_any (λ u. is_update_at k u.body) us ≡ false → updates_at k us ≡ 0
+count-none k [] e = refl
+count-none k (u ∷ us) e =
+    let parts : (is_update_at k u.body ≡ false) × (list_any (λ u. is_update_at k u.body) us ≡ false) = or_parts (is_update_at k u.body) (list_any (λ u. is_update_at k u.body) us) e in
+    rw parts.0 (let m : updates_at k us ≡ 0 = count-none k us parts.1 in omega arith)
 
 some_left-any : (p : Record → Bool) (us : List Record) → list_any p us ≡ true → is_some_left us ≡ true
 some_left-any p [] e = e
@@ -113,7 +113,7 @@ module _ (log : List Record) (r : Record) (k : Key) (old : KeyState) (kept : IsK
 
         free : (t : ℕ) → is_of t r ≡ false → is_committed log t ≡ false → has_ended log t ≡ false → updates_at k (to_undo log t) ≡ 0
         free t o c h = elim (cases_Bool (holds log t k)) [
-            inr e ↦ count-none (λ u. is_update_at k u.body) (to_undo log t) e
+            inr e ↦ count-none k (to_undo log t) e
           | inl e ↦
               let l : is_loser log t ≡ true = loses log t (some_left-any (λ u. is_update_at k u.body) (to_undo log t) e) c h in
               let f : held_by log r ≡ Some (record { 0 = t }) = held_by-loser log r k fore after valid b t l (other_trans t w o) e in
@@ -184,13 +184,13 @@ module _ (log : List Record) (r : Record) (k : Key) (old : KeyState) (kept : IsK
           (image_now-push log r k ∙ ap (λ x. image_with k (image_now log k) (change_in r x)) b ∙ ap (λ c. cond c after (image_now log k)) same)
           (λ t. elim (cases_Bool (is_of t r)) [
               inr o ↦ inr o
-            | inl o ↦ inl (sym (one_less t o ∙ ap (λ c. cond c 1 0 + updates_at k (to_undo_after (to_undo log t) r r.body)) same)) ])
+            | inl o ↦ inl (let m : updates_at k (to_undo log t) ≡ 0 + updates_at k (to_undo_after (to_undo log t) r r.body) = one_less t o ∙ ap (λ c. cond c 1 0 + updates_at k (to_undo_after (to_undo log t) r r.body)) same in omega arith) ])
 
   -- an update of another key
   pub IsKeyOf-update_other : (key : Key) (fore after : Image) → r.body ≡ Update key fore after → same_key key k ≡ false → IsKeyOf old (log ++ r ∷ []) k
   IsKeyOf-update_other key fore after b same = untouched
       (image_now-push log r k ∙ ap (λ x. image_with k (image_now log k) (change_in r x)) b ∙ ap (λ c. cond c after (image_now log k)) same)
-      (λ t. inl (ap (λ x. updates_at k (to_undo_after (to_undo log t) r x)) b ∙ ap (λ c. cond c 1 0 + updates_at k (to_undo log t)) (ap (is_update_at k) b ∙ same)))
+      (λ t. inl (let m : updates_at k (to_undo_after (to_undo log t) r r.body) ≡ 0 + updates_at k (to_undo log t) = ap (λ x. updates_at k (to_undo_after (to_undo log t) r x)) b ∙ ap (λ c. cond c 1 0 + updates_at k (to_undo log t)) (ap (is_update_at k) b ∙ same) in omega arith))
 
   -- a record that writes nothing
   pub IsKeyOf-quiet : is_update r.body ≡ false → is_compensation r.body ≡ false → IsKeyOf old (log ++ r ∷ []) k
@@ -213,6 +213,16 @@ module _ (log : List Record) (r : Record) (k : Key) (old : KeyState) (kept : IsK
       same_left left End u c = refl
       same_left left BeginCheckpoint u c = refl
       same_left left (EndCheckpoint transactions pages) u c = refl
+
+-- neither an update nor a compensation
+pub quiet_of : (b : Body) → ((k : Key) (fore after : Image) → b ≡ Update k fore after → ⊥) → ((n : Lsn) (k : Key) (after : Image) → b ≡ Compensation n k after → ⊥) → (is_update b ≡ false) × (is_compensation b ≡ false)
+quiet_of (Update key before after) u c = absurd (u key before after refl)
+quiet_of (Compensation undo_next key after) u c = absurd (c undo_next key after refl)
+quiet_of Commit u c = (refl, refl)
+quiet_of Rollback u c = (refl, refl)
+quiet_of End u c = (refl, refl)
+quiet_of BeginCheckpoint u c = (refl, refl)
+quiet_of (EndCheckpoint transactions pages) u c = (refl, refl)
 
 -- ---- all keys
 
@@ -242,20 +252,22 @@ module _ (pages : ℕ) (log : List Record) (r : Record) (kept : List KeyState) (
           let n : place_of k ≢ place_of key = place_of-other key k fits.slot s e in
           subst (λ x. IsKeyOf x (log ++ r ∷ []) k) (sym (get_or-set_other kept (place_of key) (place_of k) new d n)) (others k (get_or kept (place_of k) d) (are.each k d p s) e) ] }
 
-  pub keys-update : (key : Key) (fore after : Image) → r.body ≡ Update key fore after → Follows pages log r → (old new : KeyState) → old ≡ get_or kept (place_of key) old → new.image ≡ after → new.holder ≡ r.trans → new.count ≡ cond (old.holder.0 == r.trans.0) (min (old.count + 1) (2 ^ 64 - 1)) 1 → AreKeysOf (set kept (place_of key) new) pages (log ++ r ∷ [])
-  keys-update key fore after b f old new is image holder count =
-      keys-set key new fits.0
-        (λ d i. IsKeyOf-update log r key old (subst (λ x. IsKeyOf x log key) (sym is) (are.each key old fits.0.page fits.0.slot)) f.valid f.admitted fore after b f.fits.lsn new image holder count)
-        (λ k o i e. IsKeyOf-update_other log r k o i key fore after b e)
+  pub keys-update : (key : Key) (fore after : Image) → r.body ≡ Update key fore after → Follows pages log r → (at : ℕ) → at ≡ place_of key → (d new : KeyState) → new.image ≡ after → new.holder ≡ r.trans → new.count ≡ cond ((get_or kept at d).holder.0 == r.trans.0) (min ((get_or kept at d).count + 1) (2 ^ 64 - 1)) 1 → AreKeysOf (set kept at new) pages (log ++ r ∷ [])
+  keys-update key fore after b f at place d new image holder count =
+      subst (λ n. AreKeysOf (set kept n new) pages (log ++ r ∷ [])) (sym place)
+        (keys-set key new fits.0
+          (λ _ _. IsKeyOf-update log r key (get_or kept at d) (subst (λ n. IsKeyOf (get_or kept n d) log key) (sym place) (are.each key d fits.0.page fits.0.slot)) f.valid f.admitted fore after b f.fits.lsn new image holder count)
+          (λ k o i e. IsKeyOf-update_other log r k o i key fore after b e))
     where
       fits : IsBody pages (Update key fore after)
       fits = subst (IsBody pages) b f.fits.body
 
-  pub keys-undo : (undo_next : Lsn) (key : Key) (after : Image) → r.body ≡ Compensation undo_next key after → Follows pages log r → (old new : KeyState) → old ≡ get_or kept (place_of key) old → new.image ≡ after → new.holder ≡ old.holder → new.count ≡ cond (old.holder.0 == r.trans.0) (old.count - 1) old.count → AreKeysOf (set kept (place_of key) new) pages (log ++ r ∷ [])
-  keys-undo undo_next key after b f old new is image holder count =
-      keys-set key new fits.1
-        (λ d i. IsKeyOf-undo log r key old (subst (λ x. IsKeyOf x log key) (sym is) (are.each key old fits.1.page fits.1.slot)) f.valid f.admitted undo_next key after b (same_key-refl key) new image holder count)
-        (λ k o i e. IsKeyOf-undo_other log r k o i f.valid f.admitted undo_next key after b e)
+  pub keys-undo : (undo_next : Lsn) (key : Key) (after : Image) → r.body ≡ Compensation undo_next key after → Follows pages log r → (at : ℕ) → at ≡ place_of key → (d new : KeyState) → new.image ≡ after → new.holder ≡ (get_or kept at d).holder → new.count ≡ cond ((get_or kept at d).holder.0 == r.trans.0) ((get_or kept at d).count - 1) (get_or kept at d).count → AreKeysOf (set kept at new) pages (log ++ r ∷ [])
+  keys-undo undo_next key after b f at place d new image holder count =
+      subst (λ n. AreKeysOf (set kept n new) pages (log ++ r ∷ [])) (sym place)
+        (keys-set key new fits.1
+          (λ _ _. IsKeyOf-undo log r key (get_or kept at d) (subst (λ n. IsKeyOf (get_or kept n d) log key) (sym place) (are.each key d fits.1.page fits.1.slot)) f.valid f.admitted undo_next key after b (same_key-refl key) new image holder count)
+          (λ k o i e. IsKeyOf-undo_other log r k o i f.valid f.admitted undo_next key after b e))
     where
       fits : IsBody pages (Compensation undo_next key after)
       fits = subst (IsBody pages) b f.fits.body

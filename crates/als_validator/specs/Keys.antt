@@ -1,5 +1,5 @@
 -- What is kept for each key: what it has now, and which transaction may hold it.
-use Rattle.std.specs.Prelude.{◌≡◌, ℕ, ◌+◌, ◌*◌, ◌≤◌, ◌<◌, ◌==◌, Bool, false, List, length, count_by, slice_index_or, if◌then◌else◌}
+use Rattle.std.specs.Prelude.{◌≡◌, ℕ, ◌+◌, ◌*◌, ◌≤◌, ◌<◌, ◌==◌, Bool, false, List, [], ◌∷◌, length, slice_index_or, if◌then◌else◌}
 use Rattle.als_record.specs.declared.key.Key.{Key}
 use Rattle.als_record.specs.declared.record.Record.{Record}
 use Rattle.als_record.specs.Transactions.{to_undo, is_committed, has_ended}
@@ -8,7 +8,8 @@ use Rattle.als_validator.specs.declared.key_state.KeyState.{KeyState}
 
 -- how many of these updates are of a key
 abbrev pub updates_at : Key → List Record → ℕ
-updates_at k us = count_by (λ u. is_update_at k u.body) us
+updates_at k [] = 0
+updates_at k (u ∷ rest) = (if is_update_at k u.body then 1 else 0) + updates_at k rest
 
 -- What is kept of a key is that of the log. Of the transactions that have neither committed nor ended only the one that is
 -- kept has surviving updates of the key, so many as are counted. Of one that is over nothing is said.

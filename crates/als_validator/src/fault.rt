@@ -62,3 +62,10 @@ impl<T: Drop> From<AllocFailed<T>> for Fault {
         Fault::Memory
     }
 }
+impl From<als_analysis::Fault> for Fault {
+    ghost from_gives = { λ _ e. e ≡ Memory };
+
+    fn from(_e: als_analysis::Fault) -> Fault {
+        Fault::Memory
+    }
+}
