@@ -10,4 +10,7 @@ mod key_state;
 // What is kept of all keys.
 mod keys;
 
+// What the causes ask of a transaction.
+mod past;
+
 pub use fault::Fault;
