@@ -31,7 +31,7 @@ before : (f g : Bool) → (f ≡ true → g ≡ true) → g ≡ false → f ≡ 
 before true g h e = absurd (false≢true (sym e ∙ h refl))
 before false g h e = refl
 
-count-none : (k : Key) (us : List Record) → list_any (λ u. is_update_at k u.body) us ≡ false → updates_at k us ≡ 0
+pub count-none : (k : Key) (us : List Record) → list_any (λ u. is_update_at k u.body) us ≡ false → updates_at k us ≡ 0
 count-none k [] e = refl
 count-none k (u ∷ us) e =
     let parts : (is_update_at k u.body ≡ false) × (list_any (λ u. is_update_at k u.body) us ≡ false) = or_parts (is_update_at k u.body) (list_any (λ u. is_update_at k u.body) us) e in

@@ -1,7 +1,8 @@
-ghost use Rattle.std.specs.Prelude.{◌≡◌, ℕ, ◌+◌, ◌*◌, ◌<◌, List, [], ◌∷◌, ◌++◌, OnOk, IfOk, slice_index_or, length};
+ghost use Rattle.std.specs.Prelude.{◌≡◌, ℕ, ◌+◌, ◌*◌, ◌<◌, List, [], ◌∷◌, ◌++◌, IfOk, IfErr, slice_index_or, length};
 ghost use Rattle.als_record.specs.declared.record.Record.{Record};
 ghost use Rattle.als_record.specs.declared.key.Key.{Key};
 ghost use Rattle.als_record.specs.Validity.{IsValidLog};
+ghost use Rattle.als_validator.specs.declared.fault.Fault.TheVariants.{Memory};
 ghost use Rattle.als_validator.specs.declared.key_state.KeyState.{KeyState};
 ghost use Rattle.als_validator.specs.Keys.{AreKeysOf, place_of};
 
@@ -22,7 +23,8 @@ pub(crate) fn place(key: Key) -> usize
 
 /// What is kept of the keys of a database with this many pages, of which nobody has written one.
 pub(crate) fn unwritten_keys(alloc: Global, pages: u32) -> Result<Vec<KeyState>, Fault>
-    ensures { IfOk result (λ keys. AreKeysOf keys.items pages []) }
+    ensures ok { IfOk result (λ keys. AreKeysOf keys.items pages []) }
+    ensures err { IfErr result (λ e. e ≡ Memory) }
 {
     let count = pages as usize * SLOTS;
     let mut keys = Vec::with_capacity(alloc, count)?;
