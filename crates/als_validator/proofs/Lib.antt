@@ -1,0 +1,4 @@
+pub mod Bounds
+pub mod KeySteps
+pub mod StateSteps
+pub mod HolderSteps

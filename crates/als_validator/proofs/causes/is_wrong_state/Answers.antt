@@ -1,0 +1,31 @@
+use Rattle.std.proofs.Common.{◌≡◌, ℕ, ◌==◌, nat_le, ◌≤◌, ◌<◌, Bool, true, false, cond, not, ◌&&◌, List, [], ◌∷◌, ◌++◌, length, Option, Some, None, refl, sym, ap, ◌∙◌, subst, arith}
+use Rattle.std.specs.Prelude.{is_none, is_some, option_copied}
+use Rattle.std.proofs.lemmas.Bool.{eq-eqb, ne_eqb, true≢false, false≢true}
+use Rattle.als_record.specs.declared.record.Body.{Body}
+use Rattle.als_record.specs.declared.record.Body.TheVariants.{Update, Compensation, Commit, Rollback, End, BeginCheckpoint, EndCheckpoint}
+use Rattle.als_record.specs.declared.record.Record.{Record}
+use Rattle.als_record.specs.Spelling.{IsBody, IsKey, Image}
+use Rattle.als_record.specs.Transactions.{is_transactional, is_end, is_update, to_undo, is_some_left, unended, is_loser, is_unended, is_committed}
+use Rattle.als_record.specs.Images.{same_image}
+use Rattle.als_record.specs.Table.{state_of, row_of}
+use Rattle.als_record.specs.Validity.{bad_prev, old_transaction, wrong_state, wrong_undo_next, wrong_compensation, before_image, saw_now, bad_checkpoint, fits_checkpoints}
+use Rattle.als_validator.specs.Keys.{IsKeyOf}
+use Rattle.als_validator.specs.Seen.{IsPastOf, IsOpenOf, first_of}
+use Rattle.als_validator.specs.Tests.{state_in, last_in, goes_on, barred, skips, misses}
+use Rattle.als_validator.proofs.StateSteps.{known_of, newest-known, state_in-known, is_some-first, is_some-copied, wrong_state-barred, wrong_state-checkpoint}
+use Rattle.als_validator.proofs.causes.is_wrong_state.Goals as goal
+
+pub returns-then-is_transaction_record : goal.returns-then-is_transaction_record
+returns-then-is_transaction_record c log p ids o =
+    let r = c.args.logged.now in
+    let w : is_transactional r.body ≡ true = sym c.is_transaction_record.ensures ∙ c.if-is_transaction_record.true in
+    let known = known_of log r w o in
+    let state : c.state_of.result ≡ state_of log r.trans.0 = c.state_of.ensures ∙ state_in-known log r.trans.0 known c.args.past.now.row p.row in
+    let left : c.is_some.result ≡ is_some_left (to_undo log r.trans.0) = c.is_some.ensures ∙ is_some-copied c.args.past.now.newest ∙ ap is_some (newest-known log r.trans.0 known (option_copied c.args.past.now.newest) p.newest) ∙ is_some-first (to_undo log r.trans.0) in
+    c.is_barred.ensures ∙ ap (λ s. barred s c.is_some.result r.body) state ∙ ap (λ l. barred (state_of log r.trans.0) l r.body) left ∙ sym (wrong_state-barred log r)
+
+pub returns : goal.returns
+returns c log p ids o =
+    let r = c.args.logged.now in
+    let w : is_transactional r.body ≡ false = sym c.is_transaction_record.ensures ∙ c.if-is_transaction_record.false in
+    c.is_listed.ensures ∙ ids.each r.trans.0 ∙ sym (wrong_state-checkpoint log r w)

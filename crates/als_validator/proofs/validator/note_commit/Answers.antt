@@ -1,0 +1,11 @@
+use Rattle.std.proofs.Common.{◌≡◌, ◌++◌, ◌∷◌, [], List, subst, sym}
+use Rattle.als_record.specs.declared.trans_id.TransId.{TransId}
+use Rattle.als_validator.specs.Seen.{AreCommitted}
+use Rattle.als_validator.proofs.StateSteps.{committed-push, committed-keep, not_commit}
+use Rattle.als_validator.proofs.validator.note_commit.Goals as goal
+
+pub returns-in-Commit : goal.returns-in-Commit
+returns-in-Commit c log are = rw c.push_reserved.ensures.items (committed-push c.args.committed.now.items log c.args.logged.now are c.in-Commit.is)
+
+pub returns-in_default : goal.returns-in_default
+returns-in_default c log are = committed-keep c.args.committed.now.items log c.args.logged.now are (not_commit c.args.logged.now.body c.in_default.not-Commit)

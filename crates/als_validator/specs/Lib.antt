@@ -1,0 +1,5 @@
+pub mod FaultNames
+pub mod Keys
+pub mod Seen
+pub mod Tests
+pub mod Validated

@@ -1,0 +1,276 @@
+ghost use Rattle.std.specs.Prelude.{◌≡◌, ◌==◌, ◌&&◌, ℕ, ◌≤◌, ◌<◌, not, true, false, List, length, Some, None, MatchOption, option_copied, is_none, nat_le, if◌then◌else◌};
+ghost use Rattle.std.specs.List.{list_any};
+ghost use Rattle.als_record.specs.declared.record.Record.{Record};
+ghost use Rattle.als_record.specs.declared.trans_id.TransId.{TransId};
+ghost use Rattle.als_record.specs.Spelling.{IsRecord, IsKey};
+ghost use Rattle.als_record.specs.Transactions.{is_transactional, is_end, is_loser, unended, greatest_trans};
+ghost use Rattle.als_record.specs.Images.{same_image, is_update_at, image_before};
+ghost use Rattle.als_record.specs.Validity.{bad_prev, old_transaction, wrong_state, wrong_undo_next, wrong_compensation, held_by, before_image, too_many, fits_checkpoints, bad_checkpoint, open_checkpoint, is_valid};
+ghost use Rattle.als_analysis.specs.Noted.{IsTableOf};
+ghost use Rattle.als_validator.specs.Keys.{AreKeysOf, IsKeyOf};
+ghost use Rattle.als_validator.specs.Seen.{IsPastOf, AreCommitted};
+ghost use Rattle.als_validator.specs.Tests.{state_in, last_in, goes_on, barred, skips, misses};
+
+use crate::images::is_same;
+use crate::key_state::KeyState;
+use crate::keys::place;
+use crate::past::{Past, open_of};
+use als_analysis::TransTable;
+use als_record::{Body, Image, Key, Lsn, Record, TransId, TransactionRow, TransactionState};
+
+/// How many transactions of a valid log are unended at most.
+const TRANSACTION_LIMIT: usize = 256;
+
+/// Whether a record belongs to a transaction: all but those of checkpoints.
+fn is_transaction_record(body: &Body) -> bool
+    ensures { result ≡ is_transactional body.now }
+{
+    !matches!(body, Body::BeginCheckpoint | Body::EndCheckpoint { .. })
+}
+
+/// Whether a record ends its transaction.
+fn is_end_record(body: &Body) -> bool
+    ensures { result ≡ is_end body.now }
+{
+    matches!(body, Body::End)
+}
+
+/// LastLSN of a row, 0 without one.
+fn last_of(row: Option<TransactionRow>) -> Lsn
+    ensures { result.0 ≡ last_in row }
+{
+    match row {
+        Some(row) => row.last,
+        None => Lsn(0),
+    }
+}
+
+/// What a transaction is doing.
+fn state_of(row: Option<TransactionRow>) -> TransactionState
+    ensures { result ≡ state_in row }
+{
+    match row {
+        Some(row) => row.state,
+        None => TransactionState::Active,
+    }
+}
+
+/// Whether a transaction in this state may not write a record.
+fn is_barred(state: TransactionState, left: bool, body: &Body) -> bool
+    ensures { result ≡ barred state left body.now }
+{
+    match (state, body) {
+        (TransactionState::Committed, Body::End) => false,
+        (TransactionState::Committed, _) => true,
+        (TransactionState::RollingBack, Body::Update { .. } | Body::Commit | Body::Rollback) => {
+            true
+        }
+        (_, Body::End) => left,
+        _ => false,
+    }
+}
+
+/// Whether this is an update of the key with this before image.
+fn is_undone_by(update: &Record, key: Key, after: &Image) -> bool
+    ensures { result ≡ (is_update_at key update.now.body && same_image after.now (image_before update.now.body)) }
+{
+    match &update.body {
+        Body::Update {
+            key: written,
+            before,
+            ..
+        } => written.page == key.page && written.slot == key.slot && is_same(after, before),
+        _ => false,
+    }
+}
+
+/// Whether a compensation does not go on where the newest surviving update says.
+fn does_skip(newest: Option<&Record>, body: &Body) -> bool
+    ensures { result ≡ skips (option_copied newest.entry) body.now }
+{
+    match (newest, body) {
+        (Some(update), Body::Compensation { undo_next, .. }) => undo_next.0 != update.prev.0,
+        _ => false,
+    }
+}
+
+/// Whether a compensation does not undo the newest surviving update.
+fn does_miss(newest: Option<&Record>, body: &Body) -> bool
+    ensures { result ≡ misses (option_copied newest.entry) body.now }
+{
+    match (newest, body) {
+        (None, Body::Compensation { .. }) => true,
+        (Some(update), Body::Compensation { key, after, .. }) => !is_undone_by(update, *key, after),
+        _ => false,
+    }
+}
+
+/// Whether PrevLSN is another than the LastLSN of this row.
+fn is_off_chain(row: Option<TransactionRow>, logged: &Record) -> bool
+    ensures { result ≡ (is_transactional logged.now.body && not (logged.now.prev.0 == last_in row)) }
+{
+    is_transaction_record(&logged.body) && logged.prev.0 != last_of(row).0
+}
+
+/// Whether a transaction without a row does not rise above the greatest TransID.
+fn is_below(row: Option<TransactionRow>, greatest: TransId, logged: &Record) -> bool
+    ensures { result ≡ (is_transactional logged.now.body && is_none row && nat_le logged.now.trans.0 greatest.0) }
+{
+    is_transaction_record(&logged.body) && row.is_none() && logged.trans.0 <= greatest.0
+}
+
+/// Whether a record makes one row more than the limit.
+fn does_overflow(row: Option<TransactionRow>, count: usize, logged: &Record) -> bool
+    ensures { result ≡ (is_transactional logged.now.body && not (is_end logged.now.body) && is_none row && nat_le 256 count) }
+{
+    is_transaction_record(&logged.body)
+        && !is_end_record(&logged.body)
+        && row.is_none()
+        && count >= TRANSACTION_LIMIT
+}
+
+/// Whether a checkpoint's record fits the one that is open.
+fn does_fit(begun: Lsn, logged: &Record) -> bool
+    ensures { result ≡ fits_checkpoints begun.0 logged.now logged.now.body }
+{
+    match &logged.body {
+        Body::BeginCheckpoint => logged.trans.0 == 0 && logged.prev.0 == 0,
+        Body::EndCheckpoint { .. } => {
+            logged.trans.0 == 0 && logged.prev.0 == begun.0 && begun.0 != 0
+        }
+        _ => true,
+    }
+}
+
+/// Whether a transaction that is unended is a loser.
+fn is_open(state: TransactionState) -> bool
+    ensures { result ≡ goes_on state }
+{
+    match state {
+        TransactionState::Committed => false,
+        TransactionState::Active | TransactionState::RollingBack => true,
+    }
+}
+
+/// Whether a transaction is among these.
+fn is_listed(ids: &[TransId], trans: TransId) -> bool
+    ensures { result ≡ list_any (λ (id : TransId). id.0 == trans.0) ids.now }
+{
+    ids.iter().any(|id| id.0 == trans.0)
+}
+
+/// 8: PrevLSN does not name the record before it of the same transaction.
+pub(crate) fn is_bad_prev(past: &Past, logged: &Record) -> bool
+    ensures { (log : List Record) → IsPastOf past.now log logged.now.trans.0 → result ≡ bad_prev log logged.now }
+{
+    is_off_chain(past.row, logged)
+}
+
+/// 9: a transaction that has ended, or a new one that does not rise above the greatest TransID.
+pub(crate) fn is_old(past: &Past, greatest: TransId, logged: &Record) -> bool
+    ensures { (log : List Record) → IsPastOf past.now log logged.now.trans.0 → greatest.0 ≡ greatest_trans log → result ≡ old_transaction log logged.now }
+{
+    is_below(past.row, greatest, logged)
+}
+
+/// 10: what the transaction may no longer write. A checkpoint's record may not name one that has committed.
+pub(crate) fn is_wrong_state(past: &Past, committed: &[TransId], logged: &Record) -> bool
+    ensures { (log : List Record) → IsPastOf past.now log logged.now.trans.0 → AreCommitted committed.now log → old_transaction log logged.now ≡ false → result ≡ wrong_state log logged.now }
+{
+    if is_transaction_record(&logged.body) {
+        return is_barred(state_of(past.row), past.newest.is_some(), &logged.body);
+    }
+    is_listed(committed, logged.trans)
+}
+
+/// 11: a compensation that does not pass over exactly the update that is to be undone.
+pub(crate) fn is_wrong_undo_next(past: &Past, logged: &Record) -> bool
+    ensures { (log : List Record) → IsPastOf past.now log logged.now.trans.0 → old_transaction log logged.now ≡ false → result ≡ wrong_undo_next log logged.now }
+{
+    does_skip(past.newest, &logged.body)
+}
+
+/// 12: a compensation of anything but the update that is to be undone.
+pub(crate) fn is_wrong_compensation(past: &Past, logged: &Record) -> bool
+    ensures { (log : List Record) → IsPastOf past.now log logged.now.trans.0 → old_transaction log logged.now ≡ false → result ≡ wrong_compensation log logged.now }
+{
+    does_miss(past.newest, &logged.body)
+}
+
+/// What is kept of a key.
+fn kept_of(keys: &[KeyState], key: Key) -> Option<&KeyState>
+    ensures { (pages : ℕ) (log : List Record) → AreKeysOf keys.now pages log → IsKey pages key → MatchOption result (true ≡ false) (λ kept. IsKeyOf kept.now log key) }
+{
+    let at = place(key);
+    if at < keys.len() {
+        return Some(&keys[at]);
+    }
+    None
+}
+
+/// Whether a transaction is unended and has not committed.
+fn is_losing(table: &TransTable, trans: TransId) -> bool
+    ensures { (log : List Record) → IsTableOf table.now log → result ≡ is_loser log trans.0 }
+{
+    match open_of(table, trans) {
+        Some(kept) => is_open(kept.row().state),
+        None => false,
+    }
+}
+
+/// 13: the transaction that holds the key of an update. What is kept of the key names one at most, which holds the key only
+/// while it is unended and not committed.
+pub(crate) fn holder_of(keys: &[KeyState], table: &TransTable, logged: &Record) -> Option<TransId>
+    ensures { (pages : ℕ) (log : List Record) → AreKeysOf keys.now pages log → IsTableOf table.now log → is_valid log ≡ true → IsRecord pages logged.now → result ≡ held_by log logged.now }
+{
+    match &logged.body {
+        Body::Update { key, .. } => match kept_of(keys, *key) {
+            Some(kept) => holder_in(kept, table, logged.trans),
+            None => None,
+        },
+        _ => None,
+    }
+}
+
+/// The transaction that holds a key against another one.
+fn holder_in(kept: &KeyState, table: &TransTable, trans: TransId) -> Option<TransId>
+    ensures { (log : List Record) → IsTableOf table.now log → result ≡ (if not (kept.now.count == 0) && not (kept.now.holder.0 == trans.0) && is_loser log kept.now.holder.0 then Some kept.now.holder else None) }
+{
+    if kept.count == 0 {
+        return None;
+    }
+    if kept.holder.0 == trans.0 {
+        return None;
+    }
+    if is_losing(table, kept.holder) {
+        return Some(kept.holder);
+    }
+    None
+}
+
+/// 14: an update whose before image is another than the key has.
+pub(crate) fn is_stale(keys: &[KeyState], logged: &Record) -> bool
+    ensures { (pages : ℕ) (log : List Record) → AreKeysOf keys.now pages log → IsRecord pages logged.now → result ≡ before_image log logged.now }
+{
+    match &logged.body {
+        Body::Update { key, before, .. } => match kept_of(keys, *key) {
+            Some(kept) => !is_same(before, &kept.image),
+            None => true,
+        },
+        _ => false,
+    }
+}
+
+/// 15: the first record of one transaction too many.
+pub(crate) fn is_one_too_many(past: &Past, count: usize, logged: &Record) -> bool
+    ensures { (log : List Record) → IsPastOf past.now log logged.now.trans.0 → count ≡ length (unended log) → is_valid log ≡ true → old_transaction log logged.now ≡ false → result ≡ too_many log logged.now }
+{
+    does_overflow(past.row, count, logged)
+}
+
+/// 16: a checkpoint's record that names a transaction, or does not fit those before it.
+pub(crate) fn is_bad_checkpoint(begun: Lsn, logged: &Record) -> bool
+    ensures { (log : List Record) → begun.0 ≡ open_checkpoint log → result ≡ bad_checkpoint log logged.now }
+{
+    !does_fit(begun, logged)
+}

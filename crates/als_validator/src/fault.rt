@@ -1,0 +1,71 @@
+ghost use Rattle.std.specs.Prelude.{◌≡◌};
+ghost use Rattle.als_validator.specs.declared.fault.Fault.TheVariants.{Memory};
+ghost use Rattle.als_validator.specs.FaultNames.{number_of, name_of};
+
+use als_record::Cause;
+use std::alloc::{AllocError, AllocFailed};
+use std::fmt;
+
+/// Why a record is not admitted, or why there is no room for it. The numbers are common to all crates.
+#[derive(Clone, Copy, Debug, PartialEq, Eq)]
+pub enum Fault {
+    /// The record may not follow the log.
+    Invalid(Cause),
+    /// A growth was refused.
+    Memory,
+}
+
+impl Fault {
+    /// The fault's number.
+    pub fn number(self) -> u32
+        ensures { result ≡ number_of self }
+    {
+        match self {
+            Fault::Invalid(cause) => cause.number(),
+            Fault::Memory => 32,
+        }
+    }
+
+    /// The fault's name, as programs print it.
+    pub fn name(self) -> &'static str
+        ensures { result.now ≡ name_of self }
+    {
+        match self {
+            Fault::Invalid(cause) => cause.name(),
+            Fault::Memory => "Memory",
+        }
+    }
+}
+
+impl fmt::Display for Fault {
+    fn fmt<W: fmt::Write>(&self, f: &mut fmt::Formatter<W>) -> fmt::Result {
+        let number = self.number();
+        let name = self.name();
+        write!(f, "{number} {name}")
+    }
+}
+
+impl std::error::Error for Fault {}
+
+impl From<AllocError> for Fault {
+    ghost from_gives = { λ _ e. e ≡ Memory };
+
+    fn from(_e: AllocError) -> Fault {
+        Fault::Memory
+    }
+}
+
+impl<T: Drop> From<AllocFailed<T>> for Fault {
+    ghost from_gives = { λ _ e. e ≡ Memory };
+
+    fn from(_e: AllocFailed<T>) -> Fault {
+        Fault::Memory
+    }
+}
+impl From<als_analysis::Fault> for Fault {
+    ghost from_gives = { λ _ e. e ≡ Memory };
+
+    fn from(_e: als_analysis::Fault) -> Fault {
+        Fault::Memory
+    }
+}

@@ -1,0 +1,54 @@
+ghost use Rattle.std.specs.Prelude.{◌≡◌, ◌==◌, ◌+◌, ◌-◌, ◌^◌, min, None, if◌then◌else◌};
+
+use crate::images::copy_of;
+use als_record::{Image, TransId};
+
+/// What is kept of a key: what it has, and how many surviving updates of it a transaction has. Once that transaction has
+/// committed or ended the count says nothing, and nobody clears it: the next update of the key does.
+#[derive(Drop)]
+pub(crate) struct KeyState {
+    pub(crate) image: Image,
+    pub(crate) holder: TransId,
+    pub(crate) count: u64,
+}
+
+impl KeyState {
+    /// A key that nobody has written.
+    pub(crate) fn unwritten() -> KeyState
+        ensures image { result.image ≡ None }
+        ensures count { result.count ≡ 0 }
+    {
+        KeyState {
+            image: None,
+            holder: TransId(0),
+            count: 0,
+        }
+    }
+
+    /// A transaction that may write the key updates it.
+    pub(crate) fn update(&mut self, trans: TransId, after: &Image)
+        ensures image { self.new.image ≡ after.now }
+        ensures holder { self.new.holder ≡ trans }
+        ensures count { self.new.count ≡ (if self.old.holder.0 == trans.0 then min (self.old.count + 1) (2 ^ 64 - 1) else 1) }
+    {
+        self.count = if self.holder.0 == trans.0 {
+            self.count.saturating_add(1)
+        } else {
+            1
+        };
+        self.holder = trans;
+        self.image = copy_of(after);
+    }
+
+    /// A transaction undoes an update of the key.
+    pub(crate) fn undo(&mut self, trans: TransId, after: &Image)
+        ensures image { self.new.image ≡ after.now }
+        ensures holder { self.new.holder ≡ self.old.holder }
+        ensures count { self.new.count ≡ (if self.old.holder.0 == trans.0 then self.old.count - 1 else self.old.count) }
+    {
+        if self.holder.0 == trans.0 {
+            self.count = self.count.saturating_sub(1);
+        }
+        self.image = copy_of(after);
+    }
+}

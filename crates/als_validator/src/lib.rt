@@ -1,0 +1,20 @@
+//! Which record may follow a valid log: what is kept of the log, and the causes for which a record is refused.
+#![tactic(auto)]
+
+// Each cause by itself.
+mod causes;
+// Why a record is not admitted.
+mod fault;
+// Images compared and copied.
+mod images;
+// What is kept of a key.
+mod key_state;
+// What is kept of all keys.
+mod keys;
+// What the causes ask of a transaction.
+mod past;
+// What is kept of a log, and asked of a record.
+mod validator;
+
+pub use fault::Fault;
+pub use validator::Validator;

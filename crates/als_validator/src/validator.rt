@@ -1,0 +1,185 @@
+ghost use Rattle.std.specs.Prelude.{◌≡◌, ◌≢◌, ◌<◌, vec_len, vec_capacity, ℕ, ◌+◌, List, [], ◌∷◌, ◌++◌, max, length, Ok, Err, IsOk, OnOk, OnErr, IfOk, IfErr, slice_index_or};
+ghost use Rattle.als_record.specs.declared.record.Record.{Record};
+ghost use Rattle.als_record.specs.Spelling.{IsRecord};
+ghost use Rattle.als_record.specs.Tail.{tail_len};
+ghost use Rattle.als_record.specs.Transactions.{unended};
+ghost use Rattle.als_record.specs.Table.{table_of};
+ghost use Rattle.als_record.specs.Validity.{first_bad, checkpoint_after, IsValidLog};
+ghost use Rattle.als_analysis.specs.Noted.{IsTableOf};
+ghost use Rattle.als_analysis.specs.Open.{rows_of};
+ghost use Rattle.als_validator.specs.declared.fault.Fault.TheVariants.{Memory};
+ghost use Rattle.als_validator.specs.FaultNames.{answer_of};
+ghost use Rattle.als_validator.specs.Keys.{AreKeysOf};
+ghost use Rattle.als_validator.specs.Seen.{AreCommitted};
+ghost use Rattle.als_validator.specs.Validated.{IsValidatorOf, HasRoom};
+
+use crate::causes::{
+    holder_of, is_bad_checkpoint, is_bad_prev, is_old, is_one_too_many, is_stale,
+    is_wrong_compensation, is_wrong_state, is_wrong_undo_next,
+};
+use crate::fault::Fault;
+use crate::key_state::KeyState;
+use crate::keys::{note_change, unwritten_keys};
+use crate::past::past_of;
+use als_analysis::{OpenTransaction, TransTable};
+use als_record::{Body, Cause, Lsn, Record, TransId};
+use std::alloc::Global;
+
+/// What is kept of a valid log to tell which record may follow it: the transaction table with the surviving updates, what
+/// each key has and who may hold it, the transactions that have committed, the greatest TransID and the open checkpoint.
+/// (Mohan et al., TODS 1992, sections 3 and 4.)
+#[derive(Drop)]
+pub struct Validator {
+    table: TransTable,
+    keys: Vec<KeyState>,
+    // Asked only of a checkpoint's record, which may not name one of these.
+    committed: Vec<TransId>,
+    greatest: TransId,
+    // 0: none is open.
+    begun: Lsn,
+}
+
+/// The LSN of the open begin_chkpt after one more record.
+fn next_begun(begun: Lsn, logged: &Record) -> Lsn
+    ensures { result.0 ≡ checkpoint_after begun.0 logged.now.lsn.0 logged.now.body }
+{
+    match &logged.body {
+        Body::BeginCheckpoint => logged.lsn,
+        Body::EndCheckpoint { .. } => Lsn(0),
+        _ => begun,
+    }
+}
+
+/// The greatest TransID after one more record.
+fn next_greatest(greatest: TransId, logged: &Record) -> TransId
+    ensures { result.0 ≡ max greatest.0 logged.now.trans.0 }
+{
+    if greatest.0 < logged.trans.0 {
+        return logged.trans;
+    }
+    greatest
+}
+
+/// Notes a commit.
+fn note_commit(committed: &mut Vec<TransId>, logged: &Record)
+    requires { vec_len committed.old < vec_capacity committed.old }
+    ensures { (log : List Record) → AreCommitted committed.old.items log → AreCommitted committed.new.items (log ++ logged.now ∷ []) }
+{
+    match &logged.body {
+        Body::Commit => committed.push_reserved(logged.trans),
+        _ => {}
+    }
+}
+
+impl Validator {
+    /// The validator of the empty log of a database with this many pages. It takes the room for all that is kept of keys.
+    pub fn new(alloc: Global, pages: u32) -> Result<Validator, Fault>
+        ensures ok { IfOk result (λ v. IsValidatorOf pages v []) }
+        ensures err { IfErr result (λ e. e ≡ Memory) }
+    {
+        Ok(Validator {
+            table: TransTable::new(alloc),
+            keys: unwritten_keys(alloc, pages)?,
+            committed: Vec::new(alloc),
+            greatest: TransId(0),
+            begun: Lsn(0),
+        })
+    }
+
+    /// The first cause for which a record may not follow the log.
+    fn first_cause(&self, logged: &Record) -> Option<Cause>
+        ensures { (pages : ℕ) (log : List Record) → IsValidatorOf pages self.now log → IsValidLog pages log → IsRecord pages logged.now → result ≡ first_bad log logged.now }
+    {
+        let past = past_of(&self.table, logged.trans);
+        if is_bad_prev(&past, logged) {
+            return Some(Cause::BadPrev);
+        }
+        if is_old(&past, self.greatest, logged) {
+            return Some(Cause::OldTransaction);
+        }
+        if is_wrong_state(&past, self.committed.as_slice(), logged) {
+            return Some(Cause::WrongState);
+        }
+        if is_wrong_undo_next(&past, logged) {
+            return Some(Cause::WrongUndoNext);
+        }
+        if is_wrong_compensation(&past, logged) {
+            return Some(Cause::WrongCompensation);
+        }
+        if let Some(by) = holder_of(self.keys.as_slice(), &self.table, logged) {
+            return Some(Cause::RecordHeld { by });
+        }
+        if is_stale(self.keys.as_slice(), logged) {
+            return Some(Cause::BeforeImage);
+        }
+        if is_one_too_many(&past, self.table.rows().len(), logged) {
+            return Some(Cause::TooManyTransactions);
+        }
+        if is_bad_checkpoint(self.begun, logged) {
+            return Some(Cause::BadCheckpoint);
+        }
+        None
+    }
+
+    /// Whether a record may follow the log, where it stands at the log's end: `Err` carries the first cause in the order of
+    /// their numbers. The cost does not depend on how much is kept, but for a checkpoint's record that wrongly names a
+    /// transaction.
+    pub fn check(&self, logged: &Record) -> Result<(), Fault>
+        ensures exact { (pages : ℕ) (log : List Record) → IsValidatorOf pages self.now log → IsValidLog pages log → IsRecord pages logged.now → result ≡ answer_of (first_bad log logged.now) }
+        ensures no_memory { IfErr result (λ e. e ≢ Memory) }
+    {
+        match self.first_cause(logged) {
+            None => Ok(()),
+            Some(cause) => Err(Fault::Invalid(cause)),
+        }
+    }
+
+    /// Makes room for one more record, whatever it is: the next `admit` takes no memory. What is kept stays as it is.
+    pub fn reserve(&mut self) -> Result<(), Fault>
+        ensures ok { OnOk result (HasRoom self.new) }
+        ensures err { IfErr result (λ e. e ≡ Memory) }
+        ensures kept { (pages : ℕ) (log : List Record) → IsValidatorOf pages self.old log → IsValidatorOf pages self.new log }
+    {
+        self.table.reserve()?;
+        self.committed.reserve(1)?;
+        Ok(())
+    }
+
+    /// Takes a record that may follow the log: what is kept is that of the log with the record. Of any other record it is
+    /// only said that nothing breaks.
+    pub fn admit(&mut self, logged: &Record)
+        requires { HasRoom self.old }
+        ensures { (pages : ℕ) (log : List Record) → IsValidatorOf pages self.old log → IsValidLog pages (log ++ logged.now ∷ []) → IsValidatorOf pages self.new (log ++ logged.now ∷ []) }
+    {
+        match self.table.note(logged) {
+            Ok(()) => {}
+            Err(_) => unreachable!(),
+        }
+        note_change(self.keys.as_mut_slice(), logged);
+        note_commit(&mut self.committed, logged);
+        self.greatest = next_greatest(self.greatest, logged);
+        self.begun = next_begun(self.begun, logged);
+    }
+
+    /// The transaction table.
+    pub fn table(&self) -> &TransTable
+        ensures value { result.now ≡ self.now.table }
+        ensures table { (pages : ℕ) (log : List Record) → IsValidatorOf pages self.now log → IsTableOf result.now log }
+    {
+        &self.table
+    }
+
+    /// The rows of the transaction table in rising TransID, each with the updates that survive of its transaction.
+    pub fn rows(&self) -> &[OpenTransaction]
+        ensures { (pages : ℕ) (log : List Record) → IsValidatorOf pages self.now log → rows_of result.now ≡ table_of log }
+    {
+        self.table.rows()
+    }
+
+    /// The bytes that a takeover would append.
+    pub fn reserve_bytes(&self) -> u64
+        ensures { (pages : ℕ) (log : List Record) → IsValidatorOf pages self.now log → result ≡ tail_len log }
+    {
+        self.table.reserve_bytes()
+    }
+}
