@@ -10,3 +10,5 @@ mod standby;
 mod asking;
 // Streams that fail or are too long.
 mod streams;
+// Records that may not follow, and the transaction table.
+mod judging;

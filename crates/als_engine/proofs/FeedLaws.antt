@@ -2,7 +2,8 @@
 use Rattle.std.proofs.Common.{◌≡◌, ℕ, ◌+◌, ◌-◌, ◌<◌, ◌≤◌, List, [], ◌++◌, length, Option, None, Ok, refl, sym, ap, subst, ◌∙◌, length-append, arith}
 use Rattle.als_record.specs.declared.record.Record.{Record}
 use Rattle.als_record.specs.Reading.{read_record}
-use Rattle.als_record.specs.LogText.{spellings, end_of, IsLog}
+use Rattle.als_record.specs.LogText.{spellings, end_of}
+use Rattle.als_record.specs.Validity.{IsValidLog}
 use Rattle.als_receiver.specs.Reception.{Reception}
 use Rattle.als_engine.specs.declared.fault.Fault.{Fault}
 use Rattle.als_engine.specs.declared.fed.Fed.{Fed}
@@ -15,14 +16,14 @@ use Rattle.als_engine.proofs.TakingLaws.{end_grown}
 abbrev pub machine : Held → ℕ → List ℕ → Option Fault → Machine
 machine held limit partial refused = record { held = held; limit = limit; partial = partial; refused = refused }
 
-log_at : (held new : Held) (records : List Record) → new ≡ with_log held (held.log ++ records) → IsLog new.pages new.log → IsLog held.pages (held.log ++ records)
-log_at held new records e is_log = subst (λ (h : Held). IsLog h.pages h.log) e is_log
+log_at : (held new : Held) (records : List Record) → new ≡ with_log held (held.log ++ records) → IsValidLog new.pages new.log → IsValidLog held.pages (held.log ++ records)
+log_at held new records e is_log = subst (λ (h : Held). IsValidLog h.pages h.log) e is_log
 
 counted : (held new : Held) (records : List Record) (count : ℕ) → new ≡ with_log held (held.log ++ records) → count ≡ length new.log - length held.log → count ≡ length records
 counted held new records count e f = omega (arith, f, ap (λ (h : Held). length h.log) e, length-append held.log records)
 
 pub feeds_all : (held new : Held) (limit : ℕ) (kept piece : List ℕ) (refused : Option Fault) (receiver : Reception) (taken count : ℕ) → refused ≡ None → pending_of held < limit
-    → TakesAll held (kept ++ piece) new receiver → IsLog new.pages new.log → taken ≡ length piece → count ≡ length new.log - length held.log
+    → TakesAll held (kept ++ piece) new receiver → IsValidLog new.pages new.log → taken ≡ length piece → count ≡ length new.log - length held.log
     → FeedsAll (machine held limit kept refused) piece (record { taken = taken; records = count }) (machine new limit receiver.kept refused)
 feeds_all held new limit kept piece refused receiver taken count following room all is_log taken-is count-is = record {
   following = following;
@@ -37,7 +38,7 @@ feeds_all held new limit kept piece refused receiver taken count following room 
 }
 
 pub feeds_front : (held new : Held) (limit : ℕ) (kept piece : List ℕ) (refused : Option Fault) (fault : Fault) (taken count bytes : ℕ) → refused ≡ None → pending_of held < limit
-    → TakesFront held (kept ++ piece) new fault → IsLog new.pages new.log → bytes ≡ end_of new.log - end_of held.log → taken ≡ bytes - length kept → count ≡ length new.log - length held.log
+    → TakesFront held (kept ++ piece) new fault → IsValidLog new.pages new.log → bytes ≡ end_of new.log - end_of held.log → taken ≡ bytes - length kept → count ≡ length new.log - length held.log
     → FeedsFront (machine held limit kept refused) piece (record { taken = taken; records = count; fault = fault }) (machine new limit [] (kept_fault fault))
 feeds_front held new limit kept piece refused fault taken count bytes following room front is_log bytes-is taken-is count-is = record {
   following = following;

@@ -11,6 +11,11 @@ use Rattle.als_record.specs.declared.change.Change.{Change}
 use Rattle.als_record.specs.declared.record.Record.{Record}
 use Rattle.als_record.specs.Spelling.{record_len, IsRecord}
 use Rattle.als_record.specs.LogText.{end_of, follow_from, IsLog}
+use Rattle.als_record.specs.Validity.{first_bad, may_follow, may_follow_all, is_valid, IsValidLog}
+use Rattle.als_record.proofs.Validity.{first_bad-none, may_follow-admitted, is_valid-push}
+use Rattle.std.proofs.lemmas.Bool.{and_from}
+use Rattle.als_validator.specs.declared.validator.Validator.{Validator}
+use Rattle.als_validator.specs.Validated.{IsValidatorOf}
 use Rattle.als_record.specs.Pages.{PageState, change_of, empty_page, redone, changes_above, lsn_after}
 use Rattle.als_record.proofs.PageLaws.{end_of-push, lsn_after-last, lsn-fold}
 use Rattle.als_engine.specs.Warm.{Warm, IsPageOf, ArePagesOf, CanRoute, IsRouted, AppliesAt, NothingWaits, WaitsFirst, total_waiting, fresh_from}
@@ -44,22 +49,22 @@ waiting_seen pages log warm p w h there =
     ∙ ap (λ (i : ℕ). changes_above log i w.state.lsn) (sym (h.numbered p w there))
     ∙ sym (h.each p w there).pending
 
-pub dry : (pages end : ℕ) (log : List Record) (warm : List Warm) (p : ℕ) → IsHeld pages log warm end → NothingWaits warm p → IsDry (view_of pages log warm) p
-dry pages end log warm p held none =
+pub dry : (pages end : ℕ) (log : List Record) (warm : List Warm) (validator : Validator) (p : ℕ) → IsHeld pages log warm end validator → NothingWaits warm p → IsDry (view_of pages log warm) p
+dry pages end log warm validator p held none =
     elim (slice_get_cases warm p).1 [
       | inl there ↦ inr (waiting_seen pages log warm p there.0 held.are_pages there.2 ∙ none there.0 there.2)
       | inr past ↦ inl (omega (arith, past.0, held.count))
     ]
 
-pub waits_from : (pages end : ℕ) (log : List Record) (warm : List Warm) (from : ℕ) (found : Option ℕ) → IsHeld pages log warm end → WaitsFirst warm from found → WaitsFrom (view_of pages log warm) from found
-waits_from pages end log warm from None held first = λ page le. dry pages end log warm page held (first page le)
-waits_from pages end log warm from (Some page) held first =
+pub waits_from : (pages end : ℕ) (log : List Record) (warm : List Warm) (validator : Validator) (from : ℕ) (found : Option ℕ) → IsHeld pages log warm end validator → WaitsFirst warm from found → WaitsFrom (view_of pages log warm) from found
+waits_from pages end log warm validator from None held first = λ page le. dry pages end log warm validator page held (first page le)
+waits_from pages end log warm validator from (Some page) held first =
     let w : Warm = first.1.0 in
     let inside : page < length warm = slice_get_within warm page w first.1.1 in (
       first.0,
       omega (arith, inside, held.count),
       (λ e. first.1.2 (sym (waiting_seen pages log warm page w held.are_pages first.1.1) ∙ e)),
-      (λ other le lt. dry pages end log warm other held (first.2 other le lt)),
+      (λ other le lt. dry pages end log warm validator other held (first.2 other le lt)),
     )
 
 -- ---- how many changes wait
@@ -73,8 +78,8 @@ total_from log (w ∷ ws) p ids each =
     let rest = total_from log ws (suc p) (λ k v there. let f : p + suc k ≡ suc p + k = omega arith in ids (suc k) v there ∙ f) (λ k v there. each (suc k) v there) in
     sum_by-cons (λ (v : Warm). length v.pending) w ws ∙ sum_two (length w.pending) (length (changes_above log p w.state.lsn)) (total_waiting ws) (waiting_from log (suc p) (applied_of ws)) here rest
 
-pub pending_seen : (pages end : ℕ) (log : List Record) (warm : List Warm) → IsHeld pages log warm end → total_waiting warm ≡ pending_of (view_of pages log warm)
-pending_seen pages end log warm held = total_from log warm 0 (λ k w there. let e : k ≡ 0 + k = omega arith in held.are_pages.numbered k w there ∙ e) held.are_pages.each
+pub pending_seen : (pages end : ℕ) (log : List Record) (warm : List Warm) (validator : Validator) → IsHeld pages log warm end validator → total_waiting warm ≡ pending_of (view_of pages log warm)
+pending_seen pages end log warm validator held = total_from log warm 0 (λ k w there. let e : k ≡ 0 + k = omega arith in held.are_pages.numbered k w there ∙ e) held.are_pages.each
 
 -- ---- an empty log
 
@@ -82,9 +87,14 @@ applied-fresh : (id count : ℕ) → applied_of (fresh_from id count) ≡ replic
 applied-fresh id zero = refl
 applied-fresh id (suc count) = ap (λ (xs : List ℕ). 0 ∷ xs) (applied-fresh (suc id) count)
 
-pub held-empty : (pages : ℕ) (warm : List Warm) → pages ≤ 4096 → warm ≡ fresh_from 0 pages → IsHeld pages [] warm 16
-held-empty pages warm le e = subst (λ (ws : List Warm). IsHeld pages [] ws 16) (sym e) (record {
-  is_log = log-nil pages;
+valid-nil : (pages : ℕ) → IsValidLog pages []
+unfolding is_valid may_follow_all
+valid-nil pages = record { text = log-nil pages; valid = refl }
+
+pub held-empty : (pages : ℕ) (warm : List Warm) (validator : Validator) → pages ≤ 4096 → warm ≡ fresh_from 0 pages → IsValidatorOf pages validator [] → IsHeld pages [] warm 16 validator
+held-empty pages warm validator le e judged = subst (λ (ws : List Warm). IsHeld pages [] ws 16 validator) (sym e) (record {
+  is_log = valid-nil pages;
+  judged = judged;
   are_pages = pages-fresh pages;
   count = length-fresh 0 pages;
   end_is = sym end-nil;
@@ -122,15 +132,37 @@ routes_pages : (log : List Record) (r : Record) (old new : List Warm) (change : 
 routes_pages log r old new None e at same h = subst (λ (ws : List Warm). ArePagesOf (log ++ r ∷ []) ws) (sym same) (pages-push_none log r old at e h)
 routes_pages log r old new (Some c) e at routed h = pages-push_change log r c old new at e routed h
 
-pub can_route_change : (pages end : ℕ) (log : List Record) (r : Record) (warm : List Warm) (change : Option Change) → change_of r ≡ change → IsHeld pages log warm end → IsRecord pages r → r.lsn.0 ≡ end_of log → IfSome change (CanRoute warm)
-can_route_change pages end log r warm None e held fits at = tt
-can_route_change pages end log r warm (Some c) e held fits at = can_route pages log r c warm (IsLog-push pages log r held.is_log fits at) at e held.count held.are_pages
+pub can_route_change : (pages end : ℕ) (log : List Record) (r : Record) (warm : List Warm) (validator : Validator) (change : Option Change) → change_of r ≡ change → IsHeld pages log warm end validator → IsRecord pages r → r.lsn.0 ≡ end_of log → IfSome change (CanRoute warm)
+can_route_change pages end log r warm validator None e held fits at = tt
+can_route_change pages end log r warm validator (Some c) e held fits at = can_route pages log r c warm (IsLog-push pages log r held.is_log.text fits at) at e held.count held.are_pages
 
-pub held-push : (pages end len : ℕ) (log : List Record) (r : Record) (old new : List Warm) → IsHeld pages log old end → IsRecord pages r → r.lsn.0 ≡ end_of log → len ≡ record_len r → end + len ≤ 2 ^ 31 → Routes old (change_of r) new → IsHeld pages (log ++ r ∷ []) new (end + len)
-held-push pages end len log r old new held fits at len-is le routes =
+-- a record that fits, stands at the end and is not refused makes a valid log again
+pub valid_push : (pages : ℕ) (log : List Record) (r : Record) → IsValidLog pages log → IsRecord pages r → r.lsn.0 ≡ end_of log → first_bad log r ≡ None → IsValidLog pages (log ++ r ∷ [])
+valid_push pages log r h fits at good = record {
+  text = IsLog-push pages log r h.text fits at;
+  valid = is_valid-push log r ∙ and_from (is_valid log) (may_follow log r) h.valid (may_follow-admitted log r (first_bad-none log r at good));
+}
+
+-- another validator of the same log
+pub held-rejudged : (pages end : ℕ) (log : List Record) (warm : List Warm) (validator judging : Validator) → IsHeld pages log warm end validator → IsValidatorOf pages judging log → IsHeld pages log warm end judging
+held-rejudged pages end log warm validator judging held judged = record {
+  is_log = held.is_log;
+  judged = judged;
+  are_pages = held.are_pages;
+  count = held.count;
+  end_is = held.end_is;
+  limit = held.limit;
+  few = held.few;
+  few_pages = held.few_pages;
+}
+
+pub held-push : (pages end len : ℕ) (log : List Record) (r : Record) (old new : List Warm) (validator judging : Validator) → IsHeld pages log old end validator → IsRecord pages r → r.lsn.0 ≡ end_of log → first_bad log r ≡ None
+    → IsValidatorOf pages judging (log ++ r ∷ []) → len ≡ record_len r → end + len ≤ 2 ^ 31 → Routes old (change_of r) new → IsHeld pages (log ++ r ∷ []) new (end + len) judging
+held-push pages end len log r old new validator judging held fits at good judged len-is le routes =
     let k = routes_count old new (change_of r) routes in
     record {
-      is_log = IsLog-push pages log r held.is_log fits at;
+      is_log = valid_push pages log r held.is_log fits at good;
+      judged = judged;
       are_pages = routes_pages log r old new (change_of r) refl at routes held.are_pages;
       count = k.0 ∙ held.count;
       end_is = omega (arith, held.end_is, len-is, end_of-push log r);
@@ -144,14 +176,15 @@ view-push pages log old new change routes = ap (λ (xs : List ℕ). held_of page
 
 -- ---- changes redone
 
-pub held-apply : (pages end page : ℕ) (log : List Record) (old new : List Warm) (lsn : Lsn) → IsHeld pages log old end → AppliesAt old page new lsn → IsHeld pages log new end
-held-apply pages end page log old new lsn held applied =
+pub held-apply : (pages end page : ℕ) (log : List Record) (old new : List Warm) (validator : Validator) (lsn : Lsn) → IsHeld pages log old end validator → AppliesAt old page new lsn → IsHeld pages log new end validator
+held-apply pages end page log old new validator lsn held applied =
     let w : Warm = applied.w in
     let w' : Warm = applied.w' in
     let total = total-set old page w w' applied.found in
     record {
       is_log = held.is_log;
-      are_pages = pages-apply pages log old page new lsn held.is_log held.are_pages applied;
+      judged = held.judged;
+      are_pages = pages-apply pages log old page new lsn held.is_log.text held.are_pages applied;
       count = ap length applied.after ∙ length-set old page w' ∙ held.count;
       end_is = held.end_is;
       limit = held.limit;
@@ -159,8 +192,8 @@ held-apply pages end page log old new lsn held applied =
       few_pages = held.few_pages;
     }
 
-pub view-apply : (pages end page : ℕ) (log : List Record) (old new : List Warm) (lsn : Lsn) → IsHeld pages log old end → AppliesAt old page new lsn → AppliesFirst (view_of pages log old) page lsn (view_of pages log new)
-view-apply pages end page log old new lsn held applied =
+pub view-apply : (pages end page : ℕ) (log : List Record) (old new : List Warm) (validator : Validator) (lsn : Lsn) → IsHeld pages log old end validator → AppliesAt old page new lsn → AppliesFirst (view_of pages log old) page lsn (view_of pages log new)
+view-apply pages end page log old new validator lsn held applied =
     let w : Warm = applied.w in
     let w' : Warm = applied.w' in
     let r = applied.redoes in

@@ -5,3 +5,4 @@ pub mod HeldViews
 pub mod TakingLaws
 pub mod FeedLaws
 pub mod RunLaws
+pub mod JudgingLaws

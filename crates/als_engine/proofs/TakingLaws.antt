@@ -11,7 +11,7 @@ use Rattle.als_record.proofs.LogLaws.{spellings-nil, spellings-append, spellings
 use Rattle.als_receiver.specs.Reception.{Reception, HandsOut, with_kept, fresh}
 use Rattle.als_engine.specs.declared.fault.Fault.{Fault}
 use Rattle.als_engine.specs.declared.fault.Fault.TheVariants.{Memory}
-use Rattle.als_engine.specs.Held.{Held}
+use Rattle.als_engine.specs.Held.{Held, IsRefused}
 use Rattle.als_engine.specs.Machine.{IsCause, with_log}
 use Rattle.als_engine.specs.TakingIn.{Meets, Rests, TakesOne, TakesAll, TakesFront}
 
@@ -78,28 +78,41 @@ so_far_from_all old new bytes receiver all = record { records = all.records; who
 
 -- ---- a cause
 
-cause_at : (old now : Held) (xs ys : List Record) (rest : List ℕ) (fault : Fault) → now ≡ with_log old (old.log ++ xs) → IsCause now.pages (end_of (now.log ++ ys)) rest fault → IsCause old.pages (end_of (old.log ++ (xs ++ ys))) rest fault
+cause_at : (old now : Held) (xs ys : List Record) (rest : List ℕ) (fault : Fault) → now ≡ with_log old (old.log ++ xs) → IsCause now.pages (now.log ++ ys) rest fault → IsCause old.pages (old.log ++ (xs ++ ys)) rest fault
 cause_at old now xs ys rest fault e cause =
-    let there : IsCause old.pages (end_of ((old.log ++ xs) ++ ys)) rest fault = subst (λ (h : Held). IsCause h.pages (end_of (h.log ++ ys)) rest fault) e cause in
-    subst (λ (log : List Record). IsCause old.pages (end_of log) rest fault) (append_assoc old.log xs ys) there
+    let there : IsCause old.pages ((old.log ++ xs) ++ ys) rest fault = subst (λ (h : Held). IsCause h.pages (h.log ++ ys) rest fault) e cause in
+    subst (λ (log : List Record). IsCause old.pages log rest fault) (append_assoc old.log xs ys) there
 
 -- a cause in front of more bytes is the same cause
-cause_more : (pages at : ℕ) (rest more : List ℕ) (fault : Fault) → IsCause pages at rest fault → IsCause pages at (rest ++ more) fault
-cause_more pages at rest more fault cause = elim cause [
-  | inl shape ↦ inl (shape.0, fault_more pages at rest more shape.0 shape.1, shape.2)
+cause_more : (pages : ℕ) (log : List Record) (rest more : List ℕ) (fault : Fault) → IsCause pages log rest fault → IsCause pages log (rest ++ more) fault
+cause_more pages log rest more fault cause = elim cause [
+  | inl shape ↦ inl (shape.0, fault_more pages (end_of log) rest more shape.0 shape.1, shape.2)
   | inr other ↦ elim other [
-    | inl full ↦ inr (inl (full.0, found_more pages at rest more (full.0, record_len full.0) full.1, full.2, full.3))
-    | inr memory ↦ inr (inr memory)
+    | inl bad ↦ inr (inl (bad.0, bad.1, found_more pages (end_of log) rest more (bad.0, record_len bad.0) bad.2, bad.3, bad.4))
+    | inr last ↦ elim last [
+      | inl full ↦ inr (inr (inl (full.0, found_more pages (end_of log) rest more (full.0, record_len full.0) full.1, full.2, full.3, full.4)))
+      | inr memory ↦ inr (inr (inr memory))
+    ]
   ]
 ]
 
-pub front_from_so_far : (old now : Held) (bytes : List ℕ) (receiver : Reception) (fault : Fault) → SoFar old bytes now receiver → IsCause now.pages (end_of now.log) receiver.kept fault → TakesFront old bytes now fault
+-- why the record in front is not held is why the bytes are not
+pub cause_refused : (pages : ℕ) (log : List Record) (r : Record) (rest : List ℕ) (fault : Fault) → read_record pages (end_of log) rest ≡ Ok (Some (r, record_len r)) → IsRefused log r fault → IsCause pages log rest fault
+cause_refused pages log r rest fault reading refused = elim refused [
+  | inl bad ↦ inr (inl (r, bad.0, reading, bad.1, bad.2))
+  | inr other ↦ elim other [
+    | inl full ↦ inr (inr (inl (r, reading, full.0, full.1, full.2)))
+    | inr memory ↦ inr (inr (inr memory))
+  ]
+]
+
+pub front_from_so_far : (old now : Held) (bytes : List ℕ) (receiver : Reception) (fault : Fault) → SoFar old bytes now receiver → IsCause now.pages now.log receiver.kept fault → TakesFront old bytes now fault
 front_from_so_far old now bytes receiver fault so_far cause = record {
   records = so_far.records;
   rest = receiver.kept;
   whole = so_far.whole;
   after = so_far.after;
-  cause = subst (λ (h : Held). IsCause h.pages (end_of h.log) receiver.kept fault) so_far.after cause;
+  cause = subst (λ (h : Held). IsCause h.pages h.log receiver.kept fault) so_far.after cause;
 }
 
 -- nothing goes over for want of memory
@@ -109,7 +122,7 @@ front_memory held bytes = record {
   rest = bytes;
   whole = ap (λ (m : List ℕ). m ++ bytes) (sym spellings-nil);
   after = same_log held;
-  cause = inr (inr refl);
+  cause = inr (inr (inr refl));
 }
 
 -- ---- pieces one after another
@@ -133,7 +146,7 @@ all_then_front old now new bytes chunk more receiver fault first second = record
       (ap (λ (m : List ℕ). m ++ (chunk ++ more)) first.whole ∙ append_assoc (spellings first.records) receiver.kept (chunk ++ more))
       (sym (append_assoc receiver.kept chunk more) ∙ ap (λ (m : List ℕ). m ++ more) second.whole ∙ append_assoc (spellings second.records) second.rest more);
   after = grown_twice old now new first.records second.records first.after second.after;
-  cause = cause_more old.pages (end_of (old.log ++ (first.records ++ second.records))) second.rest more fault (cause_at old now first.records second.records second.rest fault first.after second.cause);
+  cause = cause_more old.pages (old.log ++ (first.records ++ second.records)) second.rest more fault (cause_at old now first.records second.records second.rest fault first.after second.cause);
 }
 
 -- a piece, of which some bytes are taken: what is taken, and what is left

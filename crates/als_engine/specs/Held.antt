@@ -1,9 +1,17 @@
 -- The held log and its pages, without queues or frames: each page is the log's, up to a page_LSN.
-use Rattle.std.specs.Prelude.{◌≡◌, ℕ, suc, ◌+◌, ◌<◌, ◌≤◌, ◌^◌, ◌⊎◌, List, [], ◌∷◌, ◌++◌, length, map, Option, Some, None, slice_index, slice_set, replicate, Contains}
+use Rattle.std.specs.Prelude.{◌≡◌, ℕ, suc, ◌+◌, ◌<◌, ◌≤◌, ◌^◌, ◌⊎◌, List, [], ◌∷◌, ◌++◌, length, map, Option, Some, None, Result, Ok, Err, slice_index, slice_set, replicate, Contains}
 use Rattle.als_record.specs.declared.lsn.Lsn.{Lsn}
 use Rattle.als_record.specs.declared.change.Change.{Change}
 use Rattle.als_record.specs.declared.record.Record.{Record}
-use Rattle.als_record.specs.LogText.{end_of, IsLog}
+use Rattle.als_record.specs.LogText.{end_of}
+use Rattle.als_record.specs.Validity.{first_bad, IsValidLog}
+use Rattle.als_record.specs.declared.cause.Cause.{Cause}
+use Rattle.als_record.specs.Spelling.{record_len}
+use Rattle.als_engine.specs.declared.fault.Fault.{Fault}
+use Rattle.als_engine.specs.declared.fault.Fault.TheVariants.{LogFull, Memory}
+use Rattle.als_engine.specs.Faults.{from_cause}
+use Rattle.als_validator.specs.declared.validator.Validator.{Validator}
+use Rattle.als_validator.specs.Validated.{IsValidatorOf}
 use Rattle.als_record.specs.Pages.{PageState, page_at, changes_above}
 use Rattle.als_page.specs.declared.page.Page.{Page}
 use Rattle.als_page.specs.Page.{state_of}
@@ -20,8 +28,9 @@ abbrev pub log_limit : ℕ
 log_limit = 2 ^ 31
 
 -- what holds of the parts of a held log
-pub record IsHeld (pages : ℕ) (log : List Record) (warm : List Warm) (end : ℕ) : Type 0 where
-  pub is_log : IsLog pages log
+pub record IsHeld (pages : ℕ) (log : List Record) (warm : List Warm) (end : ℕ) (validator : Validator) : Type 0 where
+  pub is_log : IsValidLog pages log
+  pub judged : IsValidatorOf pages validator log
   pub are_pages : ArePagesOf log warm
   pub count : length warm ≡ pages
   pub end_is : end ≡ end_of log
@@ -74,3 +83,15 @@ ShowsPage h page (Some shown) = (page < h.pages) × (shown.id ≡ page) × (stat
 abbrev pub StandsAt : List Record → Lsn → Option Record → Type 0
 StandsAt log lsn None = (r : Record) → Contains log r → r.lsn ≡ lsn → ⊥
 StandsAt log lsn (Some r) = Contains log r × (r.lsn ≡ lsn)
+
+-- why a record is not held: the first cause that it may not follow, or else no room, or a growth was refused
+abbrev pub IsRefused : List Record → Record → Fault → Type 0
+IsRefused log r fault =
+    ((c : Cause) × (first_bad log r ≡ Some c) × (fault ≡ from_cause c))
+    ⊎ (((first_bad log r ≡ None) × (log_limit < end_of log + record_len r) × (fault ≡ LogFull))
+    ⊎ (fault ≡ Memory))
+
+-- what is answered of a record, by the first cause why it may not follow
+abbrev pub judgement_of : Option Cause → Result (Unit {0}) Fault
+judgement_of None = Ok tt
+judgement_of (Some cause) = Err (from_cause cause)

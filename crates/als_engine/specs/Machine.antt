@@ -5,16 +5,18 @@ use Rattle.als_record.specs.declared.record.Record.{Record}
 use Rattle.als_record.specs.declared.lsn.Lsn.{Lsn}
 use Rattle.als_record.specs.declared.fault.Fault.{Fault as RecordFault}
 use Rattle.als_record.specs.Reading.{read_record}
-use Rattle.als_record.specs.LogText.{spellings, end_of, IsLog}
+use Rattle.als_record.specs.LogText.{spellings, end_of}
+use Rattle.als_record.specs.Validity.{first_bad, IsValidLog}
+use Rattle.als_record.specs.declared.cause.Cause.{Cause}
 use Rattle.als_record.specs.Spelling.{record_len}
 use Rattle.als_engine.specs.declared.config.Config.{Config}
 use Rattle.als_engine.specs.declared.fault.Fault.{Fault}
-use Rattle.als_engine.specs.declared.fault.Fault.TheVariants.{BadHeader, BadLength, BadType, BadReserved, WrongLsn, BadKey, BadValue, NothingToDo, LogFull, Memory, Backlog, BadConfig}
+use Rattle.als_engine.specs.declared.fault.Fault.TheVariants.{BadHeader, BadLength, BadType, BadReserved, WrongLsn, BadKey, BadValue, BadPrev, OldTransaction, WrongState, WrongUndoNext, WrongCompensation, RecordHeld, BeforeImage, TooManyTransactions, BadCheckpoint, NothingToDo, LogFull, Memory, Backlog, BadConfig}
 use Rattle.als_engine.specs.declared.fed.Fed.{Fed}
 use Rattle.als_engine.specs.declared.fed.FeedFault.{FeedFault}
 use Rattle.als_engine.specs.declared.status.State.{State}
 use Rattle.als_engine.specs.declared.status.State.TheVariants.{Following, Refusing}
-use Rattle.als_engine.specs.Faults.{from_record}
+use Rattle.als_engine.specs.Faults.{from_record, from_cause}
 use Rattle.als_engine.specs.Held.{Held, log_limit, pending_of, AppliesFirst, IsDry}
 
 pub record Machine : Type 0 where
@@ -46,7 +48,7 @@ with_log h log = record h { log = log }
 -- the bytes are the spellings of records that the held log goes on with, and then a rest
 pub record Splits (m : Machine) (bytes : List ℕ) (records : List Record) (rest : List ℕ) : Type 0 where
   pub whole : bytes ≡ spellings records ++ rest
-  pub is_log : IsLog m.held.pages (m.held.log ++ records)
+  pub is_log : IsValidLog m.held.pages (m.held.log ++ records)
 
 -- all of the piece is taken: the rest is no whole record yet
 pub record FeedsAll (old : Machine) (piece : List ℕ) (fed : Fed) (new : Machine) : Type 0 where
@@ -60,9 +62,14 @@ pub record FeedsAll (old : Machine) (piece : List ℕ) (fed : Fed) (new : Machin
   pub taken : fed.taken ≡ length piece
   pub count : fed.records ≡ length records
 
--- the rest begins with a shape fault, with a record for which a log in memory has no room, or a growth was refused
-abbrev pub IsCause : ℕ → ℕ → List ℕ → Fault → Type 0
-IsCause pages at rest fault = ((f : RecordFault) × (read_record pages at rest ≡ Err f) × (fault ≡ from_record f)) ⊎ (((r : Record) × (read_record pages at rest ≡ Ok (Some (r, record_len r))) × (log_limit < at + record_len r) × (fault ≡ LogFull)) ⊎ (fault ≡ Memory))
+-- Why a log does not go on with the rest: it begins with a shape fault, with a record that may not follow, for its first
+-- cause, or with one for which a log in memory has no room; or a growth was refused.
+abbrev pub IsCause : ℕ → List Record → List ℕ → Fault → Type 0
+IsCause pages log rest fault =
+    ((f : RecordFault) × (read_record pages (end_of log) rest ≡ Err f) × (fault ≡ from_record f))
+    ⊎ (((r : Record) × (c : Cause) × (read_record pages (end_of log) rest ≡ Ok (Some (r, record_len r))) × (first_bad log r ≡ Some c) × (fault ≡ from_cause c))
+    ⊎ (((r : Record) × (read_record pages (end_of log) rest ≡ Ok (Some (r, record_len r))) × (first_bad log r ≡ None) × (log_limit < end_of log + record_len r) × (fault ≡ LogFull))
+    ⊎ (fault ≡ Memory)))
 
 -- want of room and of memory are not kept: the bytes may be fed again
 abbrev pub kept_fault : Fault → Option Fault
@@ -73,6 +80,15 @@ kept_fault BadReserved = Some BadReserved
 kept_fault WrongLsn = Some WrongLsn
 kept_fault BadKey = Some BadKey
 kept_fault BadValue = Some BadValue
+kept_fault BadPrev = Some BadPrev
+kept_fault OldTransaction = Some OldTransaction
+kept_fault WrongState = Some WrongState
+kept_fault WrongUndoNext = Some WrongUndoNext
+kept_fault WrongCompensation = Some WrongCompensation
+kept_fault (RecordHeld by) = Some (RecordHeld by)
+kept_fault BeforeImage = Some BeforeImage
+kept_fault TooManyTransactions = Some TooManyTransactions
+kept_fault BadCheckpoint = Some BadCheckpoint
 kept_fault NothingToDo = Some NothingToDo
 kept_fault LogFull = None
 kept_fault Memory = None
@@ -86,7 +102,7 @@ pub record FeedsFront (old : Machine) (piece : List ℕ) (refusal : FeedFault) (
   pub records : List Record
   pub rest : List ℕ
   pub split : Splits old (old.partial ++ piece) records rest
-  pub cause : IsCause old.held.pages (end_of (old.held.log ++ records)) rest refusal.fault
+  pub cause : IsCause old.held.pages (old.held.log ++ records) rest refusal.fault
   pub after : new ≡ record old { held = with_log old.held (old.held.log ++ records); partial = []; refused = kept_fault refusal.fault }
   -- the piece's bytes up to the end of the last record held
   pub taken : refusal.taken ≡ length (spellings records) - length old.partial

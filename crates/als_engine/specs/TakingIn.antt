@@ -41,4 +41,4 @@ pub record TakesFront (old : Held) (bytes : List ℕ) (new : Held) (fault : Faul
   pub rest : List ℕ
   pub whole : bytes ≡ spellings records ++ rest
   pub after : new ≡ with_log old (old.log ++ records)
-  pub cause : IsCause old.pages (end_of (old.log ++ records)) rest fault
+  pub cause : IsCause old.pages (old.log ++ records) rest fault

@@ -1,6 +1,8 @@
 ghost use Rattle.std.specs.Prelude.{◌≡◌, ℕ, ◌<◌, ◌≤◌, ◌+◌, ◌⊎◌, List, [], ◌∷◌, ◌++◌, length, Some, None, Ok, Err, IfOk, IfErr, OnOk, OnErr, IsErrOf, IsOk};
 ghost use Rattle.std.specs.Option.{option_copied};
 ghost use Rattle.als_record.specs.LogText.{end_of};
+ghost use Rattle.als_record.specs.Table.{table_of};
+ghost use Rattle.als_analysis.specs.Open.{rows_of};
 ghost use Rattle.als_engine.specs.Config.{IsConfig};
 ghost use Rattle.als_engine.specs.Held.{pending_of, WaitsFrom, ShowsPage, StandsAt};
 ghost use Rattle.als_engine.specs.Runs.{Steps};
@@ -13,6 +15,7 @@ use crate::held_log::HeldLog;
 use crate::status::{State, Status};
 use crate::step::{Reply, Step};
 use crate::taking_in::take_piece;
+use als_analysis::OpenTransaction;
 use als_page::Page;
 use als_receiver::Receiver;
 use als_record::{Lsn, Record};
@@ -63,7 +66,7 @@ impl Engine {
     /// Takes a piece of the primary's log: each record that is whole now goes into the held log, and the rest waits as a
     /// partial record. In Refusing the kept fault is answered, and Backlog where the pending changes have reached the limit:
     /// then nothing is taken. After another fault the whole records in front of it are held and no partial record is kept; a
-    /// shape fault (2 to 7) is kept, LogFull and Memory are not.
+    /// fault of the record (2 to 16) is kept, LogFull and Memory are not.
     pub fn feed(&mut self, piece: &[u8]) -> Result<Fed, FeedFault>
         ensures { Feeds self.old piece.now result self.new }
     {
@@ -152,6 +155,13 @@ impl Engine {
             pending: self.held.pending(),
             leases: 0,
         }
+    }
+
+    /// The transaction table of the held log, in rising TransID.
+    pub fn table(&self) -> &[OpenTransaction]
+        ensures { rows_of result.now ≡ table_of self.now.held.log }
+    {
+        self.held.table()
     }
 
     /// The database's page count.

@@ -1,8 +1,8 @@
 ghost use Rattle.std.specs.Prelude.{◌≡◌};
 ghost use Rattle.als_engine.specs.declared.fault.Fault.TheVariants.{Memory as OutOfMemory};
-ghost use Rattle.als_engine.specs.Faults.{number_of, name_of, from_record};
+ghost use Rattle.als_engine.specs.Faults.{number_of, name_of, from_record, from_cause};
 
-use als_record::Fault as RecordFault;
+use als_record::{Cause, Fault as RecordFault, TransId};
 use std::alloc::{AllocError, AllocFailed};
 use thiserror::Error;
 
@@ -30,6 +30,36 @@ pub enum Fault {
     /// A value of more than 31 bytes.
     #[error("7 BadValue")]
     BadValue,
+    /// PrevLSN is not the LSN of the transaction's last record.
+    #[error("8 BadPrev")]
+    BadPrev,
+    /// The transaction has ended, or is new and its TransID does not rise above the log's.
+    #[error("9 OldTransaction")]
+    OldTransaction,
+    /// The transaction may not write such a record any more.
+    #[error("10 WrongState")]
+    WrongState,
+    /// A compensation that does not go on at the record before the update that it undoes.
+    #[error("11 WrongUndoNext")]
+    WrongUndoNext,
+    /// A compensation of anything but the newest surviving update.
+    #[error("12 WrongCompensation")]
+    WrongCompensation,
+    /// An update of a key that another transaction holds.
+    #[error("13 RecordHeld {0}", by.0)]
+    RecordHeld {
+        /// That transaction.
+        by: TransId,
+    },
+    /// An update whose before image is not what its key has.
+    #[error("14 BeforeImage")]
+    BeforeImage,
+    /// More than 256 transactions would be unended.
+    #[error("15 TooManyTransactions")]
+    TooManyTransactions,
+    /// A checkpoint's record that does not fit those before it.
+    #[error("16 BadCheckpoint")]
+    BadCheckpoint,
     /// There is nothing for the event to do.
     #[error("27 NothingToDo")]
     NothingToDo,
@@ -60,6 +90,15 @@ impl Fault {
             Fault::WrongLsn => 5,
             Fault::BadKey => 6,
             Fault::BadValue => 7,
+            Fault::BadPrev => 8,
+            Fault::OldTransaction => 9,
+            Fault::WrongState => 10,
+            Fault::WrongUndoNext => 11,
+            Fault::WrongCompensation => 12,
+            Fault::RecordHeld { by: _ } => 13,
+            Fault::BeforeImage => 14,
+            Fault::TooManyTransactions => 15,
+            Fault::BadCheckpoint => 16,
             Fault::NothingToDo => 27,
             Fault::LogFull => 29,
             Fault::Memory => 32,
@@ -80,6 +119,15 @@ impl Fault {
             Fault::WrongLsn => "WrongLsn",
             Fault::BadKey => "BadKey",
             Fault::BadValue => "BadValue",
+            Fault::BadPrev => "BadPrev",
+            Fault::OldTransaction => "OldTransaction",
+            Fault::WrongState => "WrongState",
+            Fault::WrongUndoNext => "WrongUndoNext",
+            Fault::WrongCompensation => "WrongCompensation",
+            Fault::RecordHeld { by: _ } => "RecordHeld",
+            Fault::BeforeImage => "BeforeImage",
+            Fault::TooManyTransactions => "TooManyTransactions",
+            Fault::BadCheckpoint => "BadCheckpoint",
             Fault::NothingToDo => "NothingToDo",
             Fault::LogFull => "LogFull",
             Fault::Memory => "Memory",
@@ -102,6 +150,24 @@ impl From<RecordFault> for Fault {
             RecordFault::BadKey => Fault::BadKey,
             RecordFault::BadValue => Fault::BadValue,
             RecordFault::Memory => Fault::Memory,
+        }
+    }
+}
+
+impl From<Cause> for Fault {
+    ghost from_gives = { λ c e. e ≡ from_cause c };
+
+    fn from(cause: Cause) -> Fault {
+        match cause {
+            Cause::BadPrev => Fault::BadPrev,
+            Cause::OldTransaction => Fault::OldTransaction,
+            Cause::WrongState => Fault::WrongState,
+            Cause::WrongUndoNext => Fault::WrongUndoNext,
+            Cause::WrongCompensation => Fault::WrongCompensation,
+            Cause::RecordHeld { by } => Fault::RecordHeld { by },
+            Cause::BeforeImage => Fault::BeforeImage,
+            Cause::TooManyTransactions => Fault::TooManyTransactions,
+            Cause::BadCheckpoint => Fault::BadCheckpoint,
         }
     }
 }

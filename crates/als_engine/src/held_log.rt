@@ -1,15 +1,22 @@
-ghost use Rattle.std.specs.Prelude.{◌≡◌, ℕ, ◌<◌, ◌≤◌, ◌+◌, ◌^◌, ◌⊎◌, List, [], ◌∷◌, ◌++◌, length, replicate, IfOk, IfErr, IfSome, MatchOption, OnOk, OnErr, IsErrOf, Err};
+ghost use Rattle.std.specs.Prelude.{◌≡◌, ℕ, ◌<◌, ◌≤◌, ◌+◌, ◌^◌, ◌⊎◌, List, [], ◌∷◌, ◌++◌, length, replicate, IfOk, IfErr, IfSome, MatchOption, None, OnOk, OnErr, IsErrOf, Err};
 ghost use Rattle.std.specs.Option.{option_copied};
 ghost use Rattle.als_record.specs.Spelling.{record_len, IsRecord};
-ghost use Rattle.als_record.specs.LogText.{end_of, IsLog};
+ghost use Rattle.als_record.specs.LogText.{end_of};
+ghost use Rattle.als_record.specs.Validity.{first_bad, IsValidLog};
+ghost use Rattle.als_record.specs.Table.{table_of};
+ghost use Rattle.als_analysis.specs.Open.{rows_of};
 ghost use Rattle.als_record.specs.Pages.{change_of};
 ghost use Rattle.als_engine.specs.Warm.{CanRoute, IsRouted, total_waiting};
-ghost use Rattle.als_engine.specs.Held.{Held, log_limit, pending_of, AppliesFirst, IsDry, WaitsFrom, ShowsPage, StandsAt};
+ghost use Rattle.als_engine.specs.Held.{Held, log_limit, pending_of, AppliesFirst, IsDry, WaitsFrom, ShowsPage, StandsAt, IsRefused, judgement_of};
+ghost use Rattle.als_record.specs.declared.record.Record.{Record as AnyRecord};
+ghost use Rattle.als_validator.specs.Validated.{IsValidatorOf, HasRoom};
 
 use crate::fault::Fault;
 use crate::warm_pages::WarmPages;
+use als_analysis::OpenTransaction;
 use als_page::Page;
 use als_record::{Lsn, Record, encoded_len};
+use als_validator::{Fault as Refusal, Validator};
 use std::alloc::{AllocError, Global};
 use std::marker::Model;
 
@@ -22,6 +29,7 @@ pub struct HeldLog {
     pages: u32,
     records: Vec<Record>,
     warm: WarmPages,
+    validator: Validator,
     end: Lsn,
 }
 
@@ -32,7 +40,7 @@ impl Model for HeldLog {
 
     ghost view = { λ h. record { pages = h.pages; log = h.records.items; applied = applied_of h.warm } };
 
-    ghost invariant = { λ h. IsHeld h.pages h.records.items h.warm h.end.0 };
+    ghost invariant = { λ h. IsHeld h.pages h.records.items h.warm h.end.0 h.validator };
 }
 
 /// Adds what a record changes, if anything, behind what its page waits for. An `Err` changes nothing.
@@ -48,17 +56,62 @@ fn route_change(warm: &mut WarmPages, logged: &Record) -> Result<(), AllocError>
     }
 }
 
+/// The record of these that stands at an LSN.
+fn find_record(records: &[Record], lsn: Lsn) -> Option<&Record>
+    ensures { StandsAt records.now lsn (option_copied result) }
+{
+    records.iter().find(|logged| logged.lsn == lsn)
+}
+
+/// The first cause why a record may not follow the log, if there is one.
+fn judge(validator: &Validator, logged: &Record) -> Result<(), Fault>
+    ensures { (pages : ℕ) (log : List AnyRecord) → IsValidatorOf pages validator.now log → IsValidLog pages log → IsRecord pages logged.now
+        → logged.now.lsn.0 ≡ end_of log → result ≡ judgement_of (first_bad log logged.now) }
+{
+    match validator.check(logged) {
+        Ok(()) => Ok(()),
+        Err(Refusal::Invalid(cause)) => Err(Fault::from(cause)),
+        Err(Refusal::Memory) => Err(Fault::Memory),
+    }
+}
+
+/// Room for one more record in the validator.
+fn make_room(validator: &mut Validator) -> Result<(), Fault>
+    ensures same { (pages : ℕ) (log : List AnyRecord) → IsValidatorOf pages validator.old log → IsValidatorOf pages validator.new log }
+    ensures ok { OnOk result (HasRoom validator.new) }
+    ensures err { IfErr result (λ f. f ≡ Fault.Memory) }
+{
+    match validator.reserve() {
+        Ok(()) => Ok(()),
+        Err(_) => Err(Fault::Memory),
+    }
+}
+
+/// A validator of an empty log.
+fn new_validator(alloc: Global, pages: u32) -> Result<Validator, Fault>
+    ensures ok { IfOk result (λ v. IsValidatorOf pages v []) }
+    ensures err { IfErr result (λ f. f ≡ Fault.Memory) }
+{
+    match Validator::new(alloc, pages) {
+        Ok(validator) => Ok(validator),
+        Err(_) => Err(Fault::Memory),
+    }
+}
+
 impl HeldLog {
     /// An empty log, and so many empty pages, at most 4,096.
-    pub fn empty(alloc: Global, pages: u32) -> Result<HeldLog, AllocError>
+    pub fn empty(alloc: Global, pages: u32) -> Result<HeldLog, Fault>
         requires { pages ≤ 4096 }
-        ensures { IfOk result (λ h. h ≡ record { pages = pages; log = []; applied = replicate pages 0 }) }
+        ensures ok { IfOk result (λ h. h ≡ record { pages = pages; log = []; applied = replicate pages 0 }) }
+        ensures err { IfErr result (λ f. f ≡ Fault.Memory) }
     {
         let warm = WarmPages::empty(alloc, pages)?;
+        let validator = new_validator(alloc, pages)?;
         Ok(HeldLog {
             pages,
             records: Vec::new(alloc),
             warm,
+            validator,
             end: Lsn(16),
         })
     }
@@ -74,7 +127,7 @@ impl HeldLog {
     pub fn end(&self) -> Lsn
         ensures end { result.0 ≡ end_of self.now.log }
         ensures limit { end_of self.now.log ≤ log_limit }
-        ensures log { IsLog self.now.pages self.now.log }
+        ensures log { IsValidLog self.now.pages self.now.log }
     {
         self.end
     }
@@ -82,7 +135,7 @@ impl HeldLog {
     /// How many records are held.
     pub fn len(&self) -> usize
         ensures count { result ≡ length self.now.log }
-        ensures log { IsLog self.now.pages self.now.log }
+        ensures log { IsValidLog self.now.pages self.now.log }
     {
         self.records.len()
     }
@@ -94,25 +147,34 @@ impl HeldLog {
         self.warm.waiting()
     }
 
-    /// Holds a record that stands at the log's end. It is refused by LogFull where it would end past the limit, and by
-    /// Memory where a growth is refused. An `Err` changes nothing.
+    /// Holds a record that stands at the log's end. It is refused for the first cause why it may not follow the log, else by
+    /// LogFull where it would end past the limit, and by Memory where a growth is refused. An `Err` changes nothing.
     pub fn admit(&mut self, logged: Record) -> Result<(), Fault>
         requires fits { IsRecord self.old.pages logged }
         requires at { logged.lsn.0 ≡ end_of self.old.log }
-        ensures ok { OnOk result (self.new ≡ record self.old { log = self.old.log ++ logged ∷ [] }) }
+        ensures ok { OnOk result ((first_bad self.old.log logged ≡ None) × (self.new ≡ record self.old { log = self.old.log ++ logged ∷ [] })) }
         ensures err { OnErr result (self.new ≡ self.old) }
-        ensures full { log_limit < end_of self.old.log + record_len logged → result ≡ Err Fault.LogFull }
-        ensures cause { IfErr result (λ f. ((f ≡ Fault.LogFull) × (log_limit < end_of self.old.log + record_len logged)) ⊎ (f ≡ Fault.Memory)) }
+        ensures cause { IfErr result (IsRefused self.old.log logged) }
     {
+        judge(&self.validator, &logged)?;
         let len = encoded_len(&logged) as u64;
         if self.end.0 + len > LOG_LIMIT {
             return Err(Fault::LogFull);
         }
         self.records.reserve(1)?;
+        make_room(&mut self.validator)?;
         route_change(&mut self.warm, &logged)?;
+        self.validator.admit(&logged);
         self.records.push_reserved(logged);
         self.end = Lsn(self.end.0 + len);
         Ok(())
+    }
+
+    /// The transaction table: a row for each unended transaction, in rising TransID.
+    pub fn table(&self) -> &[OpenTransaction]
+        ensures { rows_of result.now ≡ table_of self.now.log }
+    {
+        self.validator.rows()
     }
 
     /// Redoes the first changes that a page waits for, at most 64, and answers its page_LSN. NothingToDo: none waits, or
@@ -148,6 +210,6 @@ impl HeldLog {
     pub fn record_at(&self, lsn: Lsn) -> Option<&Record>
         ensures { StandsAt self.now.log lsn (option_copied result) }
     {
-        self.records.iter().find(|logged| logged.lsn == lsn)
+        find_record(self.records.as_slice(), lsn)
     }
 }

@@ -1,5 +1,4 @@
 ghost use Rattle.std.specs.Prelude.{◌≡◌, ◌≤◌, ◌++◌, length, OnOk, IfOk, IfErr, MatchBool};
-ghost use Rattle.als_record.specs.LogText.{end_of};
 ghost use Rattle.als_engine.specs.Machine.{IsCause};
 ghost use Rattle.als_engine.specs.TakingIn.{Meets, Rests, TakesOne, TakesAll, TakesFront};
 
@@ -55,7 +54,7 @@ fn take_records(held: &mut HeldLog, receiver: &mut Receiver) -> Result<(), Fault
 fn take_record(held: &mut HeldLog, receiver: &mut Receiver) -> Result<bool, Fault>
     requires { Meets held.old receiver.old }
     ensures ok { IfOk result (λ more. MatchBool more (TakesOne held.old receiver.old held.new receiver.new) ((held.new ≡ held.old) × (receiver.new ≡ receiver.old) × Rests held.old receiver.old)) }
-    ensures err { IfErr result (λ fault. (held.new ≡ held.old) × IsCause held.old.pages (end_of held.old.log) receiver.old.kept fault) }
+    ensures err { IfErr result (λ fault. (held.new ≡ held.old) × IsCause held.old.pages held.old.log receiver.old.kept fault) }
 {
     match receiver.next() {
         Ok(Some(logged)) => {

@@ -18,3 +18,6 @@ mod validator;
 
 pub use fault::Fault;
 pub use validator::Validator;
+
+#[cfg(test)]
+mod tests;

@@ -4,6 +4,8 @@ use super::words::Words;
 #[derive(Clone, Copy, Debug, PartialEq, Eq)]
 pub enum ShowLine {
     Status,
+    /// The transaction table.
+    Table,
     /// `show page P`
     Page { page: u32 },
     /// All records of the database.
@@ -21,6 +23,7 @@ impl ShowLine {
         }
         let show = match words.next()? {
             "status" => ShowLine::Status,
+            "table" => ShowLine::Table,
             "page" => ShowLine::Page {
                 page: words.number()?,
             },

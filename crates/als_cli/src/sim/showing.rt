@@ -2,9 +2,10 @@ ghost use Rattle.std.specs.Prelude.{◌≤◌};
 
 use super::shown_image::ShownImage;
 use super::shown_record::ShownRecord;
+use als_analysis::OpenTransaction;
 use als_engine::{Engine, State, Status};
 use als_page::Page;
-use als_record::{Body, Image, Lsn, Record};
+use als_record::{Body, Image, Lsn, Record, TransactionState};
 use std::io;
 use std::io::Write;
 
@@ -37,6 +38,24 @@ fn state_name(state: State) -> &'static str {
         State::Following => "Following",
         State::Refusing { .. } => "Refusing",
     }
+}
+
+/// `show table`.
+pub fn table<W: Write>(output: &mut W, table: &[OpenTransaction]) -> io::Result<()> {
+    if table.is_empty() {
+        writeln!(output, "none")?;
+    }
+    for open in table {
+        let row = open.row();
+        let state = match row.state {
+            TransactionState::Active => "active",
+            TransactionState::Committed => "committed",
+            TransactionState::RollingBack => "rollback",
+        };
+        let (trans, last, undo) = (row.trans.0, row.last.0, row.undo_next.0);
+        writeln!(output, "trans {trans} {state} last={last} undo={undo}")?;
+    }
+    Ok(())
 }
 
 /// `show page`.

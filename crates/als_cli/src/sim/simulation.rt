@@ -86,6 +86,7 @@ impl Simulation {
         let engine = self.world.engine();
         match line {
             ShowLine::Status => showing::status(output, engine)?,
+            ShowLine::Table => showing::table(output, engine.table())?,
             ShowLine::Page { page } => match engine.page_now(page) {
                 Some(shown) => showing::page(output, page, shown)?,
                 None => return Err(Failure::BadLine(number)),
