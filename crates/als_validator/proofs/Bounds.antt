@@ -1,13 +1,13 @@
 -- How large the counts are, and what a valid log with one more record says of that record.
-use Rattle.std.proofs.Common.{◌≡◌, ℕ, ◌==◌, ◌+◌, ◌*◌, ◌≤◌, ◌<◌, nat_lt, Bool, true, false, cond, not, ◌&&◌, ◌||◌, List, [], ◌∷◌, ◌++◌, length, refl, sym, ap, ◌∙◌, inl, inr, ◌⊎◌, subst, arith}
+use Rattle.std.proofs.Common.{◌≡◌, ℕ, ◌+◌, ◌*◌, ◌≤◌, Bool, true, false, cond, List, [], ◌∷◌, ◌++◌, length, sym, ap, ◌∙◌, inl, inr, arith}
 use Rattle.std.specs.List.{AllByRecursion}
-use Rattle.std.proofs.lemmas.Bool.{cases_Bool, false≢true, and_parts, ltb-false}
+use Rattle.std.proofs.lemmas.Bool.{cases_Bool, and_parts, ltb-false}
 use Rattle.als_record.specs.declared.key.Key.{Key}
 use Rattle.als_record.specs.declared.record.Body.{Body}
 use Rattle.als_record.specs.declared.record.Body.TheVariants.{Update, Compensation, Commit, Rollback, End, BeginCheckpoint, EndCheckpoint}
 use Rattle.als_record.specs.declared.record.Record.{Record}
 use Rattle.als_record.specs.Spelling.{IsRecord, record_len}
-use Rattle.als_record.specs.LogText.{IsLog, end_of}
+use Rattle.als_record.specs.LogText.{end_of}
 use Rattle.als_record.specs.Transactions.{to_undo_after, to_undo, is_of, records_of, unended, transactions}
 use Rattle.als_record.specs.Images.{is_update_at}
 use Rattle.als_record.specs.Validity.{is_valid, may_follow, too_many, IsValidLog}
@@ -63,13 +63,14 @@ updates_at-below k t log = log_induction (λ l. updates_at k (to_undo l t) * 2 +
         let e : end_of (l ++ r ∷ []) ≡ end_of l + record_len r = end_of-push l r in
         let n : 28 ≤ record_len r = record_len-head r in
         elim (cases_Bool (is_of t r)) [
-            inl o ↦
-                let m : updates_at k (to_undo_after (to_undo l t) r r.body) ≤ updates_at k (to_undo l t) + 1 = updates_at-after k (to_undo l t) r r.body in
-                let q : updates_at k (to_undo (l ++ r ∷ []) t) ≡ updates_at k (to_undo_after (to_undo l t) r r.body) = ap (updates_at k) (to_undo-own l r t o) in
-                omega arith
+          | inl o ↦
+              let m : updates_at k (to_undo_after (to_undo l t) r r.body) ≤ updates_at k (to_undo l t) + 1 = updates_at-after k (to_undo l t) r r.body in
+              let q : updates_at k (to_undo (l ++ r ∷ []) t) ≡ updates_at k (to_undo_after (to_undo l t) r r.body) = ap (updates_at k) (to_undo-own l r t o) in
+              omega arith
           | inr o ↦
-                let q : updates_at k (to_undo (l ++ r ∷ []) t) ≡ updates_at k (to_undo l t) = ap (updates_at k) (to_undo-other l r t o) in
-                omega arith ]
+              let q : updates_at k (to_undo (l ++ r ∷ []) t) ≡ updates_at k (to_undo l t) = ap (updates_at k) (to_undo-other l r t o) in
+              omega arith
+        ]
 
 few-start : length (unended []) ≤ 256
 unfolding unended transactions

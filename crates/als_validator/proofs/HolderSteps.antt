@@ -1,10 +1,8 @@
 -- What is kept of a key says who holds it.
-use Rattle.std.proofs.Common.{◌≡◌, ℕ, ◌==◌, ◌+◌, ◌≤◌, ◌<◌, Bool, true, false, cond, not, ◌&&◌, ◌||◌, List, [], ◌∷◌, Option, Some, None, refl, sym, ap, ◌∙◌, inl, inr, ◌⊎◌, subst, arith}
+use Rattle.std.proofs.Common.{◌≡◌, ℕ, ◌==◌, ◌+◌, true, false, cond, not, ◌&&◌, List, [], ◌∷◌, Some, None, refl, sym, ap, ◌∙◌, inl, inr, arith}
 use Rattle.std.specs.List.{list_any}
-use Rattle.std.proofs.lemmas.Bool.{cases_Bool, eqb-true, eq-eqb, ne_eqb, false≢true, true≢false, and_parts, or_parts, not-true}
-use Rattle.als_record.specs.declared.trans_id.TransId.{TransId}
+use Rattle.std.proofs.lemmas.Bool.{cases_Bool, eqb-true, eq-eqb, false≢true, and_parts, not-true}
 use Rattle.als_record.specs.declared.key.Key.{Key}
-use Rattle.als_record.specs.declared.record.Body.{Body}
 use Rattle.als_record.specs.declared.record.Body.TheVariants.{Update}
 use Rattle.als_record.specs.declared.record.Record.{Record}
 use Rattle.als_record.specs.Spelling.{Image}
@@ -27,8 +25,9 @@ loser_parts log t l =
 none-counted : (k : Key) (us : List Record) → updates_at k us ≡ 0 → list_any (λ u. is_update_at k u.body) us ≡ false
 none-counted k [] e = refl
 none-counted k (u ∷ us) e = elim (cases_Bool (is_update_at k u.body)) [
-    inl y ↦ let f : 1 + updates_at k us ≡ 0 = (rw y at e) in absurd (omega arith)
-  | inr y ↦ let f : 0 + updates_at k us ≡ 0 = (rw y at e) in rw y (none-counted k us (omega arith)) ]
+  | inl y ↦ let f : 1 + updates_at k us ≡ 0 = (rw y at e) in absurd (omega arith)
+  | inr y ↦ let f : 0 + updates_at k us ≡ 0 = (rw y at e) in rw y (none-counted k us (omega arith))
+]
 
 module _ (log : List Record) (r : Record) (key : Key) (fore after : Image) (v : is_valid log ≡ true) (b : r.body ≡ Update key fore after) (kept : KeyState) (is : IsKeyOf kept log key) where
   counted : (t : ℕ) → is_loser log t ≡ true → updates_at key (to_undo log t) ≡ cond (t == kept.holder.0) kept.count 0
@@ -37,22 +36,27 @@ module _ (log : List Record) (r : Record) (key : Key) (fore after : Image) (v : 
   -- nobody holds the key where each other loser counts none
   free : ((t : ℕ) → is_loser log t ≡ true → (t == r.trans.0) ≡ false → (t == kept.holder.0) ≡ true → kept.count ≡ 0) → held_by log r ≡ None
   free n = held_by-nobody log r key fore after b (λ t l d. none-counted key (to_undo log t) (elim (cases_Bool (t == kept.holder.0)) [
-      inl e ↦ counted t l ∙ rw e (n t l d e)
-    | inr e ↦ counted t l ∙ rw e refl ]))
+    | inl e ↦ counted t l ∙ rw e (n t l d e)
+    | inr e ↦ counted t l ∙ rw e refl
+  ]))
 
   pub held_by-kept : held_by log r ≡ cond (not (kept.count == 0) && not (kept.holder.0 == r.trans.0) && is_loser log kept.holder.0) (Some kept.holder) None
   held_by-kept = elim (cases_Bool (kept.count == 0)) [
-      inl z ↦ rw z (free (λ t l d e. eqb-true kept.count 0 z))
+    | inl z ↦ rw z (free (λ t l d e. eqb-true kept.count 0 z))
     | inr z ↦ elim (cases_Bool (kept.holder.0 == r.trans.0)) [
-          inl y ↦ rw (z, y) (free (λ t l d e. absurd (false≢true (sym d ∙ eq-eqb t r.trans.0 (eqb-true t kept.holder.0 e ∙ eqb-true kept.holder.0 r.trans.0 y)))))
-        | inr y ↦ elim (cases_Bool (is_loser log kept.holder.0)) [
-              inr x ↦ rw (z, y, x) (free (λ t l d e. absurd (false≢true (sym x ∙ ap (is_loser log) (sym (eqb-true t kept.holder.0 e)) ∙ l))))
-            | inl x ↦ rw (z, y, x) (held_by-loser log r key fore after v b kept.holder.0 x y (some x z)) ] ] ]
+      | inl y ↦ rw (z, y) (free (λ t l d e. absurd (false≢true (sym d ∙ eq-eqb t r.trans.0 (eqb-true t kept.holder.0 e ∙ eqb-true kept.holder.0 r.trans.0 y)))))
+      | inr y ↦ elim (cases_Bool (is_loser log kept.holder.0)) [
+        | inr x ↦ rw (z, y, x) (free (λ t l d e. absurd (false≢true (sym x ∙ ap (is_loser log) (sym (eqb-true t kept.holder.0 e)) ∙ l))))
+        | inl x ↦ rw (z, y, x) (held_by-loser log r key fore after v b kept.holder.0 x y (some x z))
+      ]
+    ]
+  ]
     where
       some : is_loser log kept.holder.0 ≡ true → (kept.count == 0) ≡ false → holds log kept.holder.0 key ≡ true
       some x z = elim (cases_Bool (holds log kept.holder.0 key)) [
-          inl e ↦ e
+        | inl e ↦ e
         | inr e ↦
             let n : updates_at key (to_undo log kept.holder.0) ≡ 0 = count-none key (to_undo log kept.holder.0) e in
             let m : updates_at key (to_undo log kept.holder.0) ≡ kept.count = counted kept.holder.0 x ∙ rw (eq-eqb kept.holder.0 kept.holder.0 refl) refl in
-            absurd (false≢true (sym z ∙ eq-eqb kept.count 0 (sym m ∙ n))) ]
+            absurd (false≢true (sym z ∙ eq-eqb kept.count 0 (sym m ∙ n)))
+      ]

@@ -1,22 +1,19 @@
 -- The causes, as tests of a transaction's row and newest surviving update.
-use Rattle.std.proofs.Common.{◌≡◌, ◌≢◌, ℕ, zero, suc, ◌==◌, ◌+◌, ◌-◌, ◌≤◌, ◌<◌, nat_le, nat_lt, Bool, true, false, cond, not, ◌&&◌, ◌||◌, List, [], ◌∷◌, ◌++◌, length, reverse, Option, Some, None, refl, sym, ap, ◌∙◌, inl, inr, ◌⊎◌, subst, arith, length-append, Bor}
-use Rattle.std.specs.Prelude.{slice_get, option_copied, option_map, is_some, is_none}
-use Rattle.std.specs.List.{list_any}
-use Rattle.std.proofs.lemmas.Bool.{cases_Bool, eqb-true, eq-eqb, false≢true, true≢false, and_parts, or_parts, leb-false, lt-ltb, le-leb}
+use Rattle.std.proofs.Common.{◌≡◌, ℕ, ◌==◌, ◌+◌, ◌-◌, ◌≤◌, ◌<◌, nat_le, nat_lt, Bool, true, false, cond, not, ◌&&◌, ◌||◌, List, [], ◌∷◌, ◌++◌, length, reverse, Option, Some, None, refl, sym, ap, ◌∙◌, inl, inr, ◌⊎◌, arith, length-append, Bor}
+use Rattle.std.specs.Prelude.{slice_get, option_copied, is_some, is_none}
+use Rattle.std.proofs.lemmas.Bool.{cases_Bool, true≢false, leb-false}
 use Rattle.std.proofs.lemmas.List.{reverse-append}
 use Rattle.std.proofs.lemmas.List.Folds.{list_any-append}
 use Rattle.std.proofs.lemmas.Bool.Decides.{nat_tests}
-use Rattle.als_record.specs.declared.lsn.Lsn.{Lsn}
 use Rattle.als_record.specs.declared.trans_id.TransId.{TransId}
 use Rattle.als_record.specs.declared.record.Body.{Body}
 use Rattle.als_record.specs.declared.record.Body.TheVariants.{Update, Compensation, Commit, Rollback, End, BeginCheckpoint, EndCheckpoint}
 use Rattle.als_record.specs.declared.record.Record.{Record}
-use Rattle.als_record.specs.declared.transaction_state.TransactionState.{TransactionState}
 use Rattle.als_record.specs.declared.transaction_state.TransactionState.TheVariants.{Active, Committed, RollingBack}
 use Rattle.als_record.specs.declared.transaction_row.TransactionRow.{TransactionRow}
-use Rattle.als_record.specs.Transactions.{records_of, is_transactional, is_update, is_compensation, is_commit, is_rollback, is_end, is_of, is_some_left, to_undo, is_committed, has_rollback, has_begun, is_unended, is_loser, last_lsn, unended, greatest_trans}
+use Rattle.als_record.specs.Transactions.{records_of, is_transactional, is_commit, is_end, is_of, is_some_left, to_undo, is_committed, has_rollback, has_begun, is_unended, is_loser, last_lsn, unended, greatest_trans}
 use Rattle.als_record.specs.Table.{state_of, row_of}
-use Rattle.als_record.specs.Validity.{prev_of, bad_prev, old_transaction, is_forward, wrong_state, goes_on_after, wrong_undo_next, undoes_newest, wrong_compensation, too_many, is_valid}
+use Rattle.als_record.specs.Validity.{prev_of, old_transaction, is_forward, wrong_state, goes_on_after, wrong_undo_next, undoes_newest, wrong_compensation, too_many, is_valid}
 use Rattle.als_record.proofs.Records.{is_unended-none, is_committed-own, is_committed-other, is_committed-none, has_rollback-none, to_undo-none}
 use Rattle.als_record.proofs.Unended.{length-unended_more, length-unended_end, length-unended_new, length-unended_new_end, length-unended_checkpoint}
 use Rattle.als_analysis.proofs.LogSteps.{not_begun}
@@ -42,22 +39,25 @@ last-reverse (u ∷ rest) =
 pub known_of : (log : List Record) (r : Record) → is_transactional r.body ≡ true → old_transaction log r ≡ false → (is_unended log r.trans.0 ≡ true) ⊎ (has_begun log r.trans.0 ≡ false)
 unfolding old_transaction
 known_of log r w o = elim (cases_Bool (is_unended log r.trans.0)) [
-    inl e ↦ inl e
+  | inl e ↦ inl e
   | inr e ↦
       let above : greatest_trans log < r.trans.0 = leb-false r.trans.0 (greatest_trans log) (rw (w, e) at o) in
-      inr (not_begun log r.trans.0 above) ]
+      inr (not_begun log r.trans.0 above)
+]
 
 module _ (log : List Record) (t : ℕ) (known : (is_unended log t ≡ true) ⊎ (has_begun log t ≡ false)) where
   pub state_in-known : (row : Option TransactionRow) → row ≡ cond (is_unended log t) (Some (row_of log t)) None → state_in row ≡ state_of log t
   unfolding row_of state_of
   state_in-known row e = elim known [
-      inl u ↦ ap state_in e ∙ rw u refl
-    | inr n ↦ ap state_in e ∙ rw (is_unended-none log t n, is_committed-none log t n, has_rollback-none log t n) refl ]
+    | inl u ↦ ap state_in e ∙ rw u refl
+    | inr n ↦ ap state_in e ∙ rw (is_unended-none log t n, is_committed-none log t n, has_rollback-none log t n) refl
+  ]
 
   pub newest-known : (newest : Option Record) → newest ≡ cond (is_unended log t) (first_of (to_undo log t)) None → newest ≡ first_of (to_undo log t)
   newest-known newest e = elim known [
-      inl u ↦ e ∙ rw u refl
-    | inr n ↦ e ∙ rw (is_unended-none log t n, to_undo-none log t n) refl ]
+    | inl u ↦ e ∙ rw u refl
+    | inr n ↦ e ∙ rw (is_unended-none log t n, to_undo-none log t n) refl
+  ]
 
 pub is_some-first : (us : List Record) → is_some (first_of us) ≡ is_some_left us
 is_some-first [] = refl
@@ -201,14 +201,18 @@ unfolding too_many
 too_many-begins log r v o =
     let few : length (unended log) ≤ 256 = few_unended log v in
     elim (cases_Bool (is_transactional r.body)) [
-        inr w ↦ rw w (lt-false (length-unended_checkpoint log r w) few)
+      | inr w ↦ rw w (lt-false (length-unended_checkpoint log r w) few)
       | inl w ↦ elim (known_of log r w o) [
-            inl u ↦ elim (cases_Bool (is_end r.body)) [
-                inl e ↦ rw (w, e) (ltb-from 256 (length (unended (log ++ r ∷ []))) (let m : length (unended (log ++ r ∷ [])) + 1 ≡ length (unended log) = length-unended_end log r w e u in omega arith))
-              | inr e ↦ rw (w, e, u) (lt-false (length-unended_more log r w e u) few) ]
-          | inr n ↦ elim (cases_Bool (is_end r.body)) [
-                inl e ↦ rw (w, e) (lt-false (length-unended_new_end log r w e n) few)
-              | inr e ↦ let u : is_unended log r.trans.0 ≡ false = is_unended-none log r.trans.0 n in rw (w, e, u) (let m : length (unended (log ++ r ∷ [])) ≡ length (unended log) + 1 = length-unended_new log r w e n in ap (nat_lt 256) m ∙ same (length (unended log))) ] ] ]
+        | inl u ↦ elim (cases_Bool (is_end r.body)) [
+          | inl e ↦ rw (w, e) (ltb-from 256 (length (unended (log ++ r ∷ []))) (let m : length (unended (log ++ r ∷ [])) + 1 ≡ length (unended log) = length-unended_end log r w e u in omega arith))
+          | inr e ↦ rw (w, e, u) (lt-false (length-unended_more log r w e u) few)
+        ]
+        | inr n ↦ elim (cases_Bool (is_end r.body)) [
+          | inl e ↦ rw (w, e) (lt-false (length-unended_new_end log r w e n) few)
+          | inr e ↦ let u : is_unended log r.trans.0 ≡ false = is_unended-none log r.trans.0 n in rw (w, e, u) (let m : length (unended (log ++ r ∷ [])) ≡ length (unended log) + 1 = length-unended_new log r w e n in ap (nat_lt 256) m ∙ same (length (unended log)))
+        ]
+      ]
+    ]
   where
     ltb-from : (m n : ℕ) → n ≤ m → nat_lt m n ≡ false
     ltb-from m n h = grind (arith, nat_tests)
@@ -246,15 +250,21 @@ or-false false = refl
 
 module _ (ids : List TransId) (log : List Record) (r : Record) (are : AreCommitted ids log) where
   pub committed-push : r.body ≡ Commit → AreCommitted (ids ++ r.trans ∷ []) (log ++ r ∷ [])
-  committed-push b = record { each = λ t.
-      list_any-append (λ (id : TransId). id.0 == t) ids (r.trans ∷ []) ∙ ap (λ x. x || ((r.trans.0 == t) || false)) (are.each t) ∙ elim (cases_Bool (r.trans.0 == t)) [
-          inl e ↦ rw e (sym (is_committed-own log r t (rw (b, e) refl) ∙ ap (λ x. is_committed log t || is_commit x) b))
-        | inr e ↦ rw e (or-false (is_committed log t) ∙ sym (is_committed-other log r t (rw (b, e) refl))) ] }
+  committed-push b = record {
+    each = λ t.
+        list_any-append (λ (id : TransId). id.0 == t) ids (r.trans ∷ []) ∙ ap (λ x. x || ((r.trans.0 == t) || false)) (are.each t) ∙ elim (cases_Bool (r.trans.0 == t)) [
+          | inl e ↦ rw e (sym (is_committed-own log r t (rw (b, e) refl) ∙ ap (λ x. is_committed log t || is_commit x) b))
+          | inr e ↦ rw e (or-false (is_committed log t) ∙ sym (is_committed-other log r t (rw (b, e) refl)))
+        ];
+  }
 
   pub committed-keep : is_commit r.body ≡ false → AreCommitted ids (log ++ r ∷ [])
-  committed-keep n = record { each = λ t. are.each t ∙ elim (cases_Bool (is_of t r)) [
-      inl o ↦ sym (is_committed-own log r t o ∙ ap (λ x. is_committed log t || x) n ∙ or-false (is_committed log t))
-    | inr o ↦ sym (is_committed-other log r t o) ] }
+  committed-keep n = record {
+    each = λ t. are.each t ∙ elim (cases_Bool (is_of t r)) [
+      | inl o ↦ sym (is_committed-own log r t o ∙ ap (λ x. is_committed log t || x) n ∙ or-false (is_committed log t))
+      | inr o ↦ sym (is_committed-other log r t o)
+    ];
+  }
 
 pub not_commit : (b : Body) → (b ≡ Commit → ⊥) → is_commit b ≡ false
 not_commit (Update key before after) n = refl

@@ -1,7 +1,7 @@
 -- The causes of one transaction, as tests of its state, of its newest surviving update and of a record's body.
-use Rattle.std.specs.Prelude.{ℕ, ◌==◌, nat_le, Bool, true, false, not, ◌&&◌, ◌||◌, Option, Some, None}
+use Rattle.std.specs.Prelude.{ℕ, ◌==◌, Bool, true, false, not, ◌&&◌, ◌||◌, Option, Some, None}
 use Rattle.als_record.specs.declared.record.Body.{Body}
-use Rattle.als_record.specs.declared.record.Body.TheVariants.{Update, Compensation, Commit, Rollback, End, BeginCheckpoint, EndCheckpoint}
+use Rattle.als_record.specs.declared.record.Body.TheVariants.{Compensation}
 use Rattle.als_record.specs.declared.record.Record.{Record}
 use Rattle.als_record.specs.declared.transaction_state.TransactionState.{TransactionState}
 use Rattle.als_record.specs.declared.transaction_state.TransactionState.TheVariants.{Active, Committed, RollingBack}

@@ -1,5 +1,5 @@
 -- The validator, and the log of which it knows what the causes ask.
-use Rattle.std.specs.Prelude.{◌≡◌, ℕ, ◌<◌, Bool, true, List, vec_len, vec_capacity}
+use Rattle.std.specs.Prelude.{◌≡◌, ℕ, ◌<◌, true, List, vec_len, vec_capacity}
 use Rattle.als_record.specs.declared.record.Record.{Record}
 use Rattle.als_record.specs.Transactions.{greatest_trans}
 use Rattle.als_record.specs.Validity.{open_checkpoint}

@@ -62,6 +62,7 @@ impl<T: Drop> From<AllocFailed<T>> for Fault {
         Fault::Memory
     }
 }
+
 impl From<als_analysis::Fault> for Fault {
     ghost from_gives = { λ _ e. e ≡ Memory };
 

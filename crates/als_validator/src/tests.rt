@@ -1,3 +1,5 @@
+ghost use Rattle.als_validator.specs.Validated.{HasRoom};
+
 use crate::{Fault, Validator};
 use als_record::{Body, Cause, Image, Key, Lsn, PageRows, Record, TransId, TransactionRows, Value};
 use std::alloc::Global;
@@ -67,26 +69,193 @@ fn end_of_checkpoint(alloc: Global, lsn: u64, prev: u64, trans: u32) -> Record {
 }
 
 // A validator of no record. A refused growth is met once at most: it is made at the next try.
-fn fresh(rt: &(impl Abort + Alloc)) -> Option<Validator> {
-    match Validator::new(rt.alloc(), 4) {
-        Ok(validator) => Some(validator),
+fn fresh(rt: &impl Abort, alloc: Global) -> Validator {
+    match Validator::new(alloc, 4) {
+        Ok(validator) => validator,
         Err(fault) => {
             assert_eq!(rt; fault, Fault::Memory);
             assert_eq!(rt; fault.number(), 32);
             assert_eq!(rt; fault.name(), "Memory");
-            Validator::new(rt.alloc(), 4).ok()
+            match Validator::new(alloc, 4) {
+                Ok(validator) => validator,
+                Err(_) => panic!(rt; "refused twice"),
+            }
         }
     }
 }
 
-// Takes a record that may follow. A refused growth is met once at most.
+// Makes room for one more record. A refused growth changes nothing, and is met once at most.
+fn make_room(rt: &impl Abort, validator: &mut Validator)
+    ensures { HasRoom validator.new }
+{
+    let rows = validator.rows().len();
+    match validator.reserve() {
+        Ok(()) => {}
+        Err(fault) => {
+            assert_eq!(rt; fault, Fault::Memory);
+            assert_eq!(rt; validator.rows().len(), rows);
+            match validator.reserve() {
+                Ok(()) => {}
+                Err(_) => panic!(rt; "refused twice"),
+            }
+        }
+    }
+}
+
+// Takes a record that may follow.
 fn admit(rt: &impl Abort, validator: &mut Validator, logged: &Record) {
     assert_eq!(rt; validator.check(logged), Ok(()));
-    let rows = validator.rows().len();
-    if validator.reserve().is_err() {
-        assert_eq!(rt; validator.rows().len(), rows);
-        assert_eq!(rt; validator.check(logged), Ok(()));
-        assert!(rt; validator.reserve().is_ok());
-    }
+    make_room(rt, validator);
+    assert_eq!(rt; validator.check(logged), Ok(()));
     validator.admit(logged);
+}
+
+// Refuses a record, and again.
+fn refuse(rt: &impl Abort, validator: &mut Validator, logged: &Record, cause: Cause) {
+    assert_eq!(rt; validator.check(logged), Err(Fault::Invalid(cause)));
+    assert_eq!(rt; validator.check(logged), Err(Fault::Invalid(cause)));
+}
+
+#[test]
+fn records_that_may_not_follow(rt: HostRuntime) {
+    let mut one = fresh(&rt, rt.alloc());
+    admit(&rt, &mut one, &update(16, 0, 1, None, 0xaa));
+    refuse(
+        &rt,
+        &mut one,
+        &record(52, 0, 1, Body::Commit),
+        Cause::BadPrev,
+    );
+    refuse(
+        &rt,
+        &mut one,
+        &record(52, 16, 1, Body::End),
+        Cause::WrongState,
+    );
+    refuse(
+        &rt,
+        &mut one,
+        &undo(52, 16, 1, None, 16),
+        Cause::WrongUndoNext,
+    );
+    refuse(
+        &rt,
+        &mut one,
+        &undo(52, 16, 1, byte(0x22), 0),
+        Cause::WrongCompensation,
+    );
+    refuse(
+        &rt,
+        &mut one,
+        &update(52, 0, 2, byte(0xaa), 0x22),
+        Cause::RecordHeld { by: TransId(1) },
+    );
+    admit(&rt, &mut one, &record(52, 16, 1, Body::Commit));
+    refuse(
+        &rt,
+        &mut one,
+        &update(80, 0, 2, byte(0xab), 0xcc),
+        Cause::BeforeImage,
+    );
+    refuse(
+        &rt,
+        &mut one,
+        &update(80, 0, 0, byte(0xaa), 0xcc),
+        Cause::OldTransaction,
+    );
+    admit(&rt, &mut one, &update(80, 0, 2, byte(0xaa), 0xcc));
+}
+
+#[test]
+fn transactions_rise(rt: HostRuntime) {
+    let mut one = fresh(&rt, rt.alloc());
+    admit(&rt, &mut one, &update(16, 0, 2, None, 0xaa));
+    refuse(
+        &rt,
+        &mut one,
+        &update_beside(52, 0, 1),
+        Cause::OldTransaction,
+    );
+    assert_eq!(rt; Fault::Invalid(Cause::OldTransaction).number(), 9);
+    assert_eq!(rt;
+        Fault::Invalid(Cause::OldTransaction).name(),
+        "OldTransaction"
+    );
+}
+
+#[test]
+fn a_transaction_too_many(rt: HostRuntime) {
+    let mut one = fresh(&rt, rt.alloc());
+    for k in 0..256u32 {
+        admit(
+            &rt,
+            &mut one,
+            &record(16 + 28 * k as u64, 0, k + 1, Body::Rollback),
+        );
+    }
+    refuse(
+        &rt,
+        &mut one,
+        &record(7184, 0, 257, Body::Rollback),
+        Cause::TooManyTransactions,
+    );
+    assert_eq!(rt; one.rows().len(), 256);
+    assert_eq!(rt; one.reserve_bytes(), 256 * 28);
+}
+
+#[test]
+fn checkpoints_come_in_pairs(rt: HostRuntime) {
+    let mut one = fresh(&rt, rt.alloc());
+    refuse(
+        &rt,
+        &mut one,
+        &end_of_checkpoint(rt.alloc(), 16, 0, 0),
+        Cause::BadCheckpoint,
+    );
+    admit(&rt, &mut one, &record(16, 0, 0, Body::BeginCheckpoint));
+    admit(&rt, &mut one, &end_of_checkpoint(rt.alloc(), 44, 16, 0));
+    refuse(
+        &rt,
+        &mut one,
+        &end_of_checkpoint(rt.alloc(), 76, 16, 0),
+        Cause::BadCheckpoint,
+    );
+    admit(&rt, &mut one, &record(76, 0, 1, Body::Commit));
+    admit(&rt, &mut one, &record(104, 76, 1, Body::End));
+    refuse(
+        &rt,
+        &mut one,
+        &record(132, 0, 1, Body::BeginCheckpoint),
+        Cause::WrongState,
+    );
+    refuse(
+        &rt,
+        &mut one,
+        &record(132, 0, 2, Body::BeginCheckpoint),
+        Cause::BadCheckpoint,
+    );
+}
+
+#[test]
+fn a_partial_rollback_goes_on(rt: HostRuntime) {
+    let mut one = fresh(&rt, rt.alloc());
+    admit(&rt, &mut one, &update(16, 0, 1, None, 0x11));
+    admit(&rt, &mut one, &update(52, 16, 1, byte(0x11), 0x22));
+    admit(&rt, &mut one, &undo(89, 52, 1, byte(0x11), 16));
+    refuse(
+        &rt,
+        &mut one,
+        &update(132, 0, 2, byte(0x11), 0x33),
+        Cause::RecordHeld { by: TransId(1) },
+    );
+    admit(&rt, &mut one, &undo(132, 89, 1, None, 0));
+    admit(&rt, &mut one, &update_beside(174, 132, 1));
+    admit(&rt, &mut one, &update(210, 0, 2, None, 0x33));
+    refuse(
+        &rt,
+        &mut one,
+        &update(246, 174, 1, byte(0x33), 0x44),
+        Cause::RecordHeld { by: TransId(2) },
+    );
+    assert_eq!(rt; one.table().survivors_of(TransId(1)).len(), 1);
 }

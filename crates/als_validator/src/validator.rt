@@ -1,12 +1,12 @@
-ghost use Rattle.std.specs.Prelude.{◌≡◌, ◌≢◌, ◌<◌, vec_len, vec_capacity, ℕ, ◌+◌, List, [], ◌∷◌, ◌++◌, max, length, Ok, Err, IsOk, OnOk, OnErr, IfOk, IfErr, slice_index_or};
+ghost use Rattle.std.specs.Prelude.{◌≡◌, ◌≢◌, ◌<◌, vec_len, vec_capacity, ℕ, ◌+◌, List, [], ◌∷◌, ◌++◌, max, map, Ok, Err, IsOk, OnOk, OnErr, IfOk, IfErr, slice_index_or};
 ghost use Rattle.als_record.specs.declared.record.Record.{Record};
 ghost use Rattle.als_record.specs.Spelling.{IsRecord};
 ghost use Rattle.als_record.specs.Tail.{tail_len};
-ghost use Rattle.als_record.specs.Transactions.{unended};
+ghost use Rattle.als_record.specs.Transactions.{unended, surviving};
 ghost use Rattle.als_record.specs.Table.{table_of};
 ghost use Rattle.als_record.specs.Validity.{first_bad, checkpoint_after, IsValidLog};
 ghost use Rattle.als_analysis.specs.Noted.{IsTableOf};
-ghost use Rattle.als_analysis.specs.Open.{rows_of};
+ghost use Rattle.als_analysis.specs.Open.{rows_of, left_of};
 ghost use Rattle.als_validator.specs.declared.fault.Fault.TheVariants.{Memory};
 ghost use Rattle.als_validator.specs.FaultNames.{answer_of};
 ghost use Rattle.als_validator.specs.Keys.{AreKeysOf};
@@ -171,7 +171,8 @@ impl Validator {
 
     /// The rows of the transaction table in rising TransID, each with the updates that survive of its transaction.
     pub fn rows(&self) -> &[OpenTransaction]
-        ensures { (pages : ℕ) (log : List Record) → IsValidatorOf pages self.now log → rows_of result.now ≡ table_of log }
+        ensures rows { (pages : ℕ) (log : List Record) → IsValidatorOf pages self.now log → rows_of result.now ≡ table_of log }
+        ensures left { (pages : ℕ) (log : List Record) → IsValidatorOf pages self.now log → left_of result.now ≡ map (surviving log) (unended log) }
     {
         self.table.rows()
     }

@@ -1,23 +1,20 @@
-use Rattle.std.proofs.Common.{◌≡◌, ◌<◌, ◌*◌, Bool, true, false, List, length, get_or, set, sym, ap, ◌∙◌, subst, arith, refl}
-use Rattle.std.proofs.lemmas.Bool.{true≢false}
-use Rattle.als_record.specs.declared.record.Body.{Body}
-use Rattle.als_record.specs.declared.record.Body.TheVariants.{Update, Compensation, Commit, Rollback, End, BeginCheckpoint, EndCheckpoint}
+use Rattle.std.proofs.Common.{◌≡◌, ◌<◌, ◌*◌, length, subst, arith}
+use Rattle.als_record.specs.declared.record.Body.TheVariants.{Update, Compensation}
 use Rattle.als_record.specs.Spelling.{IsBody}
-use Rattle.als_record.specs.Transactions.{is_update, is_compensation}
-use Rattle.als_validator.specs.Keys.{AreKeysOf, place_of}
-use Rattle.als_validator.proofs.Bounds.{Follows, follows}
+use Rattle.als_validator.specs.Keys.{place_of}
+use Rattle.als_validator.proofs.Bounds.{follows}
 use Rattle.als_validator.proofs.KeySteps.{keys-update, keys-undo, keys-quiet, quiet_of, place_of-below}
 use Rattle.als_validator.proofs.keys.note_change.Goals as goal
 
 pub returns-then-at-keys : goal.returns-then-at-keys
 returns-then-at-keys c pages log are v =
     keys-update pages log c.args.logged.now c.args.keys.now are c.in-Update.key c.in-Update.before c.in-Update.after c.in-Update.is (follows pages log c.args.logged.now v) c.place-at.result c.place-at.ensures c.index-keys-at.result c.update.new.self
-        c.update.ensures.image c.update.ensures.holder c.update.ensures.count
+    c.update.ensures.image c.update.ensures.holder c.update.ensures.count
 
 pub returns-then-at-keys-2 : goal.returns-then-at-keys-2
 returns-then-at-keys-2 c pages log are v =
     keys-undo pages log c.args.logged.now c.args.keys.now are c.in-Compensation.undo_next c.in-Compensation.key c.in-Compensation.after c.in-Compensation.is (follows pages log c.args.logged.now v) c.place-at-in-Compensation.result c.place-at-in-Compensation.ensures c.index-keys-at-then-at-keys-2.result c.undo.new.self
-        c.undo.ensures.image c.undo.ensures.holder c.undo.ensures.count
+    c.undo.ensures.image c.undo.ensures.holder c.undo.ensures.count
 
 pub returns-else-at-keys : goal.returns-else-at-keys
 returns-else-at-keys c pages log are v =

@@ -1,4 +1,4 @@
-use Rattle.std.proofs.Common.{◌≡◌, ℕ, ◌<◌, length, get_or, vec_len, None}
+use Rattle.std.proofs.Common.{◌≡◌, ℕ, ◌<◌, length, get_or, None}
 use Rattle.als_validator.specs.declared.key_state.KeyState.{KeyState}
 use Rattle.als_validator.proofs.keys.unwritten_keys.Given as goal
 

@@ -1,8 +1,7 @@
-use Rattle.std.proofs.Common.{◌≡◌, ℕ, ◌<◌, ◌≤◌, Bool, true, false, nat_lt, get_or, arith, refl, rules}
+use Rattle.std.proofs.Common.{nat_lt, arith, rules}
 use Rattle.std.proofs.lemmas.Bool.{ltb-true, ltb-false}
 use Rattle.std.proofs.lemmas.List.Sorted.{IsPartitionedBy-ltb, IsPartitionPoint-from_clause}
 use Rattle.als_analysis.specs.Open.{Open}
-use Rattle.als_analysis.specs.Kept.{IsPlace}
 use Rattle.als_analysis.proofs.KeptSteps.{rising-sorted}
 use Rattle.als_validator.proofs.past.place_of.Goals as goal
 

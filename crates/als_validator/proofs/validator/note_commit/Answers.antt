@@ -1,6 +1,3 @@
-use Rattle.std.proofs.Common.{◌≡◌, ◌++◌, ◌∷◌, [], List, subst, sym}
-use Rattle.als_record.specs.declared.trans_id.TransId.{TransId}
-use Rattle.als_validator.specs.Seen.{AreCommitted}
 use Rattle.als_validator.proofs.StateSteps.{committed-push, committed-keep, not_commit}
 use Rattle.als_validator.proofs.validator.note_commit.Goals as goal
 

@@ -1,5 +1,4 @@
-use Rattle.std.proofs.Common.{◌≡◌, List, length, max, refl, sym, ap, ◌∙◌, subst}
-use Rattle.std.specs.Vec.{with_items}
+use Rattle.std.proofs.Common.{◌≡◌, List, length, max, sym, ap, ◌∙◌, subst}
 use Rattle.std.proofs.lemmas.List.{with_items_is}
 use Rattle.als_validator.specs.declared.key_state.KeyState.{KeyState}
 use Rattle.als_record.specs.Validity.{checkpoint_after}
@@ -19,4 +18,5 @@ returns c pages log v valid =
       keys = rw with_items_is (c.note_change.ensures pages log (subst (λ ks. AreKeysOf ks pages log) (sym c.as_mut_slice.ensures.value) v.keys) valid);
       committed = c.note_commit.ensures log v.committed;
       greatest = c.next_greatest-self.ensures ∙ ap (λ n. max n r.trans.0) v.greatest ∙ sym (greatest_trans-push log r);
-      begun = c.next_begun-self.ensures ∙ ap (λ n. checkpoint_after n r.lsn.0 r.body) v.begun ∙ sym (open_checkpoint-push log r) }
+      begun = c.next_begun-self.ensures ∙ ap (λ n. checkpoint_after n r.lsn.0 r.body) v.begun ∙ sym (open_checkpoint-push log r);
+    }

@@ -1,17 +1,14 @@
-use Rattle.std.proofs.Common.{◌≡◌, Bool, true, false, List, length, Option, Some, None, refl, sym, ap, ◌∙◌, subst, arith}
-use Rattle.std.specs.Prelude.{option_map}
+use Rattle.std.proofs.Common.{◌≡◌, true, false, List, length, Option, Some, None, refl, sym, ap, ◌∙◌, subst}
 use Rattle.std.proofs.lemmas.List.{length-map}
 use Rattle.als_record.specs.declared.trans_id.TransId.{TransId}
-use Rattle.als_record.specs.declared.record.Record.{Record}
 use Rattle.als_record.specs.declared.transaction_row.TransactionRow.{TransactionRow}
 use Rattle.als_record.specs.Transactions.{unended}
 use Rattle.als_record.specs.Table.{table_of}
-use Rattle.als_record.specs.Validity.{bad_prev, old_transaction, wrong_state, wrong_undo_next, wrong_compensation, held_by, before_image, too_many, bad_checkpoint, first_bad, IsValidLog}
+use Rattle.als_record.specs.Validity.{bad_prev, old_transaction, wrong_state, wrong_undo_next, wrong_compensation, held_by, before_image, too_many, bad_checkpoint, first_bad}
 use Rattle.als_analysis.specs.Open.{Open, rows_of}
 use Rattle.als_analysis.proofs.LogSteps.{length-table_of}
 use Rattle.als_validator.specs.Keys.{AreKeysOf}
 use Rattle.als_validator.specs.Seen.{IsPastOf, AreCommitted}
-use Rattle.als_validator.specs.Validated.{IsValidatorOf}
 use Rattle.als_validator.proofs.validator.Validator.first_cause.Goals as goal
 
 none_of : (o : Option TransId) → ((by : TransId) → o ≡ Some by → ⊥) → o ≡ None

@@ -1,4 +1,4 @@
-use Rattle.std.proofs.Common.{◌≡◌, [], List, subst, sym, refl}
+use Rattle.std.proofs.Common.{[], subst, sym, refl}
 use Rattle.als_record.specs.Transactions.{greatest_trans}
 use Rattle.als_record.specs.Validity.{open_checkpoint}
 use Rattle.als_validator.specs.Seen.{AreCommitted}
