@@ -21,6 +21,3 @@ mod validator;
 
 pub use fault::Fault;
 pub use validator::Validator;
-
-#[cfg(test)]
-mod tests;
