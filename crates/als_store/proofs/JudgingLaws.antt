@@ -1,0 +1,45 @@
+-- What the validator answers, as the engine passes it on.
+use Rattle.std.proofs.Common.{◌≡◌, ◌⊎◌, Option, Some, None, Result, Ok, Err, refl, sym, ap, ◌∙◌, inl, inr}
+use Rattle.als_record.specs.declared.cause.Cause.{Cause}
+use Rattle.als_record.specs.declared.record.Record.{Record}
+use Rattle.als_record.specs.Validity.{first_bad}
+use Rattle.als_validator.specs.declared.fault.Fault.TheVariants.{Invalid, Memory}
+use Rattle.als_validator.specs.FaultNames.{answer_of}
+use Rattle.als_store.specs.declared.fault.Fault.{Fault}
+use Rattle.als_store.specs.Faults.{from_cause}
+use Rattle.als_store.specs.Stored.{IsRefused, judgement_of}
+use Rattle.std.specs.Prelude.{List}
+
+abbrev done : Result (Unit {0}) Fault
+done = Ok tt
+
+abbrev failed : Fault → Result (Unit {0}) Fault
+failed f = Err f
+
+pub judged_ok : (o : Option Cause) → Ok tt ≡ answer_of o → done ≡ judgement_of o
+judged_ok None e = refl
+judged_ok (Some c) e = absurd cc
+
+pub judged_invalid : (o : Option Cause) (c : Cause) (f : Fault) → Err (Invalid c) ≡ answer_of o → f ≡ from_cause c → failed f ≡ judgement_of o
+judged_invalid None c f e g = absurd cc
+judged_invalid (Some d) c f e g = let same : c ≡ d = cc in ap failed (g ∙ ap from_cause same)
+
+pub judged_memory : (o : Option Cause) (f : Fault) → Err Memory ≡ answer_of o → failed f ≡ judgement_of o
+judged_memory None f e = absurd cc
+judged_memory (Some d) f e = absurd cc
+
+none_from : (o : Option Cause) → done ≡ judgement_of o → o ≡ None
+none_from None e = refl
+none_from (Some c) e = absurd cc
+
+-- a record that is not refused
+pub good_from : (log : List Record) (r : Record) (result : Result (Unit {0}) Fault) → result ≡ done → result ≡ judgement_of (first_bad log r) → first_bad log r ≡ None
+good_from log r result was e = none_from (first_bad log r) (sym was ∙ e)
+
+cause_from : (o : Option Cause) (f : Fault) → failed f ≡ judgement_of o → (c : Cause) × (o ≡ Some c) × (f ≡ from_cause c)
+cause_from None f e = absurd cc
+cause_from (Some c) f e = (c, refl, cc)
+
+-- a record that is refused
+pub refused_from : (log : List Record) (r : Record) (result : Result (Unit {0}) Fault) (f : Fault) → result ≡ failed f → result ≡ judgement_of (first_bad log r) → IsRefused log r f
+refused_from log r result f was e = inl (cause_from (first_bad log r) f (sym was ∙ e))

@@ -1,0 +1,5 @@
+pub mod Redoing
+pub mod PageLists
+pub mod StoredPages
+pub mod StoredViews
+pub mod JudgingLaws

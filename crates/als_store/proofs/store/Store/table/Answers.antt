@@ -1,0 +1,4 @@
+use Rattle.als_store.proofs.store.Store.table.Goals as goal
+
+pub returns : goal.returns
+returns c = rw (← c.self.view_is) (c.rows.ensures.rows c.self.inside.pages c.self.inside.records.items c.self.invariant.judged)

@@ -1,0 +1,5 @@
+pub mod Faults
+pub mod Warm
+pub mod Stored
+pub mod Events
+pub mod Devices

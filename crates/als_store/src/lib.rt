@@ -1,0 +1,23 @@
+//! What a standby stores: its log and control block on devices, its pages in memory, and its transaction table.
+#![tactic(auto)]
+
+// Why an event is refused.
+mod fault;
+// The devices.
+mod disks;
+// Devices handed back.
+mod unformatted;
+// A page and the changes that it waits for.
+mod warm_page;
+// All pages.
+mod warm_pages;
+// The log, the control block, the pages and the transaction table.
+mod store;
+
+pub use disks::Disks;
+pub use fault::Fault;
+pub use store::Store;
+pub use unformatted::Unformatted;
+
+#[cfg(test)]
+mod tests;

@@ -1,0 +1,10 @@
+use crate::disks::Disks;
+use crate::fault::Fault;
+
+/// Devices that were not formatted, handed back.
+#[derive(Drop)]
+pub struct Unformatted<D> {
+    pub disks: Disks<D>,
+    /// Device or Memory.
+    pub fault: Fault,
+}
