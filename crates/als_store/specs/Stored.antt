@@ -13,7 +13,7 @@ use Rattle.als_record.specs.Pages.{page_at, changes_above}
 use Rattle.als_page.specs.declared.page.Page.{Page}
 use Rattle.als_page.specs.Page.{state_of}
 use Rattle.als_ckpt.specs.declared.control_state.ControlState.{ControlState}
-use Rattle.als_ckpt.specs.Control.{fresh_state, newest_in}
+use Rattle.als_ckpt.specs.Control.{first_state, last_state}
 use Rattle.als_store.specs.declared.fault.Fault.{Fault}
 use Rattle.als_store.specs.declared.fault.Fault.TheVariants.{Invalid, LogFull, Memory}
 
@@ -36,7 +36,7 @@ pub record Stored : Type 0 where
 
 -- the control state that was written last
 abbrev pub newest : Stored → ControlState
-newest s = newest_in s.control s.since
+newest s = last_state s.control s.since
 
 -- the offset below which no log byte can be lost: the mark in the control block as last synced
 abbrev pub acknowledged : Stored → ℕ
@@ -47,7 +47,7 @@ with_log s log = record s { log = log }
 
 -- a store over devices that were just formatted
 abbrev pub formatted : ℕ → ℕ → ℕ → Stored
-formatted pages blocks failures = record { pages = pages; log = []; applied = replicate pages 0; blocks = blocks; written = 16; synced = 16; control = fresh_state; since = []; broken = false; failures = failures }
+formatted pages blocks failures = record { pages = pages; log = []; applied = replicate pages 0; blocks = blocks; written = 16; synced = 16; control = first_state; since = []; broken = false; failures = failures }
 
 -- ---- records
 
