@@ -4,7 +4,8 @@ use Rattle.als_record.specs.LogText.{log_text, end_of}
 use Rattle.als_record.specs.Tail.{tail_len}
 use Rattle.als_record.specs.Validity.{IsValidLog}
 use Rattle.als_disk.specs.Slot.{Slot}
-use Rattle.als_log.specs.Local.{AllHaveText, IsFrontEnd}
+use Rattle.als_log.specs.Local.{IsFrontEnd}
+use Rattle.als_log.specs.Texts.{AllHaveText}
 use Rattle.als_ckpt.specs.declared.control_state.ControlState.{ControlState}
 use Rattle.als_ckpt.specs.Control.{control_block, IsControlState}
 use Rattle.als_store.specs.Stored.{Stored, acknowledged}

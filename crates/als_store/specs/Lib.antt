@@ -3,3 +3,4 @@ pub mod Warm
 pub mod Stored
 pub mod Events
 pub mod Devices
+pub mod Parts

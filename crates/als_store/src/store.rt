@@ -126,13 +126,13 @@ impl<D: BlockDisk> Store<D> {
     /// Holds a record that stands at the log's end. It is refused for the first cause why it may not follow the log, else by
     /// LogFull where the log device has no room for it and for the tail that a takeover would then append, and by Memory where
     /// a growth is refused. An `Err` changes nothing.
-    pub fn admit(&mut self, logged: Record) -> Result<(), Fault>
-        requires fits { IsRecord self.old.pages logged }
-        requires at { logged.lsn.0 ≡ end_of self.old.log }
-        ensures ok { OnOk result ((first_bad self.old.log logged ≡ None) × (self.new ≡ with_log self.old (self.old.log ++ logged ∷ []))) }
+    pub fn admit(&mut self, logged: &Record) -> Result<(), Fault>
+        requires fits { IsRecord self.old.pages logged.now }
+        requires at { logged.now.lsn.0 ≡ end_of self.old.log }
+        ensures ok { OnOk result ((first_bad self.old.log logged.now ≡ None) × (self.new ≡ with_log self.old (self.old.log ++ logged.now ∷ []))) }
         ensures err { OnErr result (self.new ≡ self.old) }
-        ensures cause { IfErr result (IsRefused self.old logged) }
-        ensures full { first_bad self.old.log logged ≡ None → IsTooLong self.old logged → result ≡ Err fault.LogFull }
+        ensures cause { IfErr result (IsRefused self.old logged.now) }
+        ensures full { first_bad self.old.log logged.now ≡ None → IsTooLong self.old logged.now → result ≡ Err fault.LogFull }
     {
         Err(Fault::Memory)
     }
