@@ -1,7 +1,7 @@
 -- What a log keeps between calls: what stands on its device and in memory.
-use Rattle.std.specs.Prelude.{◌≡◌, ℕ, ◌<◌, ◌≤◌, ◌+◌, ◌*◌, ◌/◌, List, [], ◌++◌, length, drop, Contains}
+use Rattle.std.specs.Prelude.{◌≡◌, ℕ, ◌≤◌, ◌*◌, ◌/◌, List, drop}
 use Rattle.als_record.specs.declared.record.Record.{Record}
-use Rattle.als_record.specs.LogText.{log_text, spellings, end_of, IsLog}
+use Rattle.als_record.specs.LogText.{log_text, end_of, IsLog}
 use Rattle.als_disk.specs.Slot.{Slot}
 use Rattle.als_log.specs.Local.{IsFrontEnd}
 use Rattle.als_log.specs.Texts.{AllHaveText}

@@ -6,17 +6,24 @@ ghost use Rattle.als_log.specs.Held.{IsStored};
 
 use als_disk::{BlockDisk, DeviceError};
 
+/// A block that begins with these bytes, with zeros behind them.
+fn padded(front: &[u8]) -> [u8; 512]
+    requires { length front.now ≤ 512 }
+    ensures { (o : ℕ) → o < 512 → slice_index result o ≡ slice_index front.now o }
+{
+    let mut block = [0; 512];
+    block[..front.len()].copy_from_slice(front);
+    block
+}
+
 /// The block of bytes that begins at a place, with zeros behind the last one.
 pub(crate) fn block_at(bytes: &[u8], start: usize) -> [u8; 512]
     requires { start ≤ length bytes.now }
     ensures { (o : ℕ) → o < 512 → slice_index result o ≡ slice_index bytes.now (start + o) }
 {
     let (_, rest) = bytes.split_at(start);
-    let count = rest.len().min(512);
-    let (front, _) = rest.split_at(count);
-    let mut block = [0; 512];
-    block[..count].copy_from_slice(front);
-    block
+    let (front, _) = rest.split_at(rest.len().min(512));
+    padded(front)
 }
 
 /// Writes a block of a text of which the blocks below it are written.

@@ -7,11 +7,10 @@ ghost use Rattle.als_log.specs.Local.{Local, IsLocal, HasRoomFor, next_written, 
 ghost use Rattle.als_log.specs.Outcomes.{RefusesFormat, RefusesRecord, RefusesBlock, RefusesSync};
 ghost use Rattle.als_log.specs.Texts.{AllHaveText};
 
-use crate::blocks;
 use crate::fault::Fault;
 use crate::history::History;
-use crate::tail;
 use crate::unformatted::Unformatted;
+use crate::{blocks, tail};
 use als_disk::BlockDisk;
 use als_record::{LogHeader, Lsn, Record, encode, encoded_len};
 use std::alloc::{AllocError, Global};
@@ -78,9 +77,12 @@ impl<D: BlockDisk> LocalLog<D> {
                 return Err(Unformatted { disk, fault });
             }
         };
-        if blocks::lay_out(&mut disk, &front).is_err() {
-            let fault = Fault::Device;
-            return Err(Unformatted { disk, fault });
+        match blocks::lay_out(&mut disk, &front) {
+            Ok(()) => {}
+            Err(_) => {
+                let fault = Fault::Device;
+                return Err(Unformatted { disk, fault });
+            }
         }
         Ok(LocalLog {
             disk,

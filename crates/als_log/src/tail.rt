@@ -1,5 +1,5 @@
 // The text's bytes in memory: those from a block's first byte on.
-ghost use Rattle.std.specs.Prelude.{◌≡◌, ◌≤◌, ◌+◌, length, drop, vec_len, vec_capacity};
+ghost use Rattle.std.specs.Prelude.{◌≡◌, ◌≤◌, ◌+◌, ◌^◌, length, drop, vec_len, vec_capacity};
 ghost use Rattle.als_record.specs.Reading.{word_at};
 ghost use Rattle.als_record.specs.LogText.{end_of};
 ghost use Rattle.als_log.specs.History.{records_in};
@@ -20,19 +20,16 @@ fn word(bytes: &[u8], at: usize) -> u32
 
 /// The end of the last record that ends at or below a limit, from the end of an earlier one on. Each record is stepped
 /// over by its length field.
-pub(crate) fn whole_end_of(
-    history: &History,
-    bytes: &[u8],
-    base: u64,
-    from: u64,
-    limit: u64,
-) -> u64
+pub(crate) fn whole_end_of(history: &History, bytes: &[u8], base: u64, from: u64, limit: u64) -> u64
     requires text { IsText (records_in history.now) bytes.now base }
     requires from { IsFrontEnd (records_in history.now) from }
     requires low { base ≤ from }
     requires order { from ≤ limit }
     requires limit { limit ≤ end_of (records_in history.now) }
-    ensures { result ≡ whole_end (records_in history.now) limit }
+    requires few { end_of (records_in history.now) ≤ 2 ^ 32 }
+    ensures end { result ≡ whole_end (records_in history.now) limit }
+    ensures front { IsFrontEnd (records_in history.now) result }
+    ensures order { (from ≤ result) × (result ≤ limit) }
 {
     let mut at = from;
     while at < limit {
