@@ -1,4 +1,5 @@
-ghost use Rattle.std.specs.Prelude.{◌≡◌, ◌↔◌, ◌≤◌, IsTrue, IfSome, Some, Option, ℕ};
+ghost use Rattle.std.specs.Prelude.{◌≡◌, ◌↔◌, ◌<◌, ◌≤◌, ◌^◌, IsTrue, IfSome, Some, Option, ℕ, drop};
+ghost use Rattle.byteorder.specs.Endian.{big_number};
 ghost use Rattle.als_ckpt.specs.Control.{phase_byte, region_byte, control_block, IsPosition, IsSeal, IsControlState};
 ghost use Rattle.als_ckpt.specs.declared.phase.Phase.{Phase as AnyPhase};
 ghost use Rattle.als_ckpt.specs.declared.region.Region.{Region as AnyRegion};
@@ -12,6 +13,9 @@ use byteorder::{BigEndian, ByteOrder};
 
 /// How many bytes a block has.
 pub(crate) const BLOCK: usize = 512;
+
+/// What a control block begins with: a text, and version 1.
+static MAGIC: [u8; 10] = *b"ALSCTL01\0\x01";
 
 /// The least LSN of a record.
 const FIRST: u64 = 16;
@@ -96,28 +100,43 @@ pub(crate) fn encode(pages: u32, state: &ControlState) -> [u8; BLOCK]
     ensures { result ≡ control_block pages state.now }
 {
     let mut block = [0; BLOCK];
-    block[..10].copy_from_slice(b"ALSCTL01\0\x01");
-    block[10] = byte_of_phase(state.phase);
-    block[11] = byte_of_region(state.published);
-    BigEndian::write_u32(&mut block[12..], pages);
-    BigEndian::write_u64(&mut block[16..], state.mark.0);
-    BigEndian::write_u64(&mut block[24..], state.position.0);
-    BigEndian::write_u64(&mut block[32..], state.seal.0);
+    let (front, rest) = block.split_at_mut(10);
+    let (kinds, rest) = rest.split_at_mut(2);
+    let (at_pages, rest) = rest.split_at_mut(4);
+    let (at_mark, rest) = rest.split_at_mut(8);
+    let (at_position, rest) = rest.split_at_mut(8);
+    let (at_seal, _) = rest.split_at_mut(8);
+    front.copy_from_slice(&MAGIC);
+    kinds.copy_from_slice(&[byte_of_phase(state.phase), byte_of_region(state.published)]);
+    BigEndian::write_u32(at_pages, pages);
+    BigEndian::write_u64(at_mark, state.mark.0);
+    BigEndian::write_u64(at_position, state.position.0);
+    BigEndian::write_u64(at_seal, state.seal.0);
     block
+}
+
+/// The number of 64 bits at a place of a block.
+fn number_at(block: &[u8; BLOCK], at: usize) -> u64
+    requires { at ≤ 504 }
+    ensures { result ≡ big_number 8 (drop at block.now) }
+{
+    let (_, rest) = block.split_at(at);
+    BigEndian::read_u64(rest)
 }
 
 /// The state whose fields stand in a block, whatever stands elsewhere in it.
 fn read_fields(block: &[u8; BLOCK]) -> Option<ControlState>
-    ensures { (pages : ℕ) (s : AnyState) → block.now ≡ control_block pages s → result ≡ Some s }
+    ensures { (pages log_bytes : ℕ) (s : AnyState) → log_bytes < 2 ^ 64 → IsControlState log_bytes s
+        → block.now ≡ control_block pages s → result ≡ Some s }
 {
     let phase = phase_of_byte(block[10])?;
     let published = region_of_byte(block[11])?;
     Some(ControlState {
         phase,
         published,
-        mark: Lsn(BigEndian::read_u64(&block[16..])),
-        position: Lsn(BigEndian::read_u64(&block[24..])),
-        seal: Lsn(BigEndian::read_u64(&block[32..])),
+        mark: Lsn(number_at(block, 16)),
+        position: Lsn(number_at(block, 24)),
+        seal: Lsn(number_at(block, 32)),
     })
 }
 

@@ -1,0 +1,4 @@
+pub mod BlockLaws
+pub mod DeviceLaws
+pub mod KeptLaws
+pub mod StateLaws
