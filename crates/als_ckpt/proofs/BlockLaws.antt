@@ -8,6 +8,7 @@ use Rattle.byteorder.specs.Numbers.{big_number-reads_back}
 use Rattle.als_ckpt.specs.declared.phase.Phase.{Phase}
 use Rattle.als_ckpt.specs.declared.phase.Phase.TheVariants.{Following, Sealed, Primary}
 use Rattle.als_ckpt.specs.declared.region.Region.{Region}
+use Rattle.als_ckpt.specs.declared.region.Region.TheVariants.{First, Second}
 use Rattle.als_ckpt.specs.declared.control_state.ControlState.{ControlState}
 use Rattle.als_ckpt.specs.Control.{phase_byte, region_byte, control_block, IsPosition, IsSeal, IsControlState}
 
@@ -67,6 +68,12 @@ module _ (block : List ℕ) (pages : ℕ) (s : ControlState) (is : block ≡ con
   unfolding control_block
   region-control_block = ap (λ (xs : List ℕ). slice_index xs 11) is
 
+  pub pages-control_block : pages < 2 ^ 32 → big_number 4 (drop 12 block) ≡ pages
+  unfolding control_block
+  pages-control_block fits =
+      ap (λ (xs : List ℕ). big_number 4 (drop 12 xs)) is
+      ∙ big_number-reads_back 4 pages (to_be_bytes w64 s.mark.0 ++ (to_be_bytes w64 s.position.0 ++ (to_be_bytes w64 s.seal.0 ++ replicate 472 0))) fits
+
   pub mark-control_block : s.mark.0 < 2 ^ 64 → big_number 8 (drop 16 block) ≡ s.mark.0
   unfolding control_block
   mark-control_block fits =
@@ -84,3 +91,40 @@ module _ (block : List ℕ) (pages : ℕ) (s : ControlState) (is : block ≡ con
   seal-control_block fits =
       ap (λ (xs : List ℕ). big_number 8 (drop 32 xs)) is
       ∙ big_number-reads_back 8 s.seal.0 (replicate 472 0) fits
+
+-- a byte stands for one phase, and for one region
+phase_byte-one : (a b : Phase) → phase_byte a ≡ phase_byte b → a ≡ b
+phase_byte-one Following Following e = refl
+phase_byte-one Following Sealed e = absurd cc
+phase_byte-one Following Primary e = absurd cc
+phase_byte-one Sealed Following e = absurd cc
+phase_byte-one Sealed Sealed e = refl
+phase_byte-one Sealed Primary e = absurd cc
+phase_byte-one Primary Following e = absurd cc
+phase_byte-one Primary Sealed e = absurd cc
+phase_byte-one Primary Primary e = refl
+
+region_byte-one : (a b : Option Region) → region_byte a ≡ region_byte b → a ≡ b
+region_byte-one None None e = refl
+region_byte-one None (Some First) e = absurd cc
+region_byte-one None (Some Second) e = absurd cc
+region_byte-one (Some First) None e = absurd cc
+region_byte-one (Some First) (Some First) e = refl
+region_byte-one (Some First) (Some Second) e = absurd cc
+region_byte-one (Some Second) None e = absurd cc
+region_byte-one (Some Second) (Some First) e = absurd cc
+region_byte-one (Some Second) (Some Second) e = refl
+
+-- a control block is that of one state and of one page count
+pub control_block-one_state : (log_bytes m n : ℕ) (s t : ControlState) → log_bytes < 2 ^ 64 → m < 2 ^ 32 → n < 2 ^ 32
+    → IsControlState log_bytes s → IsControlState log_bytes t → control_block m s ≡ control_block n t → (m ≡ n) × (s ≡ t)
+control_block-one_state log_bytes m n s t small small_m small_n hs ht e =
+    let block = control_block m s in (
+      sym (pages-control_block block m s refl small_m) ∙ pages-control_block block n t e small_n,
+      state_of_fields t s.phase s.published s.mark.0 s.position.0 s.seal.0
+          (phase_byte-one s.phase t.phase (sym (phase-control_block block m s refl) ∙ phase-control_block block n t e))
+          (region_byte-one s.published t.published (sym (region-control_block block m s refl) ∙ region-control_block block n t e))
+          (sym (mark-control_block block m s refl (mark_fits log_bytes s small hs)) ∙ mark-control_block block n t e (mark_fits log_bytes t small ht))
+          (sym (position-control_block block m s refl (position_fits log_bytes s small hs)) ∙ position-control_block block n t e (position_fits log_bytes t small ht))
+          (sym (seal-control_block block m s refl (seal_fits log_bytes s small hs)) ∙ seal-control_block block n t e (seal_fits log_bytes t small ht)),
+    )

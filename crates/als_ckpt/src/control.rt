@@ -36,8 +36,14 @@ impl<D: BlockDisk> Model for Control<D> {
     ghost Value = { Controlled };
 
     ghost view = { λ c. record {
-        pages = c.pages; log_bytes = c.log_bytes; synced = c.synced; since = states_of c.writes; sure = is_sure c.writes;
-        blocks = D.block_count c.disk; failures = D.failures c.disk } };
+      pages = c.pages;
+      log_bytes = c.log_bytes;
+      synced = c.synced;
+      since = states_of c.writes;
+      sure = is_sure c.writes;
+      blocks = D.block_count c.disk;
+      failures = D.failures c.disk;
+    } };
 
     ghost invariant = { λ c. IsKept (D.slot c.disk 0) c.pages c.log_bytes (D.block_count c.disk) c.synced c.last
         (states_of c.writes) (is_sure c.writes) };
@@ -79,6 +85,8 @@ impl<D: BlockDisk> Control<D> {
         requires settled { IsSettled (D.slot disk 0) }
         ensures ok { IfOk result (λ c. (c ≡ new_control pages log_bytes c.synced (D.block_count disk) (D.failures disk))
             × (D.slot disk 0 ≡ only (control_block pages c.synced)) × IsControlState log_bytes c.synced) }
+        ensures only { (s : AnyState) → IsControlState log_bytes s → D.slot disk 0 ≡ only (control_block pages s)
+            → IfOk result (λ c. c.synced ≡ s) }
         ensures bad_control { IfErr result (λ r. r.fault ≡ Fault.BadControl → (D.failures r.disk ≡ D.failures disk)
             × ((s : AnyState) → IsControlState log_bytes s → D.slot disk 0 ≢ only (control_block pages s))) }
         ensures device { IfErr result (λ r. r.fault ≡ Fault.Device → D.failures disk < D.failures r.disk) }

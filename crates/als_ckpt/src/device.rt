@@ -72,6 +72,8 @@ pub(crate) fn read_state<D: BlockDisk>(
     requires room { 1 ≤ D.block_count disk.old }
     requires settled { IsSettled (D.slot disk.old 0) }
     ensures found { IfOk result (λ s. (D.slot disk.old 0 ≡ only (control_block pages s)) × IsControlState log_bytes s) }
+    ensures only { (s : AnyState) → IsControlState log_bytes s → D.slot disk.old 0 ≡ only (control_block pages s)
+        → IfOk result (λ t. t ≡ s) }
     ensures bad_control { IsErrOf result Fault.BadControl → (D.failures disk.new ≡ D.failures disk.old)
         × ((s : AnyState) → IsControlState log_bytes s → D.slot disk.old 0 ≢ only (control_block pages s)) }
     ensures device { IsErrOf result Fault.Device → D.failures disk.old < D.failures disk.new }

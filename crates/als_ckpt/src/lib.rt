@@ -19,11 +19,14 @@ mod writes;
 mod device;
 // The control block of a database that is running.
 mod control;
+// That a block is the control block of one state.
+mod laws;
 
 pub use control::Control;
 pub use control_state::ControlState;
 pub use device::clear;
 pub use fault::Fault;
+pub use laws::one_state;
 pub use phase::Phase;
 pub use refused::Refused;
 pub use region::Region;

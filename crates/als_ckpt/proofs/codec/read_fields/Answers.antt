@@ -22,7 +22,7 @@ returns c pages log_bytes s small fits is =
     let phase_found : Some c.in_ok-phase.phase ≡ Some s.phase = c.in_ok-phase.ensures.only s.phase (phase-control_block block pages s is) in
     let region_found : Some c.in_ok-published.published ≡ Some s.published = c.in_ok-published.ensures.only s.published (region-control_block block pages s is) in
     ap Some (state_of_fields s c.in_ok-phase.phase c.in_ok-published.published c.number_at.result c.number_at-2.result c.number_at-3.result
-      (cc phase_found) (cc region_found)
-      (c.number_at.ensures ∙ mark-control_block block pages s is (mark_fits log_bytes s small fits))
-      (c.number_at-2.ensures ∙ position-control_block block pages s is (position_fits log_bytes s small fits))
-      (c.number_at-3.ensures ∙ seal-control_block block pages s is (seal_fits log_bytes s small fits)))
+    (cc phase_found) (cc region_found)
+    (c.number_at.ensures ∙ mark-control_block block pages s is (mark_fits log_bytes s small fits))
+    (c.number_at-2.ensures ∙ position-control_block block pages s is (position_fits log_bytes s small fits))
+    (c.number_at-3.ensures ∙ seal-control_block block pages s is (seal_fits log_bytes s small fits)))

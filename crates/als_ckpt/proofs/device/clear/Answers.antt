@@ -18,7 +18,7 @@ returns-in_err-sync-clause-err g c =
     let p = err_from_is_err_and c.from_residual-in_err-sync.result c.from_residual-in_err-sync.ensures.1 in
     let old = g.D.BlockDisk.slot c.args.disk.now 0 in
     rw p.1 (candidates-unsynced old (g.D.BlockDisk.slot c.write.new.self 0) (g.D.BlockDisk.slot c.sync.new.self 0) zeros
-        (c.in_ok-write.ensures.ok ∙ ap (written old) zeros-replicate) (c.in_err-sync.ensures.err 0))
+    (c.in_ok-write.ensures.ok ∙ ap (written old) zeros-replicate) (c.in_err-sync.ensures.err 0))
 
 pub returns-clause-ok : goal.returns-clause-ok
 returns-clause-ok g c =
