@@ -55,9 +55,12 @@ fn the_block_of_a_new_database(rt: HostRuntime) -> Result<(), Fail> {
     };
     let mut block = [7; 512];
     disk.read(0, &mut block)?;
-    let front = b"ALSCTL01\0\x01\x01\0\0\0\0\x04\0\0\0\0\0\0\0\x10";
-    assert_eq!(rt; &block[..24], front.as_slice());
-    assert_eq!(rt; &block[24..], [0; 488].as_slice());
+    let (front, rest) = block.split_at(24);
+    assert_eq!(rt;
+        front,
+        b"ALSCTL01\0\x01\x01\0\0\0\0\x04\0\0\0\0\0\0\0\x10".as_slice()
+    );
+    assert_eq!(rt; rest, [0; 488].as_slice());
     Ok(())
 }
 
@@ -135,6 +138,14 @@ where
     refused.fault
 }
 
+/// The disk after a crash, and how many picks were used. Its block 0 has one content.
+fn crashed<D: Restart>(control: Control<D>, picks: &[u8]) -> (D, usize)
+    ensures count { D.block_count result.0 ≡ control.blocks }
+    ensures settled { IsSettled (D.slot result.0 0) }
+{
+    control.into_disk().crash(picks)
+}
+
 /// A database of four pages is made, acknowledges 100, is sealed at 200, crashes and is read again.
 /// What is acknowledged then.
 fn life(disk: FailingDisk<MemDisk>) -> Result<Lsn, Fault>
@@ -147,7 +158,7 @@ fn life(disk: FailingDisk<MemDisk>) -> Result<Lsn, Fault>
     control.sync()?;
     control.write_phase(Phase::Sealed, Lsn(200), Lsn(200))?;
     control.sync()?;
-    let (disk, _) = control.into_disk().crash(&[]);
+    let (disk, _) = crashed(control, &[]);
     let control = Control::read(disk, 4, 4096).map_err(fault_of)?;
     Ok(control.acknowledged())
 }
@@ -183,7 +194,7 @@ fn a_failed_write_may_be_left(rt: HostRuntime) -> Result<(), Fail> {
         assert_eq!(rt; control.write_mark(Lsn(200)), Err(Fault::Device));
         assert_eq!(rt; control.newest().mark, Lsn(200));
         assert_eq!(rt; control.acknowledged(), Lsn(100));
-        let (disk, used) = control.into_disk().crash(&[pick]);
+        let (disk, used) = crashed(control, &[pick]);
         assert_eq!(rt; used, 1);
         match Control::read(disk, 4, 4096) {
             Ok(control) => assert_eq!(rt; control.acknowledged(), Lsn(mark)),
