@@ -1,6 +1,6 @@
-use Rattle.std.proofs.Common.{◌≡◌, ◌+◌, ◌*◌, ◌≤◌, ◌^◌, sym, ap, ◌∙◌, arith}
+use Rattle.std.proofs.Common.{◌*◌, ◌≤◌, ◌^◌, sym, ap, ◌∙◌, arith}
 use Rattle.std.specs.List.{sum_by}
-use Rattle.als_analysis.specs.Open.{Open, undo_len, left_after}
+use Rattle.als_analysis.specs.Open.{Open, undo_len}
 use Rattle.als_analysis.proofs.Counting.{counted-limit}
 use Rattle.als_analysis.proofs.ReserveAfter.{left_after-other}
 use Rattle.als_analysis.proofs.open_transaction.OpenTransaction.undo_bytes_after.Goals as goal
