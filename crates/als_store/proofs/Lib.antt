@@ -4,3 +4,4 @@ pub mod StoredPages
 pub mod StoredViews
 pub mod JudgingLaws
 pub mod StoredParts
+pub mod KeptLaws

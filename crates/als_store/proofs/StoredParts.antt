@@ -291,8 +291,8 @@ appended l l' l'' r e f = f ∙ ap (λ (x : Local). record x { log = x.log ++ r 
 pub not_too_long : (s : Stored) (r : Record) (len after : ℕ) → len ≡ record_len r → after ≡ tail_len (s.log ++ r ∷ []) → end_of s.log + len + after ≤ 512 * s.blocks → IsTooLong s r → ⊥
 not_too_long s r len after len-is after-is le long = omega (arith, len-is, after-is, le, long)
 
-pub too_long : (s : Stored) (r : Record) (len after : ℕ) → len ≡ record_len r → after ≡ tail_len (s.log ++ r ∷ []) → (end_of s.log + len + after ≤ 512 * s.blocks → ⊥) → IsTooLong s r
+pub too_long : (s : Stored) (r : Record) (len after : ℕ) → len ≡ record_len r → after ≡ tail_len (s.log ++ r ∷ []) → (end_of s.log + len + after ≤ 512 * s.blocks → IsTrue false) → IsTooLong s r
 too_long s r len after len-is after-is none = elim (cases_lt (512 * s.blocks) (end_of s.log + len + after)) [
   | inl lt ↦ omega (arith, len-is, after-is, lt)
-  | inr le ↦ absurd (none le)
+  | inr le ↦ let wrong : false ≡ true = none le in absurd cc
 ]

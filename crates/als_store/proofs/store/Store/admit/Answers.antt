@@ -89,7 +89,7 @@ returns-in_err-reserve_bytes-clause-full g c =
     let good = good_from (first_bad s.log.log c.args.logged.now) c.judge.result c.in_ok-judge.was (c.judge.ensures s.pages s.log.log c.self.invariant.judged c.self.invariant.is_log fits at) in
     rw (← c.self.view_is)
     (λ none long. absurd (not_too_long seen c.args.logged.now c.encoded_len-len.result c.reserve_after-reserve_after.result c.encoded_len-len.ensures.len
-    (c.reserve_after-reserve_after.ensures s.pages s.log.log c.self.invariant.judged at good) (c.if-not-fits.ensures.0 tt) long))
+    (c.reserve_after-reserve_after.ensures s.pages s.log.log c.self.invariant.judged at good) (c.if-not-fits.ensures.0 refl) long))
 
 pub returns-in_err-make_room-clause-full : goal.returns-in_err-make_room-clause-full
 returns-in_err-make_room-clause-full g c =
@@ -100,7 +100,7 @@ returns-in_err-make_room-clause-full g c =
     let good = good_from (first_bad s.log.log c.args.logged.now) c.judge.result c.in_ok-judge.was (c.judge.ensures s.pages s.log.log c.self.invariant.judged c.self.invariant.is_log fits at) in
     rw (← c.self.view_is)
     (λ none long. absurd (not_too_long seen c.args.logged.now c.encoded_len-len.result c.reserve_after-reserve_after.result c.encoded_len-len.ensures.len
-    (c.reserve_after-reserve_after.ensures s.pages s.log.log c.self.invariant.judged at good) (c.if-not-fits.ensures.0 tt) long))
+    (c.reserve_after-reserve_after.ensures s.pages s.log.log c.self.invariant.judged at good) (c.if-not-fits.ensures.0 refl) long))
 
 pub returns-in_err-route_change-clause-full : goal.returns-in_err-route_change-clause-full
 returns-in_err-route_change-clause-full g c =
@@ -111,7 +111,7 @@ returns-in_err-route_change-clause-full g c =
     let good = good_from (first_bad s.log.log c.args.logged.now) c.judge.result c.in_ok-judge.was (c.judge.ensures s.pages s.log.log c.self.invariant.judged c.self.invariant.is_log fits at) in
     rw (← c.self.view_is)
     (λ none long. absurd (not_too_long seen c.args.logged.now c.encoded_len-len.result c.reserve_after-reserve_after.result c.encoded_len-len.ensures.len
-    (c.reserve_after-reserve_after.ensures s.pages s.log.log c.self.invariant.judged at good) (c.if-not-fits.ensures.0 tt) long))
+    (c.reserve_after-reserve_after.ensures s.pages s.log.log c.self.invariant.judged at good) (c.if-not-fits.ensures.0 refl) long))
 
 pub returns-clause-full : goal.returns-clause-full
 returns-clause-full g c =
@@ -122,4 +122,4 @@ returns-clause-full g c =
     let good = good_from (first_bad s.log.log c.args.logged.now) c.judge.result c.in_ok-judge.was (c.judge.ensures s.pages s.log.log c.self.invariant.judged c.self.invariant.is_log fits at) in
     rw (← c.self.view_is)
     (λ none long. absurd (not_too_long seen c.args.logged.now c.encoded_len-len.result c.reserve_after-reserve_after.result c.encoded_len-len.ensures.len
-    (c.reserve_after-reserve_after.ensures s.pages s.log.log c.self.invariant.judged at good) (c.if-not-fits.ensures.0 tt) long))
+    (c.reserve_after-reserve_after.ensures s.pages s.log.log c.self.invariant.judged at good) (c.if-not-fits.ensures.0 refl) long))
