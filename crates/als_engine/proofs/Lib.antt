@@ -1,8 +1,0 @@
-pub mod Redoing
-pub mod PageLists
-pub mod HeldPages
-pub mod HeldViews
-pub mod TakingLaws
-pub mod FeedLaws
-pub mod RunLaws
-pub mod JudgingLaws
