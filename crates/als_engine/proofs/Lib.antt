@@ -1,0 +1,5 @@
+pub mod TakingLaws
+pub mod ReadyLaws
+pub mod FeedLaws
+pub mod KeepLaws
+pub mod RunLaws
