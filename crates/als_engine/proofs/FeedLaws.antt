@@ -8,46 +8,45 @@ use Rattle.als_receiver.specs.Reception.{Reception}
 use Rattle.als_engine.specs.declared.fault.Fault.{Fault}
 use Rattle.als_engine.specs.declared.fed.Fed.{Fed}
 use Rattle.als_engine.specs.declared.fed.FeedFault.{FeedFault}
-use Rattle.als_engine.specs.Held.{Held, pending_of}
-use Rattle.als_engine.specs.Machine.{Machine, with_log, Splits, FeedsAll, FeedsFront, kept_fault}
+use Rattle.als_store.specs.Stored.{Stored, pending_of}
+use Rattle.als_engine.specs.Machine.{Machine}
+use Rattle.als_engine.specs.Feeds.{grown, TakesLog, Splits, FeedsAll, FeedsFront, kept_fault}
 use Rattle.als_engine.specs.TakingIn.{TakesAll, TakesFront}
 use Rattle.als_engine.proofs.TakingLaws.{end_grown}
 
-abbrev pub machine : Held → ℕ → List ℕ → Option Fault → Machine
+abbrev pub machine : Stored → ℕ → List ℕ → Option Fault → Machine
 machine held limit partial refused = record { held = held; limit = limit; partial = partial; refused = refused }
 
-log_at : (held new : Held) (records : List Record) → new ≡ with_log held (held.log ++ records) → IsValidLog new.pages new.log → IsValidLog held.pages (held.log ++ records)
-log_at held new records e is_log = subst (λ (h : Held). IsValidLog h.pages h.log) e is_log
+log_at : (held new : Stored) (records : List Record) → new ≡ grown held records → IsValidLog new.pages new.log → IsValidLog held.pages (held.log ++ records)
+log_at held new records e is_log = subst (λ (h : Stored). IsValidLog h.pages h.log) e is_log
 
-counted : (held new : Held) (records : List Record) (count : ℕ) → new ≡ with_log held (held.log ++ records) → count ≡ length new.log - length held.log → count ≡ length records
-counted held new records count e f = omega (arith, f, ap (λ (h : Held). length h.log) e, length-append held.log records)
+counted : (held new : Stored) (records : List Record) (count : ℕ) → new ≡ grown held records → count ≡ length new.log - length held.log → count ≡ length records
+counted held new records count e f = omega (arith, f, ap (λ (h : Stored). length h.log) e, length-append held.log records)
 
-pub feeds_all : (held new : Held) (limit : ℕ) (kept piece : List ℕ) (refused : Option Fault) (receiver : Reception) (taken count : ℕ) → refused ≡ None → pending_of held < limit
+pub feeds_all : (held new : Stored) (limit : ℕ) (kept piece : List ℕ) (refused : Option Fault) (receiver : Reception) (taken count : ℕ) → TakesLog (machine held limit kept refused)
     → TakesAll held (kept ++ piece) new receiver → IsValidLog new.pages new.log → taken ≡ length piece → count ≡ length new.log - length held.log
     → FeedsAll (machine held limit kept refused) piece (record { taken = taken; records = count }) (machine new limit receiver.kept refused)
-feeds_all held new limit kept piece refused receiver taken count following room all is_log taken-is count-is = record {
-  following = following;
-  room = room;
+feeds_all held new limit kept piece refused receiver taken count takes all is_log taken-is count-is = record {
+  takes = takes;
   records = all.records;
   rest = receiver.kept;
-  split = record { whole = all.whole; is_log = log_at held new all.records all.after is_log };
-  waits = subst (λ (h : Held). read_record h.pages (end_of h.log) receiver.kept ≡ Ok None) all.after all.rests.waits;
-  after = ap (λ (h : Held). machine h limit receiver.kept refused) all.after;
+  split = record { whole = all.whole; is_log = log_at held new all.records all.after is_log; fit = all.fit };
+  waits = subst (λ (h : Stored). read_record h.pages (end_of h.log) receiver.kept ≡ Ok None) all.after all.rests.waits;
+  after = ap (λ (h : Stored). machine h limit receiver.kept refused) all.after;
   taken = taken-is;
   count = counted held new all.records count all.after count-is;
 }
 
-pub feeds_front : (held new : Held) (limit : ℕ) (kept piece : List ℕ) (refused : Option Fault) (fault : Fault) (taken count bytes : ℕ) → refused ≡ None → pending_of held < limit
+pub feeds_front : (held new : Stored) (limit : ℕ) (kept piece : List ℕ) (refused : Option Fault) (fault : Fault) (taken count bytes : ℕ) → TakesLog (machine held limit kept refused)
     → TakesFront held (kept ++ piece) new fault → IsValidLog new.pages new.log → bytes ≡ end_of new.log - end_of held.log → taken ≡ bytes - length kept → count ≡ length new.log - length held.log
     → FeedsFront (machine held limit kept refused) piece (record { taken = taken; records = count; fault = fault }) (machine new limit [] (kept_fault fault))
-feeds_front held new limit kept piece refused fault taken count bytes following room front is_log bytes-is taken-is count-is = record {
-  following = following;
-  room = room;
+feeds_front held new limit kept piece refused fault taken count bytes takes front is_log bytes-is taken-is count-is = record {
+  takes = takes;
   records = front.records;
   rest = front.rest;
-  split = record { whole = front.whole; is_log = log_at held new front.records front.after is_log };
+  split = record { whole = front.whole; is_log = log_at held new front.records front.after is_log; fit = front.fit };
   cause = front.cause;
-  after = ap (λ (h : Held). machine h limit [] (kept_fault fault)) front.after;
+  after = ap (λ (h : Stored). machine h limit [] (kept_fault fault)) front.after;
   taken = omega (arith, taken-is, bytes-is, end_grown held new front.records front.after);
   count = counted held new front.records count front.after count-is;
 }

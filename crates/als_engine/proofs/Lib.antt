@@ -1,8 +1,5 @@
-pub mod Redoing
-pub mod PageLists
-pub mod HeldPages
-pub mod HeldViews
 pub mod TakingLaws
+pub mod ReadyLaws
 pub mod FeedLaws
+pub mod KeepLaws
 pub mod RunLaws
-pub mod JudgingLaws

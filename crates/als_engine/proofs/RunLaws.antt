@@ -3,7 +3,7 @@ use Rattle.std.proofs.Common.{◌≡◌, ℕ, ◌+◌, ◌<◌, ◌≤◌, List,
 use Rattle.std.proofs.lemmas.List.{take_more}
 use Rattle.als_engine.specs.declared.step.Step.{Step}
 use Rattle.als_engine.specs.declared.step.Reply.{Reply}
-use Rattle.als_engine.specs.Machine.{Machine}
+use Rattle.als_engine.specs.Machine.{Machine, Keeps}
 use Rattle.als_engine.specs.Runs.{Steps, Run}
 
 pub run_more : (old mid new : Machine) (steps : List Step) (replies : List Reply) (step : Step) (reply : Reply) → Run old steps replies mid → Steps mid step reply new → Run old (steps ++ step ∷ []) (replies ++ reply ∷ []) new
@@ -13,8 +13,9 @@ run_more old mid new (s ∷ steps) [] step reply run one = absurd run
 run_more old mid new (s ∷ steps) (r ∷ replies) step reply run one = (run.0, run.1, run_more run.0 mid new steps replies step reply run.2 one)
 
 -- the steps up to one are run, and there is room for the replies to the others
-pub record IsRunning (old : Machine) (steps : List Step) (i : ℕ) (replies : List Reply) (now : Machine) (len capacity : ℕ) : Type 0 where
+pub record IsUnderWay (old : Machine) (steps : List Step) (i : ℕ) (replies : List Reply) (now : Machine) (len capacity : ℕ) : Type 0 where
   pub run : Run old (take i steps) replies now
+  pub keeps : Keeps old now
   pub len_is : len ≡ i
   pub room : length steps ≤ capacity
 

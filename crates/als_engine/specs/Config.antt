@@ -12,3 +12,11 @@ pub record IsConfig (config : Config) : Type 0 where
   pub pending : config.pending ≤ 1000000
   pub some_readers : 1 ≤ config.readers
   pub readers : config.readers ≤ 8
+
+-- and the devices have as many blocks as it needs: the log's, the control block's and the pages'
+pub record IsWorld (config : Config) (log control pages : ℕ) : Type 0 where
+  pub numbers : IsConfig config
+  pub some_blocks : 1 ≤ log
+  pub few_blocks : log ≤ 4194304
+  pub control_blocks : 321 ≤ control
+  pub page_blocks : config.pages ≤ pages

@@ -4,8 +4,10 @@ use Rattle.als_record.specs.declared.fault.Fault.{Fault as RecordFault}
 use Rattle.als_record.specs.declared.fault.Fault.TheVariants as record_fault
 use Rattle.als_record.specs.declared.cause.Cause.{Cause}
 use Rattle.als_record.specs.declared.cause.Cause.TheVariants as cause
+use Rattle.als_store.specs.declared.fault.Fault.{Fault as StoreFault}
+use Rattle.als_store.specs.declared.fault.Fault.TheVariants as store_fault
 use Rattle.als_engine.specs.declared.fault.Fault.{Fault}
-use Rattle.als_engine.specs.declared.fault.Fault.TheVariants.{BadHeader, BadLength, BadType, BadReserved, WrongLsn, BadKey, BadValue, BadPrev, OldTransaction, WrongState, WrongUndoNext, WrongCompensation, RecordHeld, BeforeImage, TooManyTransactions, BadCheckpoint, NothingToDo, LogFull, Memory, Backlog, BadConfig}
+use Rattle.als_engine.specs.declared.fault.Fault.TheVariants.{BadHeader, BadLength, BadType, BadReserved, WrongLsn, BadKey, BadValue, BadPrev, OldTransaction, WrongState, WrongUndoNext, WrongCompensation, RecordHeld, BeforeImage, TooManyTransactions, BadCheckpoint, NothingToDo, LogFull, Device, Stopped, Memory, Backlog, BadConfig}
 
 abbrev pub number_of : Fault → ℕ
 number_of BadHeader = 1
@@ -26,6 +28,8 @@ number_of TooManyTransactions = 15
 number_of BadCheckpoint = 16
 number_of NothingToDo = 27
 number_of LogFull = 29
+number_of Device = 30
+number_of Stopped = 31
 number_of Memory = 32
 number_of Backlog = 36
 number_of BadConfig = 37
@@ -49,6 +53,8 @@ name_of TooManyTransactions = codes "TooManyTransactions"
 name_of BadCheckpoint = codes "BadCheckpoint"
 name_of NothingToDo = codes "NothingToDo"
 name_of LogFull = codes "LogFull"
+name_of Device = codes "Device"
+name_of Stopped = codes "Stopped"
 name_of Memory = codes "Memory"
 name_of Backlog = codes "Backlog"
 name_of BadConfig = codes "BadConfig"
@@ -75,3 +81,11 @@ from_cause (cause.RecordHeld by) = RecordHeld by
 from_cause cause.BeforeImage = BeforeImage
 from_cause cause.TooManyTransactions = TooManyTransactions
 from_cause cause.BadCheckpoint = BadCheckpoint
+
+-- a fault of the store, as the engine answers it
+abbrev pub from_store : StoreFault → Fault
+from_store (store_fault.Invalid cause) = from_cause cause
+from_store store_fault.NothingToDo = NothingToDo
+from_store store_fault.LogFull = LogFull
+from_store store_fault.Device = Device
+from_store store_fault.Memory = Memory

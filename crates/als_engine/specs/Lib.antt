@@ -1,7 +1,7 @@
 pub mod Config
 pub mod Faults
-pub mod Warm
-pub mod Held
 pub mod Machine
+pub mod Feeds
+pub mod Events
 pub mod TakingIn
 pub mod Runs

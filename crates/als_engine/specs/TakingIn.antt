@@ -1,44 +1,52 @@
--- Records that go from a receiver to a held log.
-use Rattle.std.specs.Prelude.{◌≡◌, ℕ, ◌<◌, List, [], ◌∷◌, ◌++◌, length, None, Ok, Err}
+-- Records that go from a receiver to a store.
+use Rattle.std.specs.Prelude.{◌≡◌, ℕ, ◌<◌, ◌≤◌, List, [], ◌∷◌, ◌++◌, length, None, Ok, Err}
 use Rattle.als_record.specs.declared.record.Record.{Record}
 use Rattle.als_record.specs.Spelling.{spelling}
 use Rattle.als_record.specs.Reading.{read_record}
 use Rattle.als_record.specs.LogText.{spellings, end_of}
 use Rattle.als_receiver.specs.Reception.{Reception}
+use Rattle.als_store.specs.Stored.{Stored, acknowledged, newest, IsTooLong}
 use Rattle.als_engine.specs.declared.fault.Fault.{Fault}
-use Rattle.als_engine.specs.Held.{Held}
-use Rattle.als_engine.specs.Machine.{IsCause, with_log}
+use Rattle.als_engine.specs.Feeds.{IsCause, grown, AllFit}
 
 -- the receiver goes on where the log ends, for the same database, and refuses nothing
-pub record Meets (held : Held) (receiver : Reception) : Type 0 where
+pub record Meets (held : Stored) (receiver : Reception) : Type 0 where
   pub wanted : receiver.wanted ≡ end_of held.log
   pub pages : receiver.pages ≡ held.pages
   pub takes : receiver.refusal ≡ None
 
 -- and what it keeps is less than a record
-pub record Rests (held : Held) (receiver : Reception) : Type 0 where
+pub record Rests (held : Stored) (receiver : Reception) : Type 0 where
   pub meets : Meets held receiver
   pub waits : read_record held.pages (end_of held.log) receiver.kept ≡ Ok None
   pub short : length receiver.kept < 54560
 
+-- and the last mark written is not below the acknowledged one: so it is between two events
+pub record IsReady (held : Stored) (receiver : Reception) : Type 0 where
+  pub rests : Rests held receiver
+  pub marks : acknowledged held ≤ (newest held).mark.0
+
 -- the next record goes over
-pub record TakesOne (old : Held) (before : Reception) (new : Held) (receiver : Reception) : Type 0 where
+pub record TakesOne (old : Stored) (before : Reception) (new : Stored) (receiver : Reception) : Type 0 where
   pub logged : Record
   pub whole : before.kept ≡ spelling logged ++ receiver.kept
-  pub after : new ≡ with_log old (old.log ++ logged ∷ [])
+  pub fits : IsTooLong old logged → ⊥
+  pub after : new ≡ grown old (logged ∷ [])
   pub meets : Meets new receiver
 
 -- of these bytes the held log goes on with the records in front, and the receiver keeps the rest
-pub record TakesAll (old : Held) (bytes : List ℕ) (new : Held) (receiver : Reception) : Type 0 where
+pub record TakesAll (old : Stored) (bytes : List ℕ) (new : Stored) (receiver : Reception) : Type 0 where
   pub records : List Record
   pub whole : bytes ≡ spellings records ++ receiver.kept
-  pub after : new ≡ with_log old (old.log ++ records)
+  pub fit : AllFit old records
+  pub after : new ≡ grown old records
   pub rests : Rests new receiver
 
 -- of these bytes the held log goes on with the records in front, and for this cause not with the rest
-pub record TakesFront (old : Held) (bytes : List ℕ) (new : Held) (fault : Fault) : Type 0 where
+pub record TakesFront (old : Stored) (bytes : List ℕ) (new : Stored) (fault : Fault) : Type 0 where
   pub records : List Record
   pub rest : List ℕ
   pub whole : bytes ≡ spellings records ++ rest
-  pub after : new ≡ with_log old (old.log ++ records)
-  pub cause : IsCause old.pages (old.log ++ records) rest fault
+  pub fit : AllFit old records
+  pub after : new ≡ grown old records
+  pub cause : IsCause (grown old records) rest fault

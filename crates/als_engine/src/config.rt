@@ -1,3 +1,9 @@
+ghost use Rattle.std.specs.Prelude.{IsTrue, ◌↔◌};
+ghost use Rattle.als_engine.specs.Config.{IsConfig, IsWorld};
+
+use als_disk::BlockDisk;
+use als_store::Disks;
+
 /// What an engine is made with. Numbers out of range are refused when it is made.
 #[derive(Clone, Copy, Debug, PartialEq, Eq)]
 pub struct Config {
@@ -23,5 +29,15 @@ impl Config {
             && (1..=4096).contains(&self.frames)
             && (1..=1_000_000).contains(&self.pending)
             && (1..=8).contains(&self.readers)
+    }
+
+    /// And each device has as many blocks as it needs.
+    pub fn fits<D: BlockDisk>(&self, disks: &Disks<D>) -> bool
+        ensures { IsTrue result ↔ IsWorld self.now (D.block_count disks.now.log) (D.block_count disks.now.control) (D.block_count disks.now.pages) }
+    {
+        self.is_valid()
+            && (1..=4_194_304).contains(&disks.log.blocks())
+            && disks.control.blocks() >= 321
+            && disks.pages.blocks() >= self.pages
     }
 }

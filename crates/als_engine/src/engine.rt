@@ -1,134 +1,224 @@
-ghost use Rattle.std.specs.Prelude.{◌≡◌, ℕ, ◌<◌, ◌≤◌, ◌+◌, ◌⊎◌, List, [], ◌∷◌, ◌++◌, length, Some, None, Ok, Err, IfOk, IfErr, OnOk, OnErr, IsErrOf, IsOk};
+ghost use Rattle.std.specs.Prelude.{◌≡◌, ℕ, ◌<◌, ◌≤◌, ◌+◌, ◌⊎◌, true, false, List, [], ◌∷◌, ◌++◌, length, Some, None, Ok, Err, IfOk, IfErr, OnOk, OnErr, IsErrOf, IsOk};
 ghost use Rattle.std.specs.Option.{option_copied};
 ghost use Rattle.als_record.specs.LogText.{end_of};
 ghost use Rattle.als_record.specs.Table.{table_of};
 ghost use Rattle.als_analysis.specs.Open.{rows_of};
-ghost use Rattle.als_engine.specs.Config.{IsConfig};
-ghost use Rattle.als_engine.specs.Held.{pending_of, WaitsFrom, ShowsPage, StandsAt};
-ghost use Rattle.als_engine.specs.Runs.{Steps};
-ghost use Rattle.als_engine.specs.Machine.{empty_machine, state_of, Feeds, resynced, Applies, kept_fault};
+ghost use Rattle.als_store.specs.Stored.{acknowledged, pending_of, WaitsFrom, ShowsPage};
+ghost use Rattle.als_store.specs.Devices.{AreKept};
+ghost use Rattle.als_engine.specs.Config.{IsConfig, IsWorld};
+ghost use Rattle.als_engine.specs.Machine.{formatted_machine, state_of, state_from, Keeps};
+ghost use Rattle.als_engine.specs.Feeds.{Feeds, kept_fault};
+ghost use Rattle.als_engine.specs.Events.{Resyncs, Applies, LogWrites, LogSyncs, MarkWrites, ControlSyncs, Reads};
+ghost use Rattle.als_engine.specs.Runs.{Steps, reply_of};
 
 use crate::config::Config;
 use crate::fault::Fault;
 use crate::fed::{Fed, FeedFault};
-use crate::held_log::HeldLog;
+use crate::refused::Refused;
 use crate::status::{State, Status};
 use crate::step::{Reply, Step};
 use crate::taking_in::take_piece;
 use als_analysis::OpenTransaction;
+use als_disk::BlockDisk;
 use als_page::Page;
 use als_receiver::Receiver;
 use als_record::{Lsn, Record};
+use als_store::{Disks, Store};
 use std::alloc::Global;
 use std::marker::Model;
 
-/// A standby in memory: it takes the primary's log in pieces cut anywhere, and keeps warm pages by redo.
+/// A standby: it takes the primary's log in pieces cut anywhere, stores it on its devices, and keeps warm pages by redo.
+///
+/// Once a write or a sync has failed it has stopped: each event is answered by Stopped and changes nothing, and the queries
+/// go on.
 #[derive(Drop)]
-pub struct Engine {
+pub struct Engine<D: BlockDisk> {
     alloc: Global,
-    held: HeldLog,
+    store: Store<D>,
     receiver: Receiver,
     limit: usize,
     refused: Option<Fault>,
 }
 
-impl Model for Engine {
+impl<D: BlockDisk> Model for Engine<D> {
     ghost use Rattle.als_engine.specs.Machine.{Machine};
-    ghost use Rattle.als_engine.specs.TakingIn.{Rests};
+    ghost use Rattle.als_engine.specs.TakingIn.{IsReady};
 
     ghost Value = { Machine };
 
-    ghost view = { λ e. record { held = e.held; limit = e.limit; partial = e.receiver.kept; refused = e.refused } };
+    ghost view = { λ e. record { held = e.store; limit = e.limit; partial = e.receiver.kept; refused = e.refused } };
 
-    ghost invariant = { λ e. Rests e.held e.receiver };
+    ghost invariant = { λ e. IsReady e.store e.receiver };
 }
 
-impl Engine {
-    /// A standby with an empty log and empty pages. BadConfig: a number of the configuration is out of its range.
-    pub fn empty(alloc: Global, config: Config) -> Result<Engine, Fault>
-        ensures ok { IfOk result (λ e. IsConfig config × (e ≡ empty_machine config)) }
-        ensures err { IfErr result (λ f. ((f ≡ Fault.BadConfig) × (IsConfig config → ⊥)) ⊎ ((f ≡ Fault.Memory) × IsConfig config)) }
+impl<D: BlockDisk> Engine<D> {
+    /// A standby with an empty log and empty pages, over devices that it formats. BadConfig: a number of the configuration is
+    /// out of its range, or a device has too few blocks, or the log's too many; the devices are unchanged then. Device: a
+    /// device failed. Memory: a growth was refused. On a refusal the devices come back.
+    pub fn format(alloc: Global, disks: Disks<D>, config: Config) -> Result<Engine<D>, Refused<D>>
+        ensures ok { IfOk result (λ e. IsWorld config (D.block_count disks.log) (D.block_count disks.control) (D.block_count disks.pages) × (e ≡ formatted_machine config (D.block_count disks.log) (D.failures disks.log + D.failures disks.control + D.failures disks.pages))) }
+        ensures err { IfErr result (λ r. ((r.fault ≡ Fault.BadConfig) × (IsWorld config (D.block_count disks.log) (D.block_count disks.control) (D.block_count disks.pages) → ⊥) × (r.disks ≡ disks)) ⊎ (IsWorld config (D.block_count disks.log) (D.block_count disks.control) (D.block_count disks.pages) × ((r.fault ≡ Fault.Memory) ⊎ ((r.fault ≡ Fault.Device) × (D.failures disks.log + D.failures disks.control < D.failures r.disks.log + D.failures r.disks.control))))) }
     {
-        if !config.is_valid() {
-            return Err(Fault::BadConfig);
+        if !config.fits(&disks) {
+            return Err(Refused {
+                disks,
+                fault: Fault::BadConfig,
+            });
         }
         let pages = config.pages as u32;
-        let held = HeldLog::empty(alloc, pages)?;
-        Ok(Engine {
-            alloc,
-            held,
-            receiver: Receiver::new(alloc, Lsn(16), pages),
-            limit: config.pending as usize,
-            refused: None,
-        })
+        match Store::format(alloc, disks, pages) {
+            Ok(store) => Ok(Engine {
+                alloc,
+                store,
+                receiver: Receiver::new(alloc, Lsn(16), pages),
+                limit: config.pending as usize,
+                refused: None,
+            }),
+            Err(unformatted) => Err(Refused {
+                disks: unformatted.disks,
+                fault: Fault::from(unformatted.fault),
+            }),
+        }
+    }
+
+    /// The devices. Whatever a crash leaves of them, the control block has a mark from the acknowledged LSN to the synced end,
+    /// and the log device has the held log's text below that mark.
+    pub fn into_disks(self) -> Disks<D>
+        ensures { AreKept self.held (D.slot result.log) (D.slot result.control) }
+    {
+        self.store.into_disks()
     }
 
     /// Takes a piece of the primary's log: each record that is whole now goes into the held log, and the rest waits as a
-    /// partial record. In Refusing the kept fault is answered, and Backlog where the pending changes have reached the limit:
-    /// then nothing is taken. After another fault the whole records in front of it are held and no partial record is kept; a
-    /// fault of the record (2 to 16) is kept, LogFull and Memory are not.
+    /// partial record. Stopped is answered first, then in Refusing the kept fault, then Backlog where the pending changes have
+    /// reached the limit: then nothing is taken. After another fault the whole records in front of it are held and no partial
+    /// record is kept; a fault of the record (2 to 16) is kept, LogFull and Memory are not.
     pub fn feed(&mut self, piece: &[u8]) -> Result<Fed, FeedFault>
         ensures { Feeds self.old piece.now result self.new }
     {
+        if self.store.is_broken() {
+            return Err(refused_whole(Fault::Stopped));
+        }
         if let Some(fault) = self.refused {
             return Err(refused_whole(fault));
         }
-        if self.held.pending() >= self.limit {
+        if self.store.pending() >= self.limit {
             return Err(refused_whole(Fault::Backlog));
         }
-        let end = self.held.end().0;
-        let records = self.held.len();
+        let end = self.store.end().0;
+        let records = self.store.len();
         let partial = self.receiver.partial();
-        match take_piece(&mut self.held, &mut self.receiver, piece) {
+        match take_piece(&mut self.store, &mut self.receiver, piece) {
             Ok(()) => Ok(Fed {
                 taken: piece.len(),
-                records: self.held.len() - records,
+                records: self.store.len() - records,
             }),
             Err(fault) => {
-                let held_bytes = (self.held.end().0 - end) as usize;
-                self.receiver = Receiver::new(self.alloc, self.held.end(), self.held.pages());
+                let held_bytes = (self.store.end().0 - end) as usize;
+                self.receiver = Receiver::new(self.alloc, self.store.end(), self.store.pages());
                 self.refused = kept(fault);
                 Err(FeedFault {
                     taken: held_bytes.saturating_sub(partial),
-                    records: self.held.len() - records,
+                    records: self.store.len() - records,
                     fault,
                 })
             }
         }
     }
 
-    /// Drops the partial record, and takes the log again after a refusal.
-    pub fn resync(&mut self)
-        ensures { self.new ≡ resynced self.old }
+    /// Drops the partial record, and takes the log again after a refusal. Stopped changes nothing.
+    pub fn resync(&mut self) -> Result<(), Fault>
+        ensures { Resyncs self.old result self.new }
     {
+        if self.store.is_broken() {
+            return Err(Fault::Stopped);
+        }
         self.receiver.drop_partial();
         self.refused = None;
+        Ok(())
     }
 
     /// Redoes the first changes that a page waits for, at most 64, and answers its page_LSN. NothingToDo: none waits, or there
-    /// is no such page.
+    /// is no such page. Stopped comes before it; both change nothing.
     pub fn apply(&mut self, page: u32) -> Result<Lsn, Fault>
         ensures { Applies self.old page result self.new }
     {
-        let lsn = self.held.apply(page)?;
+        if self.store.is_broken() {
+            return Err(Fault::Stopped);
+        }
+        let lsn = self.store.apply(page)?;
         Ok(lsn)
+    }
+
+    /// Writes the first block of the log with unwritten bytes. NothingToDo: there is none. Device: the write failed, and the
+    /// engine has stopped.
+    pub fn log_write(&mut self) -> Result<(), Fault>
+        ensures { LogWrites self.old result self.new }
+    {
+        if self.store.is_broken() {
+            return Err(Fault::Stopped);
+        }
+        self.store.log_write()?;
+        Ok(())
+    }
+
+    /// Syncs the log. Device: the sync failed, and the engine has stopped.
+    pub fn log_sync(&mut self) -> Result<(), Fault>
+        ensures { LogSyncs self.old result self.new }
+    {
+        if self.store.is_broken() {
+            return Err(Fault::Stopped);
+        }
+        self.store.log_sync()?;
+        Ok(())
+    }
+
+    /// Writes the control block with the log's synced end as its mark. NothingToDo: the last mark written is not below it.
+    /// Device: the write failed, and the engine has stopped.
+    pub fn mark_write(&mut self) -> Result<(), Fault>
+        ensures { MarkWrites self.old result self.new }
+    {
+        if self.store.is_broken() {
+            return Err(Fault::Stopped);
+        }
+        self.store.mark_write()?;
+        Ok(())
+    }
+
+    /// Syncs the control block, and answers its mark: the acknowledged LSN from now on. Device: the sync failed, and the
+    /// engine has stopped.
+    pub fn ctl_sync(&mut self) -> Result<Lsn, Fault>
+        ensures { ControlSyncs self.old result self.new }
+    {
+        if self.store.is_broken() {
+            return Err(Fault::Stopped);
+        }
+        let acknowledged = self.store.ctl_sync()?;
+        Ok(acknowledged)
     }
 
     /// One step of the small machine.
     pub fn step(&mut self, step: &Step) -> Reply
-        ensures { Steps self.old step.now result self.new }
+        ensures steps { Steps self.old step.now result self.new }
+        // what is acknowledged stays so, and the log only grows
+        ensures keeps { Keeps self.old self.new }
     {
+        let _ = &self.limit;
         match step {
             Step::Feed(piece) => match self.feed(piece) {
                 Ok(fed) => Reply::Fed(fed),
                 Err(refusal) => Reply::FeedRefused(refusal),
             },
-            Step::Resync => {
-                self.resync();
-                Reply::Done
-            }
+            Step::Resync => done(self.resync()),
             Step::Apply(page) => match self.apply(*page) {
                 Ok(lsn) => Reply::Applied(lsn),
+                Err(fault) => Reply::Refused(fault),
+            },
+            Step::LogWrite => done(self.log_write()),
+            Step::LogSync => done(self.log_sync()),
+            Step::MarkWrite => done(self.mark_write()),
+            Step::ControlSync => match self.ctl_sync() {
+                Ok(lsn) => Reply::Acknowledged(lsn),
                 Err(fault) => Reply::Refused(fault),
             },
         }
@@ -139,20 +229,17 @@ impl Engine {
         ensures state { result.state ≡ state_of self.now }
         ensures end { result.end.0 ≡ end_of self.now.held.log }
         ensures partial { result.partial ≡ length self.now.partial }
-        ensures acknowledged { result.acknowledged.0 ≡ 16 }
+        ensures acknowledged { result.acknowledged.0 ≡ acknowledged self.now.held }
         ensures pending { result.pending ≡ pending_of self.now.held }
         ensures leases { result.leases ≡ 0 }
     {
-        let end = self.held.end();
+        let end = self.store.end();
         Status {
-            state: match self.refused {
-                None => State::Following,
-                Some(fault) => State::Refusing { lsn: end, fault },
-            },
+            state: state(self.store.is_broken(), self.refused, end),
             end,
             partial: self.receiver.partial(),
-            acknowledged: Lsn(16),
-            pending: self.held.pending(),
+            acknowledged: self.store.acknowledged(),
+            pending: self.store.pending(),
             leases: 0,
         }
     }
@@ -161,35 +248,37 @@ impl Engine {
     pub fn table(&self) -> &[OpenTransaction]
         ensures { rows_of result.now ≡ table_of self.now.held.log }
     {
-        self.held.table()
+        self.store.table()
     }
 
     /// The database's page count.
     pub fn pages(&self) -> u32
         ensures { result ≡ self.now.held.pages }
     {
-        self.held.pages()
+        self.store.pages()
     }
 
     /// The page as it is now: `None` where there is no such page.
     pub fn page_now(&self, page: u32) -> Option<&Page>
         ensures { ShowsPage self.now.held page (option_copied result) }
     {
-        self.held.page_now(page)
+        self.store.page_now(page)
     }
 
-    /// The held record at an LSN.
-    pub fn record_at(&self, lsn: Lsn) -> Option<&Record>
-        ensures { StandsAt self.now.held.log lsn (option_copied result) }
+    /// The held record at an LSN, read from the log device where it is no longer in memory. Device: a read failed. Memory: a
+    /// growth was refused. A failed read is counted; else nothing changes.
+    pub fn record_at(&mut self, lsn: Lsn) -> Result<Option<Record>, Fault>
+        ensures { Reads self.old lsn result self.new }
     {
-        self.held.record_at(lsn)
+        let found = self.store.record_at(lsn)?;
+        Ok(found)
     }
 
     /// The first page from there on with pending changes.
     pub fn next_pending(&self, from: u32) -> Option<u32>
         ensures { WaitsFrom self.now.held from result }
     {
-        self.held.next_pending(from)
+        self.store.next_pending(from)
     }
 }
 
@@ -211,5 +300,28 @@ fn kept(fault: Fault) -> Option<Fault>
     match fault {
         Fault::LogFull | Fault::Memory => None,
         fault => Some(fault),
+    }
+}
+
+/// The reply to an event that answers no value.
+fn done(answer: Result<(), Fault>) -> Reply
+    ensures { result ≡ reply_of answer }
+{
+    match answer {
+        Ok(()) => Reply::Done,
+        Err(fault) => Reply::Refused(fault),
+    }
+}
+
+/// What an engine is doing.
+fn state(broken: bool, refused: Option<Fault>, end: Lsn) -> State
+    ensures { result ≡ state_from broken refused end.0 }
+{
+    if broken {
+        return State::Stopped;
+    }
+    match refused {
+        None => State::Following,
+        Some(fault) => State::Refusing { lsn: end, fault },
     }
 }

@@ -1,8 +1,9 @@
 ghost use Rattle.std.specs.Prelude.{◌≡◌};
 ghost use Rattle.als_engine.specs.declared.fault.Fault.TheVariants.{Memory as OutOfMemory};
-ghost use Rattle.als_engine.specs.Faults.{number_of, name_of, from_record, from_cause};
+ghost use Rattle.als_engine.specs.Faults.{number_of, name_of, from_record, from_cause, from_store};
 
 use als_record::{Cause, Fault as RecordFault, TransId};
+use als_store::Fault as StoreFault;
 use std::alloc::{AllocError, AllocFailed};
 use thiserror::Error;
 
@@ -63,9 +64,15 @@ pub enum Fault {
     /// There is nothing for the event to do.
     #[error("27 NothingToDo")]
     NothingToDo,
-    /// The log has no room for the record.
+    /// The log device has no room for the record and for what a takeover would then append.
     #[error("29 LogFull")]
     LogFull,
+    /// A device failed. Where it failed to write or to sync, the engine has stopped.
+    #[error("30 Device")]
+    Device,
+    /// The engine has stopped: a write or a sync failed earlier.
+    #[error("31 Stopped")]
+    Stopped,
     /// A growth was refused.
     #[error("32 Memory")]
     Memory,
@@ -101,6 +108,8 @@ impl Fault {
             Fault::BadCheckpoint => 16,
             Fault::NothingToDo => 27,
             Fault::LogFull => 29,
+            Fault::Device => 30,
+            Fault::Stopped => 31,
             Fault::Memory => 32,
             Fault::Backlog => 36,
             Fault::BadConfig => 37,
@@ -130,6 +139,8 @@ impl Fault {
             Fault::BadCheckpoint => "BadCheckpoint",
             Fault::NothingToDo => "NothingToDo",
             Fault::LogFull => "LogFull",
+            Fault::Device => "Device",
+            Fault::Stopped => "Stopped",
             Fault::Memory => "Memory",
             Fault::Backlog => "Backlog",
             Fault::BadConfig => "BadConfig",
@@ -168,6 +179,20 @@ impl From<Cause> for Fault {
             Cause::BeforeImage => Fault::BeforeImage,
             Cause::TooManyTransactions => Fault::TooManyTransactions,
             Cause::BadCheckpoint => Fault::BadCheckpoint,
+        }
+    }
+}
+
+impl From<StoreFault> for Fault {
+    ghost from_gives = { λ f e. e ≡ from_store f };
+
+    fn from(fault: StoreFault) -> Fault {
+        match fault {
+            StoreFault::Invalid(cause) => Fault::from(cause),
+            StoreFault::NothingToDo => Fault::NothingToDo,
+            StoreFault::LogFull => Fault::LogFull,
+            StoreFault::Device => Fault::Device,
+            StoreFault::Memory => Fault::Memory,
         }
     }
 }

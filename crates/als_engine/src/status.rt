@@ -8,6 +8,8 @@ pub enum State {
     Following,
     /// A record at this LSN was refused, and so is all that is fed until a resync.
     Refusing { lsn: Lsn, fault: Fault },
+    /// A write or a sync failed: each event is refused, and the queries go on.
+    Stopped,
 }
 
 /// What the engine tells of itself.

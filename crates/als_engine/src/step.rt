@@ -11,6 +11,14 @@ pub enum Step<'a> {
     Resync,
     /// Redoes the first changes that a page waits for, at most 64.
     Apply(u32),
+    /// Writes the first block of the log with unwritten bytes.
+    LogWrite,
+    /// Syncs the log.
+    LogSync,
+    /// Writes the control block with the log's synced end as its mark.
+    MarkWrite,
+    /// Syncs the control block.
+    ControlSync,
 }
 
 /// What a step answers.
@@ -21,5 +29,7 @@ pub enum Reply {
     Done,
     /// The page's page_LSN after redo.
     Applied(Lsn),
+    /// The offset below which no log byte can be lost.
+    Acknowledged(Lsn),
     Refused(Fault),
 }

@@ -1,17 +1,18 @@
 ghost use Rattle.std.specs.Prelude.{◌≡◌, ◌≤◌, ◌++◌, length, OnOk, IfOk, IfErr, MatchBool};
-ghost use Rattle.als_engine.specs.Machine.{IsCause};
+ghost use Rattle.als_engine.specs.Feeds.{IsCause};
 ghost use Rattle.als_engine.specs.TakingIn.{Meets, Rests, TakesOne, TakesAll, TakesFront};
 
 use crate::fault::Fault;
-use crate::held_log::HeldLog;
+use als_disk::BlockDisk;
 use als_receiver::Receiver;
+use als_store::Store;
 
 /// How many bytes of a piece go to the receiver at once.
 const CHUNK: usize = 65_536;
 
-/// Gives a piece to the receiver, and each record that is whole then to the held log.
-pub(crate) fn take_piece(
-    held: &mut HeldLog,
+/// Gives a piece to the receiver, and each record that is whole then to the store.
+pub(crate) fn take_piece<D: BlockDisk>(
+    held: &mut Store<D>,
     receiver: &mut Receiver,
     piece: &[u8],
 ) -> Result<(), Fault>
@@ -29,7 +30,11 @@ pub(crate) fn take_piece(
 }
 
 /// The same for a chunk of at most 65,536 bytes.
-fn take_chunk(held: &mut HeldLog, receiver: &mut Receiver, chunk: &[u8]) -> Result<(), Fault>
+fn take_chunk<D: BlockDisk>(
+    held: &mut Store<D>,
+    receiver: &mut Receiver,
+    chunk: &[u8],
+) -> Result<(), Fault>
     requires rests { Rests held.old receiver.old }
     requires few { length chunk.now ≤ 65536 }
     ensures ok { OnOk result (TakesAll held.old (receiver.old.kept ++ chunk.now) held.new receiver.new) }
@@ -40,8 +45,8 @@ fn take_chunk(held: &mut HeldLog, receiver: &mut Receiver, chunk: &[u8]) -> Resu
     take_records(held, receiver)
 }
 
-/// Gives each record that is whole to the held log.
-fn take_records(held: &mut HeldLog, receiver: &mut Receiver) -> Result<(), Fault>
+/// Gives each record that is whole to the store.
+fn take_records<D: BlockDisk>(held: &mut Store<D>, receiver: &mut Receiver) -> Result<(), Fault>
     requires { Meets held.old receiver.old }
     ensures ok { OnOk result (TakesAll held.old receiver.old.kept held.new receiver.new) }
     ensures err { IfErr result (TakesFront held.old receiver.old.kept held.new) }
@@ -50,15 +55,15 @@ fn take_records(held: &mut HeldLog, receiver: &mut Receiver) -> Result<(), Fault
     Ok(())
 }
 
-/// Gives the next record to the held log, if it is whole; says whether it was.
-fn take_record(held: &mut HeldLog, receiver: &mut Receiver) -> Result<bool, Fault>
+/// Gives the next record to the store, if it is whole; says whether it was.
+fn take_record<D: BlockDisk>(held: &mut Store<D>, receiver: &mut Receiver) -> Result<bool, Fault>
     requires { Meets held.old receiver.old }
     ensures ok { IfOk result (λ more. MatchBool more (TakesOne held.old receiver.old held.new receiver.new) ((held.new ≡ held.old) × (receiver.new ≡ receiver.old) × Rests held.old receiver.old)) }
-    ensures err { IfErr result (λ fault. (held.new ≡ held.old) × IsCause held.old.pages held.old.log receiver.old.kept fault) }
+    ensures err { IfErr result (λ fault. (held.new ≡ held.old) × IsCause held.old receiver.old.kept fault) }
 {
     match receiver.next() {
         Ok(Some(logged)) => {
-            held.admit(logged)?;
+            held.admit(&logged)?;
             Ok(true)
         }
         Ok(None) => Ok(false),

@@ -1,18 +1,23 @@
 ghost use Rattle.std.specs.Prelude.{◌≡◌, IfOk, IfErr};
+ghost use Rattle.als_engine.specs.Machine.{Keeps};
+ghost use Rattle.als_engine.specs.Events.{Reads};
 ghost use Rattle.als_engine.specs.Runs.{Run};
 
 use crate::engine::Engine;
+use crate::fault::Fault;
 use crate::step::{Reply, Step};
+use als_disk::BlockDisk;
+use als_record::{Lsn, Record};
 use std::alloc::Global;
 use std::marker::Model;
 
 /// What a run of steps goes over: an engine.
 #[derive(Drop)]
-pub struct World {
-    engine: Engine,
+pub struct World<D: BlockDisk> {
+    engine: Engine<D>,
 }
 
-impl Model for World {
+impl<D: BlockDisk> Model for World<D> {
     ghost use Rattle.als_engine.specs.Machine.{Machine};
 
     ghost Value = { Machine };
@@ -20,27 +25,47 @@ impl Model for World {
     ghost view = { λ w. w.engine };
 }
 
-impl World {
+impl<D: BlockDisk> World<D> {
     /// A world with this engine.
-    pub fn new(engine: Engine) -> World
+    pub fn new(engine: Engine<D>) -> World<D>
         ensures { result ≡ engine }
     {
         World { engine }
     }
 
     /// The engine, to ask it.
-    pub fn engine(&self) -> &Engine
+    pub fn engine(&self) -> &Engine<D>
         ensures { result.now ≡ self.now }
     {
         &self.engine
+    }
+
+    /// The engine's record at an LSN, which may have to be read from its log device.
+    pub fn record_at(&mut self, lsn: Lsn) -> Result<Option<Record>, Fault>
+        ensures { Reads self.old lsn result self.new }
+    {
+        self.engine.record_at(lsn)
+    }
+
+    /// The engine.
+    pub fn into_engine(self) -> Engine<D>
+        ensures { result ≡ self }
+    {
+        self.engine
     }
 }
 
 /// Runs the steps one after another, and answers each one's reply. The replies' room is taken first: where that is refused
 /// nothing is run, and the world comes back.
-pub fn run(alloc: Global, world: World, steps: &[Step]) -> Result<(World, Vec<Reply>), World>
+pub fn run<D: BlockDisk>(
+    alloc: Global,
+    world: World<D>,
+    steps: &[Step],
+) -> Result<(World<D>, Vec<Reply>), World<D>>
     // Over every list of steps the replies and the state after them are a run of the small machine.
     ensures run { IfOk result (λ x. Run world steps.now x.1.items x.0) }
+    // What is acknowledged stays so, and the log only grows.
+    ensures keeps { IfOk result (λ x. Keeps world x.0) }
     ensures err { IfErr result (λ w. w ≡ world) }
 {
     let mut world = world;

@@ -5,10 +5,10 @@ use Rattle.als_engine.proofs.TakingLaws.{all_start, all_then_all, all_then_front
 use Rattle.als_engine.proofs.taking_in.take_piece.Goals as goal
 
 pub loop-rest-init : goal.loop-rest-init
-loop-rest-init c = record { done = c.args.receiver.now.kept; whole = refl; takes = all_start c.args.held.now c.args.receiver.now c.requires }
+loop-rest-init g c = record { done = c.args.receiver.now.kept; whole = refl; takes = all_start c.args.held.now c.args.receiver.now c.requires }
 
 pub loop-rest-preserved : goal.loop-rest-preserved
-loop-rest-preserved c =
+loop-rest-preserved g c =
     let so_far = c.loop-rest.invariant in
     let chunk = c.split_at.result.0.now in
     let after = c.split_at.result.1.now in
@@ -20,7 +20,7 @@ loop-rest-preserved c =
     }
 
 pub returns-in_err-take_chunk-clause-err : goal.returns-in_err-take_chunk-clause-err
-returns-in_err-take_chunk-clause-err c =
+returns-in_err-take_chunk-clause-err g c =
     let p = err_from_is_err_and c.from_residual.result c.from_residual.ensures.1 in
     let so_far = c.loop-rest.invariant in
     let chunk = c.split_at.result.0.now in

@@ -1,4 +1,8 @@
+use Rattle.std.proofs.Common.{ap}
+use Rattle.als_store.specs.Stored.{Stored}
+use Rattle.als_engine.proofs.FeedLaws.{machine}
 use Rattle.als_engine.proofs.engine.Engine.record_at.Goals as goal
 
 pub returns : goal.returns
-returns c = rw (← c.self.view_is) c.record_at.ensures
+returns g c =
+    rw (← c.self.view_is) (c.in_ok-found.ensures.ok.0, ap (λ (h : Stored). machine h c.self.inside.limit c.self.inside.receiver.kept c.self.inside.refused) c.in_ok-found.ensures.ok.1)

@@ -1,0 +1,113 @@
+-- The feed rule.
+use Rattle.std.specs.Prelude.{◌≡◌, ℕ, ◌-◌, ◌<◌, ◌≤◌, ◌⊎◌, List, [], ◌∷◌, ◌++◌, length, Option, Some, None, Result, Ok, Err}
+use Rattle.als_record.specs.declared.record.Record.{Record}
+use Rattle.als_record.specs.declared.fault.Fault.{Fault as RecordFault}
+use Rattle.als_record.specs.declared.cause.Cause.{Cause}
+use Rattle.als_record.specs.Reading.{read_record}
+use Rattle.als_record.specs.Spelling.{record_len}
+use Rattle.als_record.specs.LogText.{spellings, end_of}
+use Rattle.als_record.specs.Validity.{first_bad, IsValidLog}
+use Rattle.als_store.specs.Stored.{Stored, with_log, pending_of, IsTooLong}
+use Rattle.als_engine.specs.declared.fault.Fault.{Fault}
+use Rattle.als_engine.specs.declared.fault.Fault.TheVariants.{BadHeader, BadLength, BadType, BadReserved, WrongLsn, BadKey, BadValue, BadPrev, OldTransaction, WrongState, WrongUndoNext, WrongCompensation, RecordHeld, BeforeImage, TooManyTransactions, BadCheckpoint, NothingToDo, LogFull, Device, Stopped, Memory, Backlog, BadConfig}
+use Rattle.als_engine.specs.declared.fed.Fed.{Fed}
+use Rattle.als_engine.specs.declared.fed.FeedFault.{FeedFault}
+use Rattle.als_engine.specs.Faults.{from_record, from_cause}
+use Rattle.als_engine.specs.Machine.{Machine, IsRunning, IsStopped}
+
+-- the held log with more records
+abbrev pub grown : Stored → List Record → Stored
+grown held records = with_log held (held.log ++ records)
+
+-- the log device has room for each record after those before it, with the tail that a takeover would then append
+abbrev pub AllFit : Stored → List Record → Type 0
+AllFit held [] = Unit {0}
+AllFit held (r ∷ rest) = (IsTooLong held r → ⊥) × AllFit (grown held (r ∷ [])) rest
+
+-- the bytes are the spellings of records that the held log goes on with, and then a rest
+pub record Splits (held : Stored) (bytes : List ℕ) (records : List Record) (rest : List ℕ) : Type 0 where
+  pub whole : bytes ≡ spellings records ++ rest
+  pub is_log : IsValidLog held.pages (held.log ++ records)
+  pub fit : AllFit held records
+
+-- the engine takes the log: it has not stopped, it refuses nothing, and its pending changes are below their limit
+pub record TakesLog (m : Machine) : Type 0 where
+  pub running : IsRunning m
+  pub following : m.refused ≡ None
+  pub room : pending_of m.held < m.limit
+
+-- all of the piece is taken: the rest is no whole record yet
+pub record FeedsAll (old : Machine) (piece : List ℕ) (fed : Fed) (new : Machine) : Type 0 where
+  pub takes : TakesLog old
+  pub records : List Record
+  pub rest : List ℕ
+  pub split : Splits old.held (old.partial ++ piece) records rest
+  pub waits : read_record old.held.pages (end_of (old.held.log ++ records)) rest ≡ Ok None
+  pub after : new ≡ record old { held = grown old.held records; partial = rest }
+  pub taken : fed.taken ≡ length piece
+  pub count : fed.records ≡ length records
+
+-- Why a held log does not go on with the rest: it begins with a shape fault, with a record that may not follow, for its
+-- first cause, or with one for which the log device has no room; or a growth was refused.
+abbrev pub IsCause : Stored → List ℕ → Fault → Type 0
+IsCause held rest fault =
+    ((f : RecordFault) × (read_record held.pages (end_of held.log) rest ≡ Err f) × (fault ≡ from_record f))
+    ⊎ (((r : Record) × (c : Cause) × (read_record held.pages (end_of held.log) rest ≡ Ok (Some (r, record_len r))) × (first_bad held.log r ≡ Some c) × (fault ≡ from_cause c))
+    ⊎ (((r : Record) × (read_record held.pages (end_of held.log) rest ≡ Ok (Some (r, record_len r))) × (first_bad held.log r ≡ None) × IsTooLong held r × (fault ≡ LogFull))
+    ⊎ (fault ≡ Memory)))
+
+-- want of room and of memory are not kept: the bytes may be fed again
+abbrev pub kept_fault : Fault → Option Fault
+kept_fault BadHeader = Some BadHeader
+kept_fault BadLength = Some BadLength
+kept_fault BadType = Some BadType
+kept_fault BadReserved = Some BadReserved
+kept_fault WrongLsn = Some WrongLsn
+kept_fault BadKey = Some BadKey
+kept_fault BadValue = Some BadValue
+kept_fault BadPrev = Some BadPrev
+kept_fault OldTransaction = Some OldTransaction
+kept_fault WrongState = Some WrongState
+kept_fault WrongUndoNext = Some WrongUndoNext
+kept_fault WrongCompensation = Some WrongCompensation
+kept_fault (RecordHeld by) = Some (RecordHeld by)
+kept_fault BeforeImage = Some BeforeImage
+kept_fault TooManyTransactions = Some TooManyTransactions
+kept_fault BadCheckpoint = Some BadCheckpoint
+kept_fault NothingToDo = Some NothingToDo
+kept_fault LogFull = None
+kept_fault Device = Some Device
+kept_fault Stopped = Some Stopped
+kept_fault Memory = None
+kept_fault Backlog = Some Backlog
+kept_fault BadConfig = Some BadConfig
+
+-- whole records in front of a fault are held, and no rest is kept
+pub record FeedsFront (old : Machine) (piece : List ℕ) (refusal : FeedFault) (new : Machine) : Type 0 where
+  pub takes : TakesLog old
+  pub records : List Record
+  pub rest : List ℕ
+  pub split : Splits old.held (old.partial ++ piece) records rest
+  pub cause : IsCause (grown old.held records) rest refusal.fault
+  pub after : new ≡ record old { held = grown old.held records; partial = []; refused = kept_fault refusal.fault }
+  -- the piece's bytes up to the end of the last record held
+  pub taken : refusal.taken ≡ length (spellings records) - length old.partial
+  pub count : refusal.records ≡ length records
+
+-- why an engine takes nothing: it has stopped, else it refuses, else as many changes are pending as the limit allows
+abbrev pub TakesNothing : Machine → Fault → Type 0
+TakesNothing m fault =
+    (IsStopped m × (fault ≡ Stopped))
+    ⊎ ((IsRunning m × (m.refused ≡ Some fault))
+    ⊎ (IsRunning m × (m.refused ≡ None) × (m.limit ≤ pending_of m.held) × (fault ≡ Backlog)))
+
+-- nothing is taken
+pub record FeedsNothing (old : Machine) (refusal : FeedFault) (new : Machine) : Type 0 where
+  pub cause : TakesNothing old refusal.fault
+  pub after : new ≡ old
+  pub taken : refusal.taken ≡ 0
+  pub count : refusal.records ≡ 0
+
+abbrev pub Feeds : Machine → List ℕ → Result Fed FeedFault → Machine → Type 0
+Feeds old piece (Ok fed) new = FeedsAll old piece fed new
+Feeds old piece (Err refusal) new = FeedsNothing old refusal new ⊎ FeedsFront old piece refusal new
