@@ -125,9 +125,7 @@ fn remember(places: &mut [u8; PLACE_COUNT], trans: TransId, at: usize) {
 fn move_down(places: &mut [u8; PLACE_COUNT], at: usize) {
     let gone = u8::try_from(at).unwrap_or(0);
     for place in places.iter_mut() {
-        if *place > gone {
-            *place -= 1;
-        }
+        *place = place.saturating_sub(u8::from(*place > gone));
     }
 }
 

@@ -254,7 +254,7 @@ pub(crate) fn is_stale(keys: &[KeyState], logged: &Record) -> bool
 {
     match &logged.body {
         Body::Update { key, before, .. } => match kept_of(keys, *key) {
-            Some(kept) => !is_same(before, &kept.image),
+            Some(kept) => !kept.image.is(before),
             None => true,
         },
         _ => false,
