@@ -1,3 +1,4 @@
 mod Keeping
 mod Padding
+mod Rows
 mod Walks
