@@ -1,6 +1,6 @@
 use crate::{Fault, LocalLog};
 use als_disk::{BlockDisk, FailingDisk, Fuse, MemDisk};
-use als_record::{Lsn, decode};
+use als_record::{Lsn, Record, decode, encode};
 use std::alloc::Global;
 use std::process::Abort;
 use std::test::Fail;
@@ -147,10 +147,18 @@ fn a_transaction_reaches_the_device(rt: HostRuntime) {
     }
 }
 
+// A fuse, again where memory is refused once.
+fn fuse_of(alloc: Global) -> Result<Fuse, Fail> {
+    match Fuse::new(alloc) {
+        Ok(fuse) => Ok(fuse),
+        Err(_) => Ok(Fuse::new(alloc)?),
+    }
+}
+
 #[test]
 fn each_device_call_fails_in_turn(rt: HostRuntime) -> Result<(), Fail> {
     for call in 1..=8 {
-        let fuse = Fuse::new(rt.alloc())?;
+        let fuse = fuse_of(rt.alloc())?;
         let disk = FailingDisk::new(MemDisk::new(rt.alloc(), 2), fuse.clone()?);
         assert!(rt; 0 < call);
         fuse.fail_at(call);
@@ -161,14 +169,19 @@ fn each_device_call_fails_in_turn(rt: HostRuntime) -> Result<(), Fail> {
     Ok(())
 }
 
+// Appends so many commits.
+fn fill<D: BlockDisk + Drop>(rt: &impl Abort, alloc: Global, log: &mut LocalLog<D>, count: usize) {
+    for _ in 0..count {
+        let bytes = commit_at(log.end());
+        put(rt, alloc, log, &bytes);
+    }
+}
+
 // A log on a device of so many blocks, with so many commits.
 fn commits(rt: &impl Abort, alloc: Global, blocks: u64, count: usize) -> LocalLog<MemDisk> {
     match formatted(rt, alloc, MemDisk::new(alloc, blocks)) {
         Some(mut log) => {
-            for _ in 0..count {
-                let bytes = commit_at(log.end());
-                put(rt, alloc, &mut log, &bytes);
-            }
+            fill(rt, alloc, &mut log, count);
             log
         }
         None => panic!(rt; "no log"),
@@ -221,4 +234,79 @@ fn what_is_reserved_takes_no_memory(rt: HostRuntime) {
     assert!(rt; append(&rt, rt.alloc(), &mut log, &bytes, 0).is_ok());
     assert_eq!(rt; Fault::LogFull.number(), 29);
     assert_eq!(rt; Fault::LogFull.name(), "LogFull");
+}
+
+// The record at an offset, again where the device fails or memory is refused once.
+fn found_at<D: BlockDisk + Drop>(
+    rt: &impl Abort,
+    log: &mut LocalLog<D>,
+    at: u64,
+) -> Option<Record> {
+    for _ in 0..3 {
+        match log.read_at(Lsn(at)) {
+            Ok(found) => return found,
+            Err(fault) => assert!(rt; matches!(fault, Fault::Device | Fault::Memory)),
+        }
+    }
+    panic!(rt; "the device fails each time")
+}
+
+// A record with these bytes stands there.
+fn expect_record<D: BlockDisk + Drop>(
+    rt: &impl Abort,
+    alloc: Global,
+    log: &mut LocalLog<D>,
+    at: u64,
+    bytes: &[u8],
+) {
+    match found_at(rt, log, at) {
+        Some(found) => {
+            let mut out = Vec::new(alloc);
+            if encode(&found, &mut out).is_err() {
+                assert!(rt; encode(&found, &mut out).is_ok());
+            }
+            assert_eq!(rt; out.as_slice(), bytes, "{at}");
+        }
+        None => panic!(rt; "no record at {at}"),
+    }
+}
+
+// The places of commits, out of order, and places where none stands.
+fn expect_commits<D: BlockDisk + Drop>(rt: &impl Abort, alloc: Global, log: &mut LocalLog<D>) {
+    for at in [16, 44, 492, 996, 1024, 1108, 464, 492, 16] {
+        expect_record(rt, alloc, log, at, &commit_at(Lsn(at)));
+    }
+    for at in [0, 15, 17, 43, 511, 512, 1107, 1109, 1136, u64::MAX] {
+        assert!(rt; found_at(rt, log, at).is_none(), "{at}");
+    }
+}
+
+#[test]
+fn records_are_read_back(rt: HostRuntime) {
+    let mut log = commits(&rt, rt.alloc(), 3, 40);
+    expect_commits(&rt, rt.alloc(), &mut log);
+    for _ in 0..3 {
+        write(&rt, &mut log);
+    }
+    expect_commits(&rt, rt.alloc(), &mut log);
+    sync(&rt, &mut log);
+    assert_eq!(rt; log.synced(), Lsn(1136));
+    expect_commits(&rt, rt.alloc(), &mut log);
+}
+
+#[test]
+fn a_reading_fails_with_the_device(rt: HostRuntime) -> Result<(), Fail> {
+    let fuse = fuse_of(rt.alloc())?;
+    let disk = FailingDisk::new(MemDisk::new(rt.alloc(), 3), fuse.clone()?);
+    if let Some(mut log) = formatted(&rt, rt.alloc(), disk) {
+        fill(&rt, rt.alloc(), &mut log, 40);
+        for _ in 0..3 {
+            write(&rt, &mut log);
+        }
+        sync(&rt, &mut log);
+        fuse.fail_at(1);
+        assert!(rt; log.read_at(Lsn(16)).err().is_some());
+        expect_commits(&rt, rt.alloc(), &mut log);
+    }
+    Ok(())
 }
