@@ -9,6 +9,7 @@ use Rattle.als_record.specs.declared.transaction_state.TransactionState.TheVaria
 use Rattle.als_record.specs.declared.transaction_row.TransactionRow.{TransactionRow}
 use Rattle.als_record.specs.Spelling.{image_len}
 use Rattle.als_record.specs.Images.{image_before}
+use Rattle.als_record.specs.Table.{state_after}
 
 -- its row, its surviving updates in order, and how many more of them can be kept without memory
 pub record Open : Type 0 where
@@ -35,9 +36,17 @@ undo_owed _ left = sum_by undo_len left
 abbrev pub owed : Open → ℕ
 owed o = 28 + undo_owed o.row.state o.left
 
+-- the same after one more record of the transaction, which is not its end
+abbrev pub owed_after : TransactionState → List Record → Record → ℕ
+owed_after state left r = 28 + undo_owed (state_after state r.body) (left_after left r r.body)
+
 -- The updates that one transaction may have kept: more than any memory holds.
 abbrev pub left_limit : ℕ
 left_limit = 2 ^ 48
+
+-- what its compensations take at most
+abbrev pub undo_limit : ℕ
+undo_limit = 73 * 2 ^ 48
 
 -- what one transaction owes at most
 abbrev pub owed_limit : ℕ

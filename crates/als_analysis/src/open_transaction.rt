@@ -1,9 +1,11 @@
 ghost use Rattle.std.specs.Prelude.{◌≡◌, ◌↔◌, IsTrue, ℕ, ◌<◌, ◌≤◌, ◌+◌, [], IfOk, OnOk, OnErr};
+ghost use Rattle.std.specs.List.{sum_by};
+ghost use Rattle.als_record.specs.declared.transaction_state.TransactionState.TheVariants.{Active};
 ghost use Rattle.als_record.specs.Spelling.{image_len};
 ghost use Rattle.als_record.specs.Images.{image_before};
 ghost use Rattle.als_record.specs.Table.{row_after, state_after, state_after_rollback, fresh_row};
 ghost use Rattle.als_record.specs.Transactions.{undo_next_after};
-ghost use Rattle.als_analysis.specs.Open.{left_after, undo_len, undo_owed, owed, owed_limit};
+ghost use Rattle.als_analysis.specs.Open.{left_after, undo_len, undo_limit, undo_owed, owed, owed_after, owed_limit};
 
 use crate::fault::Fault;
 use als_record::{Body, Image, Key, Lsn, Record, TransId, TransactionRow, TransactionState, Value};
@@ -43,6 +45,17 @@ fn undo_len_of(update: &Record) -> u64
             ..
         } => 42 + value.len() as u64,
         _ => 42,
+    }
+}
+
+/// The bytes that a takeover appends for a transaction of which this is the first record, and not its end.
+pub(crate) fn owed_anew(logged: &Record) -> u64
+    ensures owed { result ≡ owed_after Active [] logged.now }
+    ensures limit { result ≤ owed_limit }
+{
+    match &logged.body {
+        Body::Update { .. } => 28 + undo_len_of(logged),
+        _ => 28,
     }
 }
 
@@ -116,6 +129,34 @@ impl OpenTransaction {
         28 + match self.row.state {
             TransactionState::Committed => 0,
             TransactionState::Active | TransactionState::RollingBack => self.undo_bytes,
+        }
+    }
+
+    /// The bytes of its compensations after one more record of the transaction, if it is to be undone.
+    fn undo_bytes_after(&self, logged: &Record) -> u64
+        ensures sum { result ≡ sum_by undo_len (left_after self.now.left logged.now logged.now.body) }
+        ensures limit { result ≤ undo_limit + 73 }
+    {
+        match &logged.body {
+            Body::Update { .. } => self.undo_bytes + undo_len_of(logged),
+            Body::Compensation { .. } => match self.left.last() {
+                Some(undone) => self.undo_bytes - undo_len_of(undone),
+                None => self.undo_bytes,
+            },
+            _ => self.undo_bytes,
+        }
+    }
+
+    /// The bytes that a takeover appends for it after one more record of the transaction, which is not its end.
+    pub(crate) fn owed_after(&self, logged: &Record) -> u64
+        ensures owed { result ≡ owed_after self.now.row.state self.now.left logged.now }
+        ensures limit { result ≤ owed_limit + 73 }
+    {
+        match next_state(self.row.state, &logged.body) {
+            TransactionState::Committed => 28,
+            TransactionState::Active | TransactionState::RollingBack => {
+                28 + self.undo_bytes_after(logged)
+            }
         }
     }
 

@@ -51,10 +51,12 @@ fn row(trans: u32, state: TransactionState, last: u64, undo_next: u64) -> Transa
     }
 }
 
-// Notes a record. A refused growth changes nothing, and is met once at most: the record is noted at the next try.
+// Notes a record. A refused growth changes nothing, and is met once at most: the record is noted at the next try. What a
+// takeover would append then was told before.
 fn note(rt: &impl Abort, table: &mut TransTable, logged: &Record) {
     let open = table.rows().len();
     let reserve = table.reserve_bytes();
+    let after = table.reserve_after(logged);
     if let Err(fault) = table.note(logged) {
         assert_eq!(rt; fault, Fault::Memory);
         assert_eq!(rt; fault.number(), 32);
@@ -63,6 +65,7 @@ fn note(rt: &impl Abort, table: &mut TransTable, logged: &Record) {
         assert_eq!(rt; table.reserve_bytes(), reserve);
         assert!(rt; table.note(logged).is_ok());
     }
+    assert_eq!(rt; table.reserve_bytes(), after);
 }
 
 fn expect_row(rt: &impl Abort, table: &TransTable, place: usize, row: TransactionRow) {
@@ -89,7 +92,9 @@ fn a_committed_and_an_active_transaction(rt: HostRuntime) {
     let mut table = TransTable::new(rt.alloc());
     note(&rt, &mut table, &update(16, 0, 1, 0, None));
     assert_eq!(rt; table.reserve_bytes(), 70);
-    note(&rt, &mut table, &record(52, 16, 1, Body::Commit));
+    let commit = record(52, 16, 1, Body::Commit);
+    assert_eq!(rt; table.reserve_after(&commit), 28);
+    note(&rt, &mut table, &commit);
     assert_eq!(rt; table.reserve_bytes(), 28);
     note(&rt, &mut table, &update(80, 0, 2, 1, None));
     note(&rt, &mut table, &update(116, 80, 2, 0, byte(0xaa)));

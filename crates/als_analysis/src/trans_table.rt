@@ -11,7 +11,7 @@ ghost use Rattle.als_analysis.specs.Kept.{IsRising, IsPlace, MakesRoom, numbers}
 ghost use Rattle.als_analysis.specs.Noted.{IsTableOf};
 
 use crate::fault::Fault;
-use crate::open_transaction::OpenTransaction;
+use crate::open_transaction::{OpenTransaction, owed_anew};
 use als_record::{Body, Lsn, Record, TransId};
 use std::alloc::Global;
 use std::marker::Model;
@@ -304,5 +304,46 @@ impl TransTable {
         ensures { (log : List Record) → IsTableOf self.now log → result ≡ tail_len log }
     {
         self.reserve
+    }
+
+    /// What a takeover would append after another record of the transaction at this place.
+    fn reserve_after_known(&self, at: usize, logged: &Record) -> u64
+        requires within { at < length self.now.rows }
+        requires here { (d : TransactionRow) → (slice_index_or self.now.rows at d).trans.0 ≡ logged.now.trans.0 }
+        requires kind { is_transactional logged.now.body ≡ true }
+        ensures { (log : List Record) → IsTableOf self.now log → IsTrue (may_follow log logged.now) → result ≡ tail_len (log ++ logged.now ∷ []) }
+    {
+        let entry = &self.entries[at];
+        let others = self.reserve - entry.owed();
+        if is_end_record(&logged.body) {
+            return others;
+        }
+        others + entry.owed_after(logged)
+    }
+
+    /// What a takeover would append after a record of a transaction without a row.
+    fn reserve_after_new(&self, logged: &Record) -> u64
+        requires absent { is_among (numbers self.now.rows) logged.now.trans.0 ≡ false }
+        requires kind { is_transactional logged.now.body ≡ true }
+        ensures { (log : List Record) → IsTableOf self.now log → IsTrue (may_follow log logged.now) → result ≡ tail_len (log ++ logged.now ∷ []) }
+    {
+        if is_end_record(&logged.body) {
+            return self.reserve;
+        }
+        self.reserve + owed_anew(logged)
+    }
+
+    /// The bytes that a takeover would append after one more record, before that is noted. It takes no memory, and the cost
+    /// does not depend on how long the log is.
+    pub fn reserve_after(&self, logged: &Record) -> u64
+        ensures { (log : List Record) → IsTableOf self.now log → IsTrue (may_follow log logged.now) → result ≡ tail_len (log ++ logged.now ∷ []) }
+    {
+        if !is_transaction_record(&logged.body) {
+            return self.reserve;
+        }
+        match self.find(logged.trans) {
+            Some(at) => self.reserve_after_known(at, logged),
+            None => self.reserve_after_new(logged),
+        }
     }
 }

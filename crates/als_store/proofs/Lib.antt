@@ -3,3 +3,5 @@ pub mod PageLists
 pub mod StoredPages
 pub mod StoredViews
 pub mod JudgingLaws
+pub mod StoredParts
+pub mod KeptLaws

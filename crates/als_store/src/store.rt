@@ -10,19 +10,21 @@ ghost use Rattle.als_record.specs.Pages.{change_of};
 ghost use Rattle.als_analysis.specs.Open.{rows_of};
 ghost use Rattle.als_validator.specs.Validated.{IsValidatorOf, HasRoom};
 ghost use Rattle.als_store.specs.declared.fault.Fault.TheVariants as fault;
-ghost use Rattle.als_store.specs.Warm.{CanRoute, IsRouted, total_waiting};
+ghost use Rattle.als_store.specs.Warm.{CanRoute, IsRouted, total_waiting, fresh_from};
 ghost use Rattle.als_store.specs.Stored.{Stored, formatted, acknowledged, with_log, pending_of, AppliesFirst, IsDry, WaitsFrom, ShowsPage, StandsAt, IsRefused, IsTooLong, judgement_of};
 ghost use Rattle.als_store.specs.Events.{Breaks, FailsToRead, HasUnwritten, WritesLog, SyncsLog, HasUnmarked, WritesMark, BreaksMark, SyncsControl};
 ghost use Rattle.als_store.specs.Devices.{AreKept};
+ghost use Rattle.als_log.specs.Local.{HasRoomFor, next_written, whole_end};
+ghost use Rattle.als_log.specs.Outcomes.{OnlyFails, RefusesFormat};
 
 use crate::disks::Disks;
 use crate::fault::Fault;
 use crate::unformatted::Unformatted;
 use crate::warm_pages::WarmPages;
 use als_analysis::OpenTransaction;
-use als_ckpt::Control;
+use als_ckpt::{Control, clear};
 use als_disk::BlockDisk;
-use als_log::LocalLog;
+use als_log::{Fault as LogFault, LocalLog};
 use als_page::Page;
 use als_record::{Lsn, Record, encoded_len};
 use als_validator::{Fault as Refusal, Validator};
@@ -33,7 +35,7 @@ use std::marker::Model;
 ///
 /// It is broken once a write or a sync has failed: then no event writes or syncs any more.
 #[derive(Drop)]
-pub struct Store<D> {
+pub struct Store<D: BlockDisk> {
     pages: u32,
     log: LocalLog<D>,
     count: usize,
@@ -56,6 +58,150 @@ impl<D: BlockDisk> Model for Store<D> {
     ghost invariant = { λ s. IsStored s.pages s.log s.count s.control s.warm s.validator s.broken };
 }
 
+/// Adds what a record changes, if anything, behind what its page waits for. An `Err` changes nothing.
+fn route_change(warm: &mut WarmPages, logged: &Record) -> Result<(), AllocError>
+    requires can { IfSome (change_of logged.now) (CanRoute warm.old) }
+    requires room { total_waiting warm.old + 1 < 2 ^ 64 }
+    ensures ok { OnOk result (MatchOption (change_of logged.now) (warm.new ≡ warm.old) (λ c. IsRouted warm.old c warm.new)) }
+    ensures err { OnErr result (warm.new ≡ warm.old) }
+{
+    match logged.change() {
+        None => Ok(()),
+        Some(change) => warm.route(change),
+    }
+}
+
+/// The first cause why a record may not follow the log, if there is one.
+fn judge(validator: &Validator, logged: &Record) -> Result<(), Fault>
+    ensures { (pages : ℕ) (log : List AnyRecord) → IsValidatorOf pages validator.now log → IsValidLog pages log → IsRecord pages logged.now
+        → logged.now.lsn.0 ≡ end_of log → result ≡ judgement_of (first_bad log logged.now) }
+{
+    match validator.check(logged) {
+        Ok(()) => Ok(()),
+        Err(Refusal::Invalid(cause)) => Err(Fault::Invalid(cause)),
+        Err(Refusal::Memory) => Err(Fault::Memory),
+    }
+}
+
+/// Room for one more record in the validator.
+fn make_room(validator: &mut Validator) -> Result<(), Fault>
+    ensures same { (pages : ℕ) (log : List AnyRecord) → IsValidatorOf pages validator.old log → IsValidatorOf pages validator.new log }
+    ensures ok { OnOk result (HasRoom validator.new) }
+    ensures err { IfErr result (λ f. f ≡ fault.Memory) }
+{
+    match validator.reserve() {
+        Ok(()) => Ok(()),
+        Err(_) => Err(Fault::Memory),
+    }
+}
+
+/// A validator of an empty log.
+fn new_validator(alloc: Global, pages: u32) -> Result<Validator, Fault>
+    ensures ok { IfOk result (λ v. IsValidatorOf pages v []) }
+    ensures err { IfErr result (λ f. f ≡ fault.Memory) }
+{
+    match Validator::new(alloc, pages) {
+        Ok(validator) => Ok(validator),
+        Err(_) => Err(Fault::Memory),
+    }
+}
+
+/// The pages and the validator of an empty log.
+fn empty_parts(alloc: Global, pages: u32) -> Result<(WarmPages, Validator), Fault>
+    requires { pages ≤ 4096 }
+    ensures warm { IfOk result (λ parts. parts.0 ≡ fresh_from 0 pages) }
+    ensures validator { IfOk result (λ parts. IsValidatorOf pages parts.1 []) }
+    ensures err { IfErr result (λ f. f ≡ fault.Memory) }
+{
+    let warm = WarmPages::empty(alloc, pages)?;
+    let validator = new_validator(alloc, pages)?;
+    Ok((warm, validator))
+}
+
+/// Devices that were not formatted.
+fn unformatted<D>(log: D, control: D, pages: D, fault: Fault) -> Unformatted<D>
+    ensures { result ≡ record { disks = record { log = log; control = control; pages = pages }; fault = fault } }
+{
+    let disks = Disks {
+        log,
+        control,
+        pages,
+    };
+    Unformatted { disks, fault }
+}
+
+/// The fault of a log that could not be laid out.
+fn fault_of(refused: LogFault) -> Fault
+    ensures { (before now : ℕ) → RefusesFormat refused before now → ((result ≡ fault.Memory) × (now ≡ before)) ⊎ ((result ≡ fault.Device) × (before < now)) }
+{
+    match refused {
+        LogFault::Memory => Fault::Memory,
+        _ => Fault::Device,
+    }
+}
+
+/// Makes the control block one that nobody takes for a control block.
+fn clear_control<D: BlockDisk>(control: &mut D) -> Result<(), Fault>
+    requires { 1 ≤ D.block_count control.old }
+    ensures count { D.block_count control.new ≡ D.block_count control.old }
+    ensures ok { OnOk result (D.failures control.new ≡ D.failures control.old) }
+    ensures err { IfErr result (λ f. (f ≡ fault.Device) × (D.failures control.old < D.failures control.new)) }
+{
+    match clear(control) {
+        Ok(()) => Ok(()),
+        Err(_) => Err(Fault::Device),
+    }
+}
+
+/// Room for so many more bytes in the log. An `Err` changes nothing.
+fn reserve_bytes<D: BlockDisk>(log: &mut LocalLog<D>, len: usize) -> Result<(), Fault>
+    ensures same { log.new ≡ record log.old { room = log.new.room } }
+    ensures ok { OnOk result (len ≤ log.new.room) }
+    ensures err { IfErr result (λ f. f ≡ fault.Memory) }
+{
+    match log.reserve(len) {
+        Ok(()) => Ok(()),
+        Err(_) => Err(Fault::Memory),
+    }
+}
+
+/// Appends a record for which there is room on the device and in memory.
+fn append<D: BlockDisk>(log: &mut LocalLog<D>, logged: &Record, reserve_after: u64)
+    requires fits { IsRecord log.old.pages logged.now }
+    requires place { logged.now.lsn.0 ≡ end_of log.old.log }
+    requires device { HasRoomFor log.old (record_len logged.now) reserve_after }
+    requires memory { record_len logged.now ≤ log.old.room }
+    ensures { log.new ≡ record log.old { log = log.old.log ++ logged.now ∷ []; room = log.new.room } }
+{
+    match log.append(logged, reserve_after) {
+        Ok(()) => {}
+        Err(_) => unreachable!(),
+    }
+}
+
+/// Writes the first block of the log with unwritten bytes.
+fn write_block<D: BlockDisk>(log: &mut LocalLog<D>) -> Result<(), Fault>
+    ensures ok { OnOk result ((log.old.written < end_of log.old.log) × (log.new ≡ record log.old { written = next_written log.old.log log.old.written })) }
+    ensures err { IfErr result (λ f. ((f ≡ fault.NothingToDo) × (log.old.written ≡ end_of log.old.log) × (log.new ≡ log.old)) ⊎ ((f ≡ fault.Device) × (log.old.written < end_of log.old.log) × OnlyFails log.old log.new)) }
+{
+    match log.write_block() {
+        Ok(()) => Ok(()),
+        Err(LogFault::NothingToDo) => Err(Fault::NothingToDo),
+        Err(_) => Err(Fault::Device),
+    }
+}
+
+/// Syncs the log.
+fn sync_log<D: BlockDisk>(log: &mut LocalLog<D>) -> Result<(), Fault>
+    ensures ok { OnOk result (log.new ≡ record log.old { synced = whole_end log.old.log log.old.written; room = log.new.room }) }
+    ensures err { IfErr result (λ f. (f ≡ fault.Device) × OnlyFails log.old log.new) }
+{
+    match log.sync() {
+        Ok(()) => Ok(()),
+        Err(_) => Err(Fault::Device),
+    }
+}
+
 impl<D: BlockDisk> Store<D> {
     /// Formats the devices for a database of so many pages: clears and syncs the control block, then writes and syncs the
     /// log's header, then writes and syncs the control block. It leaves an empty log, acknowledged up to 16.
@@ -68,14 +214,60 @@ impl<D: BlockDisk> Store<D> {
         ensures ok { IfOk result (λ s. s ≡ formatted pages (D.block_count disks.log) (D.failures disks.log + D.failures disks.control + D.failures disks.pages)) }
         ensures err { IfErr result (λ u. (u.fault ≡ fault.Memory) ⊎ ((u.fault ≡ fault.Device) × (D.failures disks.log + D.failures disks.control < D.failures u.disks.log + D.failures u.disks.control))) }
     {
-        Err(Unformatted { disks, fault: Fault::Memory })
+        let Disks {
+            log,
+            mut control,
+            pages: page_disk,
+        } = disks;
+        let (warm, validator) = match empty_parts(alloc, pages) {
+            Ok(parts) => parts,
+            Err(fault) => return Err(unformatted(log, control, page_disk, fault)),
+        };
+        if let Err(fault) = clear_control(&mut control) {
+            return Err(unformatted(log, control, page_disk, fault));
+        }
+        let log = match LocalLog::format(alloc, log, pages) {
+            Ok(log) => log,
+            Err(refused) => {
+                let fault = fault_of(refused.fault);
+                return Err(unformatted(refused.disk, control, page_disk, fault));
+            }
+        };
+        let log_bytes = 512 * log.blocks();
+        let control = match Control::create(control, pages, log_bytes) {
+            Ok(control) => control,
+            Err(refused) => {
+                let log = log.into_disk();
+                return Err(unformatted(log, refused.disk, page_disk, Fault::Device));
+            }
+        };
+        Ok(Store {
+            pages,
+            log,
+            count: 0,
+            control,
+            page_disk,
+            warm,
+            validator,
+            broken: false,
+        })
     }
 
     /// The devices. Whatever a crash leaves of them has all acknowledged bytes.
     pub fn into_disks(self) -> Disks<D>
         ensures { AreKept self (D.slot result.log) (D.slot result.control) }
     {
-        Disks { log: self.log.into_disk(), control: self.control.into_disk(), pages: self.page_disk }
+        let Store {
+            log,
+            control,
+            page_disk,
+            ..
+        } = self;
+        Disks {
+            log: log.into_disk(),
+            control: control.into_disk(),
+            pages: page_disk,
+        }
     }
 
     /// The database's page count.
@@ -134,7 +326,20 @@ impl<D: BlockDisk> Store<D> {
         ensures cause { IfErr result (IsRefused self.old logged.now) }
         ensures full { first_bad self.old.log logged.now ≡ None → IsTooLong self.old logged.now → result ≡ Err fault.LogFull }
     {
-        Err(Fault::Memory)
+        judge(&self.validator, logged)?;
+        let _ = self.log.end();
+        let len = encoded_len(logged);
+        let reserve_after = self.validator.reserve_after(logged);
+        if !self.log.fits(len as u64, reserve_after) {
+            return Err(Fault::LogFull);
+        }
+        reserve_bytes(&mut self.log, len)?;
+        make_room(&mut self.validator)?;
+        route_change(&mut self.warm, logged)?;
+        self.validator.admit(logged);
+        append(&mut self.log, logged, reserve_after);
+        self.count += 1;
+        Ok(())
     }
 
     /// Writes the first block of the log with unwritten bytes. NothingToDo: there is none. Device: the device failed.
@@ -143,7 +348,14 @@ impl<D: BlockDisk> Store<D> {
         ensures ok { OnOk result (WritesLog self.old self.new) }
         ensures err { IfErr result (λ f. ((f ≡ fault.NothingToDo) × (HasUnwritten self.old → ⊥) × (self.new ≡ self.old)) ⊎ ((f ≡ fault.Device) × HasUnwritten self.old × Breaks self.old self.new)) }
     {
-        Err(Fault::Memory)
+        match write_block(&mut self.log) {
+            Ok(()) => Ok(()),
+            Err(Fault::NothingToDo) => Err(Fault::NothingToDo),
+            Err(fault) => {
+                self.broken = true;
+                Err(fault)
+            }
+        }
     }
 
     /// Syncs the log device.
@@ -152,7 +364,14 @@ impl<D: BlockDisk> Store<D> {
         ensures ok { OnOk result (SyncsLog self.old self.new) }
         ensures err { IfErr result (λ f. (f ≡ fault.Device) × Breaks self.old self.new) }
     {
-        Err(Fault::Memory)
+        let _ = self.log.end();
+        match sync_log(&mut self.log) {
+            Ok(()) => Ok(()),
+            Err(fault) => {
+                self.broken = true;
+                Err(fault)
+            }
+        }
     }
 
     /// Writes the control block with the synced end as its mark. NothingToDo: the last mark written is that already.
@@ -161,7 +380,19 @@ impl<D: BlockDisk> Store<D> {
         ensures ok { OnOk result (WritesMark self.old self.new) }
         ensures err { IfErr result (λ f. ((f ≡ fault.NothingToDo) × (HasUnmarked self.old → ⊥) × (self.new ≡ self.old)) ⊎ ((f ≡ fault.Device) × BreaksMark self.old self.new)) }
     {
-        Err(Fault::Memory)
+        let _ = self.log.end();
+        let synced = self.log.synced();
+        let newest = self.control.newest();
+        if synced.0 <= newest.mark.0 {
+            return Err(Fault::NothingToDo);
+        }
+        match self.control.write_mark(synced) {
+            Ok(()) => Ok(()),
+            Err(_) => {
+                self.broken = true;
+                Err(Fault::Device)
+            }
+        }
     }
 
     /// Syncs the control device, and answers the acknowledged LSN.
@@ -170,7 +401,13 @@ impl<D: BlockDisk> Store<D> {
         ensures ok { IfOk result (λ lsn. SyncsControl self.old lsn self.new) }
         ensures err { IfErr result (λ f. (f ≡ fault.Device) × Breaks self.old self.new) }
     {
-        Err(Fault::Memory)
+        match self.control.sync() {
+            Ok(()) => Ok(self.control.acknowledged()),
+            Err(_) => {
+                self.broken = true;
+                Err(Fault::Device)
+            }
+        }
     }
 
     /// The transaction table: a row for each unended transaction, in rising TransID.
@@ -207,14 +444,5 @@ impl<D: BlockDisk> Store<D> {
             Some(warm) => Some(warm.page()),
             None => None,
         }
-    }
-
-    /// The record that stands at an LSN, read from the log device where it is no longer in memory. Device and Memory change
-    /// nothing.
-    pub fn record_at(&mut self, lsn: Lsn) -> Result<Option<Record>, Fault>
-        ensures ok { IfOk result (λ r. StandsAt self.old.log lsn r × (self.new ≡ self.old)) }
-        ensures err { IfErr result (λ f. ((f ≡ fault.Memory) × (self.new ≡ self.old)) ⊎ ((f ≡ fault.Device) × FailsToRead self.old self.new)) }
-    {
-        Err(Fault::Memory)
     }
 }

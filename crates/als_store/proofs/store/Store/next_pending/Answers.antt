@@ -1,5 +1,10 @@
-use Rattle.als_store.proofs.StoredViews.{waits_from}
+use Rattle.als_store.specs.Parts.{stored_of}
+use Rattle.als_store.proofs.StoredViews.{waits_from, seen_from}
 use Rattle.als_store.proofs.store.Store.next_pending.Goals as goal
 
 pub returns : goal.returns
-returns c = rw (← c.self.view_is) (waits_from c.self.inside.pages c.self.inside.end.0 c.self.inside.records.items c.self.inside.warm c.self.inside.validator c.args.from c.next_waiting.result c.self.invariant c.next_waiting.ensures)
+returns g c =
+    let s = c.self.inside in
+    let failures = g.D.BlockDisk.failures s.page_disk in
+    rw (← c.self.view_is)
+    (waits_from (stored_of s.pages s.log s.control s.warm s.broken failures) s.warm c.args.from c.next_waiting.result (seen_from s.pages s.count failures s.log s.control s.warm s.validator s.broken c.self.invariant) c.next_waiting.ensures)

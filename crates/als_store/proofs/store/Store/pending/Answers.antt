@@ -1,7 +1,13 @@
 use Rattle.std.proofs.Common.{◌∙◌, ap}
-use Rattle.als_store.specs.Stored.{Held, pending_of}
-use Rattle.als_store.proofs.StoredViews.{pending_seen}
+use Rattle.als_store.specs.Stored.{Stored, pending_of}
+use Rattle.als_store.specs.Parts.{stored_of}
+use Rattle.als_store.proofs.StoredViews.{pending_seen, seen_from}
 use Rattle.als_store.proofs.store.Store.pending.Goals as goal
 
 pub returns : goal.returns
-returns c = c.waiting.ensures ∙ pending_seen c.self.inside.pages c.self.inside.end.0 c.self.inside.records.items c.self.inside.warm c.self.inside.validator c.self.invariant ∙ ap (λ (h : Held). pending_of h) c.self.view_is
+returns g c =
+    let s = c.self.inside in
+    let failures = g.D.BlockDisk.failures s.page_disk in
+    c.waiting.ensures
+    ∙ pending_seen (stored_of s.pages s.log s.control s.warm s.broken failures) s.warm (seen_from s.pages s.count failures s.log s.control s.warm s.validator s.broken c.self.invariant)
+    ∙ ap (λ (x : Stored). pending_of x) c.self.view_is

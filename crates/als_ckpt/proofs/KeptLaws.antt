@@ -1,0 +1,99 @@
+-- What is kept true of the disk, from one call to the next.
+use Rattle.std.proofs.Common.{◌≡◌, ℕ, ◌≤◌, Bool, true, false, IsTrue, List, [], ◌∷◌, ◌++◌, refl, sym, ap, subst, ◌∙◌, inl, inr}
+use Rattle.std.specs.Prelude.{Contains, ◌⊎◌}
+use Rattle.std.proofs.lemmas.List.Elements.{Contains-append_left, Contains-push, Contains-push_cases}
+use Rattle.als_disk.specs.Slot.{Slot, only, written, FailsToWrite, KeepsReadable}
+use Rattle.als_disk.specs.SlotLaws.{Contains-one, candidates-write, readable-write, candidates-fail}
+use Rattle.als_ckpt.specs.declared.control_state.ControlState.{ControlState}
+use Rattle.als_ckpt.specs.Control.{control_block, last_state, IsControlState, IsBlockOf, MarksRise, Controlled, IsControlled}
+use Rattle.als_ckpt.specs.Kept.{IsKept}
+use Rattle.als_ckpt.proofs.StateLaws.{last_state-push, MarksRise-push, MarksRise-from, MarksRise-to, Contains-last_state}
+
+-- a block of one of the states is a block of one of more states
+IsBlockOf-push : (pages : ℕ) (states : List ControlState) (s : ControlState) (content : List ℕ) → IsBlockOf pages states content → IsBlockOf pages (states ++ s ∷ []) content
+IsBlockOf-push pages states s content h = record { state = h.state; among = Contains-append_left states (s ∷ []) h.state h.among; spelled = h.spelled }
+
+IsBlockOf-last : (pages : ℕ) (states : List ControlState) (s : ControlState) (content : List ℕ) → control_block pages s ≡ content → IsBlockOf pages (states ++ s ∷ []) content
+IsBlockOf-last pages states s content is = record { state = s; among = Contains-push states s; spelled = sym is }
+
+module _ (pages log_bytes blocks : ℕ) where
+  -- one state, which is synced
+  pub IsKept-only : (slot : Slot) (s : ControlState) → 321 ≤ blocks → IsControlState log_bytes s → slot ≡ only (control_block pages s) → IsKept slot pages log_bytes blocks s s [] true
+  IsKept-only slot s room fits is = record {
+    room = room;
+    last = refl;
+    fits = λ t has. subst (IsControlState log_bytes) (Contains-one has) fits;
+    rising = tt;
+    candidates = λ content has.
+        let same : control_block pages s ≡ content = Contains-one (subst (λ (x : Slot). Contains x.candidates content) is has) in
+        IsBlockOf-last pages [] s content same;
+    readable = λ sure content has. sym (Contains-one (subst (λ (x : Slot). Contains x.readable content) is has));
+  }
+
+  pub IsKept-newest : (slot : Slot) (synced newest : ControlState) (since : List ControlState) (sure : Bool)
+      → IsKept slot pages log_bytes blocks synced newest since sure → IsControlState log_bytes newest
+  IsKept-newest slot synced newest since sure kept = kept.fits newest (subst (Contains (synced ∷ since)) (sym kept.last) (Contains-last_state synced since))
+
+  -- a sync, where no write had failed
+  pub IsKept-synced : (old new : Slot) (synced newest : ControlState) (since : List ControlState) (sure : Bool)
+      → IsKept old pages log_bytes blocks synced newest since sure → IsTrue sure → KeepsReadable old new
+      → IsKept new pages log_bytes blocks newest newest [] true
+  IsKept-synced old new synced newest since sure kept is_sure keeps =
+      let block : keeps.content ≡ control_block pages newest = kept.readable is_sure keeps.content keeps.was_readable in
+      IsKept-only new newest kept.room (IsKept-newest old synced newest since sure kept) (keeps.left ∙ ap only block)
+
+  module _ (old new : Slot) (synced newest s : ControlState) (since : List ControlState) (sure : Bool)
+      (kept : IsKept old pages log_bytes blocks synced newest since sure) where
+    fits-push : IsControlState log_bytes s → (t : ControlState) → Contains (synced ∷ (since ++ s ∷ [])) t → IsControlState log_bytes t
+    fits-push fits t has =
+        elim (Contains-push_cases (synced ∷ since) s t has) [
+          | inl before ↦ kept.fits t before
+          | inr same ↦ subst (IsControlState log_bytes) same fits
+        ]
+
+    rising-push : newest.mark.0 ≤ s.mark.0 → MarksRise synced (since ++ s ∷ [])
+    rising-push rises = MarksRise-push synced since s kept.rising (subst (λ (t : ControlState). t.mark.0 ≤ s.mark.0) kept.last rises)
+
+    -- a write that succeeded
+    pub IsKept-written : IsControlState log_bytes s → newest.mark.0 ≤ s.mark.0 → new ≡ written old (control_block pages s)
+        → IsKept new pages log_bytes blocks synced s (since ++ s ∷ []) sure
+    IsKept-written fits rises is = record {
+      room = kept.room;
+      last = sym (last_state-push synced since s);
+      fits = fits-push fits;
+      rising = rising-push rises;
+      candidates = λ content has.
+          elim (candidates-write old new (control_block pages s) content is has) [
+            | inl before ↦ IsBlockOf-push pages (synced ∷ since) s content (kept.candidates content before)
+            | inr same ↦ IsBlockOf-last pages (synced ∷ since) s content same
+          ];
+      readable = λ _ content has. sym (readable-write old new (control_block pages s) content is has);
+    }
+
+    -- a write that failed
+    pub IsKept-failed : IsControlState log_bytes s → newest.mark.0 ≤ s.mark.0 → FailsToWrite old new (control_block pages s)
+        → IsKept new pages log_bytes blocks synced s (since ++ s ∷ []) false
+    IsKept-failed fits rises fails = record {
+      room = kept.room;
+      last = sym (last_state-push synced since s);
+      fits = fits-push fits;
+      rising = rising-push rises;
+      candidates = λ content has.
+          elim (candidates-fail old new (control_block pages s) content fails has) [
+            | inl before ↦ IsBlockOf-push pages (synced ∷ since) s content (kept.candidates content before)
+            | inr same ↦ IsBlockOf-last pages (synced ∷ since) s content same
+          ];
+      readable = λ never content has. absurd cc;
+    }
+
+  -- what the callers see
+  pub IsControlled-kept : (slot : Slot) (synced newest : ControlState) (since : List ControlState) (sure : Bool) (failures : ℕ)
+      → IsKept slot pages log_bytes blocks synced newest since sure
+      → IsControlled (record { pages = pages; log_bytes = log_bytes; synced = synced; since = since; sure = sure; blocks = blocks; failures = failures })
+  IsControlled-kept slot synced newest since sure failures kept = record {
+    room = kept.room;
+    fits = kept.fits;
+    rising = kept.rising;
+    from_synced = λ s has. MarksRise-from synced since s kept.rising has;
+    to_newest = λ s has. MarksRise-to synced since s kept.rising has;
+  }

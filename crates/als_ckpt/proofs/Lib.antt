@@ -1,0 +1,5 @@
+pub mod BlockLaws
+pub mod DeviceLaws
+pub mod KeptLaws
+pub mod StateLaws
+mod WorkedBlocks

@@ -1,0 +1,9 @@
+use Rattle.std.proofs.Common.{◌≡◌, true, ap, ◌∙◌}
+use Rattle.als_ckpt.specs.Control.{Controlled}
+use Rattle.als_ckpt.proofs.KeptLaws.{IsKept-synced}
+use Rattle.als_ckpt.proofs.control.Control.sync.Goals as goal
+
+pub invariant_of-self-2 : goal.invariant_of-self-2
+invariant_of-self-2 g c =
+    let sure = ap (λ (v : Controlled). v.sure) c.self.view_is ∙ c.requires in
+    rw c.in_ok-sync.ensures.count (IsKept-synced _ _ _ _ _ _ _ _ _ c.self.invariant sure (c.in_ok-sync.ensures.ok 0))

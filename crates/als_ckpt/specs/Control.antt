@@ -1,0 +1,120 @@
+-- The control block of a database: what it says, its bytes, and what is known of it between two syncs.
+use Rattle.std.specs.Prelude.{◌≡◌, ℕ, ◌≤◌, Bool, true, List, [], ◌∷◌, ◌++◌, replicate, Option, None, Some, Contains, codes}
+use Rattle.std.specs.Int.{w32, w64, to_be_bytes}
+use Rattle.als_ckpt.specs.declared.phase.Phase.{Phase}
+use Rattle.als_ckpt.specs.declared.phase.Phase.TheVariants.{Following, Sealed, Primary}
+use Rattle.als_ckpt.specs.declared.region.Region.{Region}
+use Rattle.als_ckpt.specs.declared.region.Region.TheVariants.{First, Second}
+use Rattle.als_ckpt.specs.declared.control_state.ControlState.{ControlState}
+
+-- the byte of a phase
+abbrev pub phase_byte : Phase → ℕ
+phase_byte Following = 1
+phase_byte Sealed = 2
+phase_byte Primary = 3
+
+-- the byte of the published region, 0 for none
+abbrev pub region_byte : Option Region → ℕ
+region_byte None = 0
+region_byte (Some First) = 1
+region_byte (Some Second) = 2
+
+-- the control block of a database with this many pages: a text, version 1, the phase, the published region, the page
+-- count, mark, position and seal, and zeros to the block's end
+unfoldable pub control_block : ℕ → ControlState → List ℕ
+control_block pages s =
+    codes "ALSCTL01" ++ (0 ∷ 1 ∷ phase_byte s.phase ∷ region_byte s.published ∷ (to_be_bytes w32 pages
+    ++ (to_be_bytes w64 s.mark.0 ++ (to_be_bytes w64 s.position.0 ++ (to_be_bytes w64 s.seal.0 ++ replicate 472 0)))))
+
+-- a checkpoint's position is 0 exactly where no region is published, else from 16 to the mark
+abbrev pub IsPosition : Option Region → ℕ → ℕ → Type 0
+IsPosition None mark position = position ≡ 0
+IsPosition (Some region) mark position = (16 ≤ position) × (position ≤ mark)
+
+-- there is no seal while the log follows its source; from then on it is from 16 to the mark
+abbrev pub IsSeal : Phase → ℕ → ℕ → Type 0
+IsSeal Following mark seal = seal ≡ 0
+IsSeal Sealed mark seal = (16 ≤ seal) × (seal ≤ mark)
+IsSeal Primary mark seal = (16 ≤ seal) × (seal ≤ mark)
+
+-- A control state as the format admits it, for a log device of so many bytes.
+pub record IsControlState (log_bytes : ℕ) (s : ControlState) : Type 0 where
+  pub begins : 16 ≤ s.mark.0
+  pub in_log : s.mark.0 ≤ log_bytes
+  pub position : IsPosition s.published s.mark.0 s.position.0
+  pub seal : IsSeal s.phase s.mark.0 s.seal.0
+
+-- the control state of a new database
+abbrev pub first_state : ControlState
+first_state = record {
+  phase = Following;
+  published = None;
+  mark = record { 0 = 16 };
+  position = record { 0 = 0 };
+  seal = record { 0 = 0 };
+}
+
+-- The control block of a database with so many pages and a log device of so many bytes: the state of the last sync, and
+-- each that was written since, that of a failed write too. It is sure where no write has failed since that sync: a read
+-- gives the last state then. The control device has so many blocks, and has failed so often.
+pub record Controlled : Type 0 where
+  pub pages : ℕ
+  pub log_bytes : ℕ
+  pub synced : ControlState
+  pub since : List ControlState
+  pub sure : Bool
+  pub blocks : ℕ
+  pub failures : ℕ
+
+-- a control block of which the synced state alone stands
+abbrev pub new_control : ℕ → ℕ → ControlState → ℕ → ℕ → Controlled
+new_control pages log_bytes state blocks failures = record {
+  pages = pages;
+  log_bytes = log_bytes;
+  synced = state;
+  since = [];
+  sure = true;
+  blocks = blocks;
+  failures = failures;
+}
+
+-- the last of a state and those that follow it
+abbrev pub last_state : ControlState → List ControlState → ControlState
+last_state state [] = state
+last_state state (next ∷ rest) = last_state next rest
+
+-- the state that was written last
+abbrev pub newest : Controlled → ControlState
+newest control = last_state control.synced control.since
+
+-- the state is the synced one or one that was written since, so a crash may leave it
+abbrev pub IsAmong : Controlled → ControlState → Type 0
+IsAmong control s = Contains (control.synced ∷ control.since) s
+
+-- the content is the control block of one of these states
+pub record IsBlockOf (pages : ℕ) (states : List ControlState) (content : List ℕ) : Type 0 where
+  pub state : ControlState
+  pub among : Contains states state
+  pub spelled : content ≡ control_block pages state
+
+-- marks never fall from one state to the next
+abbrev pub MarksRise : ControlState → List ControlState → Type 0
+MarksRise state [] = Unit {0}
+MarksRise state (next ∷ rest) = (state.mark.0 ≤ next.mark.0) × MarksRise next rest
+
+-- What is true of each control block: a crash leaves a state that the format admits, whose mark is at least that of the
+-- synced state and at most that of the newest.
+pub record IsControlled (control : Controlled) : Type 0 where
+  pub room : 321 ≤ control.blocks
+  pub fits : (s : ControlState) → IsAmong control s → IsControlState control.log_bytes s
+  pub rising : MarksRise control.synced control.since
+  pub from_synced : (s : ControlState) → IsAmong control s → control.synced.mark.0 ≤ s.mark.0
+  pub to_newest : (s : ControlState) → IsAmong control s → s.mark.0 ≤ (newest control).mark.0
+
+-- the newest state alone stands, after a sync
+abbrev pub settled : Controlled → Controlled
+settled control = record control { synced = newest control; since = [] }
+
+-- one more state is written
+abbrev pub with_state : Controlled → ControlState → Controlled
+with_state control s = record control { since = control.since ++ s ∷ [] }

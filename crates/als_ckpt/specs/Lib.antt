@@ -1,0 +1,4 @@
+pub mod Control
+pub mod FaultNames
+pub mod Kept
+pub mod Writes

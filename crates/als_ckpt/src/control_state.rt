@@ -1,0 +1,36 @@
+ghost use Rattle.std.specs.Prelude.{◌≡◌};
+ghost use Rattle.als_ckpt.specs.Control.{first_state};
+
+use crate::phase::Phase;
+use crate::region::Region;
+use als_record::Lsn;
+
+/// What a control block says.
+#[derive(Clone, Copy, Debug, PartialEq, Eq)]
+pub struct ControlState {
+    /// Whether the log still follows its source.
+    pub phase: Phase,
+    /// The region of the published checkpoint.
+    pub published: Option<Region>,
+    /// The log is stable up to this LSN.
+    pub mark: Lsn,
+    /// The end of the log at the published checkpoint, 0 for none.
+    pub position: Lsn,
+    /// The end of the log at its seal, 0 while it follows its source.
+    pub seal: Lsn,
+}
+
+impl ControlState {
+    /// The control state of a new database.
+    pub(crate) fn first() -> ControlState
+        ensures { result ≡ first_state }
+    {
+        ControlState {
+            phase: Phase::Following,
+            published: None,
+            mark: Lsn(16),
+            position: Lsn(0),
+            seal: Lsn(0),
+        }
+    }
+}

@@ -1,0 +1,35 @@
+//! The control block of a database: the stable mark of its log, its phase, and the published checkpoint.
+#![tactic(auto)]
+
+// Whether the log follows its source, is sealed, or was taken over.
+mod phase;
+// Where a checkpoint stands.
+mod region;
+// What a control block says.
+mod control_state;
+// Why there is no control block.
+mod fault;
+// A disk that comes back with a fault.
+mod refused;
+// A control state as the bytes of a block, and back.
+mod codec;
+// The states written since the last sync.
+mod writes;
+// Control blocks on a disk.
+mod device;
+// The control block of a database that is running.
+mod control;
+// That a block is the control block of one state.
+mod laws;
+
+pub use control::Control;
+pub use control_state::ControlState;
+pub use device::clear;
+pub use fault::Fault;
+pub use laws::one_state;
+pub use phase::Phase;
+pub use refused::Refused;
+pub use region::Region;
+
+#[cfg(test)]
+mod tests;

@@ -1,0 +1,205 @@
+ghost use Rattle.std.specs.Prelude.{◌≡◌, IfOk};
+ghost use Rattle.als_disk.specs.Slot.{IsSettled};
+
+use crate::{Control, ControlState, Fault, Phase, Refused, Region, clear};
+use als_disk::{BlockDisk, DeviceError, FailingDisk, Fuse, MemDisk, Restart};
+use als_record::Lsn;
+use std::alloc::Global;
+use std::test::Fail;
+
+/// A device of 321 blocks whose block 0 is this one, synced.
+fn disk_of(alloc: Global, block: &[u8; 512]) -> Result<MemDisk, DeviceError>
+    ensures count { IfOk result (λ disk. ⟦<MemDisk as BlockDisk>⟧.block_count disk ≡ 321) }
+    ensures settled { IfOk result (λ disk. IsSettled (⟦<MemDisk as BlockDisk>⟧.slot disk 0)) }
+{
+    let mut disk = MemDisk::new(alloc, 321);
+    disk.write(0, block)?;
+    disk.sync()?;
+    Ok(disk)
+}
+
+/// A block of four pages: sealed at 150, a checkpoint at 100 in the first region, stable up to 200.
+fn sealed_block() -> [u8; 512] {
+    let mut block = [0; 512];
+    block[..10].copy_from_slice(b"ALSCTL01\0\x01");
+    block[10] = 2;
+    block[11] = 1;
+    block[15] = 4;
+    block[23] = 200;
+    block[31] = 100;
+    block[39] = 150;
+    block
+}
+
+/// What is read from the sealed block with other bytes at some places, over a log of 4,096 bytes.
+fn read_with(alloc: Global, edits: &[(u16, u8)]) -> Result<ControlState, Fault> {
+    let mut block = sealed_block();
+    for &(at, byte) in edits {
+        if let Some(place) = block.get_mut(at as usize) {
+            *place = byte;
+        }
+    }
+    let disk = disk_of(alloc, &block)?;
+    match Control::read(disk, 4, 4096) {
+        Ok(control) => Ok(control.newest()),
+        Err(refused) => Err(refused.fault),
+    }
+}
+
+#[test]
+fn the_block_of_a_new_database(rt: HostRuntime) -> Result<(), Fail> {
+    let disk = MemDisk::new(rt.alloc(), 321);
+    let mut disk = match Control::create(disk, 4, 4096) {
+        Ok(control) => control.into_disk(),
+        Err(refused) => panic!(rt; "{}", refused.fault),
+    };
+    let mut block = [7; 512];
+    disk.read(0, &mut block)?;
+    let (front, rest) = block.split_at(24);
+    assert_eq!(rt;
+        front,
+        b"ALSCTL01\0\x01\x01\0\0\0\0\x04\0\0\0\0\0\0\0\x10".as_slice()
+    );
+    assert_eq!(rt; rest, [0; 488].as_slice());
+    Ok(())
+}
+
+#[test]
+fn reads_what_the_format_admits(rt: HostRuntime) -> Result<(), Fail> {
+    let state = ControlState {
+        phase: Phase::Sealed,
+        published: Some(Region::First),
+        mark: Lsn(200),
+        position: Lsn(100),
+        seal: Lsn(150),
+    };
+    assert_eq!(rt; read_with(rt.alloc(), &[]), Ok(state));
+    let primary = ControlState {
+        phase: Phase::Primary,
+        published: Some(Region::Second),
+        ..state
+    };
+    assert_eq!(rt; read_with(rt.alloc(), &[(10, 3), (11, 2)]), Ok(primary));
+    // the mark at the log's end, and the least and greatest position and seal
+    for edits in [
+        [(22, 16), (23, 0)],
+        [(31, 16), (39, 16)],
+        [(31, 200), (39, 200)],
+    ] {
+        assert!(rt; read_with(rt.alloc(), &edits).is_ok());
+    }
+    // following, with neither checkpoint nor seal, and the least mark
+    let following = [(10, 1), (11, 0), (23, 16), (31, 0), (39, 0)];
+    assert!(rt; read_with(rt.alloc(), &following).is_ok());
+    Ok(())
+}
+
+#[test]
+fn refuses_what_is_no_control_block(rt: HostRuntime) {
+    let rows: [(&str, &[(u16, u8)]); 17] = [
+        ("another text", &[(7, 50)]),
+        ("another version", &[(9, 2)]),
+        ("no phase", &[(10, 0), (39, 0)]),
+        ("a phase above 3", &[(10, 4)]),
+        ("a region above 2", &[(11, 3)]),
+        ("another page count", &[(15, 5)]),
+        (
+            "a mark below 16",
+            &[(10, 1), (11, 0), (23, 15), (31, 0), (39, 0)],
+        ),
+        ("a mark beyond the log", &[(22, 16), (23, 1)]),
+        ("a position above the mark", &[(31, 201)]),
+        ("a position without a region", &[(11, 0)]),
+        ("a region without a position", &[(31, 0)]),
+        ("a position below 16", &[(31, 15)]),
+        ("a seal while following", &[(10, 1)]),
+        ("a seal below 16", &[(39, 15)]),
+        ("a seal above the mark", &[(39, 201)]),
+        ("a byte behind the seal", &[(40, 1)]),
+        ("the last byte", &[(511, 1)]),
+    ];
+    for (what, edits) in rows {
+        assert_eq!(rt;
+            read_with(rt.alloc(), edits),
+            Err(Fault::BadControl),
+            "{what}"
+        );
+    }
+    assert_eq!(rt; Fault::BadControl.number(), 34);
+    assert_eq!(rt; Fault::BadControl.name(), "BadControl");
+    assert_eq!(rt; Fault::Device.number(), 30);
+    assert_eq!(rt; Fault::Device.name(), "Device");
+}
+
+fn fault_of<D>(refused: Refused<D>) -> Fault
+where
+    D: Drop,
+{
+    refused.fault
+}
+
+/// The disk after a crash, and how many picks were used. Its block 0 has one content.
+fn crashed<D: Restart>(control: Control<D>, picks: &[u8]) -> (D, usize)
+    ensures count { D.block_count result.0 ≡ control.blocks }
+    ensures settled { IsSettled (D.slot result.0 0) }
+{
+    control.into_disk().crash(picks)
+}
+
+/// A database of four pages is made, acknowledges 100, is sealed at 200, crashes and is read again.
+/// What is acknowledged then.
+fn life(disk: FailingDisk<MemDisk>) -> Result<Lsn, Fault>
+    requires { ⟦<FailingDisk<MemDisk> as BlockDisk>⟧.block_count disk ≡ 321 }
+{
+    let mut disk = disk;
+    clear(&mut disk)?;
+    let mut control = Control::create(disk, 4, 4096).map_err(fault_of)?;
+    control.write_mark(Lsn(100))?;
+    control.sync()?;
+    control.write_phase(Phase::Sealed, Lsn(200), Lsn(200))?;
+    control.sync()?;
+    let (disk, _) = crashed(control, &[]);
+    let control = Control::read(disk, 4, 4096).map_err(fault_of)?;
+    Ok(control.acknowledged())
+}
+
+#[test]
+fn each_call_of_the_device_fails_in_turn(rt: HostRuntime) -> Result<(), Fail> {
+    for call in 1..11 {
+        let fuse = Fuse::new(rt.alloc())?;
+        fuse.fail_at(call);
+        let disk = FailingDisk::new(MemDisk::new(rt.alloc(), 321), fuse);
+        let want = if call < 10 {
+            Err(Fault::Device)
+        } else {
+            Ok(Lsn(200))
+        };
+        assert_eq!(rt; life(disk), want, "{call}");
+    }
+    Ok(())
+}
+
+#[test]
+fn a_failed_write_may_be_left(rt: HostRuntime) -> Result<(), Fail> {
+    for (pick, mark) in [(0, 100), (1, 200)] {
+        let fuse = Fuse::new(rt.alloc())?;
+        let disk = FailingDisk::new(MemDisk::new(rt.alloc(), 321), fuse.clone()?);
+        let mut control = match Control::create(disk, 4, 4096) {
+            Ok(control) => control,
+            Err(refused) => panic!(rt; "{}", refused.fault),
+        };
+        control.write_mark(Lsn(100))?;
+        control.sync()?;
+        fuse.fail_at(1);
+        assert_eq!(rt; control.write_mark(Lsn(200)), Err(Fault::Device));
+        assert_eq!(rt; control.newest().mark, Lsn(200));
+        assert_eq!(rt; control.acknowledged(), Lsn(100));
+        let (disk, used) = crashed(control, &[pick]);
+        assert_eq!(rt; used, 1);
+        match Control::read(disk, 4, 4096) {
+            Ok(control) => assert_eq!(rt; control.acknowledged(), Lsn(mark)),
+            Err(refused) => panic!(rt; "{}", refused.fault),
+        }
+    }
+    Ok(())
+}

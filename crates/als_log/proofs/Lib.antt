@@ -1,0 +1,3 @@
+mod Keeping
+mod Padding
+mod Walks

@@ -1,0 +1,6 @@
+pub mod FaultNames
+pub mod History
+pub mod Local
+pub mod Held
+pub mod Outcomes
+pub mod Texts

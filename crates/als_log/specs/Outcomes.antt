@@ -1,0 +1,39 @@
+-- When a call is refused, and what it leaves then.
+use Rattle.std.specs.Prelude.{◌≡◌, ℕ, ◌<◌, ◌+◌, ◌*◌}
+use Rattle.als_record.specs.LogText.{end_of}
+use Rattle.als_log.specs.declared.fault.Fault.{Fault}
+use Rattle.als_log.specs.declared.fault.Fault.TheVariants.{NothingToDo, LogFull, Device, Memory}
+use Rattle.als_log.specs.Local.{Local, HasRoomFor}
+
+-- the device has failed, and nothing else has changed
+pub record OnlyFails (old new : Local) : Type 0 where
+  pub failed : old.failures < new.failures
+  pub same : new ≡ record old { failures = new.failures }
+
+-- a device could not be laid out: it failed, or there was no memory and it was not touched
+abbrev pub RefusesFormat : Fault → ℕ → ℕ → Type 0
+RefusesFormat Device before now = before < now
+RefusesFormat Memory before now = now ≡ before
+RefusesFormat NothingToDo before now = ⊥
+RefusesFormat LogFull before now = ⊥
+
+-- a record was not appended: it does not fit, or there was no memory for it
+abbrev pub RefusesRecord : Fault → Local → ℕ → ℕ → Type 0
+RefusesRecord LogFull l len reserve_after = 512 * l.blocks < end_of l.log + len + reserve_after
+RefusesRecord Memory l len reserve_after = HasRoomFor l len reserve_after × (l.room < len)
+RefusesRecord NothingToDo l len reserve_after = ⊥
+RefusesRecord Device l len reserve_after = ⊥
+
+-- no block was written: there was none to write, or the device failed
+abbrev pub RefusesBlock : Fault → Local → Local → Type 0
+RefusesBlock NothingToDo old new = (old.written ≡ end_of old.log) × (new ≡ old)
+RefusesBlock Device old new = (old.written < end_of old.log) × OnlyFails old new
+RefusesBlock LogFull old new = ⊥
+RefusesBlock Memory old new = ⊥
+
+-- the device was not synced: it failed
+abbrev pub RefusesSync : Fault → Local → Local → Type 0
+RefusesSync Device old new = OnlyFails old new
+RefusesSync NothingToDo old new = ⊥
+RefusesSync LogFull old new = ⊥
+RefusesSync Memory old new = ⊥

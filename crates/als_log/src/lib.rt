@@ -1,0 +1,22 @@
+//! The local log: records as one text on a block device, of which the front that is synced stands in whatever a crash
+//! leaves.
+#![tactic(auto)]
+
+// Why a call is refused.
+mod fault;
+// The records, for clauses alone.
+mod history;
+// The text's bytes in memory.
+mod tail;
+// What is done to the device.
+mod blocks;
+// A device that could not be laid out.
+mod unformatted;
+// The log.
+mod local_log;
+#[cfg(test)]
+mod tests;
+
+pub use fault::Fault;
+pub use local_log::LocalLog;
+pub use unformatted::Unformatted;

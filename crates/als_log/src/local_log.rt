@@ -1,0 +1,232 @@
+ghost use Rattle.std.specs.Prelude.{◌≡◌, ◌<◌, ◌≤◌, ◌+◌, ◌*◌, [], ◌∷◌, ◌++◌, IsTrue, ◌↔◌, IsOk, IfOk, IfErr, OnOk, OnErr};
+ghost use Rattle.std.specs.Result.{IsErrOf};
+ghost use Rattle.als_record.specs.Spelling.{record_len, IsRecord};
+ghost use Rattle.als_record.specs.LogText.{end_of, log_text};
+ghost use Rattle.als_log.specs.declared.fault.Fault.TheVariants.{LogFull, Memory as OutOfMemory};
+ghost use Rattle.als_log.specs.Local.{Local, IsLocal, HasRoomFor, next_written, whole_end};
+ghost use Rattle.als_log.specs.Outcomes.{RefusesFormat, RefusesRecord, RefusesBlock, RefusesSync};
+ghost use Rattle.als_log.specs.Texts.{AllHaveText};
+
+use crate::fault::Fault;
+use crate::history::History;
+use crate::unformatted::Unformatted;
+use crate::{blocks, tail};
+use als_disk::BlockDisk;
+use als_record::{LogHeader, Lsn, Record, encode, encoded_len};
+use std::alloc::{AllocError, Global};
+use std::marker::Model;
+
+/// A log on a block device: a header of 16 bytes and the records behind it, as one text whose byte o is byte o mod 512
+/// of block o / 512. An LSN is a record's offset in the text.
+///
+/// A record is appended in memory; its bytes reach the device with the blocks that are written, and are certain to
+/// survive a crash from the next sync on. Memory holds the bytes from the block of the synced end on.
+#[derive(Drop)]
+pub struct LocalLog<D: BlockDisk> {
+    disk: D,
+    pages: u32,
+    // The offset of the first byte in memory, at a block's beginning.
+    base: u64,
+    tail: Vec<u8>,
+    // Up to where the blocks are written.
+    written: u64,
+    // The end of the last record that was wholly written at the last sync.
+    synced: u64,
+    history: History,
+}
+
+impl<D: BlockDisk> Model for LocalLog<D> {
+    ghost use Rattle.std.specs.Prelude.{◌-◌, vec_len, vec_capacity};
+    ghost use Rattle.als_log.specs.History.{records_in};
+    ghost use Rattle.als_log.specs.Local.{Local};
+    ghost use Rattle.als_log.specs.Held.{IsHeld};
+
+    ghost Value = { Local };
+
+    ghost view = { λ l. record { pages = l.pages; log = records_in l.history; written = l.written; synced = l.synced; blocks = D.block_count l.disk; failures = D.failures l.disk; room = vec_capacity l.tail - vec_len l.tail } };
+
+    ghost invariant = { λ l. IsHeld l.pages (records_in l.history) l.base l.written l.synced (D.block_count l.disk) l.tail.items (D.slot l.disk) };
+}
+
+/// The header of a log, in memory.
+fn header_of(alloc: Global, front: &[u8; 16]) -> Result<Vec<u8>, AllocError>
+    ensures { IfOk result (λ bytes. bytes.items ≡ front.now) }
+{
+    let mut bytes = Vec::new(alloc);
+    bytes.extend_from_slice(front.as_slice())?;
+    Ok(bytes)
+}
+
+impl<D: BlockDisk> LocalLog<D> {
+    /// Lays out a device as an empty log of a database of `pages` pages: writes the header and syncs.
+    ///
+    /// `Device`: the device failed. `Memory`: there was none for the header, and the device is not touched.
+    pub fn format(alloc: Global, disk: D, pages: u32) -> Result<LocalLog<D>, Unformatted<D>>
+        requires pages { 1 ≤ pages × (pages ≤ 4096) }
+        requires blocks { (1 ≤ D.block_count disk) × (D.block_count disk ≤ 4194304) }
+        ensures ok { IfOk result (λ l. l ≡ record { pages = pages; log = []; written = 16; synced = 16; blocks = D.block_count disk; failures = D.failures disk; room = l.room }) }
+        ensures err { IfErr result (λ u. RefusesFormat u.fault (D.failures disk) (D.failures u.disk)) }
+        ensures blocks { IfErr result (λ u. D.block_count u.disk ≡ D.block_count disk) }
+    {
+        let mut disk = disk;
+        let front = LogHeader { pages }.encode();
+        let tail = match header_of(alloc, &front) {
+            Ok(tail) => tail,
+            Err(_) => {
+                let fault = Fault::Memory;
+                return Err(Unformatted { disk, fault });
+            }
+        };
+        match blocks::lay_out(&mut disk, &front) {
+            Ok(()) => {}
+            Err(_) => {
+                let fault = Fault::Device;
+                return Err(Unformatted { disk, fault });
+            }
+        }
+        Ok(LocalLog {
+            disk,
+            pages,
+            base: 0,
+            tail,
+            written: 16,
+            synced: 16,
+            history: History::new(),
+        })
+    }
+
+    /// The offset after the last record, 16 if there is none: the LSN of the next one.
+    pub fn end(&self) -> Lsn
+        ensures end { result.0 ≡ end_of self.now.log }
+        ensures facts { IsLocal self.now }
+    {
+        Lsn(self.base + self.tail.len() as u64)
+    }
+
+    /// The end of the last record that was wholly written at the last sync, 16 if there is none: whatever a crash leaves
+    /// has the log's text below it.
+    pub fn synced(&self) -> Lsn
+        ensures { result.0 ≡ self.now.synced }
+    {
+        Lsn(self.synced)
+    }
+
+    /// Up to where the blocks have been written.
+    pub fn written(&self) -> Lsn
+        ensures { result.0 ≡ self.now.written }
+    {
+        Lsn(self.written)
+    }
+
+    /// How many pages the database has.
+    pub fn pages(&self) -> u32
+        ensures { result ≡ self.now.pages }
+    {
+        self.pages
+    }
+
+    /// How many blocks the device has.
+    pub fn blocks(&self) -> u64
+        ensures { result ≡ self.now.blocks }
+    {
+        self.disk.blocks()
+    }
+
+    /// Makes room for so many more bytes: records of that length together are then appended without memory. An `Err`
+    /// (Memory) changes nothing.
+    pub fn reserve(&mut self, len: usize) -> Result<(), Fault>
+        ensures ok { OnOk result ((self.new ≡ record self.old { room = self.new.room }) × (len ≤ self.new.room)) }
+        ensures err { OnErr result (self.new ≡ self.old) }
+        ensures memory { IfErr result (λ e. e ≡ OutOfMemory) }
+        ensures reserved { len ≤ self.old.room → IsOk result }
+    {
+        self.tail.reserve(len)?;
+        Ok(())
+    }
+
+    /// Whether a record of this length fits on the device with so many bytes left behind it.
+    pub fn fits(&self, len: u64, reserve_after: u64) -> bool
+        ensures { IsTrue result ↔ HasRoomFor self.now len reserve_after }
+    {
+        let free = 512 * self.disk.blocks() - (self.base + self.tail.len() as u64);
+        len <= free && reserve_after <= free - len
+    }
+
+    /// Appends a record, in memory. `reserve_after` bytes of the device must be left behind it.
+    ///
+    /// `LogFull`: the device has no room for that. `Memory`: a growth was refused, which does not come where `reserve`
+    /// has made the room. Both leave the log as it was.
+    pub fn append(&mut self, logged: &Record, reserve_after: u64) -> Result<(), Fault>
+        requires fits { IsRecord self.old.pages logged.now }
+        requires place { logged.now.lsn.0 ≡ end_of self.old.log }
+        ensures ok { OnOk result (self.new ≡ record self.old { log = self.old.log ++ logged.now ∷ []; room = self.new.room }) }
+        ensures room { OnOk result (HasRoomFor self.old (record_len logged.now) reserve_after) }
+        ensures err { OnErr result (self.new ≡ record self.old { room = self.new.room }) }
+        ensures cause { IfErr result (λ e. RefusesRecord e self.old (record_len logged.now) reserve_after) }
+        ensures full { 512 * self.old.blocks < end_of self.old.log + record_len logged.now + reserve_after → IsErrOf result LogFull }
+        ensures reserved { HasRoomFor self.old (record_len logged.now) reserve_after → record_len logged.now ≤ self.old.room → IsOk result }
+    {
+        if !self.fits(encoded_len(logged) as u64, reserve_after) {
+            return Err(Fault::LogFull);
+        }
+        match encode(logged, &mut self.tail) {
+            Ok(()) => {
+                self.history.push(logged);
+                Ok(())
+            }
+            Err(_) => Err(Fault::Memory),
+        }
+    }
+
+    /// Writes the first block with unwritten bytes, with zeros behind the log's end. It takes no memory.
+    ///
+    /// `NothingToDo`: no byte is unwritten. `Device`: the device failed, and the block counts as unwritten.
+    pub fn write_block(&mut self) -> Result<(), Fault>
+        ensures ok { OnOk result ((self.old.written < end_of self.old.log) × (self.new ≡ record self.old { written = next_written self.old.log self.old.written })) }
+        ensures err { IfErr result (λ e. RefusesBlock e self.old self.new) }
+    {
+        let end = self.base + self.tail.len() as u64;
+        if self.written == end {
+            return Err(Fault::NothingToDo);
+        }
+        let i = self.written / 512;
+        let block = blocks::block_at(self.tail.as_slice(), (512 * i - self.base) as usize);
+        blocks::write(&mut self.disk, i, &block)?;
+        self.written = end.min(512 * i + 512);
+        Ok(())
+    }
+
+    /// Makes the records that are wholly written certain to survive a crash, and forgets the bytes in front of the block
+    /// of their end. It takes no memory.
+    ///
+    /// `Device`: the device failed, and nothing else has changed.
+    pub fn sync(&mut self) -> Result<(), Fault>
+        ensures ok { OnOk result (self.new ≡ record self.old { synced = whole_end self.old.log self.old.written; room = self.new.room }) }
+        ensures room { OnOk result (self.old.room ≤ self.new.room) }
+        ensures err { IfErr result (λ e. RefusesSync e self.old self.new) }
+    {
+        blocks::sync(&mut self.disk)?;
+        let whole = tail::whole_end_of(
+            &self.history,
+            self.tail.as_slice(),
+            self.base,
+            self.synced,
+            self.written,
+        );
+        let front = 512 * (whole / 512);
+        tail::drop_front(&mut self.tail, (front - self.base) as usize);
+        self.synced = whole;
+        self.base = front;
+        Ok(())
+    }
+
+    /// The device. Whatever a crash leaves of it has the log's text below the synced end.
+    pub fn into_disk(self) -> D
+        ensures kept { AllHaveText (λ b. (D.slot result b).candidates) (log_text self.pages self.log) self.synced }
+        ensures count { D.block_count result ≡ self.blocks }
+        ensures failures { D.failures result ≡ self.failures }
+        ensures facts { IsLocal self }
+    {
+        self.disk
+    }
+}

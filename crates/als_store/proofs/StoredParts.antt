@@ -1,0 +1,298 @@
+-- The parts of a store, after each event.
+use Rattle.std.proofs.Common.{◌≡◌, ℕ, zero, suc, ◌+◌, ◌<◌, ◌≤◌, ◌⊎◌, List, [], ◌∷◌, ◌++◌, length, Option, Some, None, refl, sym, ap, subst, ◌∙◌, inl, inr, arith, length-append, append_assoc}
+use Rattle.std.specs.Prelude.{Bool, ◌*◌, ◌^◌, true, false, slice_get, slice_set, slice_index, replicate, IfSome, Contains, nat_le, if◌then◌else◌, IsTrue}
+use Rattle.std.proofs.lemmas.Bool.{cases_lt, le-leb, lt-leb}
+use Rattle.std.specs.List.{sum_by}
+use Rattle.als_disk.specs.SlotLaws.{Contains-one}
+use Rattle.std.proofs.lemmas.List.{map-set, length-set}
+use Rattle.std.proofs.lemmas.List.Sums.{sum_by-cons}
+use Rattle.std.proofs.lemmas.List.Elements.{Contains-append_left, Contains-push, Contains-push_cases}
+use Rattle.std.proofs.lemmas.Option.{slice_get_within}
+use Rattle.als_record.specs.declared.lsn.Lsn.{Lsn}
+use Rattle.als_record.specs.declared.change.Change.{Change}
+use Rattle.als_record.specs.declared.record.Record.{Record}
+use Rattle.als_record.specs.Spelling.{record_len, IsRecord}
+use Rattle.als_record.specs.LogText.{end_of}
+use Rattle.als_record.specs.Validity.{first_bad, IsValidLog}
+use Rattle.als_record.specs.Pages.{PageState, change_of}
+use Rattle.als_record.proofs.PageLaws.{end_of-push, record_len-least, lsn_after-last, lsn-fold}
+use Rattle.als_validator.specs.declared.validator.Validator.{Validator}
+use Rattle.als_validator.specs.Validated.{IsValidatorOf}
+use Rattle.als_log.specs.Local.{Local, IsLocal, IsFrontEnd, whole_end, whole_from}
+use Rattle.als_ckpt.specs.declared.control_state.ControlState.{ControlState}
+use Rattle.als_ckpt.specs.Control.{Controlled, IsAmong, newest, last_state, with_state, settled, first_state, new_control}
+use Rattle.als_store.specs.Warm.{Warm, ArePagesOf, CanRoute, AppliesAt, total_waiting, fresh_from}
+use Rattle.als_record.specs.Tail.{tail_len}
+use Rattle.als_store.specs.Stored.{Stored, AppliesFirst, formatted, with_log, IsTooLong}
+use Rattle.als_store.specs.Parts.{IsStored, AreMarks, applied_of, stored_of}
+use Rattle.als_store.proofs.PageLists.{length-fresh, total-fresh, total-set, redoes-shorter}
+use Rattle.als_store.proofs.StoredPages.{IsLog-push, pages-fresh, pages-apply, can_route, end-nil}
+use Rattle.als_store.proofs.StoredViews.{Routes, routes_count, routes_pages, valid_push, valid-nil, applied-fresh, waiting_seen}
+
+-- how many records a log can have
+pub length-below_end : (log : List Record) → length log ≤ end_of log
+unfolding end_of
+length-below_end [] = omega arith
+length-below_end (r ∷ rest) = omega (arith, sum_by-cons record_len r rest, record_len-least r, length-below_end rest)
+
+-- an end of records in front stays one as the log grows
+pub front-push : (log : List Record) (r : Record) (at : ℕ) → IsFrontEnd log at → IsFrontEnd (log ++ r ∷ []) at
+front-push log r at f = record { front = f.front; rest = f.rest ++ r ∷ []; parts = ap (λ (xs : List Record). xs ++ r ∷ []) f.parts ∙ append_assoc f.front f.rest (r ∷ []); ends = f.ends }
+
+-- ---- control states
+
+pub last_state-push : (s : ControlState) (since : List ControlState) (t : ControlState) → last_state s (since ++ t ∷ []) ≡ t
+last_state-push s [] t = refl
+last_state-push s (u ∷ rest) t = last_state-push u rest t
+
+contains-later : {X : Type 0} (x y : X) (xs : List X) → Contains xs y → Contains (x ∷ xs) y
+contains-later x y xs has = (suc has.0, omega (arith, has.1), has.2)
+
+pub last_state-among : (s : ControlState) (since : List ControlState) → Contains (s ∷ since) (last_state s since)
+last_state-among s [] = (0, omega arith, refl)
+last_state-among s (u ∷ rest) = contains-later s (last_state u rest) (u ∷ rest) (last_state-among u rest)
+
+-- ---- how far a log is wholly written
+
+-- the first of some records is wholly written
+whole_from-in : (limit at : ℕ) (r : Record) (rest : List Record) → at + record_len r ≤ limit → whole_from limit at (r ∷ rest) ≡ whole_from limit (at + record_len r) rest
+unfolding whole_from
+whole_from-in limit at r rest le = rw (le-leb (at + record_len r) limit le) refl
+
+whole_from-out : (limit at : ℕ) (r : Record) (rest : List Record) → limit < at + record_len r → whole_from limit at (r ∷ rest) ≡ at
+unfolding whole_from
+whole_from-out limit at r rest lt = rw (lt-leb (at + record_len r) limit lt) refl
+
+whole_from-nil : (limit at : ℕ) → whole_from limit at [] ≡ at
+unfolding whole_from
+whole_from-nil limit at = refl
+
+-- what is wholly written does not end before the records begin
+whole_from-high : (limit at : ℕ) (log : List Record) → at ≤ whole_from limit at log
+whole_from-high limit at [] = omega (arith, whole_from-nil limit at)
+whole_from-high limit at (r ∷ rest) = elim (cases_lt limit (at + record_len r)) [
+  | inl lt ↦ omega (arith, whole_from-out limit at r rest lt)
+  | inr le ↦ omega (arith, whole_from-in limit at r rest le, whole_from-high limit (at + record_len r) rest)
+]
+
+-- nor before an end of records in front that is written
+whole_from-covers : (limit at : ℕ) (front rest : List Record) → at + sum_by record_len front ≤ limit → at + sum_by record_len front ≤ whole_from limit at (front ++ rest)
+whole_from-covers limit at [] rest le = let none : sum_by record_len [] ≡ 0 = refl in omega (arith, whole_from-high limit at rest, none)
+whole_from-covers limit at (r ∷ front) rest le =
+    let sum = sum_by-cons record_len r front in
+    let first : at + record_len r ≤ limit = omega (arith, le, sum) in
+    omega (arith, sum, whole_from-in limit at r (front ++ rest) first, whole_from-covers limit (at + record_len r) front rest (omega (arith, le, sum)))
+
+end_is_sum : (log : List Record) → end_of log ≡ 16 + sum_by record_len log
+unfolding end_of
+end_is_sum log = refl
+
+-- so the synced end never falls
+pub whole_end-covers : (log : List Record) (at written : ℕ) → IsFrontEnd log at → at ≤ written → at ≤ whole_end log written
+whole_end-covers log at written f le =
+    let sum = end_is_sum f.front in
+    let covers = whole_from-covers written 16 f.front f.rest (omega (arith, sum, f.ends, le)) in
+    subst (λ (xs : List Record). at ≤ whole_end xs written) (sym f.parts) (omega (arith, covers, sum, f.ends))
+
+-- ---- the store after each event
+
+pub can_route_change : (pages held : ℕ) (l : Local) (c : Controlled) (warm : List Warm) (validator : Validator) (broken : Bool) (r : Record) (change : Option Change) → change_of r ≡ change → IsStored pages l held c warm validator broken → IsRecord pages r → r.lsn.0 ≡ end_of l.log
+    → IfSome change (CanRoute warm)
+can_route_change pages held l c warm validator broken r None e h fits at = tt
+can_route_change pages held l c warm validator broken r (Some change) e h fits at = can_route pages l.log r change warm (IsLog-push pages l.log r h.is_log.text fits at) at e h.count h.are_pages
+
+module _ (pages held : ℕ) (l : Local) (c : Controlled) (warm : List Warm) (validator : Validator) (broken : Bool) (h : IsStored pages l held c warm validator broken) where
+  same_marks : (l' : Local) → l' ≡ record l { room = l'.room } → AreMarks l' c
+  same_marks l' e = subst (λ (x : Local). AreMarks x c) (sym e) (record { pages = h.marks.pages; bytes = h.marks.bytes; newest_synced = h.marks.newest_synced; fronts = h.marks.fronts })
+
+  -- another validator of the same log, and another room
+  pub stored-again : (l' : Local) (validator' : Validator) → l' ≡ record l { room = l'.room } → IsValidatorOf pages validator' l.log → IsStored pages l' held c warm validator' broken
+  stored-again l' validator' e judged = subst (λ (x : Local). IsStored pages x held c warm validator' broken) (sym e) (record {
+    log_pages = h.log_pages;
+    is_log = h.is_log;
+    judged = judged;
+    are_pages = h.are_pages;
+    count = h.count;
+    held_is = h.held_is;
+    few = h.few;
+    few_pages = h.few_pages;
+    marks = record { pages = h.marks.pages; bytes = h.marks.bytes; newest_synced = h.marks.newest_synced; fronts = h.marks.fronts };
+    sure = h.sure;
+  })
+
+  -- a record more
+  pub stored-push : (l' : Local) (r : Record) (warm' : List Warm) (validator' : Validator) → IsRecord pages r → r.lsn.0 ≡ end_of l.log → first_bad l.log r ≡ None
+      → l' ≡ record l { log = l.log ++ r ∷ []; room = l'.room } → IsValidatorOf pages validator' (l.log ++ r ∷ []) → Routes warm (change_of r) warm' → IsStored pages l' (held + 1) c warm' validator' broken
+  stored-push l' r warm' validator' fits at good e judged routes =
+      let k = routes_count warm warm' (change_of r) routes in
+      subst (λ (x : Local). IsStored pages x (held + 1) c warm' validator' broken) (sym e) (record {
+        log_pages = h.log_pages;
+        is_log = valid_push pages l.log r h.is_log fits at good;
+        judged = judged;
+        are_pages = routes_pages l.log r warm warm' (change_of r) refl at routes h.are_pages;
+        count = k.0 ∙ h.count;
+        held_is = omega (arith, h.held_is, length-append l.log (r ∷ []));
+        few = omega (arith, k.1, h.few, length-append l.log (r ∷ []));
+        few_pages = h.few_pages;
+        marks = record { pages = h.marks.pages; bytes = h.marks.bytes; newest_synced = h.marks.newest_synced; fronts = λ s among. front-push l.log r s.mark.0 (h.marks.fronts s among) };
+        sure = h.sure;
+      })
+
+  pub view-push : (failures : ℕ) (l' : Local) (r : Record) (warm' : List Warm) (change : Option Change) → l' ≡ record l { log = l.log ++ r ∷ []; room = l'.room } → Routes warm change warm'
+      → stored_of pages l' c warm' broken failures ≡ with_log (stored_of pages l c warm broken failures) (l.log ++ r ∷ [])
+  view-push failures l' r warm' change e routes =
+      ap (λ (x : Local). stored_of pages x c warm' broken failures) e
+      ∙ ap (λ (xs : List ℕ). record (stored_of pages l c warm broken failures) { log = l.log ++ r ∷ []; applied = xs }) (routes_count warm warm' change routes).2
+
+  -- changes redone
+  pub stored-apply : (page : ℕ) (warm' : List Warm) (lsn : Lsn) → AppliesAt warm page warm' lsn → IsStored pages l held c warm' validator broken
+  stored-apply page warm' lsn applied =
+      let w : Warm = applied.w in
+      let w' : Warm = applied.w' in
+      let total = total-set warm page w w' applied.found in
+      record {
+        log_pages = h.log_pages;
+        is_log = h.is_log;
+        judged = h.judged;
+        are_pages = pages-apply pages l.log warm page warm' lsn h.is_log.text h.are_pages applied;
+        count = ap length applied.after ∙ length-set warm page w' ∙ h.count;
+        held_is = h.held_is;
+        few = omega (arith, ap total_waiting applied.after, total, redoes-shorter w w' lsn applied.redoes, h.few);
+        few_pages = h.few_pages;
+        marks = h.marks;
+        sure = h.sure;
+      }
+
+  pub view-apply : (failures page : ℕ) (warm' : List Warm) (lsn : Lsn) → AppliesAt warm page warm' lsn → AppliesFirst (stored_of pages l c warm broken failures) page lsn (stored_of pages l c warm' broken failures)
+  view-apply failures page warm' lsn applied =
+      let w : Warm = applied.w in
+      let w' : Warm = applied.w' in
+      let r = applied.redoes in
+      let inside : page < length warm = slice_get_within warm page w applied.found in
+      let lsn-is : w'.state.lsn ≡ r.last.lsn.0 = ap (λ (v : Warm). v.state.lsn) r.after ∙ lsn-fold w.state (r.front ++ r.last ∷ []) ∙ lsn_after-last w.state.lsn r.front r.last in
+      record {
+        inside = omega (arith, inside, h.count);
+        front = r.front;
+        last = r.last;
+        rest = r.rest;
+        changes = waiting_seen (stored_of pages l c warm broken failures) warm page w refl h.are_pages applied.found ∙ r.waits;
+        most = r.most;
+        all = r.all;
+        lsn_is = r.lsn_is;
+        after = ap (λ (xs : List ℕ). record (stored_of pages l c warm broken failures) { applied = xs }) (ap applied_of applied.after ∙ map-set (λ (v : Warm). v.state.lsn) warm page w' ∙ ap (λ (q : ℕ). slice_set (applied_of warm) page q) lsn-is);
+      }
+
+  -- a log synced
+  pub stored-synced : (l' : Local) → IsLocal l → l' ≡ record l { synced = whole_end l.log l.written; room = l'.room } → IsStored pages l' held c warm validator broken
+  stored-synced l' facts e = subst (λ (x : Local). IsStored pages x held c warm validator broken) (sym e) (record {
+    log_pages = h.log_pages;
+    is_log = h.is_log;
+    judged = h.judged;
+    are_pages = h.are_pages;
+    count = h.count;
+    held_is = h.held_is;
+    few = h.few;
+    few_pages = h.few_pages;
+    marks = record {
+      pages = h.marks.pages;
+      bytes = h.marks.bytes;
+      newest_synced = omega (arith, h.marks.newest_synced, whole_end-covers l.log l.synced l.written facts.synced_front facts.synced);
+      fronts = h.marks.fronts;
+    };
+    sure = h.sure;
+  })
+
+  with_control : (c' : Controlled) (broken' : Bool) → AreMarks l c' → (broken' ≡ false → c'.sure ≡ true) → IsStored pages l held c' warm validator broken'
+  with_control c' broken' marks sure = record {
+    log_pages = h.log_pages;
+    is_log = h.is_log;
+    judged = h.judged;
+    are_pages = h.are_pages;
+    count = h.count;
+    held_is = h.held_is;
+    few = h.few;
+    few_pages = h.few_pages;
+    marks = marks;
+    sure = sure;
+  }
+
+  -- a mark written
+  marks-written : (t : ControlState) → IsLocal l → t.mark.0 ≡ l.synced → AreMarks l (with_state c t)
+  marks-written t facts is = record {
+    pages = h.marks.pages;
+    bytes = h.marks.bytes;
+    newest_synced = omega (arith, ap (λ (s : ControlState). s.mark.0) (last_state-push c.synced c.since t), is);
+    fronts = λ s among. elim (Contains-push_cases (c.synced ∷ c.since) t s among) [
+      | inl old ↦ h.marks.fronts s old
+      | inr same ↦ subst (λ (m : ℕ). IsFrontEnd l.log m) (sym is ∙ ap (λ (x : ControlState). x.mark.0) same) facts.synced_front
+    ];
+  }
+
+  pub stored-marked : (c' : Controlled) (t : ControlState) → IsLocal l → t.mark.0 ≡ l.synced → c' ≡ with_state c t → IsStored pages l held c' warm validator broken
+  stored-marked c' t facts is e = subst (λ (x : Controlled). IsStored pages l held x warm validator broken) (sym e) (with_control (with_state c t) broken (marks-written t facts is) h.sure)
+
+  pub stored-torn : (c' : Controlled) (t : ControlState) → IsLocal l → t.mark.0 ≡ l.synced → c' ≡ record (with_state c t) { sure = false; failures = c'.failures } → IsStored pages l held c' warm validator true
+  stored-torn c' t facts is e =
+      let m = marks-written t facts is in
+      subst (λ (x : Controlled). IsStored pages l held x warm validator true) (sym e)
+      (with_control (record (with_state c t) { sure = false; failures = c'.failures }) true (record { pages = m.pages; bytes = m.bytes; newest_synced = m.newest_synced; fronts = m.fronts }) (λ wrong. absurd cc))
+
+  -- the control device synced
+  pub stored-settled : (c' : Controlled) → c' ≡ settled c → IsStored pages l held c' warm validator broken
+  stored-settled c' e = subst (λ (x : Controlled). IsStored pages l held x warm validator broken) (sym e) (with_control (settled c) broken (record {
+    pages = h.marks.pages;
+    bytes = h.marks.bytes;
+    newest_synced = h.marks.newest_synced;
+    fronts = λ s among. subst (λ (x : ControlState). IsFrontEnd l.log x.mark.0) (Contains-one among) (h.marks.fronts (newest c) (last_state-among c.synced c.since));
+  }) h.sure)
+
+-- a store just formatted
+pub stored-new : (pages blocks log_failures control_blocks control_failures : ℕ) (l : Local) (c : Controlled) (warm : List Warm) (validator : Validator) → pages ≤ 4096
+    → l ≡ record { pages = pages; log = []; written = 16; synced = 16; blocks = blocks; failures = log_failures; room = l.room } → c ≡ new_control pages (512 * blocks) first_state control_blocks control_failures
+    → warm ≡ fresh_from 0 pages → IsValidatorOf pages validator [] → IsStored pages l 0 c warm validator false
+stored-new pages blocks log_failures control_blocks control_failures l c warm validator le el ec ew judged =
+    let fresh_log : Local = record { pages = pages; log = []; written = 16; synced = 16; blocks = blocks; failures = log_failures; room = l.room } in
+    let fresh_control : Controlled = new_control pages (512 * blocks) first_state control_blocks control_failures in
+    subst (λ (x : Local). IsStored pages x 0 c warm validator false) (sym el) (
+      subst (λ (y : Controlled). IsStored pages fresh_log 0 y warm validator false) (sym ec) (
+        subst (λ (ws : List Warm). IsStored pages fresh_log 0 fresh_control ws validator false) (sym ew) (record {
+          log_pages = refl;
+          is_log = valid-nil pages;
+          judged = judged;
+          are_pages = pages-fresh pages;
+          count = length-fresh 0 pages;
+          held_is = refl;
+          few = omega (arith, total-fresh 0 pages);
+          few_pages = le;
+          marks = record {
+            pages = refl;
+            bytes = refl;
+            newest_synced = omega arith;
+            fronts = λ s among. record { front = []; rest = []; parts = refl; ends = end-nil ∙ ap (λ (x : ControlState). x.mark.0) (Contains-one among) };
+          };
+          sure = λ e. refl;
+        })
+      )
+    )
+
+pub view-new : (pages blocks log_failures control_blocks control_failures failures : ℕ) (l : Local) (c : Controlled) (warm : List Warm)
+    → l ≡ record { pages = pages; log = []; written = 16; synced = 16; blocks = blocks; failures = log_failures; room = l.room } → c ≡ new_control pages (512 * blocks) first_state control_blocks control_failures
+    → warm ≡ fresh_from 0 pages → stored_of pages l c warm false failures ≡ formatted pages blocks (log_failures + control_failures + failures)
+view-new pages blocks log_failures control_blocks control_failures failures l c warm el ec ew =
+    ap (λ (x : Local). stored_of pages x c warm false failures) el
+    ∙ ap (λ (y : Controlled). record { pages = pages; log = []; applied = applied_of warm; blocks = blocks; written = 16; synced = 16; control = y.synced; since = y.since; broken = false; failures = log_failures + y.failures + failures }) ec
+    ∙ ap (λ (xs : List ℕ). record (formatted pages blocks (log_failures + control_failures + failures)) { applied = xs }) (ap applied_of ew ∙ applied-fresh 0 pages)
+
+-- a record appended, after room was made for it
+pub appended : (l l' l'' : Local) (r : Record) → l' ≡ record l { room = l'.room } → l'' ≡ record l' { log = l'.log ++ r ∷ []; room = l''.room } → l'' ≡ record l { log = l.log ++ r ∷ []; room = l''.room }
+appended l l' l'' r e f = f ∙ ap (λ (x : Local). record x { log = x.log ++ r ∷ []; room = l''.room }) e
+
+-- a record with room on the device is not too long
+pub not_too_long : (s : Stored) (r : Record) (len after : ℕ) → len ≡ record_len r → after ≡ tail_len (s.log ++ r ∷ []) → end_of s.log + len + after ≤ 512 * s.blocks → IsTooLong s r → ⊥
+not_too_long s r len after len-is after-is le long = omega (arith, len-is, after-is, le, long)
+
+pub too_long : (s : Stored) (r : Record) (len after : ℕ) → len ≡ record_len r → after ≡ tail_len (s.log ++ r ∷ []) → (end_of s.log + len + after ≤ 512 * s.blocks → IsTrue false) → IsTooLong s r
+too_long s r len after len-is after-is none = elim (cases_lt (512 * s.blocks) (end_of s.log + len + after)) [
+  | inl lt ↦ omega (arith, len-is, after-is, lt)
+  | inr le ↦ let wrong : false ≡ true = none le in absurd cc
+]
