@@ -10,6 +10,7 @@ ghost use Rattle.als_log.specs.Texts.{AllHaveText};
 
 use crate::fault::Fault;
 use crate::history::History;
+use crate::source::Source;
 use crate::unformatted::Unformatted;
 use crate::{blocks, reading, tail};
 use als_disk::BlockDisk;
@@ -238,13 +239,16 @@ impl<D: BlockDisk> LocalLog<D> {
         ensures same { OnOk result (self.new ≡ self.old) }
         ensures err { IfErr result (λ e. RefusesReading e self.old self.new) }
     {
+        let source = Source {
+            history: &self.history,
+            pages: self.pages,
+            bytes: self.tail.as_slice(),
+            base: self.base,
+        };
         let (cursor, found) = reading::find(
-            &self.history,
+            source,
             self.alloc,
-            self.pages,
             &mut self.disk,
-            self.tail.as_slice(),
-            self.base,
             self.cursor,
             lsn.0,
             &mut self.part,
