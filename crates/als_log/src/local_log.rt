@@ -257,9 +257,11 @@ impl<D: BlockDisk> LocalLog<D> {
         Ok(found)
     }
 
-    /// The device. Whatever a crash leaves of it has the log's text below the synced end.
+    /// The device. Whatever a crash leaves of it has the log's text below the synced end, and whatever a read gives has it
+    /// up to where the blocks have been written.
     pub fn into_disk(self) -> D
         ensures kept { AllHaveText (λ b. (D.slot result b).candidates) (log_text self.pages self.log) self.synced }
+        ensures stored { AllHaveText (λ b. (D.slot result b).readable) (log_text self.pages self.log) self.written }
         ensures count { D.block_count result ≡ self.blocks }
         ensures failures { D.failures result ≡ self.failures }
         ensures facts { IsLocal self }
