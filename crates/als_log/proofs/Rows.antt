@@ -6,6 +6,7 @@ use Rattle.als_record.specs.declared.record.Record.{Record}
 use Rattle.als_record.specs.Spelling.{record_len}
 use Rattle.als_record.specs.LogText.{end_of}
 use Rattle.als_log.specs.Local.{whole_from, whole_end, next_written}
+use Rattle.als_log.specs.Reading.{record_at}
 use Rattle.std.specs.Prelude.{Some, None}
 
 abbrev at : ℕ → ℕ → Body → Record
@@ -38,3 +39,9 @@ one-all = refl
 one-written : next_written one 16 ≡ 108
 unfolding end_of record_len
 one-written = refl
+
+one-found : record_at one 52 ≡ Some (at 52 16 Commit)
+one-found = refl
+
+one-inside : record_at one 51 ≡ None
+one-inside = refl

@@ -10,6 +10,7 @@ ghost use Rattle.als_log.specs.Texts.{AllHaveText};
 
 use crate::fault::Fault;
 use crate::history::History;
+use crate::source::Source;
 use crate::unformatted::Unformatted;
 use crate::{blocks, reading, tail};
 use als_disk::BlockDisk;
@@ -238,13 +239,16 @@ impl<D: BlockDisk> LocalLog<D> {
         ensures same { OnOk result (self.new ≡ self.old) }
         ensures err { IfErr result (λ e. RefusesReading e self.old self.new) }
     {
+        let source = Source {
+            history: &self.history,
+            pages: self.pages,
+            bytes: self.tail.as_slice(),
+            base: self.base,
+        };
         let (cursor, found) = reading::find(
-            &self.history,
+            source,
             self.alloc,
-            self.pages,
             &mut self.disk,
-            self.tail.as_slice(),
-            self.base,
             self.cursor,
             lsn.0,
             &mut self.part,
@@ -253,9 +257,11 @@ impl<D: BlockDisk> LocalLog<D> {
         Ok(found)
     }
 
-    /// The device. Whatever a crash leaves of it has the log's text below the synced end.
+    /// The device. Whatever a crash leaves of it has the log's text below the synced end, and whatever a read gives has it
+    /// up to where the blocks have been written.
     pub fn into_disk(self) -> D
         ensures kept { AllHaveText (λ b. (D.slot result b).candidates) (log_text self.pages self.log) self.synced }
+        ensures stored { AllHaveText (λ b. (D.slot result b).readable) (log_text self.pages self.log) self.written }
         ensures count { D.block_count result ≡ self.blocks }
         ensures failures { D.failures result ≡ self.failures }
         ensures facts { IsLocal self }

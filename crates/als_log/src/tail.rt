@@ -49,6 +49,9 @@ pub(crate) fn drop_front(bytes: &mut Vec<u8>, count: usize)
     ensures len { vec_len bytes.new + count ≡ vec_len bytes.old }
     ensures capacity { vec_capacity bytes.new ≡ vec_capacity bytes.old }
 {
+    if count == 0 {
+        return;
+    }
     let left = bytes.len() - count;
     bytes.copy_within(count.., 0);
     bytes.truncate(left);

@@ -12,7 +12,7 @@ loop-block-preserved g c =
       read = λ text source.
           read_more text c.loop-block.out.items c.push_part.new.out.items c.read_block.new.into c.args.at (c.args.at + c.len-in-loop-block.result) (vec_len c.loop-block.out) (vec_len c.push_part.new.out) from
           c.in_ok-push_part.ensures.kept c.in_ok-push_part.ensures.part c.in_ok-push_part.ensures.within
-          (c.in_ok-read_block.ensures.ok text (source-same (g.D.BlockDisk.slot c.args.disk.now) (g.D.BlockDisk.slot c.loop-block.disk) c.args.bytes.now text c.args.base i.same source))
+          (c.in_ok-read_block.ensures.ok text (source-same (g.D.BlockDisk.slot c.args.disk.now) (g.D.BlockDisk.slot c.loop-block.disk) c.args.source.bytes.now text c.args.source.base i.same source))
           (i.read text source);
       same = λ k. c.in_ok-read_block.ensures.same k ∙ i.same k;
       count = c.in_ok-read_block.ensures.count ∙ i.count;
@@ -23,6 +23,6 @@ pub returns-clause-ok : goal.returns-clause-ok
 returns-clause-ok g c text source =
     let i = c.loop-block.invariant in
     let all : vec_len c.loop-block.out ≡ c.args.count = omega (arith, i.most, c.loop-block-test.false, c.len.ensures) in
-    let bytes : length c.args.bytes.now ≡ length text - c.args.base = ap length source.held ∙ length-drop c.args.base text in
+    let bytes : length c.args.source.bytes.now ≡ length text - c.args.source.base = ap length source.held ∙ length-drop c.args.source.base text in
     let len : length c.loop-block.out.items ≡ c.args.count = omega (arith, all) in
     part_is text c.loop-block.out.items c.args.at c.args.count len (omega (arith, c.requires.within, bytes, source.reach)) (λ k lt. i.read text source k (omega (arith, lt, all)))

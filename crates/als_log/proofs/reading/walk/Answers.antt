@@ -11,41 +11,41 @@ use Rattle.als_log.proofs.reading.walk.Goals as goal
 
 pub read_text-requires-clause-within : goal.read_text-requires-clause-within
 read_text-requires-clause-within g c =
-    let log = records_in c.args.history.now in
-    let pages = c.requires.source.0 in
-    let r = c.requires.source.1 in
+    let log = records_in c.args.source.history.now in
+    let pages = c.args.source.pages in
+    let r = c.requires.readable in
     let p : Placed pages log c.loop-at.at = placed pages log c.loop-at.at r.is_log c.loop-at.invariant.front (omega (arith, c.loop-at-test.true, c.requires.within)) in
-    let end : c.args.base + length c.args.bytes.now ≡ end_of log
-    = readable-reach pages log (g.D.BlockDisk.slot c.args.disk.now) (g.D.BlockDisk.block_count c.args.disk.now) c.args.bytes.now c.args.base r in
+    let end : c.args.source.base + length c.args.source.bytes.now ≡ end_of log
+    = readable-reach pages log (g.D.BlockDisk.slot c.args.disk.now) (g.D.BlockDisk.block_count c.args.disk.now) c.args.source.bytes.now c.args.source.base r in
     omega (arith, end, p.low, p.end)
 
 pub read_text-requires-clause-fits : goal.read_text-requires-clause-fits
 read_text-requires-clause-fits g c =
-    let log = records_in c.args.history.now in
-    let pages = c.requires.source.0 in
-    let r = c.requires.source.1 in
-    let end : c.args.base + length c.args.bytes.now ≡ end_of log
-    = readable-reach pages log (g.D.BlockDisk.slot c.args.disk.now) (g.D.BlockDisk.block_count c.args.disk.now) c.args.bytes.now c.args.base r in
+    let log = records_in c.args.source.history.now in
+    let pages = c.args.source.pages in
+    let r = c.requires.readable in
+    let end : c.args.source.base + length c.args.source.bytes.now ≡ end_of log
+    = readable-reach pages log (g.D.BlockDisk.slot c.args.disk.now) (g.D.BlockDisk.block_count c.args.disk.now) c.args.source.bytes.now c.args.source.base r in
     rw c.loop-at.invariant.count (omega (arith, end, r.fits))
 
 pub loop-at-smaller : goal.loop-at-smaller
 loop-at-smaller g c =
-    let log = records_in c.args.history.now in
-    let pages = c.requires.source.0 in
-    let r = c.requires.source.1 in
+    let log = records_in c.args.source.history.now in
+    let pages = c.args.source.pages in
+    let r = c.requires.readable in
     let p : Placed pages log c.loop-at.at = placed pages log c.loop-at.at r.is_log c.loop-at.invariant.front (omega (arith, c.loop-at-test.true, c.requires.within)) in
-    let source = source-same (g.D.BlockDisk.slot c.args.disk.now) (g.D.BlockDisk.slot c.loop-at.disk) c.args.bytes.now (log_text pages log) c.args.base c.loop-at.invariant.same r.source in
+    let source = source-same (g.D.BlockDisk.slot c.args.disk.now) (g.D.BlockDisk.slot c.loop-at.disk) c.args.source.bytes.now (log_text pages log) c.args.source.base c.loop-at.invariant.same r.source in
     let size : c.from-at.result ≡ record_len p.r
     = c.from-at.ensures ∙ c.word.ensures ∙ field p c.as_slice.result.now (c.as_slice.ensures.value ∙ c.in_ok-read_text.ensures.ok (log_text pages log) source) in
     omega (arith, size, p.low, c.loop-at-test.true)
 
 pub loop-at-preserved : goal.loop-at-preserved
 loop-at-preserved g c =
-    let log = records_in c.args.history.now in
-    let pages = c.requires.source.0 in
-    let r = c.requires.source.1 in
+    let log = records_in c.args.source.history.now in
+    let pages = c.args.source.pages in
+    let r = c.requires.readable in
     let p : Placed pages log c.loop-at.at = placed pages log c.loop-at.at r.is_log c.loop-at.invariant.front (omega (arith, c.loop-at-test.true, c.requires.within)) in
-    let source = source-same (g.D.BlockDisk.slot c.args.disk.now) (g.D.BlockDisk.slot c.loop-at.disk) c.args.bytes.now (log_text pages log) c.args.base c.loop-at.invariant.same r.source in
+    let source = source-same (g.D.BlockDisk.slot c.args.disk.now) (g.D.BlockDisk.slot c.loop-at.disk) c.args.source.bytes.now (log_text pages log) c.args.source.base c.loop-at.invariant.same r.source in
     let size : c.from-at.result ≡ record_len p.r
     = c.from-at.ensures ∙ c.word.ensures ∙ field p c.as_slice.result.now (c.as_slice.ensures.value ∙ c.in_ok-read_text.ensures.ok (log_text pages log) source) in
     let past : (c.loop-at.at + record_len p.r ≤ c.args.to) ⊎ (record_at log c.args.to ≡ None) = elim (cases_lt c.args.to (c.loop-at.at + record_len p.r)) [

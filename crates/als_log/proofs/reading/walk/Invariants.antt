@@ -7,8 +7,8 @@ use Rattle.als_log.proofs.reading.walk.Given as goal
 
 abbrev pub invariant-loop-at : goal.invariant-loop-at
 invariant-loop-at g l = record {
-  front : IsFrontEnd (records_in l.history) l.at;
-  past : (l.at ≤ l.to) ⊎ (record_at (records_in l.history) l.to ≡ None);
+  front : IsFrontEnd (records_in l.source.history.now) l.at;
+  past : (l.at ≤ l.to) ⊎ (record_at (records_in l.source.history.now) l.to ≡ None);
   same : SameBlocks (g.D.BlockDisk.slot l.initial.disk) (g.D.BlockDisk.slot l.disk);
   count : g.D.BlockDisk.block_count l.disk ≡ g.D.BlockDisk.block_count l.initial.disk;
   failures : g.D.BlockDisk.failures l.disk ≡ g.D.BlockDisk.failures l.initial.disk;
