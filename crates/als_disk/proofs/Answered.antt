@@ -1,5 +1,5 @@
 -- Calls that answer Ok whatever comes, and what a write leaves as the newest content.
-use Rattle.std.proofs.Common.{◌≡◌, ℕ, true, Ok, Err, sym, List}
+use Rattle.std.proofs.Common.{◌≡◌, ℕ, Ok, Err, sym, List}
 use Rattle.std.specs.Prelude.{Result, OnOk, OnErr, IsOk}
 use Rattle.std.specs.BTreeMap.{BTreeMap}
 use Rattle.als_disk.specs.declared.unsynced.Unsynced.{Unsynced}
