@@ -1,11 +1,11 @@
 -- What is kept true of the disk, from one call to the next.
 use Rattle.std.proofs.Common.{◌≡◌, ℕ, ◌≤◌, Bool, true, false, IsTrue, List, [], ◌∷◌, ◌++◌, refl, sym, ap, subst, ◌∙◌, inl, inr}
-use Rattle.std.specs.Prelude.{Contains, ◌⊎◌}
+use Rattle.std.specs.Prelude.{Contains}
 use Rattle.std.proofs.lemmas.List.Elements.{Contains-append_left, Contains-push, Contains-push_cases}
 use Rattle.als_disk.specs.Slot.{Slot, only, written, FailsToWrite, KeepsReadable}
 use Rattle.als_disk.specs.SlotLaws.{Contains-one, candidates-write, readable-write, candidates-fail}
 use Rattle.als_ckpt.specs.declared.control_state.ControlState.{ControlState}
-use Rattle.als_ckpt.specs.Control.{control_block, last_state, IsControlState, IsBlockOf, MarksRise, Controlled, IsControlled}
+use Rattle.als_ckpt.specs.Control.{control_block, IsControlState, IsBlockOf, MarksRise, IsControlled}
 use Rattle.als_ckpt.specs.Kept.{IsKept}
 use Rattle.als_ckpt.proofs.StateLaws.{last_state-push, MarksRise-push, MarksRise-from, MarksRise-to, Contains-last_state}
 

@@ -1,5 +1,5 @@
 -- Laws of a state and those that follow it.
-use Rattle.std.proofs.Common.{◌≡◌, ℕ, ◌+◌, ◌<◌, ◌≤◌, zero, suc, List, [], ◌∷◌, ◌++◌, length, refl, sym, ap, subst, arith, inl, inr, Option, None, Some}
+use Rattle.std.proofs.Common.{◌≡◌, ℕ, ◌≤◌, zero, suc, List, [], ◌∷◌, ◌++◌, refl, ap, arith, inl, inr, Option, None, Some}
 use Rattle.std.specs.Prelude.{Contains, ◌⊎◌}
 use Rattle.als_record.specs.declared.lsn.Lsn.{Lsn}
 use Rattle.als_ckpt.specs.declared.phase.Phase.{Phase}

@@ -1,5 +1,5 @@
 -- Worked control blocks: what the definition computes for them.
-use Rattle.std.proofs.Common.{◌≡◌, ℕ, List, [], ◌∷◌, take, drop, replicate, Some, refl}
+use Rattle.std.proofs.Common.{◌≡◌, [], ◌∷◌, take, drop, replicate, Some, refl}
 use Rattle.als_ckpt.specs.declared.phase.Phase.TheVariants.{Sealed, Primary}
 use Rattle.als_ckpt.specs.declared.region.Region.TheVariants.{First, Second}
 use Rattle.als_ckpt.specs.declared.control_state.ControlState.{ControlState}

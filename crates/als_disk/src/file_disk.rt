@@ -1,6 +1,6 @@
 ghost use Rattle.std.specs.Prelude.{◌≡◌, ◌<◌, ◌*◌, ◌^◌, ℕ, IfOk, OnOk};
-ghost use Rattle.als_disk.specs.MemDisk.{mem_blocks, mem_slot};
-ghost use Rattle.als_disk.specs.Slot.{only, IsSettled};
+ghost use Rattle.als_disk.specs.MemDisk.{mem_blocks, mem_slot, mem_failures};
+ghost use Rattle.als_disk.specs.Slot.{only, IsSettled, KeepsReadable};
 ghost use Rattle.als_disk.specs.Store.{zeros};
 
 use crate::count::Count;
@@ -57,9 +57,19 @@ fn keep(mirror: &mut MemDisk, i: u64, block: &[u8; 512]) -> Result<(), AllocErro
         Ok(()) => {}
         Err(DeviceError) => return Err(AllocError),
     }
+    settle(mirror);
+    Ok(())
+}
+
+/// Makes the newest content of each block the only one.
+fn settle(mirror: &mut MemDisk)
+    ensures kept { (k : ℕ) → KeepsReadable (mem_slot mirror.old k) (mem_slot mirror.new k) }
+    ensures count { mem_blocks mirror.new ≡ mem_blocks mirror.old }
+    ensures failures { mem_failures mirror.new ≡ mem_failures mirror.old }
+{
     match mirror.sync() {
-        Ok(()) => Ok(()),
-        Err(DeviceError) => Err(AllocError),
+        Ok(()) => {}
+        Err(DeviceError) => unreachable!(),
     }
 }
 
@@ -176,7 +186,8 @@ impl BlockDisk for FileDisk {
             self.failed.step();
             return Err(DeviceError);
         }
-        self.mirror.sync()
+        settle(&mut self.mirror);
+        Ok(())
     }
 }
 

@@ -1,4 +1,4 @@
-use Rattle.std.proofs.Common.{◌≡◌, ℕ, ◌∷◌, [], drop, ap, ap₂, ◌∙◌}
+use Rattle.std.proofs.Common.{ℕ, ◌∷◌, [], drop, ap, ap₂, ◌∙◌}
 use Rattle.als_ckpt.proofs.BlockLaws.{whole_part, control_block-parts}
 use Rattle.als_ckpt.proofs.codec.encode.Goals as goal
 

@@ -1,6 +1,4 @@
-use Rattle.std.proofs.Common.{◌≡◌, ℕ, Some, None, Option, ap, ◌∙◌}
-use Rattle.als_ckpt.specs.declared.phase.Phase.{Phase}
-use Rattle.als_ckpt.specs.declared.region.Region.{Region}
+use Rattle.std.proofs.Common.{◌≡◌, Some, None, ap, ◌∙◌}
 use Rattle.als_ckpt.proofs.BlockLaws.{state_of_fields, mark_fits, position_fits, seal_fits, phase-control_block, region-control_block, mark-control_block, position-control_block, seal-control_block}
 use Rattle.als_ckpt.proofs.codec.read_fields.Goals as goal
 

@@ -1,4 +1,3 @@
-use Rattle.als_disk.specs.Slot.{Slot}
 use Rattle.als_ckpt.proofs.KeptLaws.{IsControlled-kept}
 use Rattle.als_ckpt.proofs.control.Control.acknowledged.Goals as goal
 

@@ -1,4 +1,4 @@
-use Rattle.std.proofs.Common.{◌≡◌, true, ap, ◌∙◌}
+use Rattle.std.proofs.Common.{ap, ◌∙◌}
 use Rattle.als_ckpt.specs.Control.{Controlled}
 use Rattle.als_ckpt.proofs.KeptLaws.{IsKept-synced}
 use Rattle.als_ckpt.proofs.control.Control.sync.Goals as goal
