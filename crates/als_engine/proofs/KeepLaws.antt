@@ -36,4 +36,3 @@ keeps_both a b c p q = record {
   log = q.log ∙ ap (λ (log : List Record). log ++ q.more) p.log ∙ append_assoc a.held.log p.more q.more;
   stopped = λ s. q.stopped (p.stopped s);
 }
-

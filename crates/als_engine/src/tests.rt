@@ -7,19 +7,42 @@ use std::alloc::{AllocError, Global};
 use std::process::Abort;
 
 /// An update of 0/0 to `aa` at 16, its commit at 52 and its end at 80.
-const TEXT: [u8; 92] = [
-    0, 0, 0, 36, 1, 0, 0, 0, 0, 0, 0, 0, 0, 0, 0, 16, 0, 0, 0, 0, 0, 0, 0, 0, 0, 0, 0, 1, 0, 0, 0, 0, 0, 255, 1, 170, 0, 0, 0, 28, 3, 0, 0, 0, 0, 0, 0, 0, 0, 0, 0, 52, 0, 0, 0, 0, 0, 0, 0, 16, 0, 0, 0, 1, 0, 0, 0, 28, 5, 0, 0, 0, 0, 0, 0, 0, 0, 0, 0, 80, 0, 0, 0, 0, 0, 0, 0, 52, 0, 0, 0, 1,
-];
+fn text() -> [u8; 92] {
+    [
+        0, 0, 0, 36, 1, 0, 0, 0, 0, 0, 0, 0, 0, 0, 0, 16, 0, 0, 0, 0, 0, 0, 0, 0, 0, 0, 0, 1, 0, 0,
+        0, 0, 0, 255, 1, 170, 0, 0, 0, 28, 3, 0, 0, 0, 0, 0, 0, 0, 0, 0, 0, 52, 0, 0, 0, 0, 0, 0,
+        0, 16, 0, 0, 0, 1, 0, 0, 0, 28, 5, 0, 0, 0, 0, 0, 0, 0, 0, 0, 0, 80, 0, 0, 0, 0, 0, 0, 0,
+        52, 0, 0, 0, 1,
+    ]
+}
 
 /// Updates of 0/0 to 0/5 by one transaction, from 16 on, each with a value of one byte.
-const SHORT: [u8; 216] = [
-    0, 0, 0, 36, 1, 0, 0, 0, 0, 0, 0, 0, 0, 0, 0, 16, 0, 0, 0, 0, 0, 0, 0, 0, 0, 0, 0, 1, 0, 0, 0, 0, 0, 255, 1, 160, 0, 0, 0, 36, 1, 0, 0, 0, 0, 0, 0, 0, 0, 0, 0, 52, 0, 0, 0, 0, 0, 0, 0, 16, 0, 0, 0, 1, 0, 0, 0, 0, 1, 255, 1, 161, 0, 0, 0, 36, 1, 0, 0, 0, 0, 0, 0, 0, 0, 0, 0, 88, 0, 0, 0, 0, 0, 0, 0, 52, 0, 0, 0, 1, 0, 0, 0, 0, 2, 255, 1, 162, 0, 0, 0, 36, 1, 0, 0, 0, 0, 0, 0, 0, 0, 0, 0, 124, 0, 0, 0, 0, 0, 0, 0, 88, 0, 0, 0, 1, 0, 0, 0, 0, 3, 255, 1, 163, 0, 0, 0, 36, 1, 0, 0, 0, 0, 0, 0, 0, 0, 0, 0, 160, 0, 0, 0, 0, 0, 0, 0, 124, 0, 0, 0, 1, 0, 0, 0, 0, 4, 255, 1, 164, 0, 0, 0, 36, 1, 0, 0, 0, 0, 0, 0, 0, 0, 0, 0, 196, 0, 0, 0, 0, 0, 0, 0, 160, 0, 0, 0, 1, 0, 0, 0, 0, 5, 255, 1, 165,
-];
+fn six_short() -> [u8; 216] {
+    [
+        0, 0, 0, 36, 1, 0, 0, 0, 0, 0, 0, 0, 0, 0, 0, 16, 0, 0, 0, 0, 0, 0, 0, 0, 0, 0, 0, 1, 0, 0,
+        0, 0, 0, 255, 1, 160, 0, 0, 0, 36, 1, 0, 0, 0, 0, 0, 0, 0, 0, 0, 0, 52, 0, 0, 0, 0, 0, 0,
+        0, 16, 0, 0, 0, 1, 0, 0, 0, 0, 1, 255, 1, 161, 0, 0, 0, 36, 1, 0, 0, 0, 0, 0, 0, 0, 0, 0,
+        0, 88, 0, 0, 0, 0, 0, 0, 0, 52, 0, 0, 0, 1, 0, 0, 0, 0, 2, 255, 1, 162, 0, 0, 0, 36, 1, 0,
+        0, 0, 0, 0, 0, 0, 0, 0, 0, 124, 0, 0, 0, 0, 0, 0, 0, 88, 0, 0, 0, 1, 0, 0, 0, 0, 3, 255, 1,
+        163, 0, 0, 0, 36, 1, 0, 0, 0, 0, 0, 0, 0, 0, 0, 0, 160, 0, 0, 0, 0, 0, 0, 0, 124, 0, 0, 0,
+        1, 0, 0, 0, 0, 4, 255, 1, 164, 0, 0, 0, 36, 1, 0, 0, 0, 0, 0, 0, 0, 0, 0, 0, 196, 0, 0, 0,
+        0, 0, 0, 0, 160, 0, 0, 0, 1, 0, 0, 0, 0, 5, 255, 1, 165,
+    ]
+}
 
 /// The same, but that the sixth has a value of two bytes.
-const LONG: [u8; 217] = [
-    0, 0, 0, 36, 1, 0, 0, 0, 0, 0, 0, 0, 0, 0, 0, 16, 0, 0, 0, 0, 0, 0, 0, 0, 0, 0, 0, 1, 0, 0, 0, 0, 0, 255, 1, 160, 0, 0, 0, 36, 1, 0, 0, 0, 0, 0, 0, 0, 0, 0, 0, 52, 0, 0, 0, 0, 0, 0, 0, 16, 0, 0, 0, 1, 0, 0, 0, 0, 1, 255, 1, 161, 0, 0, 0, 36, 1, 0, 0, 0, 0, 0, 0, 0, 0, 0, 0, 88, 0, 0, 0, 0, 0, 0, 0, 52, 0, 0, 0, 1, 0, 0, 0, 0, 2, 255, 1, 162, 0, 0, 0, 36, 1, 0, 0, 0, 0, 0, 0, 0, 0, 0, 0, 124, 0, 0, 0, 0, 0, 0, 0, 88, 0, 0, 0, 1, 0, 0, 0, 0, 3, 255, 1, 163, 0, 0, 0, 36, 1, 0, 0, 0, 0, 0, 0, 0, 0, 0, 0, 160, 0, 0, 0, 0, 0, 0, 0, 124, 0, 0, 0, 1, 0, 0, 0, 0, 4, 255, 1, 164, 0, 0, 0, 37, 1, 0, 0, 0, 0, 0, 0, 0, 0, 0, 0, 196, 0, 0, 0, 0, 0, 0, 0, 160, 0, 0, 0, 1, 0, 0, 0, 0, 5, 255, 2, 165, 166,
-];
+fn six_long() -> [u8; 217] {
+    [
+        0, 0, 0, 36, 1, 0, 0, 0, 0, 0, 0, 0, 0, 0, 0, 16, 0, 0, 0, 0, 0, 0, 0, 0, 0, 0, 0, 1, 0, 0,
+        0, 0, 0, 255, 1, 160, 0, 0, 0, 36, 1, 0, 0, 0, 0, 0, 0, 0, 0, 0, 0, 52, 0, 0, 0, 0, 0, 0,
+        0, 16, 0, 0, 0, 1, 0, 0, 0, 0, 1, 255, 1, 161, 0, 0, 0, 36, 1, 0, 0, 0, 0, 0, 0, 0, 0, 0,
+        0, 88, 0, 0, 0, 0, 0, 0, 0, 52, 0, 0, 0, 1, 0, 0, 0, 0, 2, 255, 1, 162, 0, 0, 0, 36, 1, 0,
+        0, 0, 0, 0, 0, 0, 0, 0, 0, 124, 0, 0, 0, 0, 0, 0, 0, 88, 0, 0, 0, 1, 0, 0, 0, 0, 3, 255, 1,
+        163, 0, 0, 0, 36, 1, 0, 0, 0, 0, 0, 0, 0, 0, 0, 0, 160, 0, 0, 0, 0, 0, 0, 0, 124, 0, 0, 0,
+        1, 0, 0, 0, 0, 4, 255, 1, 164, 0, 0, 0, 37, 1, 0, 0, 0, 0, 0, 0, 0, 0, 0, 0, 196, 0, 0, 0,
+        0, 0, 0, 0, 160, 0, 0, 0, 1, 0, 0, 0, 0, 5, 255, 2, 165, 166,
+    ]
+}
 
 const CONFIG: Config = Config {
     pages: 4,
@@ -61,7 +84,12 @@ fn standby(alloc: Global, blocks: u64) -> Option<(Engine<Disk>, Fuses)> {
 }
 
 /// Runs the steps over a standby, and compares the replies. False: memory was refused.
-fn replies_are(alloc: Global, engine: Engine<Disk>, steps: &[Step], wanted: &[Reply]) -> Option<Engine<Disk>> {
+fn replies_are(
+    alloc: Global,
+    engine: Engine<Disk>,
+    steps: &[Step],
+    wanted: &[Reply],
+) -> Option<Engine<Disk>> {
     let (world, replies) = run(alloc, World::new(engine), steps).ok()?;
     if replies.as_slice() != wanted {
         return None;
@@ -82,7 +110,7 @@ fn feed_again(rt: &impl Abort, engine: &mut Engine<Disk>, piece: &[u8]) -> bool 
             assert_eq!(rt; after.state, State::Following);
             assert_eq!(rt; after.acknowledged, before.acknowledged);
             let from = after.end.0.saturating_sub(16) as usize;
-            match TEXT.get(from..) {
+            match text().get(from..) {
                 Some(rest) => engine.feed(rest).is_ok(),
                 None => false,
             }
@@ -95,7 +123,8 @@ fn takes_pieces(rt: &impl Abort, alloc: Global) -> bool {
     let Some((mut engine, _)) = standby(alloc, 8) else {
         return false;
     };
-    for piece in [&TEXT[..1], &TEXT[1..40], &TEXT[40..]] {
+    let text = text();
+    for piece in [&text[..1], &text[1..40], &text[40..]] {
         if engine.status().end == Lsn(108) {
             break;
         }
@@ -127,8 +156,9 @@ fn acknowledges(rt: &impl Abort, alloc: Global) -> bool {
     let Some((engine, _)) = standby(alloc, 8) else {
         return false;
     };
+    let text = text();
     let steps = [
-        Step::Feed(&TEXT),
+        Step::Feed(&text),
         Step::MarkWrite,
         Step::LogWrite,
         Step::LogWrite,
@@ -156,10 +186,15 @@ fn acknowledges(rt: &impl Abort, alloc: Global) -> bool {
         Reply::Done,
         Reply::Refused(Fault::NothingToDo),
     ];
-    let Some(engine) = replies_are(alloc, engine, &steps, &wanted) else {
+    let Some(mut engine) = replies_are(alloc, engine, &steps, &wanted) else {
         return false;
     };
     assert_eq!(rt; engine.status().acknowledged, Lsn(108));
+    let (Ok(commit), Ok(nothing)) = (engine.record_at(Lsn(52)), engine.record_at(Lsn(53))) else {
+        return false;
+    };
+    assert!(rt; commit.is_some());
+    assert!(rt; nothing.is_none());
     assert_eq!(rt; engine.into_disks().log.blocks(), 8);
     true
 }
@@ -179,13 +214,14 @@ fn stops(rt: &impl Abort, alloc: Global, log: u64, control: u64, wanted: &[Reply
     };
     fuses.log.fail_at(log);
     fuses.control.fail_at(control);
+    let text = text();
     let steps = [
-        Step::Feed(&TEXT[..63]),
+        Step::Feed(&text[..63]),
         Step::LogWrite,
         Step::LogSync,
         Step::MarkWrite,
         Step::ControlSync,
-        Step::Feed(&TEXT[63..]),
+        Step::Feed(&text[63..]),
         Step::Resync,
         Step::Apply(0),
         Step::LogWrite,
@@ -226,7 +262,9 @@ fn a_failed_write_or_sync_stops_the_engine(rt: HostRuntime) {
         let (log, control) = calls[event];
         wanted[event + 1] = failed;
         let alloc = rt.alloc();
-        assert!(rt; stops(&rt, alloc, log, control, &wanted) || stops(&rt, alloc, log, control, &wanted));
+        assert!(rt;
+            stops(&rt, alloc, log, control, &wanted) || stops(&rt, alloc, log, control, &wanted)
+        );
         wanted[event + 1] = Reply::Done;
     }
 }
@@ -269,7 +307,9 @@ fn a_format_whose_device_fails_is_refused(rt: HostRuntime) {
     ];
     for (log, control, wanted) in worlds {
         let alloc = rt.alloc();
-        assert!(rt; formats_so(alloc, log, control, wanted) || formats_so(alloc, log, control, wanted));
+        assert!(rt;
+            formats_so(alloc, log, control, wanted) || formats_so(alloc, log, control, wanted)
+        );
     }
 }
 
@@ -290,10 +330,10 @@ fn fills_one_block(rt: &impl Abort, alloc: Global) -> bool {
         records: 5,
         fault: Fault::LogFull,
     });
-    let Some(short) = replies_are(alloc, short, &[Step::Feed(&SHORT)], &[all]) else {
+    let Some(short) = replies_are(alloc, short, &[Step::Feed(&six_short())], &[all]) else {
         return false;
     };
-    let Some(long) = replies_are(alloc, long, &[Step::Feed(&LONG)], &[full]) else {
+    let Some(long) = replies_are(alloc, long, &[Step::Feed(&six_long())], &[full]) else {
         return false;
     };
     assert_eq!(rt; short.status().end, Lsn(232));
@@ -324,9 +364,15 @@ fn refused(alloc: Global, config: Config, log: u64, control: u64, pages: u64) ->
 fn worlds_out_of_range_are_refused(rt: HostRuntime) {
     for pages in [0, 4097, u64::MAX] {
         let config = Config { pages, ..CONFIG };
-        assert_eq!(rt; refused(rt.alloc(), config, 8, 321, 4096), Some(Fault::BadConfig));
+        assert_eq!(rt;
+            refused(rt.alloc(), config, 8, 321, 4096),
+            Some(Fault::BadConfig)
+        );
     }
     for (log, control, pages) in [(0, 321, 4), (4_194_305, 321, 4), (8, 320, 4), (8, 321, 3)] {
-        assert_eq!(rt; refused(rt.alloc(), CONFIG, log, control, pages), Some(Fault::BadConfig));
+        assert_eq!(rt;
+            refused(rt.alloc(), CONFIG, log, control, pages),
+            Some(Fault::BadConfig)
+        );
     }
 }
