@@ -8,6 +8,11 @@ pub enum StepLine {
     Resync,
     /// `apply P`
     Apply { page: u32 },
+    LogWrite,
+    LogSync,
+    MarkWrite,
+    /// `ctl-sync`
+    ControlSync,
 }
 
 impl StepLine {
@@ -23,6 +28,10 @@ impl StepLine {
             "apply" => StepLine::Apply {
                 page: words.number()?,
             },
+            "log-write" => StepLine::LogWrite,
+            "log-sync" => StepLine::LogSync,
+            "mark-write" => StepLine::MarkWrite,
+            "ctl-sync" => StepLine::ControlSync,
             _ => return None,
         };
         words.ending(step)

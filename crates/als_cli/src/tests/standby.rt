@@ -182,7 +182,10 @@ none
 /// More changes of a page than one redo takes, and a page that has none.
 #[test]
 fn drain_goes_round(rt: HostRuntime) -> Result<(), Fail> {
-    let mut script = format!(in rt.alloc(); "{WORLD}u 1 2 0 - 00\nu 1 1 0 - 00\n")?;
+    let mut script = String::from_str(
+        rt.alloc(),
+        "world pages=4 log=32 frames=4 workers=2 pending=1000\nu 1 2 0 - 00\nu 1 1 0 - 00\n",
+    )?;
     for _ in 0..130 {
         script.push_str("u 1 2 0 00 00\n")?;
     }
