@@ -4,7 +4,7 @@ use std::alloc::{AllocError, Global};
 use std::convert::AsStr;
 
 /// What the command line asks for.
-#[derive(Clone, Copy, Debug, PartialEq, Eq)]
+#[derive(Clone, Copy)]
 pub enum Command {
     /// Record lines to a log text: its bytes, or lines of hexadecimal digits.
     Make { hex: bool },

@@ -1,7 +1,7 @@
 use super::words::Words;
 
 /// A line of several steps.
-#[derive(Clone, Copy, Debug, PartialEq, Eq)]
+#[derive(Clone, Copy)]
 pub enum CombinedLine {
     /// Redo until nothing is pending.
     Drain,

@@ -1,5 +1,5 @@
 /// A device of the simulated standby.
-#[derive(Clone, Copy, Debug, PartialEq, Eq)]
+#[derive(Clone, Copy)]
 pub enum Device {
     /// The log's.
     Log,

@@ -1,7 +1,7 @@
 use super::words::Words;
 
 /// A line of one step.
-#[derive(Clone, Copy, Debug, PartialEq, Eq)]
+#[derive(Clone, Copy)]
 pub enum StepLine {
     /// `feed A B`: bytes `from` to `to - 1` of the log text.
     Feed { from: u64, to: u64 },

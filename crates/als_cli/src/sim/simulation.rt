@@ -62,7 +62,7 @@ impl Simulation {
                 simulation.fuses.set(fail);
                 writeln!(output, "ok")?;
             }
-            Line::Show(show) => simulation.show(number, show, output)?,
+            Line::Show(show) => return simulation.show(number, show, output),
         }
         Ok(simulation)
     }
@@ -111,25 +111,36 @@ impl Simulation {
     }
 
     fn show<W: Write>(
-        &mut self,
+        self,
         number: u64,
         line: ShowLine,
         output: &mut W,
-    ) -> Result<(), Failure> {
+    ) -> Result<Simulation, Failure> {
+        let Simulation {
+            alloc,
+            mut world,
+            fuses,
+            text,
+        } = self;
         match line {
-            ShowLine::Status => showing::status(output, self.world.engine())?,
-            ShowLine::Table => showing::table(output, self.world.engine().table())?,
-            ShowLine::Page { page } => match self.world.engine().page_now(page) {
+            ShowLine::Status => showing::status(output, world.engine())?,
+            ShowLine::Table => showing::table(output, world.engine().table())?,
+            ShowLine::Page { page } => match world.engine().page_now(page) {
                 Some(shown) => showing::page(output, page, shown)?,
                 None => return Err(Failure::BadLine(number)),
             },
-            ShowLine::Database => showing::database(output, self.world.engine())?,
-            ShowLine::Log { from } => match showing::log(self.alloc, &mut self.world, from) {
+            ShowLine::Database => showing::database(output, world.engine())?,
+            ShowLine::Log { from } => match showing::log(alloc, &mut world, from) {
                 Ok(listing) => output.write_all(listing.as_bytes())?,
                 Err(fault) => printing::refused(output, fault)?,
             },
         }
-        Ok(())
+        Ok(Simulation {
+            alloc,
+            world,
+            fuses,
+            text,
+        })
     }
 }
 

@@ -1,20 +1,20 @@
-use super::row::{Row, WORLD, run_rows};
+use super::row::{Row, WORLD, run_row, run_scripts};
 use std::test::Fail;
 
 /// A transaction of one update, at 16, 52 and 80, fed whole.
-const FED: &str = "u 1 0 0 - aa\ncommit 1\nend 1\nfeed 16 108\n";
+const FED: (&str, &str) = (
+    "world pages=4 log=8 frames=4 workers=2 pending=1000\nu 1 0 0 - aa\ncommit 1\nend 1\nfeed 16 108\n",
+    "ok taken=92 records=3 end=108\n",
+);
 
-/// What its feed answers.
-const TAKEN: &str = "ok taken=92 records=3 end=108\n";
-
-/// Scripts over the log that is fed, and what they print behind the feed's line.
-const CASES: [(&str, &str); 11] = [
+/// Scripts behind that.
+const FORCED: [(&str, &str); 11] = [
     // One call after another.
     (
         "mark-write\nlog-write\nlog-write\nmark-write\nlog-sync\nmark-write\nctl-sync\n",
         "refused 27 NothingToDo\nok\nrefused 27 NothingToDo\nrefused 27 NothingToDo\nok\nok\nok ack=108\n",
     ),
-    // The script of `examples/acknowledge.als`, and once more.
+    // All of them, as in `examples/acknowledge.als`, and once more.
     (
         "force\nshow status\nforce\n",
         "ok ack=108\nstate=Following end=108 ack=108 pending=1 leases=0\nok ack=108\n",
@@ -39,66 +39,59 @@ const CASES: [(&str, &str); 11] = [
         "drain\nfail control 1\nctl-sync\ndrain\n",
         "ok\nok\nrefused 30 Device\nok\n",
     ),
-    // The calls of `force`, the second to each device.
+    // A force stops at its first write to a device, or at its sync.
+    (
+        "fail log 1\nforce\nforce\n",
+        "ok\nrefused 30 Device\nrefused 31 Stopped\n",
+    ),
     (
         "fail log 2\nforce\nshow status\n",
+        "ok\nrefused 30 Device\nstate=Stopped end=108 ack=16 pending=1 leases=0\n",
+    ),
+    (
+        "fail control 1\nforce\nshow status\n",
         "ok\nrefused 30 Device\nstate=Stopped end=108 ack=16 pending=1 leases=0\n",
     ),
     (
         "fail control 2\nforce\nshow status\n",
         "ok\nrefused 30 Device\nstate=Stopped end=108 ack=16 pending=1 leases=0\n",
     ),
-    // The calls of `force`, the first to each device.
-    (
-        "fail log 1\nforce\nforce\n",
-        "ok\nrefused 30 Device\nrefused 31 Stopped\n",
-    ),
-    // A second line replaces the first, and a call that does not come is none that fails.
+    // A second line replaces the first; a call fails only when it comes.
     (
         "fail log 1\nfail log 3\nfail control 1\nfail control 4\nfail pages 1\nforce\ndrain\nshow db\nlog-sync\n",
         "ok\nok\nok\nok\nok\nok ack=108\nok\n0/0 aa\nrefused 30 Device\n",
     ),
-    // Nothing is held yet behind the log's header.
-    ("resync\nlog-sync\nshow log 81\n", "ok\nok\nnone\n"),
+];
+
+/// A log device of one block, and five records at 16, 52, 88, 124 and 160.
+const NARROW: (&str, &str) = (
+    "world pages=4 log=1 frames=4 workers=2 pending=1000\nu 1 0 0 - a0\nu 1 0 1 - a1\nu 1 0 2 - a2\nu 1 0 3 - a3\nu 1 0 4 - a4\n",
+    "",
+);
+
+/// A sixth record that leaves room for what a takeover would append, and one that does not.
+const FULL: [(&str, &str); 2] = [
+    (
+        "u 1 0 5 - a5\nfeed 16 232\n",
+        "ok taken=216 records=6 end=232\n",
+    ),
+    (
+        "u 1 0 5 - a5a6\nfeed 16 233\n",
+        "refused 29 LogFull taken=180 records=5 end=196\n",
+    ),
 ];
 
 /// What is written and synced is acknowledged, and a device that fails stops the standby.
 #[test]
 fn devices_are_written(rt: HostRuntime) -> Result<(), Fail> {
-    for (lines, output) in CASES {
-        let script = format!(in rt.alloc(); "{WORLD}{FED}{lines}")?;
-        let output = format!(in rt.alloc(); "{TAKEN}{output}")?;
-        run_rows(&rt, &[Row::sim(script.as_str(), output.as_str())])?;
-    }
-    Ok(())
-}
-
-/// A log device of one block: a record has to leave room for what a takeover would append.
-#[test]
-fn logs_are_full(rt: HostRuntime) -> Result<(), Fail> {
-    let world = "world pages=4 log=1 frames=4 workers=2 pending=1000\n";
-    let five = "u 1 0 0 - a0\nu 1 0 1 - a1\nu 1 0 2 - a2\nu 1 0 3 - a3\nu 1 0 4 - a4\n";
-    let cases = [
-        (
-            "u 1 0 5 - a5\nfeed 16 232\n",
-            "ok taken=216 records=6 end=232\n",
-        ),
-        (
-            "u 1 0 5 - a5a6\nfeed 16 233\n",
-            "refused 29 LogFull taken=180 records=5 end=196\n",
-        ),
-    ];
-    for (lines, output) in cases {
-        let script = format!(in rt.alloc(); "{world}{five}{lines}")?;
-        run_rows(&rt, &[Row::sim(script.as_str(), output)])?;
-    }
-    Ok(())
+    run_scripts(&rt, FED, &FORCED)?;
+    run_scripts(&rt, NARROW, &FULL)
 }
 
 /// Records that only the log device has are read from it; a read that fails is refused alone, and changes nothing.
 #[test]
 fn reads_may_fail(rt: HostRuntime) -> Result<(), Fail> {
-    let mut script = format!(in rt.alloc(); "{WORLD}")?;
+    let mut script = String::from_str(rt.alloc(), WORLD)?;
     for trans in 1..21 {
         writeln!(script, "rollback {trans}")?;
     }
@@ -110,5 +103,5 @@ refused 30 Device
 state=Following end=576 ack=576 pending=0 leases=0
 548 rollback trans=20 prev=0
 ";
-    run_rows(&rt, &[Row::sim(script.as_str(), output)])
+    run_row(&rt, Row::sim(script.as_str(), output))
 }
