@@ -20,6 +20,33 @@ rising-sorted xs r i j d le lt = elim (cases_lt i j) [
   | inr g ↦ let e : i ≡ j = omega arith in subst (λ k. (get_or xs i d).row.trans.0 ≤ (get_or xs k d).row.trans.0) e (omega arith)
 ]
 
+-- the place of a transaction that is not above the first, and of one that is above the last
+pub place-first : (xs : List Open) (e : Open) (t : ℕ) → IsRising xs → t ≤ (get_or xs 0 e).row.trans.0 → IsPlace xs t 0
+place-first xs e t r le = record {
+  within = omega arith;
+  below = λ k d lt. absurd (omega arith);
+  above = λ k d le' lt. elim (cases_eq k 0) [
+    | inl q ↦ let h : t ≤ (get_or xs 0 d).row.trans.0 = subst (λ (o : Open). t ≤ o.row.trans.0) (get_or_default xs 0 e d (omega arith)) le in subst (λ k. t ≤ (get_or xs k d).row.trans.0) (sym q) h
+    | inr n ↦
+        let z : 0 < k = omega arith in
+        let h : t ≤ (get_or xs 0 d).row.trans.0 = subst (λ (o : Open). t ≤ o.row.trans.0) (get_or_default xs 0 e d (omega arith)) le in
+        let up : (get_or xs 0 d).row.trans.0 < (get_or xs k d).row.trans.0 = r 0 k d z lt in
+        omega arith
+  ];
+}
+
+pub place-last : (xs : List Open) (e : Open) (t n : ℕ) → IsRising xs → length xs ≡ n + 1 → (get_or xs n e).row.trans.0 < t → IsPlace xs t (length xs)
+place-last xs e t n r c lt = record {
+  within = omega arith;
+  below = λ k d l.
+      let h : (get_or xs n d).row.trans.0 < t = subst (λ (o : Open). o.row.trans.0 < t) (get_or_default xs n e d (omega arith)) lt in
+      elim (cases_eq k n) [
+        | inl q ↦ subst (λ k. (get_or xs k d).row.trans.0 < t) (sym q) h
+        | inr ne ↦ let z : k < n = omega arith in let up : (get_or xs k d).row.trans.0 < (get_or xs n d).row.trans.0 = r k n d z (omega arith) in omega arith
+      ];
+  above = λ k d le l. absurd (omega arith);
+}
+
 -- what is true of each element is so of each that is left
 pub All-remove : {X : Type 0} (P : X → Type 0) (xs : List X) (i : ℕ) → i < length xs → All P xs → All P (remove xs i)
 All-remove {X} P xs i lt a k d l =

@@ -1,9 +1,10 @@
 -- The transaction table, and the log of which it is the table.
-use Rattle.std.specs.Prelude.{◌≡◌, Bool, List, map}
+use Rattle.std.specs.Prelude.{◌≡◌, ℕ, Bool, true, List, map}
 use Rattle.als_record.specs.declared.record.Record.{Record}
 use Rattle.als_record.specs.declared.transaction_row.TransactionRow.{TransactionRow}
-use Rattle.als_record.specs.Transactions.{surviving, unended}
-use Rattle.als_record.specs.Table.{table_of}
+use Rattle.als_record.specs.Transactions.{is_unended, surviving, unended}
+use Rattle.als_record.specs.Table.{row_of, table_of}
+use Rattle.als_analysis.specs.Open.{Open}
 
 -- a row for each transaction that has not ended, beside each its surviving updates, and whether there is room for one
 -- more record whatever it is
@@ -16,3 +17,9 @@ pub record Table : Type 0 where
 pub record IsTableOf (table : Table) (log : List Record) : Type 0 where
   pub rows : table.rows ≡ table_of log
   pub left : table.left ≡ map (surviving log) (unended log)
+
+-- what is kept of an unended transaction of the log
+pub record IsOpenOf (kept : Open) (log : List Record) (t : ℕ) : Type 0 where
+  pub unended : is_unended log t ≡ true
+  pub row : kept.row ≡ row_of log t
+  pub left : kept.left ≡ surviving log t

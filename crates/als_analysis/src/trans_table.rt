@@ -1,4 +1,4 @@
-ghost use Rattle.std.specs.Prelude.{◌≡◌, ◌≢◌, ℕ, ◌<◌, ◌≤◌, ◌+◌, true, false, IsTrue, List, [], ◌∷◌, ◌++◌, length, vec_len, vec_capacity, slice_index_or, slice_set, IfSome, IfNone, OnOk, OnErr, IsOk, ◌↔◌, if◌then◌else◌};
+ghost use Rattle.std.specs.Prelude.{◌≡◌, ◌≢◌, ℕ, ◌<◌, ◌≤◌, ◌+◌, true, false, IsTrue, List, [], ◌∷◌, ◌++◌, length, vec_len, vec_capacity, slice_index_or, slice_set, IfSome, IfNone, OnOk, OnErr, IsOk, ◌↔◌, MatchOption, if◌then◌else◌};
 ghost use Rattle.std.specs.List.{remove, All};
 ghost use Rattle.als_record.specs.declared.record.Record.{Record};
 ghost use Rattle.als_record.specs.declared.transaction_row.TransactionRow.{TransactionRow};
@@ -8,7 +8,7 @@ ghost use Rattle.als_record.specs.Tail.{tail_len};
 ghost use Rattle.als_record.specs.Validity.{may_follow};
 ghost use Rattle.als_analysis.specs.Open.{left_after, rows_of, left_of};
 ghost use Rattle.als_analysis.specs.Kept.{IsRising, IsPlace, MakesRoom, numbers};
-ghost use Rattle.als_analysis.specs.Noted.{IsTableOf};
+ghost use Rattle.als_analysis.specs.Noted.{IsTableOf, IsOpenOf};
 
 use crate::fault::Fault;
 use crate::open_transaction::{OpenTransaction, owed_anew};
@@ -18,6 +18,9 @@ use std::marker::Model;
 
 /// How many transactions of a valid log are unended at most.
 const TRANSACTION_LIMIT: usize = 256;
+
+/// How many places are remembered, by the low bits of TransIDs.
+const PLACE_COUNT: usize = 1024;
 
 /// The transaction table of ARIES, kept as its log grows: the unended transactions in rising TransID, with the updates
 /// that survive of each, and the length of what a takeover would append.
@@ -30,6 +33,8 @@ pub struct TransTable {
     // The one transaction that may be without room.
     tight: usize,
     has_room: bool,
+    // Where a transaction stands, by the low bits of its TransID: asked first and not relied on, since two may share a place.
+    places: [u8; PLACE_COUNT],
 }
 
 impl Model for TransTable {
@@ -59,12 +64,69 @@ fn is_transaction_record(body: &Body) -> bool
     !matches!(body, Body::BeginCheckpoint | Body::EndCheckpoint { .. })
 }
 
-/// The first place whose transaction is not below this one.
-fn place_of(entries: &[OpenTransaction], trans: TransId) -> usize
+/// Whether there are transactions, none of them below this one.
+fn is_below_all(entries: &[OpenTransaction], trans: TransId) -> bool
+    requires { IsRising entries.now }
+    ensures { IsTrue result → IsPlace entries.now trans.0 0 }
+{
+    if entries.is_empty() {
+        return false;
+    }
+    trans.0 <= entries[0].row().trans.0
+}
+
+/// Whether there are transactions, all of them below this one.
+fn is_above_all(entries: &[OpenTransaction], trans: TransId) -> bool
+    requires { IsRising entries.now }
+    ensures { IsTrue result → IsPlace entries.now trans.0 (length entries.now) }
+{
+    let count = entries.len();
+    if count == 0 {
+        return false;
+    }
+    entries[count - 1].row().trans.0 < trans.0
+}
+
+/// The first place whose transaction is not below this one, searched for.
+fn search(entries: &[OpenTransaction], trans: TransId) -> usize
     requires { IsRising entries.now }
     ensures { IsPlace entries.now trans.0 result }
 {
     entries.partition_point(|o| o.row().trans.0 < trans.0)
+}
+
+/// The first place whose transaction is not below this one. Most often that of an old or a new transaction is asked for.
+fn place_of(entries: &[OpenTransaction], trans: TransId) -> usize
+    requires { IsRising entries.now }
+    ensures { IsPlace entries.now trans.0 result }
+{
+    if is_below_all(entries, trans) {
+        return 0;
+    }
+    if is_above_all(entries, trans) {
+        return entries.len();
+    }
+    search(entries, trans)
+}
+
+/// Where a transaction's place is remembered.
+fn bucket_of(trans: TransId) -> usize
+    ensures { result < 1024 }
+{
+    trans.0 as usize % PLACE_COUNT
+}
+
+/// Remembers where a transaction stands.
+fn remember(places: &mut [u8; PLACE_COUNT], trans: TransId, at: usize) {
+    places[bucket_of(trans)] = u8::try_from(at).unwrap_or(0);
+}
+
+/// The transactions above this place stand one lower.
+fn move_down(places: &mut [u8; PLACE_COUNT], at: usize) {
+    let gone = u8::try_from(at).unwrap_or(0);
+    for place in places.iter_mut() {
+        *place = place.saturating_sub(u8::from(*place > gone));
+    }
 }
 
 /// Keeps what an ended transaction had allocated for another one, where there is a place.
@@ -115,6 +177,7 @@ impl TransTable {
             reserve: 0,
             tight: 0,
             has_room: false,
+            places: [0; PLACE_COUNT],
         }
     }
 
@@ -161,6 +224,7 @@ impl TransTable {
         let ended = self.entries.remove(at);
         self.reserve -= ended.owed();
         self.has_room = false;
+        move_down(&mut self.places, at);
         keep_spare(&mut self.spares, ended);
     }
 
@@ -180,13 +244,14 @@ impl TransTable {
                 self.tight = self.entries.len();
                 self.entries.push_reserved(fresh);
                 self.has_room = false;
+                remember(&mut self.places, logged.trans, self.tight);
             }
             None => unreachable!(),
         }
     }
 
-    /// The place of a transaction's row.
-    fn find(&self, trans: TransId) -> Option<usize>
+    /// The place of a transaction's row, searched for.
+    fn find_by_search(&self, trans: TransId) -> Option<usize>
         ensures within { IfSome result (λ i. i < length self.now.rows) }
         ensures here { IfSome result (λ i. (d : TransactionRow) → (slice_index_or self.now.rows i d).trans.0 ≡ trans.0) }
         ensures none { IfNone result (is_among (numbers self.now.rows) trans.0 ≡ false) }
@@ -201,6 +266,29 @@ impl TransTable {
             return None;
         }
         Some(at)
+    }
+
+    /// The place of a transaction's row: that which is remembered, if it is there.
+    fn find(&self, trans: TransId) -> Option<usize>
+        ensures within { IfSome result (λ i. i < length self.now.rows) }
+        ensures here { IfSome result (λ i. (d : TransactionRow) → (slice_index_or self.now.rows i d).trans.0 ≡ trans.0) }
+        ensures none { IfNone result (is_among (numbers self.now.rows) trans.0 ≡ false) }
+    {
+        let at = self.places[bucket_of(trans)] as usize;
+        if at < self.entries.len() && self.entries[at].row().trans.0 == trans.0 {
+            return Some(at);
+        }
+        self.find_by_search(trans)
+    }
+
+    /// What is kept of an unended transaction. `None`: it has no row.
+    pub fn open_of(&self, trans: TransId) -> Option<&OpenTransaction>
+        ensures { (log : List Record) → IsTableOf self.now log → MatchOption result (is_unended log trans.0 ≡ false) (λ kept. IsOpenOf kept.now log trans.0) }
+    {
+        match self.find(trans) {
+            Some(at) => Some(&self.entries[at]),
+            None => None,
+        }
     }
 
     /// Whether there is place for a transaction above all others.

@@ -9,22 +9,28 @@ mod writer;
 mod small;
 // Random numbers that come again.
 mod dice;
+// The devices of a standby.
+mod devices;
+// Whole feeds.
+mod fed;
+// Feeds that are forced.
+mod forced;
 // What is measured, and how it is told.
 mod measure;
 
 use measure::measure_all;
 use std::{env, io};
 
-/// Tells the figures for a log of so many MB, the one word of the command line; with no word, how to ask.
+/// Tells the figures for a log of so many MB, the first word of the command line; in the folder that the second one names, if
+/// there is one, it makes the device files of a standby. With no word, how to ask.
 fn main(rt: HostRuntime) -> io::Result<()> {
-    let mut megabytes = None;
-    for word in env::args(&rt)?.skip(1) {
-        megabytes = word.parse::<usize>().ok();
-    }
+    let mut words = env::args(&rt)?.skip(1);
+    let megabytes = words.next().and_then(|word| word.parse::<usize>().ok());
+    let folder = words.next();
     match megabytes {
-        Some(megabytes) if megabytes <= 1024 => measure_all(&rt, megabytes),
+        Some(megabytes) if megabytes <= 1024 => measure_all(&rt, megabytes, folder.as_deref()),
         _ => println!(rt;
-            "als_bench MB: records and MB a second for a log of so many MB, at most 1024"
+            "als_bench MB [FOLDER]: records and MB a second for a log of so many MB, at most 1024; over device files in the folder too"
         ),
     }
 }

@@ -1,17 +1,24 @@
+use crate::fed::feed_all;
+use crate::forced::force_all;
 use crate::primary::{PAGES, Primary};
-use als_engine::{Config, Engine};
 use als_record::{Lsn, decode};
 use als_validator::Validator;
 use std::alloc::Global;
+use std::fs::File;
 use std::io;
-use std::rt::Clock;
+use std::rt::{Clock, Files};
 use std::time::{Duration, Instant};
 
 /// The first record's offset.
-const FIRST: usize = 16;
+pub const FIRST: usize = 16;
 
-/// Measures each job over a log of so many MB with 16 open transactions, and with 1 and with 256.
-pub fn measure_all<R: Print + Clock + AllocGlobal>(rt: &R, megabytes: usize) -> io::Result<()> {
+/// Measures each job over a log of so many MB with 16 open transactions, and with 1 and with 256. In the folder, if one is
+/// given, it makes the device files of a standby.
+pub fn measure_all<R: Print + Clock + AllocGlobal + Files<File = File>>(
+    rt: &R,
+    megabytes: usize,
+    folder: Option<&str>,
+) -> io::Result<()> {
     let bytes = megabytes.saturating_mul(1 << 20);
     for open in [16, 1, 256] {
         let text = match Primary::new(rt.alloc(), open, bytes).and_then(|primary| primary.write(
@@ -26,6 +33,9 @@ pub fn measure_all<R: Print + Clock + AllocGlobal>(rt: &R, megabytes: usize) -> 
         measure(rt, "decode and judge", text, || judge_all(rt.alloc(), text))?;
         for piece in [65_536, 100] {
             feed_all(rt, text, piece)?;
+        }
+        if open == 16 {
+            force_all(rt, text, folder)?;
         }
     }
     Ok(())
@@ -46,7 +56,7 @@ fn measure<R: Print + Clock, F: FnOnce() -> u64>(
 }
 
 /// Prints a figure.
-fn tell<R: Print>(
+pub fn tell<R: Print>(
     rt: &R,
     name: &str,
     bytes: usize,
@@ -103,45 +113,4 @@ fn judge_all(alloc: Global, text: &[u8]) -> u64 {
         records = records.saturating_add(1);
     }
     records
-}
-
-/// Feeds a log in pieces of so many bytes. Redo has its turn in between, and its time is not counted.
-fn feed_all<R: Print + Clock + AllocGlobal>(rt: &R, text: &[u8], piece: usize) -> io::Result<()> {
-    let config = Config {
-        pages: u64::from(PAGES),
-        frames: u64::from(PAGES),
-        pending: 1_000_000,
-        readers: 1,
-    };
-    let Ok(mut engine) = Engine::empty(rt.alloc(), config) else {
-        return println!(rt; "32 Memory");
-    };
-    let mut records = 0u64;
-    let mut took = Duration::ZERO;
-    let mut start = Instant::now(rt)?;
-    for bytes in text.get(FIRST..).unwrap_or(&[]).chunks(piece.max(1)) {
-        match engine.feed(bytes) {
-            Ok(fed) => records = records.saturating_add(fed.records as u64),
-            Err(refusal) => return println!(rt; "{}", refusal.fault),
-        }
-        if engine.status().pending > 900_000 {
-            took = took.saturating_add(start.elapsed(rt)?);
-            drain(&mut engine);
-            start = Instant::now(rt)?;
-        }
-    }
-    took = took.saturating_add(start.elapsed(rt)?);
-    println!(rt; "feed in pieces of {piece}:")?;
-    tell(rt, "feed", text.len(), records, took)
-}
-
-/// Redoes all that is pending.
-fn drain(engine: &mut Engine) {
-    for page in 0..PAGES {
-        for _ in 0..u64::MAX {
-            if engine.apply(page).is_err() {
-                break;
-            }
-        }
-    }
 }

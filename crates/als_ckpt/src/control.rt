@@ -151,7 +151,7 @@ impl<D: BlockDisk> Control<D> {
         ensures fault { IfErr result (λ fault. fault ≡ Fault.Device) }
         ensures failures { CountsFailure result self.old.failures self.new.failures }
     {
-        let state = ControlState { mark, ..self.last };
+        let state = self.last.with_mark(mark);
         self.write(state)
     }
 

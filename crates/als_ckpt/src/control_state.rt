@@ -33,4 +33,10 @@ impl ControlState {
             seal: Lsn(0),
         }
     }
+    /// The same state with another mark.
+    pub(crate) fn with_mark(self, mark: Lsn) -> ControlState
+        ensures { result ≡ record self { mark = mark } }
+    {
+        ControlState { mark, ..self }
+    }
 }

@@ -1,3 +1,4 @@
+pub mod Answered
 mod Full
 mod Maps
 mod Picks

@@ -1,11 +1,11 @@
 -- What a device in memory keeps: the contents of the last sync, and what was written since.
 use Rattle.std.specs.Prelude.{◌≡◌, ◌<◌, ℕ, List, [], ◌∷◌, replicate, Contains, Option, Some, None, unwrap_or}
-use Rattle.std.proofs.Common.{arith, refl, subst}
+use Rattle.std.proofs.Common.{arith, refl, subst, sym, ap, ◌∙◌}
 use Rattle.std.proofs.lemmas.List.Elements.{Contains-push}
 use Rattle.std.specs.Ordering.{nat_cmp}
 use Rattle.std.specs.BTreeMap.{BTreeMap, get, ContainsKey}
 use Rattle.als_disk.specs.declared.unsynced.Unsynced.{Unsynced}
-use Rattle.als_disk.specs.Slot.{Slot, only, GivesCandidates}
+use Rattle.als_disk.specs.Slot.{Slot, only, GivesCandidates, KeepsReadable}
 use Rattle.als_disk.specs.SlotLaws.{Contains-one}
 use Rattle.als_disk.specs.Unsynced.{contents}
 
@@ -48,7 +48,7 @@ newest_is_candidate : (content : List ℕ) (writes : Option Unsynced) → Contai
 newest_is_candidate content None = (0, omega arith, refl)
 newest_is_candidate content (Some writes) = Contains-push (content ∷ writes.earlier.items) writes.last
 
-readable_is_newest : (content : List ℕ) (writes : Option Unsynced) → (slot_with content writes).readable ≡ newest content writes ∷ []
+pub readable_is_newest : (content : List ℕ) (writes : Option Unsynced) → (slot_with content writes).readable ≡ newest content writes ∷ []
 readable_is_newest content None = refl
 readable_is_newest content (Some writes) = refl
 
@@ -59,3 +59,15 @@ slot_of-gives_candidates synced unsynced = record {
       let from_newest : Contains (newest_of synced unsynced k ∷ []) content = subst (λ (xs : List (List ℕ)). Contains xs content) (readable_is_newest (synced_content synced k) (get nat_cmp unsynced k)) has in
       subst (λ (x : List ℕ). Contains (slot_of synced unsynced k).candidates x) (Contains-one from_newest) (newest_is_candidate (synced_content synced k) (get nat_cmp unsynced k));
 }
+
+-- a settled block keeps the newest content, and that was the readable one
+pub newest-readable : (synced : BTreeMap ℕ (List ℕ)) (unsynced : BTreeMap ℕ Unsynced) (k : ℕ) → Contains (slot_of synced unsynced k).readable (newest_of synced unsynced k)
+newest-readable synced unsynced k = rw (readable_is_newest (synced_content synced k) (get nat_cmp unsynced k)) (0, omega arith, refl)
+
+pub only_newest-readable : (synced : BTreeMap ℕ (List ℕ)) (unsynced : BTreeMap ℕ Unsynced) (k : ℕ) (new : Slot) → KeepsReadable (slot_of synced unsynced k) new → new ≡ only (newest_of synced unsynced k)
+only_newest-readable synced unsynced k new keeps =
+    let one : Contains (newest_of synced unsynced k ∷ []) keeps.content = subst (λ (xs : List (List ℕ)). Contains xs keeps.content) (readable_is_newest (synced_content synced k) (get nat_cmp unsynced k)) keeps.was_readable in
+    keeps.left ∙ ap only (sym (Contains-one one))
+
+pub KeepsReadable-newest : (synced : BTreeMap ℕ (List ℕ)) (unsynced : BTreeMap ℕ Unsynced) (k : ℕ) (new : Slot) → new ≡ only (newest_of synced unsynced k) → KeepsReadable (slot_of synced unsynced k) new
+KeepsReadable-newest synced unsynced k new left = record { content = newest_of synced unsynced k; was_readable = newest-readable synced unsynced k; left = left }

@@ -1,5 +1,6 @@
-ghost use Rattle.std.specs.Prelude.{◌≡◌, ℕ};
-ghost use Rattle.als_disk.specs.Slot.{only, HoldsBlocks};
+ghost use Rattle.std.specs.Prelude.{◌≡◌, ◌<◌, ℕ, Contains, IsOk, OnOk, OnErr};
+ghost use Rattle.als_disk.specs.Failures.{CountsFailure};
+ghost use Rattle.als_disk.specs.Slot.{only, written, HoldsBlocks, SameBlocks, SameBlocksBut};
 ghost use Rattle.als_disk.specs.Store.{zeros, slot_of, HasRoom, IsInRange, slot_of-gives_candidates};
 
 use crate::count::Count;
@@ -40,7 +41,7 @@ impl MemDisk {
 }
 
 impl BlockDisk for MemDisk {
-    ghost use Rattle.als_disk.specs.MemDisk.{mem_blocks, mem_slot, mem_failures};
+    ghost use Rattle.als_disk.specs.MemDisk.{mem_blocks, mem_slot, mem_newest, mem_failures};
 
     ghost block_count = { mem_blocks };
 
@@ -56,12 +57,26 @@ impl BlockDisk for MemDisk {
         self.blocks
     }
 
-    fn read(&mut self, i: u64, into: &mut [u8; 512]) -> Result<(), DeviceError> {
+    /// Reads a block. It never fails, and changes nothing.
+    fn read(&mut self, i: u64, into: &mut [u8; 512]) -> Result<(), DeviceError>
+        requires { i < mem_blocks self.old }
+        ensures ok { IsOk result }
+        ensures newest { into.new ≡ mem_newest self.old i }
+        ensures same { self.new ≡ self.old }
+    {
         *into = store::newest(&self.synced, &self.unsynced, i);
         Ok(())
     }
 
-    fn write(&mut self, i: u64, block: &[u8; 512]) -> Result<(), DeviceError> {
+    /// Writes a block. A write that fails changes nothing.
+    fn write(&mut self, i: u64, block: &[u8; 512]) -> Result<(), DeviceError>
+        requires { i < mem_blocks self.old }
+        ensures ok { OnOk result (mem_slot self.new i ≡ written (mem_slot self.old i) block.now) }
+        ensures err { OnErr result (SameBlocks (mem_slot self.old) (mem_slot self.new)) }
+        ensures others { SameBlocksBut i (mem_slot self.old) (mem_slot self.new) }
+        ensures count { mem_blocks self.new ≡ mem_blocks self.old }
+        ensures failures { CountsFailure result (mem_failures self.old) (mem_failures self.new) }
+    {
         match store::put(self.alloc, &mut self.synced, &mut self.unsynced, i, block) {
             Ok(()) => Ok(()),
             Err(AllocError) => {
@@ -71,7 +86,13 @@ impl BlockDisk for MemDisk {
         }
     }
 
-    fn sync(&mut self) -> Result<(), DeviceError> {
+    /// Makes the newest content of each block the only one. It never fails.
+    fn sync(&mut self) -> Result<(), DeviceError>
+        ensures ok { IsOk result }
+        ensures newest { (k : ℕ) → mem_slot self.new k ≡ only (mem_newest self.old k) }
+        ensures count { mem_blocks self.new ≡ mem_blocks self.old }
+        ensures failures { mem_failures self.new ≡ mem_failures self.old }
+    {
         store::settle(&mut self.synced, &mut self.unsynced);
         Ok(())
     }

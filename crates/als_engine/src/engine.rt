@@ -96,7 +96,8 @@ impl<D: BlockDisk> Engine<D> {
     pub fn feed(&mut self, piece: &[u8]) -> Result<Fed, FeedFault>
         ensures { Feeds self.old piece.now result self.new }
     {
-        if self.store.is_broken() {
+        let stopped = self.store.is_broken();
+        if stopped {
             return Err(refused_whole(Fault::Stopped));
         }
         if let Some(fault) = self.refused {

@@ -1,0 +1,332 @@
+ghost use Rattle.std.specs.Prelude.{◌<◌};
+
+use super::*;
+use als_disk::{BlockDisk, FailingDisk, Fuse, MemDisk};
+use als_record::Lsn;
+use std::alloc::{AllocError, Global};
+use std::process::Abort;
+
+/// An update of 0/0 to `aa` at 16, its commit at 52 and its end at 80.
+const TEXT: [u8; 92] = [
+    0, 0, 0, 36, 1, 0, 0, 0, 0, 0, 0, 0, 0, 0, 0, 16, 0, 0, 0, 0, 0, 0, 0, 0, 0, 0, 0, 1, 0, 0, 0, 0, 0, 255, 1, 170, 0, 0, 0, 28, 3, 0, 0, 0, 0, 0, 0, 0, 0, 0, 0, 52, 0, 0, 0, 0, 0, 0, 0, 16, 0, 0, 0, 1, 0, 0, 0, 28, 5, 0, 0, 0, 0, 0, 0, 0, 0, 0, 0, 80, 0, 0, 0, 0, 0, 0, 0, 52, 0, 0, 0, 1,
+];
+
+/// Updates of 0/0 to 0/5 by one transaction, from 16 on, each with a value of one byte.
+const SHORT: [u8; 216] = [
+    0, 0, 0, 36, 1, 0, 0, 0, 0, 0, 0, 0, 0, 0, 0, 16, 0, 0, 0, 0, 0, 0, 0, 0, 0, 0, 0, 1, 0, 0, 0, 0, 0, 255, 1, 160, 0, 0, 0, 36, 1, 0, 0, 0, 0, 0, 0, 0, 0, 0, 0, 52, 0, 0, 0, 0, 0, 0, 0, 16, 0, 0, 0, 1, 0, 0, 0, 0, 1, 255, 1, 161, 0, 0, 0, 36, 1, 0, 0, 0, 0, 0, 0, 0, 0, 0, 0, 88, 0, 0, 0, 0, 0, 0, 0, 52, 0, 0, 0, 1, 0, 0, 0, 0, 2, 255, 1, 162, 0, 0, 0, 36, 1, 0, 0, 0, 0, 0, 0, 0, 0, 0, 0, 124, 0, 0, 0, 0, 0, 0, 0, 88, 0, 0, 0, 1, 0, 0, 0, 0, 3, 255, 1, 163, 0, 0, 0, 36, 1, 0, 0, 0, 0, 0, 0, 0, 0, 0, 0, 160, 0, 0, 0, 0, 0, 0, 0, 124, 0, 0, 0, 1, 0, 0, 0, 0, 4, 255, 1, 164, 0, 0, 0, 36, 1, 0, 0, 0, 0, 0, 0, 0, 0, 0, 0, 196, 0, 0, 0, 0, 0, 0, 0, 160, 0, 0, 0, 1, 0, 0, 0, 0, 5, 255, 1, 165,
+];
+
+/// The same, but that the sixth has a value of two bytes.
+const LONG: [u8; 217] = [
+    0, 0, 0, 36, 1, 0, 0, 0, 0, 0, 0, 0, 0, 0, 0, 16, 0, 0, 0, 0, 0, 0, 0, 0, 0, 0, 0, 1, 0, 0, 0, 0, 0, 255, 1, 160, 0, 0, 0, 36, 1, 0, 0, 0, 0, 0, 0, 0, 0, 0, 0, 52, 0, 0, 0, 0, 0, 0, 0, 16, 0, 0, 0, 1, 0, 0, 0, 0, 1, 255, 1, 161, 0, 0, 0, 36, 1, 0, 0, 0, 0, 0, 0, 0, 0, 0, 0, 88, 0, 0, 0, 0, 0, 0, 0, 52, 0, 0, 0, 1, 0, 0, 0, 0, 2, 255, 1, 162, 0, 0, 0, 36, 1, 0, 0, 0, 0, 0, 0, 0, 0, 0, 0, 124, 0, 0, 0, 0, 0, 0, 0, 88, 0, 0, 0, 1, 0, 0, 0, 0, 3, 255, 1, 163, 0, 0, 0, 36, 1, 0, 0, 0, 0, 0, 0, 0, 0, 0, 0, 160, 0, 0, 0, 0, 0, 0, 0, 124, 0, 0, 0, 1, 0, 0, 0, 0, 4, 255, 1, 164, 0, 0, 0, 37, 1, 0, 0, 0, 0, 0, 0, 0, 0, 0, 0, 196, 0, 0, 0, 0, 0, 0, 0, 160, 0, 0, 0, 1, 0, 0, 0, 0, 5, 255, 2, 165, 166,
+];
+
+const CONFIG: Config = Config {
+    pages: 4,
+    frames: 4,
+    pending: 1000,
+    readers: 1,
+};
+
+/// A call that no device comes to.
+const NEVER: u64 = 1_000_000;
+
+type Disk = FailingDisk<MemDisk>;
+
+/// What makes the log device and the control device fail.
+#[derive(Drop)]
+struct Fuses {
+    log: Fuse,
+    control: Fuse,
+}
+
+/// New devices, of which the log's has so many blocks.
+fn devices(alloc: Global, blocks: u64) -> Result<(Disks<Disk>, Fuses), AllocError> {
+    let log = Fuse::new(alloc)?;
+    let control = Fuse::new(alloc)?;
+    let pages = Fuse::new(alloc)?;
+    let disks = Disks {
+        log: FailingDisk::new(MemDisk::new(alloc, blocks), log.clone()?),
+        control: FailingDisk::new(MemDisk::new(alloc, 321), control.clone()?),
+        pages: FailingDisk::new(MemDisk::new(alloc, 4), pages),
+    };
+    Ok((disks, Fuses { log, control }))
+}
+
+/// A standby over new devices. `None`: memory was refused.
+fn standby(alloc: Global, blocks: u64) -> Option<(Engine<Disk>, Fuses)> {
+    let (disks, fuses) = devices(alloc, blocks).ok()?;
+    let engine = Engine::format(alloc, disks, CONFIG).ok()?;
+    Some((engine, fuses))
+}
+
+/// Runs the steps over a standby, and compares the replies. False: memory was refused.
+fn replies_are(alloc: Global, engine: Engine<Disk>, steps: &[Step], wanted: &[Reply]) -> Option<Engine<Disk>> {
+    let (world, replies) = run(alloc, World::new(engine), steps).ok()?;
+    if replies.as_slice() != wanted {
+        return None;
+    }
+    Some(world.into_engine())
+}
+
+/// Feeds a piece, and once more what is left of it where memory is refused: then the whole records in front are held, and
+/// nothing else has changed.
+fn feed_again(rt: &impl Abort, engine: &mut Engine<Disk>, piece: &[u8]) -> bool {
+    let before = engine.status();
+    match engine.feed(piece) {
+        Ok(fed) => fed.taken == piece.len(),
+        Err(refusal) => {
+            let after = engine.status();
+            assert_eq!(rt; refusal.fault, Fault::Memory);
+            assert_eq!(rt; after.partial, 0);
+            assert_eq!(rt; after.state, State::Following);
+            assert_eq!(rt; after.acknowledged, before.acknowledged);
+            let from = after.end.0.saturating_sub(16) as usize;
+            match TEXT.get(from..) {
+                Some(rest) => engine.feed(rest).is_ok(),
+                None => false,
+            }
+        }
+    }
+}
+
+/// The log in pieces, and the page that it makes.
+fn takes_pieces(rt: &impl Abort, alloc: Global) -> bool {
+    let Some((mut engine, _)) = standby(alloc, 8) else {
+        return false;
+    };
+    for piece in [&TEXT[..1], &TEXT[1..40], &TEXT[40..]] {
+        if engine.status().end == Lsn(108) {
+            break;
+        }
+        assert!(rt; feed_again(rt, &mut engine, piece));
+    }
+    let status = engine.status();
+    assert_eq!(rt; status.end, Lsn(108));
+    assert_eq!(rt; status.acknowledged, Lsn(16));
+    assert_eq!(rt; status.pending, 1);
+    assert_eq!(rt; engine.next_pending(0), Some(0));
+    assert_eq!(rt; engine.apply(0).ok(), Some(Lsn(16)));
+    assert_eq!(rt; engine.apply(0), Err(Fault::NothingToDo));
+    let shown = match engine.page_now(0) {
+        Some(page) => page.lsn(),
+        None => Lsn(0),
+    };
+    assert_eq!(rt; shown, Lsn(16));
+    assert!(rt; engine.page_now(4).is_none());
+    true
+}
+
+#[test]
+fn a_log_in_pieces_makes_warm_pages(rt: HostRuntime) {
+    assert!(rt; takes_pieces(&rt, rt.alloc()) || takes_pieces(&rt, rt.alloc()));
+}
+
+/// The log is written and synced, then marked and acknowledged, each where there is something to do.
+fn acknowledges(rt: &impl Abort, alloc: Global) -> bool {
+    let Some((engine, _)) = standby(alloc, 8) else {
+        return false;
+    };
+    let steps = [
+        Step::Feed(&TEXT),
+        Step::MarkWrite,
+        Step::LogWrite,
+        Step::LogWrite,
+        Step::MarkWrite,
+        Step::LogSync,
+        Step::MarkWrite,
+        Step::ControlSync,
+        Step::Apply(0),
+        Step::Resync,
+        Step::Apply(9),
+    ];
+    let wanted = [
+        Reply::Fed(Fed {
+            taken: 92,
+            records: 3,
+        }),
+        Reply::Refused(Fault::NothingToDo),
+        Reply::Done,
+        Reply::Refused(Fault::NothingToDo),
+        Reply::Refused(Fault::NothingToDo),
+        Reply::Done,
+        Reply::Done,
+        Reply::Acknowledged(Lsn(108)),
+        Reply::Applied(Lsn(16)),
+        Reply::Done,
+        Reply::Refused(Fault::NothingToDo),
+    ];
+    let Some(engine) = replies_are(alloc, engine, &steps, &wanted) else {
+        return false;
+    };
+    assert_eq!(rt; engine.status().acknowledged, Lsn(108));
+    assert_eq!(rt; engine.into_disks().log.blocks(), 8);
+    true
+}
+
+#[test]
+fn what_is_stored_is_acknowledged(rt: HostRuntime) {
+    assert!(rt; acknowledges(&rt, rt.alloc()) || acknowledges(&rt, rt.alloc()));
+}
+
+/// The log device's or the control device's next call but so many fails. Then each event is refused, and the queries go on.
+fn stops(rt: &impl Abort, alloc: Global, log: u64, control: u64, wanted: &[Reply]) -> bool
+    requires log { 0 < log }
+    requires control { 0 < control }
+{
+    let Some((engine, fuses)) = standby(alloc, 8) else {
+        return false;
+    };
+    fuses.log.fail_at(log);
+    fuses.control.fail_at(control);
+    let steps = [
+        Step::Feed(&TEXT[..63]),
+        Step::LogWrite,
+        Step::LogSync,
+        Step::MarkWrite,
+        Step::ControlSync,
+        Step::Feed(&TEXT[63..]),
+        Step::Resync,
+        Step::Apply(0),
+        Step::LogWrite,
+        Step::LogSync,
+        Step::MarkWrite,
+        Step::ControlSync,
+    ];
+    let Some(engine) = replies_are(alloc, engine, &steps, wanted) else {
+        return false;
+    };
+    let status = engine.status();
+    assert_eq!(rt; status.state, State::Stopped);
+    assert_eq!(rt; status.end, Lsn(52));
+    assert_eq!(rt; status.partial, 27);
+    assert_eq!(rt; status.acknowledged, Lsn(16));
+    assert_eq!(rt; status.pending, 1);
+    assert_eq!(rt; engine.table().len(), 1);
+    assert_eq!(rt; engine.next_pending(0), Some(0));
+    true
+}
+
+#[test]
+fn a_failed_write_or_sync_stops_the_engine(rt: HostRuntime) {
+    let failed = Reply::Refused(Fault::Device);
+    let stopped = Reply::Refused(Fault::Stopped);
+    let mut wanted = [stopped; 12];
+    wanted[0] = Reply::Fed(Fed {
+        taken: 63,
+        records: 1,
+    });
+    wanted[5] = Reply::FeedRefused(FeedFault {
+        taken: 0,
+        records: 0,
+        fault: Fault::Stopped,
+    });
+    let calls = [(1, NEVER), (2, NEVER), (NEVER, 1), (NEVER, 2)];
+    for event in 0..4 {
+        let (log, control) = calls[event];
+        wanted[event + 1] = failed;
+        let alloc = rt.alloc();
+        assert!(rt; stops(&rt, alloc, log, control, &wanted) || stops(&rt, alloc, log, control, &wanted));
+        wanted[event + 1] = Reply::Done;
+    }
+}
+
+/// Devices of which these calls fail are formatted so. False also where memory was refused.
+fn formats_so(alloc: Global, log: u64, control: u64, wanted: Result<Status, Fault>) -> bool
+    requires log { 0 < log }
+    requires control { 0 < control }
+{
+    let Ok((disks, fuses)) = devices(alloc, 8) else {
+        return false;
+    };
+    fuses.log.fail_at(log);
+    fuses.control.fail_at(control);
+    match Engine::format(alloc, disks, CONFIG) {
+        Ok(engine) => wanted == Ok(engine.status()),
+        Err(refused) => wanted == Err(refused.fault),
+    }
+}
+
+#[test]
+fn a_format_whose_device_fails_is_refused(rt: HostRuntime) {
+    let new = Status {
+        state: State::Following,
+        end: Lsn(16),
+        partial: 0,
+        acknowledged: Lsn(16),
+        pending: 0,
+        leases: 0,
+    };
+    let failed = Err(Fault::Device);
+    let worlds = [
+        (1, NEVER, failed),
+        (2, NEVER, failed),
+        (NEVER, 1, failed),
+        (NEVER, 2, failed),
+        (NEVER, 3, failed),
+        (NEVER, 4, failed),
+        (3, 5, Ok(new)),
+    ];
+    for (log, control, wanted) in worlds {
+        let alloc = rt.alloc();
+        assert!(rt; formats_so(alloc, log, control, wanted) || formats_so(alloc, log, control, wanted));
+    }
+}
+
+/// A log device of one block has room for a sixth record and the tail after it only if its value has one byte.
+fn fills_one_block(rt: &impl Abort, alloc: Global) -> bool {
+    let Some((short, _)) = standby(alloc, 1) else {
+        return false;
+    };
+    let Some((long, _)) = standby(alloc, 1) else {
+        return false;
+    };
+    let all = Reply::Fed(Fed {
+        taken: 216,
+        records: 6,
+    });
+    let full = Reply::FeedRefused(FeedFault {
+        taken: 180,
+        records: 5,
+        fault: Fault::LogFull,
+    });
+    let Some(short) = replies_are(alloc, short, &[Step::Feed(&SHORT)], &[all]) else {
+        return false;
+    };
+    let Some(long) = replies_are(alloc, long, &[Step::Feed(&LONG)], &[full]) else {
+        return false;
+    };
+    assert_eq!(rt; short.status().end, Lsn(232));
+    assert_eq!(rt; long.status().end, Lsn(196));
+    assert_eq!(rt; long.status().state, State::Following);
+    true
+}
+
+#[test]
+fn a_log_device_keeps_room_for_the_tail(rt: HostRuntime) {
+    assert!(rt; fills_one_block(&rt, rt.alloc()) || fills_one_block(&rt, rt.alloc()));
+}
+
+/// How new devices with so many blocks each are refused. `None`: memory was refused, or they were not.
+fn refused(alloc: Global, config: Config, log: u64, control: u64, pages: u64) -> Option<Fault> {
+    let disks = Disks {
+        log: MemDisk::new(alloc, log),
+        control: MemDisk::new(alloc, control),
+        pages: MemDisk::new(alloc, pages),
+    };
+    match Engine::format(alloc, disks, config) {
+        Ok(_) => None,
+        Err(refused) => Some(refused.fault),
+    }
+}
+
+#[test]
+fn worlds_out_of_range_are_refused(rt: HostRuntime) {
+    for pages in [0, 4097, u64::MAX] {
+        let config = Config { pages, ..CONFIG };
+        assert_eq!(rt; refused(rt.alloc(), config, 8, 321, 4096), Some(Fault::BadConfig));
+    }
+    for (log, control, pages) in [(0, 321, 4), (4_194_305, 321, 4), (8, 320, 4), (8, 321, 3)] {
+        assert_eq!(rt; refused(rt.alloc(), CONFIG, log, control, pages), Some(Fault::BadConfig));
+    }
+}

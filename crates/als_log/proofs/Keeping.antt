@@ -1,6 +1,6 @@
 -- What a log keeps, call by call.
 use Rattle.std.proofs.Common.{◌≡◌, ℕ, ◌+◌, ◌-◌, ◌*◌, ◌/◌, ◌<◌, ◌≤◌, true, eqb, List, [], ◌∷◌, ◌++◌, length, drop, refl, sym, ap, subst, ◌∙◌, append_assoc, arith}
-use Rattle.std.specs.Prelude.{slice_index, IsTrue}
+use Rattle.std.specs.Prelude.{Contains, slice_index, IsTrue}
 use Rattle.std.specs.List.{AllByRecursion}
 use Rattle.std.proofs.lemmas.Bool.{and_from, eq-eqb}
 use Rattle.std.proofs.lemmas.List.{append-nil, length-append, length-drop, drop-drop, drop-append-le, get_or_append_left, get_or-drop}
@@ -9,17 +9,18 @@ use Rattle.als_record.specs.Spelling.{record_len, spelling, IsRecord}
 use Rattle.als_record.specs.LogText.{header_bytes, spellings, log_text, end_of, follow_from, IsLog}
 use Rattle.als_record.proofs.HeaderLaws.{length-header_bytes}
 use Rattle.als_record.proofs.LogLaws.{spellings-nil, spellings_push, end_of_is, end_of_push, follow-append}
-use Rattle.als_disk.specs.Slot.{Slot}
+use Rattle.als_disk.specs.Slot.{Slot, SameBlocks}
 use Rattle.als_log.specs.Local.{IsFrontEnd, IsLocal}
 use Rattle.als_log.specs.Texts.{HasText, AllHaveText}
 use Rattle.als_log.specs.Held.{IsStored, IsHeld, IsText}
+use Rattle.als_log.specs.Reading.{IsReadable}
 
 -- ---- lengths
 
 pub length-text : (pages : ℕ) (log : List Record) → length (log_text pages log) ≡ end_of log
 length-text pages log = omega (arith, length-append (header_bytes pages) (spellings log), length-header_bytes pages, end_of_is log)
 
-module _ {pages : ℕ} {log : List Record} {base written synced blocks : ℕ} {bytes : List ℕ} {slots : ℕ → Slot} (h : IsHeld pages log base written synced blocks bytes slots) where
+module _ {pages : ℕ} {log : List Record} {base written synced cursor blocks : ℕ} {bytes : List ℕ} {slots : ℕ → Slot} (h : IsHeld pages log base written synced cursor blocks bytes slots) where
   -- the bytes in memory reach to the end
   pub reach : base + length bytes ≡ end_of log
   reach =
@@ -55,16 +56,17 @@ module _ {pages : ℕ} {log : List Record} {base written synced blocks : ℕ} {b
   low_block = omega (arith, h.tail.low, h.tail.block, h.order.order)
 
   -- after a write
-  pub held-write : (next : ℕ) (now : ℕ → Slot) → synced ≤ next → next ≤ end_of log → IsStored now (log_text pages log) next synced → IsHeld pages log base next synced blocks bytes now
+  pub held-write : (next : ℕ) (now : ℕ → Slot) → synced ≤ next → next ≤ end_of log → IsStored now (log_text pages log) next synced → IsHeld pages log base next synced cursor blocks bytes now
   held-write next now low within stored = record {
     order = record { is_log = h.order.is_log; fits = h.order.fits; within = within; order = low; front = h.order.front; few = h.order.few; some = h.order.some };
     tail = h.tail;
     stored = stored;
+    walked = h.walked;
   }
 
   -- after a sync
   pub held-sync : (whole : ℕ) (left : List ℕ) (now : ℕ → Slot) → IsFrontEnd log whole → synced ≤ whole → whole ≤ written → left ≡ drop (512 * (whole / 512) - base) bytes
-      → IsStored now (log_text pages log) written whole → IsHeld pages log (512 * (whole / 512)) written whole blocks left now
+      → IsStored now (log_text pages log) written whole → IsHeld pages log (512 * (whole / 512)) written whole cursor blocks left now
   held-sync whole left now front low within is stored =
       let below : base ≤ 512 * (whole / 512) = omega (arith, h.tail.low, h.tail.block, low) in
       let place : base + (512 * (whole / 512) - base) ≡ 512 * (whole / 512) = omega (arith, below) in
@@ -76,6 +78,7 @@ module _ {pages : ℕ} {log : List Record} {base written synced blocks : ℕ} {b
           low = omega arith;
         };
         stored = stored;
+        walked = h.walked;
       }
 
 -- ---- one more record
@@ -112,10 +115,10 @@ front-push log r at f = record {
   ends = f.ends;
 }
 
-pub held-push : {pages : ℕ} {log : List Record} {base written synced blocks : ℕ} {bytes : List ℕ} {slots : ℕ → Slot} → IsHeld pages log base written synced blocks bytes slots
+pub held-push : {pages : ℕ} {log : List Record} {base written synced cursor blocks : ℕ} {bytes : List ℕ} {slots : ℕ → Slot} → IsHeld pages log base written synced cursor blocks bytes slots
     → (r : Record) → IsRecord pages r → r.lsn.0 ≡ end_of log → end_of log + record_len r ≤ 512 * blocks
-    → IsHeld pages (log ++ r ∷ []) base written synced blocks (bytes ++ spelling r) slots
-held-push {pages} {log} {base} {written} {synced} {blocks} {bytes} {slots} h r logged placed fits =
+    → IsHeld pages (log ++ r ∷ []) base written synced cursor blocks (bytes ++ spelling r) slots
+held-push {pages} {log} {base} {written} {synced} {cursor} {blocks} {bytes} {slots} h r logged placed fits =
     let longer = text-push pages log r in
     let len = length-text pages log in
     let within : base ≤ length (log_text pages log) = omega (arith, len, h.tail.low, h.order.order, h.order.within) in
@@ -139,6 +142,7 @@ held-push {pages} {log} {base} {written} {synced} {blocks} {bytes} {slots} h r l
         low = h.tail.low;
       };
       stored = subst (λ (xs : List ℕ). IsStored slots xs written synced) (sym longer) stored;
+      walked = front-push log r cursor h.walked;
     }
 
 -- ---- the empty log
@@ -154,7 +158,7 @@ is_log-nil : (pages : ℕ) → IsLog pages []
 unfolding follow_from
 is_log-nil pages = record { laid_out = refl; records = tt }
 
-pub held-new : (pages blocks : ℕ) (bytes : List ℕ) (slots : ℕ → Slot) → 1 ≤ blocks → blocks ≤ 4194304 → bytes ≡ header_bytes pages → IsStored slots (header_bytes pages) 16 16 → IsHeld pages [] 0 16 16 blocks bytes slots
+pub held-new : (pages blocks : ℕ) (bytes : List ℕ) (slots : ℕ → Slot) → 1 ≤ blocks → blocks ≤ 4194304 → bytes ≡ header_bytes pages → IsStored slots (header_bytes pages) 16 16 → IsHeld pages [] 0 16 16 16 blocks bytes slots
 held-new pages blocks bytes slots some few is stored = record {
   order = record {
     is_log = is_log-nil pages;
@@ -167,4 +171,32 @@ held-new pages blocks bytes slots some few is stored = record {
   };
   tail = record { held = is ∙ sym (text-nil pages); block = omega arith; low = omega arith };
   stored = subst (λ (xs : List ℕ). IsStored slots xs 16 16) (sym (text-nil pages)) stored;
+  walked = record { front = []; rest = []; parts = refl; ends = end-nil };
 }
+
+-- ---- reading
+
+same-readable : (old new : ℕ → Slot) → SameBlocks old new → (text : List ℕ) (written synced : ℕ) → IsStored old text written synced → IsStored new text written synced
+same-readable old new same text written synced s = record {
+  kept = λ b x has. s.kept b x (subst (λ (slot : Slot). Contains slot.candidates x) (same b) has);
+  stored = λ b x has. s.stored b x (subst (λ (slot : Slot). Contains slot.readable x) (same b) has);
+}
+
+module _ {pages : ℕ} {log : List Record} {base written synced cursor blocks : ℕ} {bytes : List ℕ} {slots : ℕ → Slot} (h : IsHeld pages log base written synced cursor blocks bytes slots) where
+  -- the log's text can be read
+  pub readable : IsReadable pages log slots blocks bytes base
+  readable = record {
+    is_log = h.order.is_log;
+    source = record {
+      below = λ b x has o lt under. h.stored.stored b x has o lt (omega (arith, under, h.tail.low, h.order.order));
+      held = h.tail.held;
+      reach = omega (arith, length-text pages log, h.tail.low, h.order.order, h.order.within);
+    };
+    whole = h.tail.block;
+    fits = h.order.fits;
+    few = h.order.few;
+  }
+
+  -- after a reading
+  pub held-read : (next : ℕ) (now : ℕ → Slot) → IsFrontEnd log next → SameBlocks slots now → IsHeld pages log base written synced next blocks bytes now
+  held-read next now front same = record { order = h.order; tail = h.tail; stored = same-readable slots now same (log_text pages log) written synced h.stored; walked = front }

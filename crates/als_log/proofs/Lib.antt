@@ -1,3 +1,6 @@
 mod Keeping
+mod Lookups
 mod Padding
+mod Pieces
+mod Rows
 mod Walks

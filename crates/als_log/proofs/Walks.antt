@@ -67,7 +67,7 @@ pub record Standing (log : List Record) (bytes : List ℕ) (base at : ℕ) : Typ
   pub most : record_len r ≤ 54560
   pub end : at + record_len r ≤ end_of log
 
-all-behind : (pages : ℕ) (front rest : List Record) → AllByRecursion (IsRecord pages) (front ++ rest) → AllByRecursion (IsRecord pages) rest
+pub all-behind : (pages : ℕ) (front rest : List Record) → AllByRecursion (IsRecord pages) (front ++ rest) → AllByRecursion (IsRecord pages) rest
 all-behind pages [] rest all = all
 all-behind pages (r ∷ front) rest all = all-behind pages front rest all.1
 
@@ -80,7 +80,7 @@ text-behind pages front rest =
     ap (drop (end_of front)) regrouped ∙ drop_at (header_bytes pages ++ spellings front) (spellings rest) (end_of front) head_len
 
 -- the length field of a record at the front of bytes
-len_field : (pages : ℕ) (r : Record) (more : List ℕ) → IsRecord pages r → from_be_bytes w32 (take 4 (spelling r ++ more)) ≡ record_len r
+pub len_field : (pages : ℕ) (r : Record) (more : List ℕ) → IsRecord pages r → from_be_bytes w32 (take 4 (spelling r ++ more)) ≡ record_len r
 unfolding spelling
 len_field pages r more is =
     let front = head (record_len r) (type_byte r.body) r.lsn.0 r.prev.0 r.trans.0 in
@@ -88,7 +88,7 @@ len_field pages r more is =
     let again = head_again (record_len r) (type_byte r.body) r.lsn.0 r.prev.0 r.trans.0 (body_bytes r.body ++ more) small is.lsn is.prev is.trans in
     ap (λ (xs : List ℕ). from_be_bytes w32 (take 4 xs)) (append_assoc front (body_bytes r.body) more) ∙ again.size_is
 
-end_of-parts : (front rest : List Record) → end_of (front ++ rest) ≡ end_of front + length (spellings rest)
+pub end_of-parts : (front rest : List Record) → end_of (front ++ rest) ≡ end_of front + length (spellings rest)
 end_of-parts front rest = omega (arith, end_of_is (front ++ rest), end_of_is front, ap length (spellings-append front rest), length-append (spellings front) (spellings rest))
 
 pub standing : (log : List Record) (bytes : List ℕ) (base at : ℕ) → IsText log bytes base → IsFrontEnd log at → base ≤ at → at < end_of log → Standing log bytes base at

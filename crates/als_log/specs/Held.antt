@@ -29,10 +29,11 @@ pub record InOrder (pages : ℕ) (log : List Record) (written synced blocks : �
   pub some : 1 ≤ blocks
 
 -- all of it
-pub record IsHeld (pages : ℕ) (log : List Record) (base written synced blocks : ℕ) (bytes : List ℕ) (slots : ℕ → Slot) : Type 0 where
+pub record IsHeld (pages : ℕ) (log : List Record) (base written synced cursor blocks : ℕ) (bytes : List ℕ) (slots : ℕ → Slot) : Type 0 where
   pub order : InOrder pages log written synced blocks
   pub tail : IsTail (log_text pages log) bytes base synced
   pub stored : IsStored slots (log_text pages log) written synced
+  pub walked : IsFrontEnd log cursor
 
 -- the bytes of these records' text from an offset on, for a database of some size
 pub record IsText (log : List Record) (bytes : List ℕ) (base : ℕ) : Type 0 where

@@ -3,4 +3,5 @@ pub mod History
 pub mod Local
 pub mod Held
 pub mod Outcomes
+pub mod Reading
 pub mod Texts

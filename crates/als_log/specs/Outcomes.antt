@@ -37,3 +37,10 @@ RefusesSync Device old new = OnlyFails old new
 RefusesSync NothingToDo old new = ⊥
 RefusesSync LogFull old new = ⊥
 RefusesSync Memory old new = ⊥
+
+-- no record could be read: the device failed, or there was no memory
+abbrev pub RefusesReading : Fault → Local → Local → Type 0
+RefusesReading Device old new = OnlyFails old new
+RefusesReading Memory old new = new ≡ old
+RefusesReading NothingToDo old new = ⊥
+RefusesReading LogFull old new = ⊥

@@ -10,6 +10,8 @@ mod history;
 mod tail;
 // What is done to the device.
 mod blocks;
+// The text read back.
+mod reading;
 // A device that could not be laid out.
 mod unformatted;
 // The log.

@@ -4,13 +4,14 @@ ghost use Rattle.als_record.specs.Spelling.{record_len, IsRecord};
 ghost use Rattle.als_record.specs.LogText.{end_of, log_text};
 ghost use Rattle.als_log.specs.declared.fault.Fault.TheVariants.{LogFull, Memory as OutOfMemory};
 ghost use Rattle.als_log.specs.Local.{Local, IsLocal, HasRoomFor, next_written, whole_end};
-ghost use Rattle.als_log.specs.Outcomes.{RefusesFormat, RefusesRecord, RefusesBlock, RefusesSync};
+ghost use Rattle.als_log.specs.Outcomes.{RefusesFormat, RefusesRecord, RefusesBlock, RefusesSync, RefusesReading};
+ghost use Rattle.als_log.specs.Reading.{record_at};
 ghost use Rattle.als_log.specs.Texts.{AllHaveText};
 
 use crate::fault::Fault;
 use crate::history::History;
 use crate::unformatted::Unformatted;
-use crate::{blocks, tail};
+use crate::{blocks, reading, tail};
 use als_disk::BlockDisk;
 use als_record::{LogHeader, Lsn, Record, encode, encoded_len};
 use std::alloc::{AllocError, Global};
@@ -23,6 +24,7 @@ use std::marker::Model;
 /// survive a crash from the next sync on. Memory holds the bytes from the block of the synced end on.
 #[derive(Drop)]
 pub struct LocalLog<D: BlockDisk> {
+    alloc: Global,
     disk: D,
     pages: u32,
     // The offset of the first byte in memory, at a block's beginning.
@@ -32,6 +34,10 @@ pub struct LocalLog<D: BlockDisk> {
     written: u64,
     // The end of the last record that was wholly written at the last sync.
     synced: u64,
+    // The end of some records, where the next reading may begin.
+    cursor: u64,
+    // The bytes that were read last.
+    part: Vec<u8>,
     history: History,
 }
 
@@ -45,7 +51,7 @@ impl<D: BlockDisk> Model for LocalLog<D> {
 
     ghost view = { λ l. record { pages = l.pages; log = records_in l.history; written = l.written; synced = l.synced; blocks = D.block_count l.disk; failures = D.failures l.disk; room = vec_capacity l.tail - vec_len l.tail } };
 
-    ghost invariant = { λ l. IsHeld l.pages (records_in l.history) l.base l.written l.synced (D.block_count l.disk) l.tail.items (D.slot l.disk) };
+    ghost invariant = { λ l. IsHeld l.pages (records_in l.history) l.base l.written l.synced l.cursor (D.block_count l.disk) l.tail.items (D.slot l.disk) };
 }
 
 /// The header of a log, in memory.
@@ -85,12 +91,15 @@ impl<D: BlockDisk> LocalLog<D> {
             }
         }
         Ok(LocalLog {
+            alloc,
             disk,
             pages,
             base: 0,
             tail,
             written: 16,
             synced: 16,
+            cursor: 16,
+            part: Vec::new(alloc),
             history: History::new(),
         })
     }
@@ -218,6 +227,30 @@ impl<D: BlockDisk> LocalLog<D> {
         self.synced = whole;
         self.base = front;
         Ok(())
+    }
+
+    /// The record that stands at an LSN, or `None` where none does. Records that are read in rising order are found by
+    /// one step each; any other is searched for from the first record on.
+    ///
+    /// `Device`: the device failed. `Memory`: there was none for the record or its bytes.
+    pub fn read_at(&mut self, lsn: Lsn) -> Result<Option<Record>, Fault>
+        ensures ok { IfOk result (λ found. found ≡ record_at self.old.log lsn.0) }
+        ensures same { OnOk result (self.new ≡ self.old) }
+        ensures err { IfErr result (λ e. RefusesReading e self.old self.new) }
+    {
+        let (cursor, found) = reading::find(
+            &self.history,
+            self.alloc,
+            self.pages,
+            &mut self.disk,
+            self.tail.as_slice(),
+            self.base,
+            self.cursor,
+            lsn.0,
+            &mut self.part,
+        )?;
+        self.cursor = cursor;
+        Ok(found)
     }
 
     /// The device. Whatever a crash leaves of it has the log's text below the synced end.

@@ -9,7 +9,7 @@ ghost use Rattle.als_log.specs.Held.{IsText};
 use crate::history::History;
 
 /// The number in four bytes at a place.
-fn word(bytes: &[u8], at: usize) -> u32
+pub(crate) fn word(bytes: &[u8], at: usize) -> u32
     requires { at + 4 ≤ length bytes.now }
     ensures { result ≡ word_at at bytes.now }
 {

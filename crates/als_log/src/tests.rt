@@ -1,0 +1,312 @@
+use crate::{Fault, LocalLog};
+use als_disk::{BlockDisk, FailingDisk, Fuse, MemDisk};
+use als_record::{Lsn, Record, decode, encode};
+use std::alloc::Global;
+use std::process::Abort;
+use std::test::Fail;
+
+// The header of a log of a database of four pages, and one transaction: an update at 16, a commit at 52 and an end at 80.
+const HEADER: [u8; 16] = *b"ALSLOG01\x00\x00\x00\x04\x00\x00\x00\x00";
+
+const UPDATE: [u8; 36] = [
+    0, 0, 0, 0x24, 1, 0, 0, 0, 0, 0, 0, 0, 0, 0, 0, 0x10, 0, 0, 0, 0, 0, 0, 0, 0, 0, 0, 0, 1, 0, 0,
+    0, 0, 0, 0xff, 1, 0xaa,
+];
+
+const COMMIT: [u8; 28] = [
+    0, 0, 0, 0x1c, 3, 0, 0, 0, 0, 0, 0, 0, 0, 0, 0, 0x34, 0, 0, 0, 0, 0, 0, 0, 0x10, 0, 0, 0, 1,
+];
+
+const END: [u8; 28] = [
+    0, 0, 0, 0x1c, 5, 0, 0, 0, 0, 0, 0, 0, 0, 0, 0, 0x50, 0, 0, 0, 0, 0, 0, 0, 0x34, 0, 0, 0, 1,
+];
+
+// A commit at some offset.
+fn commit_at(at: Lsn) -> [u8; 28] {
+    let mut bytes = COMMIT;
+    bytes[8..16].copy_from_slice(&at.0.to_be_bytes());
+    bytes
+}
+
+// An empty log of a database of four pages. A device or memory that fails once is met by a second try.
+fn formatted<D: BlockDisk + Drop>(rt: &impl Abort, alloc: Global, disk: D) -> Option<LocalLog<D>> {
+    let blocks = disk.blocks();
+    assert!(rt; 1 <= blocks && blocks <= 4194304);
+    match LocalLog::format(alloc, disk, 4) {
+        Ok(log) => Some(log),
+        Err(unformatted) => {
+            assert!(rt; matches!(unformatted.fault, Fault::Device | Fault::Memory));
+            assert_eq!(rt; unformatted.disk.blocks(), blocks);
+            LocalLog::format(alloc, unformatted.disk, 4).ok()
+        }
+    }
+}
+
+// Appends the record of these bytes, and tells what is answered. A refusal leaves the log as it was.
+fn append<D: BlockDisk + Drop>(
+    rt: &impl Abort,
+    alloc: Global,
+    log: &mut LocalLog<D>,
+    bytes: &[u8],
+    reserve_after: u64,
+) -> Result<(), Fault> {
+    let end = log.end();
+    match decode(alloc, bytes, end, log.pages()) {
+        Ok(Some((logged, _))) => {
+            let answer = log.append(&logged, reserve_after);
+            if answer.is_err() {
+                assert_eq!(rt; log.end(), end);
+            }
+            answer
+        }
+        _ => panic!(rt; "not a record"),
+    }
+}
+
+// Appends the record of these bytes, again where memory is refused once.
+fn put<D: BlockDisk + Drop>(rt: &impl Abort, alloc: Global, log: &mut LocalLog<D>, bytes: &[u8]) {
+    if let Err(fault) = append(rt, alloc, log, bytes, 0) {
+        assert_eq!(rt; fault, Fault::Memory);
+        assert!(rt; append(rt, alloc, log, bytes, 0).is_ok());
+    }
+}
+
+// Writes a block, again where the device fails.
+fn write<D: BlockDisk + Drop>(rt: &impl Abort, log: &mut LocalLog<D>) {
+    let before = log.written();
+    for _ in 0..3 {
+        match log.write_block() {
+            Ok(()) => return,
+            Err(fault) => {
+                assert_eq!(rt; fault, Fault::Device);
+                assert_eq!(rt; log.written(), before);
+            }
+        }
+    }
+    panic!(rt; "the device fails each time");
+}
+
+// Syncs, again where the device fails.
+fn sync<D: BlockDisk + Drop>(rt: &impl Abort, log: &mut LocalLog<D>) {
+    let before = log.synced();
+    for _ in 0..3 {
+        match log.sync() {
+            Ok(()) => return,
+            Err(fault) => {
+                assert_eq!(rt; fault, Fault::Device);
+                assert_eq!(rt; log.synced(), before);
+            }
+        }
+    }
+    panic!(rt; "the device fails each time");
+}
+
+// What stands in block 0, again where the device fails.
+fn first_block<D: BlockDisk + Drop>(rt: &impl Abort, mut disk: D) -> [u8; 512] {
+    assert!(rt; 0 < disk.blocks());
+    let mut block = [0; 512];
+    if disk.read(0, &mut block).is_err() {
+        assert!(rt; disk.read(0, &mut block).is_ok());
+    }
+    block
+}
+
+// One transaction is appended, written, and synced, the last record by itself.
+fn one_transaction<D: BlockDisk + Drop>(rt: &impl Abort, alloc: Global, mut log: LocalLog<D>) {
+    assert_eq!(rt; log.end(), Lsn(16));
+    assert_eq!(rt; log.written(), Lsn(16));
+    assert_eq!(rt; log.synced(), Lsn(16));
+    put(rt, alloc, &mut log, &UPDATE);
+    put(rt, alloc, &mut log, &COMMIT);
+    assert_eq!(rt; log.end(), Lsn(80));
+    write(rt, &mut log);
+    assert_eq!(rt; log.written(), Lsn(80));
+    assert_eq!(rt; log.synced(), Lsn(16));
+    put(rt, alloc, &mut log, &END);
+    sync(rt, &mut log);
+    assert_eq!(rt; log.end(), Lsn(108));
+    assert_eq!(rt; log.synced(), Lsn(80));
+    write(rt, &mut log);
+    sync(rt, &mut log);
+    assert_eq!(rt; log.synced(), Lsn(108));
+    assert_eq!(rt; log.write_block(), Err(Fault::NothingToDo));
+    let block = first_block(rt, log.into_disk());
+    assert_eq!(rt; &block[..16], HEADER.as_slice());
+    assert_eq!(rt; &block[16..52], UPDATE.as_slice());
+    assert_eq!(rt; &block[52..80], COMMIT.as_slice());
+    assert_eq!(rt; &block[80..108], END.as_slice());
+    assert!(rt; block[108..].iter().all(|b| *b == 0));
+}
+
+#[test]
+fn a_transaction_reaches_the_device(rt: HostRuntime) {
+    let disk = MemDisk::new(rt.alloc(), 2);
+    match formatted(&rt, rt.alloc(), disk) {
+        Some(log) => one_transaction(&rt, rt.alloc(), log),
+        None => panic!(&rt; "the device fails each time"),
+    }
+}
+
+// A fuse, again where memory is refused once.
+fn fuse_of(alloc: Global) -> Result<Fuse, Fail> {
+    match Fuse::new(alloc) {
+        Ok(fuse) => Ok(fuse),
+        Err(_) => Ok(Fuse::new(alloc)?),
+    }
+}
+
+#[test]
+fn each_device_call_fails_in_turn(rt: HostRuntime) -> Result<(), Fail> {
+    for call in 1..=8 {
+        let fuse = fuse_of(rt.alloc())?;
+        let disk = FailingDisk::new(MemDisk::new(rt.alloc(), 2), fuse.clone()?);
+        assert!(rt; 0 < call);
+        fuse.fail_at(call);
+        if let Some(log) = formatted(&rt, rt.alloc(), disk) {
+            one_transaction(&rt, rt.alloc(), log);
+        }
+    }
+    Ok(())
+}
+
+// Appends so many commits.
+fn fill<D: BlockDisk + Drop>(rt: &impl Abort, alloc: Global, log: &mut LocalLog<D>, count: usize) {
+    for _ in 0..count {
+        let bytes = commit_at(log.end());
+        put(rt, alloc, log, &bytes);
+    }
+}
+
+// A log on a device of so many blocks, with so many commits.
+fn commits(rt: &impl Abort, alloc: Global, blocks: u64, count: usize) -> LocalLog<MemDisk> {
+    match formatted(rt, alloc, MemDisk::new(alloc, blocks)) {
+        Some(mut log) => {
+            fill(rt, alloc, &mut log, count);
+            log
+        }
+        None => panic!(rt; "no log"),
+    }
+}
+
+#[test]
+fn a_record_over_two_blocks_is_synced_when_it_is_whole(rt: HostRuntime) {
+    let mut log = commits(&rt, rt.alloc(), 2, 18);
+    assert_eq!(rt; log.end(), Lsn(520));
+    write(&rt, &mut log);
+    assert_eq!(rt; log.written(), Lsn(512));
+    sync(&rt, &mut log);
+    assert_eq!(rt; log.synced(), Lsn(492));
+    write(&rt, &mut log);
+    assert_eq!(rt; log.written(), Lsn(520));
+    sync(&rt, &mut log);
+    assert_eq!(rt; log.synced(), Lsn(520));
+    assert_eq!(rt; log.end(), Lsn(520));
+}
+
+#[test]
+fn a_full_log_takes_no_record(rt: HostRuntime) {
+    let mut log = commits(&rt, rt.alloc(), 1, 16);
+    let bytes = commit_at(log.end());
+    assert_eq!(rt;
+        append(&rt, rt.alloc(), &mut log, &bytes, u64::MAX),
+        Err(Fault::LogFull)
+    );
+    assert_eq!(rt;
+        append(&rt, rt.alloc(), &mut log, &bytes, 21),
+        Err(Fault::LogFull)
+    );
+    put(&rt, rt.alloc(), &mut log, &bytes);
+    let bytes = commit_at(log.end());
+    assert_eq!(rt;
+        append(&rt, rt.alloc(), &mut log, &bytes, 0),
+        Err(Fault::LogFull)
+    );
+    assert_eq!(rt; log.end(), Lsn(492));
+}
+
+#[test]
+fn what_is_reserved_takes_no_memory(rt: HostRuntime) {
+    let mut log = commits(&rt, rt.alloc(), 2, 0);
+    let bytes = commit_at(log.end());
+    if log.reserve(28).is_err() {
+        assert!(rt; log.reserve(28).is_ok());
+    }
+    assert!(rt; append(&rt, rt.alloc(), &mut log, &bytes, 0).is_ok());
+    assert_eq!(rt; Fault::LogFull.number(), 29);
+    assert_eq!(rt; Fault::LogFull.name(), "LogFull");
+}
+
+// The record at an offset, again where the device fails or memory is refused once.
+fn found_at<D: BlockDisk + Drop>(
+    rt: &impl Abort,
+    log: &mut LocalLog<D>,
+    at: u64,
+) -> Option<Record> {
+    for _ in 0..3 {
+        match log.read_at(Lsn(at)) {
+            Ok(found) => return found,
+            Err(fault) => assert!(rt; matches!(fault, Fault::Device | Fault::Memory)),
+        }
+    }
+    panic!(rt; "the device fails each time")
+}
+
+// A record with these bytes stands there.
+fn expect_record<D: BlockDisk + Drop>(
+    rt: &impl Abort,
+    alloc: Global,
+    log: &mut LocalLog<D>,
+    at: u64,
+    bytes: &[u8],
+) {
+    match found_at(rt, log, at) {
+        Some(found) => {
+            let mut out = Vec::new(alloc);
+            if encode(&found, &mut out).is_err() {
+                assert!(rt; encode(&found, &mut out).is_ok());
+            }
+            assert_eq!(rt; out.as_slice(), bytes, "{at}");
+        }
+        None => panic!(rt; "no record at {at}"),
+    }
+}
+
+// The places of commits, out of order, and places where none stands.
+fn expect_commits<D: BlockDisk + Drop>(rt: &impl Abort, alloc: Global, log: &mut LocalLog<D>) {
+    for at in [16, 44, 492, 996, 1024, 1108, 464, 492, 16] {
+        expect_record(rt, alloc, log, at, &commit_at(Lsn(at)));
+    }
+    for at in [0, 15, 17, 43, 511, 512, 1107, 1109, 1136, u64::MAX] {
+        assert!(rt; found_at(rt, log, at).is_none(), "{at}");
+    }
+}
+
+#[test]
+fn records_are_read_back(rt: HostRuntime) {
+    let mut log = commits(&rt, rt.alloc(), 3, 40);
+    expect_commits(&rt, rt.alloc(), &mut log);
+    for _ in 0..3 {
+        write(&rt, &mut log);
+    }
+    expect_commits(&rt, rt.alloc(), &mut log);
+    sync(&rt, &mut log);
+    assert_eq!(rt; log.synced(), Lsn(1136));
+    expect_commits(&rt, rt.alloc(), &mut log);
+}
+
+#[test]
+fn a_reading_fails_with_the_device(rt: HostRuntime) -> Result<(), Fail> {
+    let fuse = fuse_of(rt.alloc())?;
+    let disk = FailingDisk::new(MemDisk::new(rt.alloc(), 3), fuse.clone()?);
+    if let Some(mut log) = formatted(&rt, rt.alloc(), disk) {
+        fill(&rt, rt.alloc(), &mut log, 40);
+        for _ in 0..3 {
+            write(&rt, &mut log);
+        }
+        sync(&rt, &mut log);
+        fuse.fail_at(1);
+        assert!(rt; log.read_at(Lsn(16)).err().is_some());
+        expect_commits(&rt, rt.alloc(), &mut log);
+    }
+    Ok(())
+}

@@ -1,8 +1,6 @@
 use crate::{Receiver, Refusal};
 use als_record::{Fault, Lsn};
-use std::alloc::Global;
 use std::process::Abort;
-use std::test::Fail;
 
 // An update at 16, a commit at 52 and an end at 80, of one transaction.
 const LOG: [u8; 92] = [
@@ -18,53 +16,85 @@ const CHECKPOINT: [u8; 53] = [
     0, 0, 0, 0, 0, 1, 1, 0, 0, 0, 0, 0, 0, 0, 16, 0, 0, 0, 0, 0, 0, 0, 16,
 ];
 
-// Pushes a piece, and collects where the records stand that are whole then.
-fn feed(
-    rt: &impl Abort,
-    receiver: &mut Receiver,
-    piece: &[u8],
-    found: &mut Vec<Lsn>,
-) -> Result<(), Fail> {
-    assert!(rt; receiver.position() < 1000);
-    receiver.push(piece)?;
+// Where the records stand that were handed out.
+#[derive(Clone, Copy, Debug, PartialEq, Eq)]
+struct Found {
+    lsns: [u64; 3],
+    count: usize,
+}
+
+const NONE: Found = Found {
+    lsns: [0; 3],
+    count: 0,
+};
+
+// All records of the log.
+const ALL: Found = Found {
+    lsns: [16, 52, 80],
+    count: 3,
+};
+
+impl Found {
+    fn note(&mut self, lsn: Lsn) {
+        if let Some(place) = self.lsns.get_mut(self.count) {
+            *place = lsn.0;
+        }
+        self.count = self.count.saturating_add(1);
+    }
+}
+
+// Pushes a piece. A refused growth changes nothing, and is met once at most: the piece is taken at the next try.
+fn push(rt: &impl Abort, receiver: &mut Receiver, piece: &[u8]) {
+    let before = receiver.partial();
+    let position = receiver.position();
+    assert!(rt; position < 1000 && piece.len() < 1000);
+    if receiver.push(piece).is_err() {
+        assert_eq!(rt; receiver.partial(), before);
+        assert_eq!(rt; receiver.position(), position);
+        assert!(rt; receiver.push(piece).is_ok());
+    }
+    assert_eq!(rt; receiver.position(), position + piece.len() as u64);
+}
+
+// Pushes a piece, and notes where the records stand that are whole then.
+fn feed(rt: &impl Abort, receiver: &mut Receiver, piece: &[u8], found: &mut Found) {
+    push(rt, receiver, piece);
     for _ in 0..10 {
-        match receiver.next()? {
-            Some(record) => found.push(record.lsn)?,
-            None => return Ok(()),
+        match receiver.next() {
+            Ok(Some(record)) => found.note(record.lsn),
+            Ok(None) => return,
+            Err(refusal) => panic!(rt; "{refusal}"),
         }
     }
-    Ok(())
 }
 
 #[test]
-fn each_cut_gives_the_records(rt: HostRuntime) -> Result<(), Fail> {
+fn each_cut_gives_the_records(rt: HostRuntime) {
     for cut in 0..=LOG.len() {
         let mut receiver = Receiver::new(rt.alloc(), Lsn(16), 4);
-        let mut found = Vec::new(rt.alloc());
-        feed(&rt, &mut receiver, &LOG[..cut], &mut found)?;
+        let mut found = NONE;
+        feed(&rt, &mut receiver, &LOG[..cut], &mut found);
         assert_eq!(rt; receiver.position(), 16 + cut as u64);
-        feed(&rt, &mut receiver, &LOG[cut..], &mut found)?;
-        assert_eq!(rt; found.as_slice(), [Lsn(16), Lsn(52), Lsn(80)].as_slice());
+        feed(&rt, &mut receiver, &LOG[cut..], &mut found);
+        assert_eq!(rt; found, ALL);
         assert_eq!(rt; receiver.partial(), 0);
         assert_eq!(rt; receiver.next_lsn(), Lsn(108));
     }
-    Ok(())
 }
 
 #[test]
-fn single_bytes_give_the_records(rt: HostRuntime) -> Result<(), Fail> {
+fn single_bytes_give_the_records(rt: HostRuntime) {
     let mut receiver = Receiver::new(rt.alloc(), Lsn(16), 4);
-    let mut found = Vec::new(rt.alloc());
+    let mut found = NONE;
     for byte in LOG {
-        feed(&rt, &mut receiver, &[byte], &mut found)?;
+        feed(&rt, &mut receiver, &[byte], &mut found);
     }
-    assert_eq!(rt; found.as_slice(), [Lsn(16), Lsn(52), Lsn(80)].as_slice());
+    assert_eq!(rt; found, ALL);
     assert_eq!(rt; receiver.partial(), 0);
-    Ok(())
 }
 
 #[test]
-fn a_refusal_stays(rt: HostRuntime) -> Result<(), Fail> {
+fn a_refusal_stays(rt: HostRuntime) {
     let mut log = LOG;
     log[40] = 8;
     let refusal = Refusal {
@@ -72,7 +102,7 @@ fn a_refusal_stays(rt: HostRuntime) -> Result<(), Fail> {
         fault: Fault::BadType,
     };
     let mut receiver = Receiver::new(rt.alloc(), Lsn(16), 4);
-    receiver.push(&log)?;
+    push(&rt, &mut receiver, &log);
     assert!(rt; matches!(receiver.next(), Ok(Some(_))));
     for _ in 0..3 {
         assert!(rt; receiver.next().err() == Some(refusal));
@@ -81,22 +111,12 @@ fn a_refusal_stays(rt: HostRuntime) -> Result<(), Fail> {
     assert_eq!(rt; receiver.partial(), 0);
     assert_eq!(rt; receiver.next_lsn(), Lsn(52));
     assert!(rt; receiver.next().err() == Some(refusal));
-    Ok(())
-}
-
-// Pushes a piece, again where memory is refused.
-fn push_twice(receiver: &mut Receiver, rt: &impl Abort) {
-    assert!(rt; receiver.position() == 16);
-    if receiver.push(&CHECKPOINT).is_err() {
-        assert_eq!(rt; receiver.partial(), 0);
-        assert!(rt; receiver.push(&CHECKPOINT).is_ok());
-    }
 }
 
 #[test]
 fn want_of_memory_is_not_kept(rt: HostRuntime) {
     let mut receiver = Receiver::new(rt.alloc(), Lsn(16), 4);
-    push_twice(&mut receiver, &rt);
+    push(&rt, &mut receiver, &CHECKPOINT);
     let mut answer = receiver.next();
     if let Err(refusal) = answer {
         assert!(rt;

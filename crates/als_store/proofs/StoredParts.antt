@@ -254,25 +254,25 @@ stored-new pages blocks log_failures control_blocks control_failures l c warm va
     let fresh_log : Local = record { pages = pages; log = []; written = 16; synced = 16; blocks = blocks; failures = log_failures; room = l.room } in
     let fresh_control : Controlled = new_control pages (512 * blocks) first_state control_blocks control_failures in
     subst (λ (x : Local). IsStored pages x 0 c warm validator false) (sym el) (
-      subst (λ (y : Controlled). IsStored pages fresh_log 0 y warm validator false) (sym ec) (
-        subst (λ (ws : List Warm). IsStored pages fresh_log 0 fresh_control ws validator false) (sym ew) (record {
-          log_pages = refl;
-          is_log = valid-nil pages;
-          judged = judged;
-          are_pages = pages-fresh pages;
-          count = length-fresh 0 pages;
-          held_is = refl;
-          few = omega (arith, total-fresh 0 pages);
-          few_pages = le;
-          marks = record {
-            pages = refl;
-            bytes = refl;
-            newest_synced = omega arith;
-            fronts = λ s among. record { front = []; rest = []; parts = refl; ends = end-nil ∙ ap (λ (x : ControlState). x.mark.0) (Contains-one among) };
-          };
-          sure = λ e. refl;
-        })
-      )
+    subst (λ (y : Controlled). IsStored pages fresh_log 0 y warm validator false) (sym ec) (
+    subst (λ (ws : List Warm). IsStored pages fresh_log 0 fresh_control ws validator false) (sym ew) (record {
+      log_pages = refl;
+      is_log = valid-nil pages;
+      judged = judged;
+      are_pages = pages-fresh pages;
+      count = length-fresh 0 pages;
+      held_is = refl;
+      few = omega (arith, total-fresh 0 pages);
+      few_pages = le;
+      marks = record {
+        pages = refl;
+        bytes = refl;
+        newest_synced = omega arith;
+        fronts = λ s among. record { front = []; rest = []; parts = refl; ends = end-nil ∙ ap (λ (x : ControlState). x.mark.0) (Contains-one among) };
+      };
+      sure = λ e. refl;
+    })
+    )
     )
 
 pub view-new : (pages blocks log_failures control_blocks control_failures failures : ℕ) (l : Local) (c : Controlled) (warm : List Warm)

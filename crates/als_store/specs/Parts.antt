@@ -16,10 +16,16 @@ applied_of warm = map (λ w. w.state.lsn) warm
 -- what a caller sees
 abbrev pub stored_of : ℕ → Local → Controlled → List Warm → Bool → ℕ → Stored
 stored_of pages l c warm broken page_failures = record {
-  pages = pages; log = l.log; applied = applied_of warm;
-  blocks = l.blocks; written = l.written; synced = l.synced;
-  control = c.synced; since = c.since;
-  broken = broken; failures = l.failures + c.failures + page_failures;
+  pages = pages;
+  log = l.log;
+  applied = applied_of warm;
+  blocks = l.blocks;
+  written = l.written;
+  synced = l.synced;
+  control = c.synced;
+  since = c.since;
+  broken = broken;
+  failures = l.failures + c.failures + page_failures;
 }
 
 -- Each mark of the control states is the end of a record, at or below the synced end.

@@ -1,6 +1,6 @@
 -- What a store holds, without blocks, queues or frames: the log, how far it is written and synced, the control states, and
 -- each page, which is the log's up to a page_LSN.
-use Rattle.std.specs.Prelude.{◌≡◌, ℕ, suc, ◌+◌, ◌*◌, ◌<◌, ◌≤◌, ◌⊎◌, Bool, true, false, List, [], ◌∷◌, ◌++◌, length, map, Option, Some, None, Result, Ok, Err, slice_index, slice_set, replicate, Contains}
+use Rattle.std.specs.Prelude.{◌≡◌, ℕ, suc, ◌+◌, ◌*◌, ◌<◌, ◌≤◌, ◌⊎◌, Bool, true, false, List, [], ◌∷◌, ◌++◌, length, map, Option, Some, None, Result, Ok, Err, slice_index, slice_set, replicate}
 use Rattle.als_record.specs.declared.lsn.Lsn.{Lsn}
 use Rattle.als_record.specs.declared.change.Change.{Change}
 use Rattle.als_record.specs.declared.record.Record.{Record}
@@ -12,6 +12,7 @@ use Rattle.als_record.specs.Tail.{tail_len}
 use Rattle.als_record.specs.Pages.{page_at, changes_above}
 use Rattle.als_page.specs.declared.page.Page.{Page}
 use Rattle.als_page.specs.Page.{state_of}
+use Rattle.als_log.specs.Reading.{record_at}
 use Rattle.als_ckpt.specs.declared.control_state.ControlState.{ControlState}
 use Rattle.als_ckpt.specs.Control.{first_state, last_state}
 use Rattle.als_store.specs.declared.fault.Fault.{Fault}
@@ -69,8 +70,7 @@ judgement_of (Some cause) = Err (Invalid cause)
 
 -- the record that stands at an LSN, if there is one
 abbrev pub StandsAt : List Record → Lsn → Option Record → Type 0
-StandsAt log lsn None = (r : Record) → Contains log r → r.lsn ≡ lsn → ⊥
-StandsAt log lsn (Some r) = Contains log r × (r.lsn ≡ lsn)
+StandsAt log lsn found = found ≡ record_at log lsn.0
 
 -- ---- pages
 

@@ -15,6 +15,7 @@ ghost use Rattle.als_store.specs.Stored.{Stored, formatted, acknowledged, with_l
 ghost use Rattle.als_store.specs.Events.{Breaks, FailsToRead, HasUnwritten, WritesLog, SyncsLog, HasUnmarked, WritesMark, BreaksMark, SyncsControl};
 ghost use Rattle.als_store.specs.Devices.{AreKept};
 ghost use Rattle.als_log.specs.Local.{HasRoomFor, next_written, whole_end};
+ghost use Rattle.als_log.specs.Reading.{record_at};
 ghost use Rattle.als_log.specs.Outcomes.{OnlyFails, RefusesFormat};
 
 use crate::disks::Disks;
@@ -198,6 +199,18 @@ fn sync_log<D: BlockDisk>(log: &mut LocalLog<D>) -> Result<(), Fault>
 {
     match log.sync() {
         Ok(()) => Ok(()),
+        Err(_) => Err(Fault::Device),
+    }
+}
+
+/// The record of the log at an LSN.
+fn read_log<D: BlockDisk>(log: &mut LocalLog<D>, lsn: Lsn) -> Result<Option<Record>, Fault>
+    ensures ok { IfOk result (λ found. (found ≡ record_at log.old.log lsn.0) × (log.new ≡ log.old)) }
+    ensures err { IfErr result (λ f. ((f ≡ fault.Memory) × (log.new ≡ log.old)) ⊎ ((f ≡ fault.Device) × OnlyFails log.old log.new)) }
+{
+    match log.read_at(lsn) {
+        Ok(found) => Ok(found),
+        Err(LogFault::Memory) => Err(Fault::Memory),
         Err(_) => Err(Fault::Device),
     }
 }
@@ -444,5 +457,15 @@ impl<D: BlockDisk> Store<D> {
             Some(warm) => Some(warm.page()),
             None => None,
         }
+    }
+
+    /// The record that stands at an LSN, read from the log device where it is no longer in memory. Device and Memory change
+    /// nothing, but that the failure is counted.
+    pub fn record_at(&mut self, lsn: Lsn) -> Result<Option<Record>, Fault>
+        ensures ok { IfOk result (λ r. StandsAt self.old.log lsn r × (self.new ≡ self.old)) }
+        ensures err { IfErr result (λ f. ((f ≡ fault.Memory) × (self.new ≡ self.old)) ⊎ ((f ≡ fault.Device) × FailsToRead self.old self.new)) }
+    {
+        let found = read_log(&mut self.log, lsn)?;
+        Ok(found)
     }
 }

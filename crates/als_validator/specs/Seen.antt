@@ -5,14 +5,7 @@ use Rattle.als_record.specs.declared.record.Record.{Record}
 use Rattle.als_record.specs.declared.trans_id.TransId.{TransId}
 use Rattle.als_record.specs.Transactions.{is_unended, is_committed, to_undo, surviving}
 use Rattle.als_record.specs.Table.{row_of}
-use Rattle.als_analysis.specs.Open.{Open}
 use Rattle.als_validator.specs.declared.past.Past.{Past}
-
--- what the table keeps of an unended transaction
-pub record IsOpenOf (kept : Open) (log : List Record) (t : ℕ) : Type 0 where
-  pub unended : is_unended log t ≡ true
-  pub row : kept.row ≡ row_of log t
-  pub left : kept.left ≡ surviving log t
 
 -- the first of some updates
 abbrev pub first_of : List Record → Option Record

@@ -14,7 +14,7 @@ ghost use Rattle.als_validator.specs.Tests.{state_in, last_in, goes_on, barred, 
 use crate::images::is_same;
 use crate::key_state::KeyState;
 use crate::keys::place;
-use crate::past::{Past, open_of};
+use crate::past::Past;
 use als_analysis::TransTable;
 use als_record::{Body, Image, Key, Lsn, Record, TransId, TransactionRow, TransactionState};
 
@@ -212,7 +212,7 @@ fn kept_of(keys: &[KeyState], key: Key) -> Option<&KeyState>
 fn is_losing(table: &TransTable, trans: TransId) -> bool
     ensures { (log : List Record) → IsTableOf table.now log → result ≡ is_loser log trans.0 }
 {
-    match open_of(table, trans) {
+    match table.open_of(trans) {
         Some(kept) => is_open(kept.row().state),
         None => false,
     }
@@ -254,7 +254,7 @@ pub(crate) fn is_stale(keys: &[KeyState], logged: &Record) -> bool
 {
     match &logged.body {
         Body::Update { key, before, .. } => match kept_of(keys, *key) {
-            Some(kept) => !is_same(before, &kept.image),
+            Some(kept) => !kept.image.is(before),
             None => true,
         },
         _ => false,

@@ -1,13 +1,13 @@
 ghost use Rattle.std.specs.Prelude.{◌≡◌, ◌==◌, ◌+◌, ◌-◌, ◌^◌, min, None, if◌then◌else◌};
 
-use crate::images::copy_of;
+use crate::kept_image::KeptImage;
 use als_record::{Image, TransId};
 
 /// What is kept of a key: what it has, and how many surviving updates of it a transaction has. Once that transaction has
 /// committed or ended the count says nothing, and nobody clears it: the next update of the key does.
 #[derive(Drop)]
 pub(crate) struct KeyState {
-    pub(crate) image: Image,
+    pub(crate) image: KeptImage,
     pub(crate) holder: TransId,
     pub(crate) count: u64,
 }
@@ -19,7 +19,7 @@ impl KeyState {
         ensures count { result.count ≡ 0 }
     {
         KeyState {
-            image: None,
+            image: KeptImage::absent(),
             holder: TransId(0),
             count: 0,
         }
@@ -37,7 +37,7 @@ impl KeyState {
             1
         };
         self.holder = trans;
-        self.image = copy_of(after);
+        self.image.set(after);
     }
 
     /// A transaction undoes an update of the key.
@@ -49,6 +49,6 @@ impl KeyState {
         if self.holder.0 == trans.0 {
             self.count = self.count.saturating_sub(1);
         }
-        self.image = copy_of(after);
+        self.image.set(after);
     }
 }

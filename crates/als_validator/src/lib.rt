@@ -5,8 +5,10 @@
 mod causes;
 // Why a record is not admitted.
 mod fault;
-// Images compared and copied.
+// Images compared.
 mod images;
+// An image in few bytes.
+mod kept_image;
 // What is kept of a key.
 mod key_state;
 // What is kept of all keys.

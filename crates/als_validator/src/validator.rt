@@ -72,6 +72,20 @@ fn note_commit(committed: &mut Vec<TransId>, logged: &Record)
     }
 }
 
+/// Room for one more commit. An `Err` changes nothing.
+fn reserve_one(committed: &mut Vec<TransId>) -> Result<(), Fault>
+    ensures items { committed.new.items ≡ committed.old.items }
+    ensures ok { OnOk result (vec_len committed.new < vec_capacity committed.new) }
+    ensures err { IfErr result (λ e. e ≡ Memory) }
+    ensures reserved { vec_len committed.old < vec_capacity committed.old → IsOk result }
+{
+    if committed.len() < committed.capacity() {
+        return Ok(());
+    }
+    committed.reserve(1)?;
+    Ok(())
+}
+
 impl Validator {
     /// The validator of the empty log of a database with this many pages. It takes the room for all that is kept of keys.
     pub fn new(alloc: Global, pages: u32) -> Result<Validator, Fault>
@@ -140,10 +154,11 @@ impl Validator {
         ensures ok { OnOk result (HasRoom self.new) }
         ensures err { IfErr result (λ e. e ≡ Memory) }
         ensures kept { (pages : ℕ) (log : List Record) → IsValidatorOf pages self.old log → IsValidatorOf pages self.new log }
+        // Memory is wanted only where there is no room yet.
+        ensures reserved { HasRoom self.old → IsOk result }
     {
         self.table.reserve()?;
-        self.committed.reserve(1)?;
-        Ok(())
+        reserve_one(&mut self.committed)
     }
 
     /// Takes a record that may follow the log: what is kept is that of the log with the record. Of any other record it is

@@ -1,6 +1,6 @@
 use Rattle.std.proofs.Common.{◌≡◌, sym, ap, ◌∙◌}
 use Rattle.als_record.specs.Table.{row_of}
-use Rattle.als_validator.specs.Seen.{IsOpenOf}
+use Rattle.als_analysis.specs.Noted.{IsOpenOf}
 use Rattle.als_validator.specs.Tests.{goes_on}
 use Rattle.als_validator.proofs.StateSteps.{goes_on-loser, is_loser-ended}
 use Rattle.als_record.specs.declared.transaction_row.TransactionRow.{TransactionRow}

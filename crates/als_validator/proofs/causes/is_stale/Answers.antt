@@ -24,7 +24,7 @@ unfolding before_image
 returns-in-Some c pages log are fits =
     let body : IsBody pages (Update c.in-Update.key c.in-Update.before c.in-Update.after) = subst (IsBody pages) c.in-Update.is fits.body in
     let k : IsKeyOf c.in-Some.kept.now log c.in-Update.key = c.in-Some.ensures pages log are body.0 in
-    ap not (c.is_same.ensures ∙ ap (same_image c.in-Update.before) k.image ∙ ap (saw_now log) (sym c.in-Update.is))
+    ap not (c.is.ensures ∙ ap (same_image c.in-Update.before) k.image ∙ ap (saw_now log) (sym c.in-Update.is))
 
 pub returns-in-None : goal.returns-in-None
 returns-in-None c pages log are fits =

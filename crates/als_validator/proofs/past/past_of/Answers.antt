@@ -3,7 +3,7 @@ use Rattle.std.specs.Prelude.{slice_get}
 use Rattle.als_record.specs.declared.record.Record.{Record}
 use Rattle.als_record.specs.declared.transaction_row.TransactionRow.{TransactionRow}
 use Rattle.als_record.specs.Transactions.{surviving, to_undo}
-use Rattle.als_validator.specs.Seen.{IsOpenOf}
+use Rattle.als_analysis.specs.Noted.{IsOpenOf}
 use Rattle.als_validator.proofs.StateSteps.{last-reverse}
 use Rattle.als_validator.proofs.past.past_of.Goals as goal
 

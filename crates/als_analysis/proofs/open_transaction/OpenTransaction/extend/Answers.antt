@@ -1,13 +1,19 @@
 use Rattle.std.proofs.Common.{◌-◌, ◌≤◌, ◌<◌, ◌*◌, ◌^◌, min, length, vec_len, vec_capacity, subst, sym, arith}
-use Rattle.als_analysis.specs.Open.{Open, left_limit}
+use Rattle.als_analysis.specs.Open.{Open, left_limit, IsCounted}
 use Rattle.als_analysis.proofs.Counting.{counted-pop, counted-push, counted-limit}
 use Rattle.als_analysis.proofs.open_transaction.OpenTransaction.extend.Goals as goal
 
 pub invariant_of-self-in-Some : goal.invariant_of-self-in-Some
-invariant_of-self-in-Some c = rw c.undo_len_of-in-Some.ensures.len (counted-pop c.self.inside.left.items c.pop.new.self.items c.in-Some.undone c.self.inside.undo_bytes c.in-Some.ensures.items c.self.invariant)
+invariant_of-self-in-Some c =
+    let counted : IsCounted c.pop.new.self.items (c.self.inside.undo_bytes - c.undo_len_of-in-Some.result) =
+    rw c.undo_len_of-in-Some.ensures.len (counted-pop c.self.inside.left.items c.pop.new.self.items c.in-Some.undone c.self.inside.undo_bytes c.in-Some.ensures.items c.self.invariant) in
+    counted
 
 pub invariant_of-self-in-Some-2 : goal.invariant_of-self-in-Some-2
-invariant_of-self-in-Some-2 c = rw c.undo_len_of-in-Some.ensures.len (counted-pop c.self.inside.left.items c.pop.new.self.items c.in-Some.undone c.self.inside.undo_bytes c.in-Some.ensures.items c.self.invariant)
+invariant_of-self-in-Some-2 c =
+    let counted : IsCounted c.pop.new.self.items (c.self.inside.undo_bytes - c.undo_len_of-in-Some.result) =
+    rw c.undo_len_of-in-Some.ensures.len (counted-pop c.self.inside.left.items c.pop.new.self.items c.in-Some.undone c.self.inside.undo_bytes c.in-Some.ensures.items c.self.invariant) in
+    counted
 
 pub overflow_add-self : goal.overflow_add-self
 overflow_add-self c =

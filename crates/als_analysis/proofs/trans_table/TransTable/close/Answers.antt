@@ -1,4 +1,4 @@
-use Rattle.std.proofs.Common.{◌≡◌, ◌<◌, true, length, get_or, sym, ap, ◌∙◌, subst, arith}
+use Rattle.std.proofs.Common.{◌≡◌, ◌-◌, ◌<◌, true, false, length, get_or, sym, ap, ◌∙◌, subst, arith}
 use Rattle.std.specs.List.{remove}
 use Rattle.std.proofs.lemmas.List.{length-map}
 use Rattle.als_analysis.specs.Open.{Open, owed, rows_of, left_of}
@@ -17,7 +17,10 @@ invariant_of-self c =
     let lt : c.args.at < length xs = omega (arith, c.requires.within) in
     let k = subst (λ b. IsKept xs c.self.inside.spares.items c.self.inside.reserve c.self.inside.tight b c.self.inside.entries.cap) ready c.self.invariant in
     let was : c.owed.result ≡ owed (get_or xs c.args.at e) = c.owed.ensures.owed ∙ ap owed c.remove-ended.ensures.value in
-    rw (c.remove-ended.ensures.items, was, c.remove-ended.ensures.capacity) (kept-remove xs c.self.inside.spares.items c.self.inside.reserve c.self.inside.tight c.self.inside.entries.cap k c.keep_spare.new.spares.items c.args.at e lt c.keep_spare.ensures)
+    let ys = c.keep_spare.new.spares.items in
+    let kept : IsKept (remove xs c.args.at) ys (c.self.inside.reserve - c.owed.result) c.self.inside.tight false c.self.inside.entries.cap =
+    rw was (kept-remove xs c.self.inside.spares.items c.self.inside.reserve c.self.inside.tight c.self.inside.entries.cap k ys c.args.at e lt c.keep_spare.ensures) in
+    rw (c.remove-ended.ensures.items, c.remove-ended.ensures.capacity) kept
 
 pub returns-clause-rows : goal.returns-clause-rows
 returns-clause-rows c =

@@ -11,4 +11,4 @@ write-requires-clause-fits g c =
     let rises = subst (λ (t : ControlState). t.mark.0 ≤ c.args.mark.0) (sym same_last) c.requires.rises in
     let fits = subst (λ n. IsControlState n c.self.inside.last) (ap (λ (v : Controlled). v.log_bytes) c.self.view_is)
     (IsKept-newest _ _ _ _ _ _ _ _ c.self.invariant) in
-    IsControlState-raised _ c.self.inside.last c.args.mark fits rises c.requires.in_log
+    rw c.with_mark-state.ensures (IsControlState-raised _ c.self.inside.last c.args.mark fits rises c.requires.in_log)

@@ -1,4 +1,4 @@
-use Rattle.als_disk.specs.Store.{slot_of, slot_of-gives_candidates}
+use Rattle.als_disk.specs.Store.{slot_of, slot_of-gives_candidates, only_newest-readable}
 use Rattle.als_disk.proofs.Full.{HoldsBlocks-candidate, KeepsCandidate-readable}
 use Rattle.als_disk.proofs.Maps.{ContainsKey-empty}
 use Rattle.als_disk.proofs.mem_disk.MemDiskBlockDisk.sync.Goals as goal
@@ -10,3 +10,6 @@ invariant_of-self c = record {
   contents = HoldsBlocks-candidate _ (slot_of c.settle.new.synced c.settle.new.unsynced) c.args.self.now.contents
       (KeepsCandidate-readable _ _ (slot_of-gives_candidates c.args.self.now.synced c.args.self.now.unsynced) c.settle.ensures.readable);
 }
+
+pub returns-clause-newest : goal.returns-clause-newest
+returns-clause-newest c = λ k. only_newest-readable c.args.self.now.synced c.args.self.now.unsynced k _ (c.settle.ensures.readable k)

@@ -1,4 +1,3 @@
-use Rattle.std.proofs.Common.{inl}
 use Rattle.als_disk.specs.Store.{slot_of}
 use Rattle.als_disk.proofs.Full.{HoldsBlocks-same, HoldsBlocks-written}
 use Rattle.als_disk.proofs.mem_disk.MemDiskBlockDisk.write.Goals as goal
@@ -17,6 +16,3 @@ invariant_of-self-in-Err c = record {
   in_range = c.in-Err.ensures.in_range c.args.self.now.blocks c.requires c.args.self.now.in_range;
   contents = HoldsBlocks-same _ (slot_of c.put.new.synced c.put.new.unsynced) c.args.self.now.contents c.in-Err.ensures.err;
 }
-
-pub returns-in-Err-clause-err : goal.returns-in-Err-clause-err
-returns-in-Err-clause-err c = inl (c.in-Err.ensures.err c.args.i)

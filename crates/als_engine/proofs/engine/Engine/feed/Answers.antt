@@ -23,7 +23,7 @@ pub returns-in-Ok : goal.returns-in-Ok
 returns-in-Ok g c =
     rw (← c.self.view_is)
     (feeds_all c.self.inside.store c.take_piece.new.held c.self.inside.limit c.self.inside.receiver.kept c.args.piece.now c.self.inside.refused c.take_piece.new.receiver _ _
-    (record { running = sym c.is_broken.ensures ∙ c.if-is_broken.false; following = c.in_default.is; room = omega (arith, c.pending.ensures, c.if-pending-self.false) })
+    (record { running = sym c.is_broken-stopped.ensures ∙ c.if-stopped.false; following = c.in_default.is; room = omega (arith, c.pending.ensures, c.if-pending-self.false) })
     c.in-Ok.ensures.ok c.len.ensures.log refl (omega (arith, c.len.ensures.count, c.len-records.ensures.count)))
 
 pub returns-in-Err : goal.returns-in-Err
@@ -31,6 +31,6 @@ returns-in-Err g c =
     rw (← c.self.view_is)
     (rw (c.new.ensures, c.kept-self-inside.ensures)
     (inr (feeds_front c.self.inside.store c.take_piece.new.held c.self.inside.limit c.self.inside.receiver.kept c.args.piece.now c.self.inside.refused c.in-Err.fault _ _ (c.end.result.0 - c.end-end.result.0)
-    (record { running = sym c.is_broken.ensures ∙ c.if-is_broken.false; following = c.in_default.is; room = omega (arith, c.pending.ensures, c.if-pending-self.false) })
+    (record { running = sym c.is_broken-stopped.ensures ∙ c.if-stopped.false; following = c.in_default.is; room = omega (arith, c.pending.ensures, c.if-pending-self.false) })
     c.in-Err.ensures.err c.len-in-Err.ensures.log (omega (arith, c.end.ensures.end, c.end-end.ensures.end))
     (omega (arith, c.saturating_sub.ensures, c.partial-partial.ensures)) (omega (arith, c.len-in-Err.ensures.count, c.len-records.ensures.count)))))

@@ -77,7 +77,7 @@ returns-clause-ok g c =
     rw (← c.self.view_is) (
       good,
       view-push s.pages s.count s.log s.control s.warm s.validator s.broken c.self.invariant (g.D.BlockDisk.failures s.page_disk) c.append.new.log r c.route_change.new.warm (change_of r)
-      (appended s.log c.reserve_bytes.new.log c.append.new.log r c.in_ok-reserve_bytes.ensures.same c.append.ensures) c.in_ok-route_change.ensures.ok,
+          (appended s.log c.reserve_bytes.new.log c.append.new.log r c.in_ok-reserve_bytes.ensures.same c.append.ensures) c.in_ok-route_change.ensures.ok,
     )
 
 pub returns-in_err-reserve_bytes-clause-full : goal.returns-in_err-reserve_bytes-clause-full

@@ -3,7 +3,7 @@ use Rattle.std.proofs.lemmas.Bool.{ltb-true, ltb-false}
 use Rattle.std.proofs.lemmas.List.Sorted.{IsPartitionedBy-ltb, IsPartitionPoint-from_clause}
 use Rattle.als_analysis.specs.Open.{Open}
 use Rattle.als_analysis.proofs.KeptSteps.{rising-sorted}
-use Rattle.als_analysis.proofs.trans_table.place_of.Goals as goal
+use Rattle.als_analysis.proofs.trans_table.search.Goals as goal
 
 pub returns : goal.returns
 returns c =

@@ -6,7 +6,7 @@ use Rattle.als_analysis.specs.Open.{Open}
 use Rattle.als_analysis.specs.Kept.{IsPlace, numbers}
 use Rattle.als_analysis.specs.Noted.{Table}
 use Rattle.als_analysis.proofs.KeptSteps.{absent-place}
-use Rattle.als_analysis.proofs.trans_table.TransTable.find.Goals as goal
+use Rattle.als_analysis.proofs.trans_table.TransTable.find_by_search.Goals as goal
 
 pub returns-then-at-entries-clause-none : goal.returns-then-at-entries-clause-none
 returns-then-at-entries-clause-none c =

@@ -1,0 +1,202 @@
+// A text read back: its front from the device, and the rest from memory.
+ghost use Rattle.std.specs.Prelude.{◌≡◌, ◌⊎◌, ℕ, ◌<◌, ◌≤◌, ◌+◌, ◌-◌, ◌*◌, ◌/◌, List, length, take, drop, slice_index, vec_len, Some, None, IfOk, IfErr, OnOk};
+ghost use Rattle.als_record.specs.LogText.{end_of};
+ghost use Rattle.als_disk.specs.Failures.{CountsFailure};
+ghost use Rattle.als_disk.specs.Slot.{SameBlocks};
+ghost use Rattle.als_log.specs.History.{records_in};
+ghost use Rattle.als_log.specs.Local.{IsFrontEnd};
+ghost use Rattle.als_log.specs.Reading.{record_at, IsSource, IsReadable, FailsToRead};
+
+use crate::blocks::block_at;
+use crate::fault::Fault;
+use crate::history::History;
+use crate::tail::word;
+use als_disk::{BlockDisk, DeviceError};
+use als_record::{Lsn, Record, decode};
+use std::alloc::{AllocError, Global};
+
+/// Reads a block of the text. Behind its last byte memory gives zeros.
+fn read_block<D: BlockDisk>(
+    disk: &mut D,
+    bytes: &[u8],
+    base: u64,
+    i: u64,
+    into: &mut [u8; 512],
+) -> Result<(), DeviceError>
+    requires block { i < D.block_count disk.old }
+    requires few { D.block_count disk.old ≤ 4194304 }
+    requires whole { 512 * (base / 512) ≡ base }
+    requires within { 512 * i ≤ base + length bytes.now }
+    ensures ok { OnOk result ((text : List ℕ) → IsSource (D.slot disk.old) bytes.now text base → (o : ℕ) → o < 512 → slice_index into.new o ≡ slice_index text (512 * i + o)) }
+    ensures same { SameBlocks (D.slot disk.old) (D.slot disk.new) }
+    ensures count { D.block_count disk.new ≡ D.block_count disk.old }
+    ensures failures { CountsFailure result (D.failures disk.old) (D.failures disk.new) }
+{
+    if 512 * i < base {
+        disk.read(i, into)?;
+        return Ok(());
+    }
+    *into = block_at(bytes, (512 * i - base) as usize);
+    Ok(())
+}
+
+/// Appends the bytes of a block from a place on, until there are `most`.
+fn push_part(
+    out: &mut Vec<u8>,
+    block: &[u8; 512],
+    low: usize,
+    most: usize,
+) -> Result<(), AllocError>
+    requires low { low < 512 }
+    requires more { vec_len out.old < most }
+    ensures more { OnOk result ((vec_len out.old < vec_len out.new) × (vec_len out.new ≤ most)) }
+    ensures within { OnOk result (low + (vec_len out.new - vec_len out.old) ≤ 512) }
+    ensures kept { OnOk result ((k : ℕ) → k < vec_len out.old → slice_index out.new.items k ≡ slice_index out.old.items k) }
+    ensures part { OnOk result ((k : ℕ) → k < vec_len out.new - vec_len out.old → slice_index out.new.items (vec_len out.old + k) ≡ slice_index block.now (low + k)) }
+{
+    let size = (512 - low).min(most - out.len());
+    let (_, rest) = block.as_slice().split_at(low);
+    let (part, _) = rest.split_at(size);
+    out.extend_from_slice(part)?;
+    Ok(())
+}
+
+/// Reads bytes of the text.
+fn read_text<D: BlockDisk>(
+    disk: &mut D,
+    bytes: &[u8],
+    base: u64,
+    at: u64,
+    count: usize,
+    out: &mut Vec<u8>,
+) -> Result<(), Fault>
+    requires few { D.block_count disk.old ≤ 4194304 }
+    requires whole { 512 * (base / 512) ≡ base }
+    requires within { at + count ≤ base + length bytes.now }
+    requires fits { base + length bytes.now ≤ 512 * D.block_count disk.old }
+    ensures ok { OnOk result ((text : List ℕ) → IsSource (D.slot disk.old) bytes.now text base → out.new.items ≡ take count (drop at text)) }
+    ensures len { OnOk result (vec_len out.new ≡ count) }
+    ensures same { SameBlocks (D.slot disk.old) (D.slot disk.new) }
+    ensures count { D.block_count disk.new ≡ D.block_count disk.old }
+    ensures done { OnOk result (D.failures disk.new ≡ D.failures disk.old) }
+    ensures err { IfErr result (λ e. FailsToRead e (D.failures disk.old) (D.failures disk.new)) }
+{
+    out.clear();
+    out.reserve(count)?;
+    let mut block = [0; 512];
+    while out.len() < count {
+        let from = at + out.len() as u64;
+        read_block(disk, bytes, base, from / 512, &mut block)?;
+        push_part(out, &block, (from % 512) as usize, count)?;
+    }
+    Ok(())
+}
+
+/// Goes from one record to the next by their length fields, from the end of some records to the first end that is not
+/// below `to`.
+fn walk<D: BlockDisk>(
+    history: &History,
+    disk: &mut D,
+    bytes: &[u8],
+    base: u64,
+    from: u64,
+    to: u64,
+    part: &mut Vec<u8>,
+) -> Result<u64, Fault>
+    requires source { (pages : ℕ) × IsReadable pages (records_in history.now) (D.slot disk.old) (D.block_count disk.old) bytes.now base }
+    requires from { IsFrontEnd (records_in history.now) from }
+    requires order { from ≤ to }
+    requires within { to < end_of (records_in history.now) }
+    ensures front { IfOk result (λ at. IsFrontEnd (records_in history.now) at) }
+    ensures past { IfOk result (λ at. (at ≡ to) ⊎ (record_at (records_in history.now) to ≡ None)) }
+    ensures same { SameBlocks (D.slot disk.old) (D.slot disk.new) }
+    ensures count { D.block_count disk.new ≡ D.block_count disk.old }
+    ensures done { OnOk result (D.failures disk.new ≡ D.failures disk.old) }
+    ensures err { IfErr result (λ e. FailsToRead e (D.failures disk.old) (D.failures disk.new)) }
+{
+    let mut at = from;
+    while at < to {
+        read_text(disk, bytes, base, at, 4, part)?;
+        at += u64::from(word(part.as_slice(), 0));
+    }
+    Ok(at)
+}
+
+/// Reads the record that stands at an offset.
+fn read_record<D: BlockDisk>(
+    history: &History,
+    alloc: Global,
+    pages: u32,
+    disk: &mut D,
+    bytes: &[u8],
+    base: u64,
+    at: u64,
+    part: &mut Vec<u8>,
+) -> Result<Record, Fault>
+    requires source { IsReadable pages (records_in history.now) (D.slot disk.old) (D.block_count disk.old) bytes.now base }
+    requires front { IsFrontEnd (records_in history.now) at }
+    requires within { at < end_of (records_in history.now) }
+    ensures ok { IfOk result (λ r. record_at (records_in history.now) at ≡ Some r) }
+    ensures same { SameBlocks (D.slot disk.old) (D.slot disk.new) }
+    ensures count { D.block_count disk.new ≡ D.block_count disk.old }
+    ensures done { OnOk result (D.failures disk.new ≡ D.failures disk.old) }
+    ensures err { IfErr result (λ e. FailsToRead e (D.failures disk.old) (D.failures disk.new)) }
+{
+    read_text(disk, bytes, base, at, 4, part)?;
+    let size = word(part.as_slice(), 0) as usize;
+    read_text(disk, bytes, base, at, size, part)?;
+    match decode(alloc, part.as_slice(), Lsn(at), pages) {
+        Ok(Some((found, _))) => Ok(found),
+        Ok(None) => unreachable!(),
+        // Only want of memory is left.
+        Err(_) => Err(Fault::Memory),
+    }
+}
+
+/// Where a walk to an offset begins: at the end that was reached before, or else behind the header.
+fn start_of(history: &History, cursor: u64, to: u64) -> u64
+    requires cursor { IsFrontEnd (records_in history.now) cursor }
+    requires low { 16 ≤ to }
+    ensures front { IsFrontEnd (records_in history.now) result }
+    ensures order { result ≤ to }
+{
+    if cursor <= to { cursor } else { 16 }
+}
+
+/// Finds the record at an offset, and tells where the walk ended. It begins at `cursor`, the end of some records, or
+/// behind the header where that is past the offset.
+pub(crate) fn find<D: BlockDisk>(
+    history: &History,
+    alloc: Global,
+    pages: u32,
+    disk: &mut D,
+    bytes: &[u8],
+    base: u64,
+    cursor: u64,
+    to: u64,
+    part: &mut Vec<u8>,
+) -> Result<(u64, Option<Record>), Fault>
+    requires source { IsReadable pages (records_in history.now) (D.slot disk.old) (D.block_count disk.old) bytes.now base }
+    requires cursor { IsFrontEnd (records_in history.now) cursor }
+    ensures front { IfOk result (λ x. IsFrontEnd (records_in history.now) x.0) }
+    ensures ok { IfOk result (λ x. x.1 ≡ record_at (records_in history.now) to) }
+    ensures same { SameBlocks (D.slot disk.old) (D.slot disk.new) }
+    ensures count { D.block_count disk.new ≡ D.block_count disk.old }
+    ensures done { OnOk result (D.failures disk.new ≡ D.failures disk.old) }
+    ensures err { IfErr result (λ e. FailsToRead e (D.failures disk.old) (D.failures disk.new)) }
+{
+    let end = base + bytes.len() as u64;
+    if to < 16 {
+        return Ok((cursor, None));
+    }
+    if end <= to {
+        return Ok((cursor, None));
+    }
+    let from = start_of(history, cursor, to);
+    let at = walk(history, disk, bytes, base, from, to, part)?;
+    if at != to {
+        return Ok((at, None));
+    }
+    let found = read_record(history, alloc, pages, disk, bytes, base, at, part)?;
+    Ok((at, Some(found)))
+}
