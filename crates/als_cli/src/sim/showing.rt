@@ -97,9 +97,9 @@ fn present<W: Write>(output: &mut W, number: u32, page: &Page) -> io::Result<boo
 /// growth was refused.
 pub fn log(alloc: Global, world: &mut World<Disk>, from: u64) -> Result<String, Fault> {
     let mut listing = String::new(alloc);
-    let end = world.engine().status().end.0;
     let mut at = FIRST;
-    while at < end {
+    // Each record begins at a byte of its own.
+    for _ in FIRST..world.engine().status().end.0 {
         let Some(logged) = world.record_at(Lsn(at))? else {
             break;
         };
