@@ -4,7 +4,7 @@ use std::alloc::{AllocError, Global};
 use std::convert::AsStr;
 
 /// What the command line asks for.
-#[derive(Clone, Copy, Debug, PartialEq, Eq)]
+#[derive(Clone, Copy)]
 pub enum Command {
     /// Record lines to a log text: its bytes, or lines of hexadecimal digits.
     Make { hex: bool },
@@ -48,7 +48,12 @@ text, and
   resync                  drop the partial record, follow again
   apply P                 redo the first pending changes of page P
   drain                   redo until nothing is pending
-  show status|db, show page P, show log A
+  log-write, log-sync     write the log's first unwritten block, sync the log
+  mark-write, ctl-sync    write the log's synced end as its mark, sync the mark
+  force                   log-write until all is written, and then those three
+  fail log|control|pages K
+                          make the K-th next call of that device fail
+  show status|table|db, show page P, show log A
 Writes standard output: for each line that is no record line what it answers.
 
 Example:

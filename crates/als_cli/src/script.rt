@@ -8,6 +8,10 @@ mod world_line;
 mod step_line;
 // A line of several steps.
 mod combined_line;
+// The devices that a line may name.
+mod device;
+// A line that makes a device fail.
+mod fail_line;
 // A line that asks for what is there.
 mod show_line;
 // Any line of a simulation behind its first.
@@ -17,6 +21,8 @@ mod commands;
 
 pub use combined_line::CombinedLine;
 pub use commands::{is_command, line_number, number_past};
+pub use device::Device;
+pub use fail_line::FailLine;
 pub use line::Line;
 pub use record_line::RecordLine;
 pub use show_line::ShowLine;

@@ -1,5 +1,11 @@
+// A device of the standby.
+mod disk;
+// What makes its devices fail.
+mod fuses;
 // A world and the log text of the lines so far.
 mod simulation;
+// Lines of one step.
+mod stepping;
 // Lines of several steps.
 mod combined;
 // What a script's steps answered, as text.

@@ -6,6 +6,8 @@ mod making;
 mod language;
 // Scripts whose output comes from the standby.
 mod standby;
+// What is acknowledged, and devices that fail.
+mod acknowledging;
 // The command line.
 mod asking;
 // Streams that fail or are too long.

@@ -1,10 +1,12 @@
 use super::words::Words;
 
 /// A line of several steps.
-#[derive(Clone, Copy, Debug, PartialEq, Eq)]
+#[derive(Clone, Copy)]
 pub enum CombinedLine {
     /// Redo until nothing is pending.
     Drain,
+    /// Write and sync the log, then the control block.
+    Force,
 }
 
 impl CombinedLine {
@@ -13,6 +15,7 @@ impl CombinedLine {
         let mut words = Words::of(line);
         let combined = match words.next()? {
             "drain" => CombinedLine::Drain,
+            "force" => CombinedLine::Force,
             _ => return None,
         };
         words.ending(combined)

@@ -1,4 +1,5 @@
 use super::combined_line::CombinedLine;
+use super::fail_line::FailLine;
 use super::record_line::RecordLine;
 use super::show_line::ShowLine;
 use super::step_line::StepLine;
@@ -9,6 +10,7 @@ pub enum Line {
     Record(RecordLine),
     Step(StepLine),
     Combined(CombinedLine),
+    Fail(FailLine),
     Show(ShowLine),
 }
 
@@ -23,6 +25,9 @@ impl Line {
         }
         if let Some(combined) = CombinedLine::parse(line) {
             return Some(Line::Combined(combined));
+        }
+        if let Some(fail) = FailLine::parse(line) {
+            return Some(Line::Fail(fail));
         }
         Some(Line::Show(ShowLine::parse(line)?))
     }

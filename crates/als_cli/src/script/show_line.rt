@@ -1,7 +1,7 @@
 use super::words::Words;
 
 /// A line that asks for what is there.
-#[derive(Clone, Copy, Debug, PartialEq, Eq)]
+#[derive(Clone, Copy)]
 pub enum ShowLine {
     Status,
     /// The transaction table.

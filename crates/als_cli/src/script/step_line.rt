@@ -1,13 +1,18 @@
 use super::words::Words;
 
 /// A line of one step.
-#[derive(Clone, Copy, Debug, PartialEq, Eq)]
+#[derive(Clone, Copy)]
 pub enum StepLine {
     /// `feed A B`: bytes `from` to `to - 1` of the log text.
     Feed { from: u64, to: u64 },
     Resync,
     /// `apply P`
     Apply { page: u32 },
+    LogWrite,
+    LogSync,
+    MarkWrite,
+    /// `ctl-sync`
+    ControlSync,
 }
 
 impl StepLine {
@@ -23,6 +28,10 @@ impl StepLine {
             "apply" => StepLine::Apply {
                 page: words.number()?,
             },
+            "log-write" => StepLine::LogWrite,
+            "log-sync" => StepLine::LogSync,
+            "mark-write" => StepLine::MarkWrite,
+            "ctl-sync" => StepLine::ControlSync,
             _ => return None,
         };
         words.ending(step)

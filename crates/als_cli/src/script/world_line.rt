@@ -1,7 +1,7 @@
 use super::words::Words;
 
 /// The first line of a script: how large the standby and its devices are.
-#[derive(Clone, Copy, Debug, PartialEq, Eq)]
+#[derive(Clone, Copy)]
 pub struct WorldLine {
     pub pages: u64,
     /// Blocks of the log device.

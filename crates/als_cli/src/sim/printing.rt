@@ -9,6 +9,7 @@ pub fn reply<W: Write>(output: &mut W, reply: &Reply, end: Lsn) -> io::Result<()
     match reply {
         Reply::Done => writeln!(output, "ok"),
         Reply::Applied(lsn) => writeln!(output, "ok lsn={}", lsn.0),
+        Reply::Acknowledged(lsn) => writeln!(output, "ok ack={}", lsn.0),
         Reply::Fed(Fed { taken, records }) => {
             writeln!(output, "ok taken={taken} records={records} end={end}")
         }

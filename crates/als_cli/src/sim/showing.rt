@@ -1,11 +1,11 @@
-ghost use Rattle.std.specs.Prelude.{◌≤◌};
-
+use super::disk::Disk;
 use super::shown_image::ShownImage;
 use super::shown_record::ShownRecord;
 use als_analysis::OpenTransaction;
-use als_engine::{Engine, State, Status};
+use als_engine::{Engine, Fault, State, Status, World};
 use als_page::Page;
-use als_record::{Body, Image, Lsn, Record, TransactionState};
+use als_record::{Lsn, TransactionState, encoded_len};
+use std::alloc::Global;
 use std::io;
 use std::io::Write;
 
@@ -16,7 +16,7 @@ const SLOTS: u8 = 15;
 const FIRST: u64 = 16;
 
 /// `show status`.
-pub fn status<W: Write>(output: &mut W, engine: &Engine) -> io::Result<()> {
+pub fn status<W: Write>(output: &mut W, engine: &Engine<Disk>) -> io::Result<()> {
     let Status {
         state,
         end,
@@ -37,6 +37,7 @@ fn state_name(state: State) -> &'static str {
     match state {
         State::Following => "Following",
         State::Refusing { .. } => "Refusing",
+        State::Stopped => "Stopped",
     }
 }
 
@@ -66,7 +67,7 @@ pub fn page<W: Write>(output: &mut W, number: u32, page: &Page) -> io::Result<()
 }
 
 /// `show db`.
-pub fn database<W: Write>(output: &mut W, engine: &Engine) -> io::Result<()> {
+pub fn database<W: Write>(output: &mut W, engine: &Engine<Disk>) -> io::Result<()> {
     let mut is_empty = true;
     for number in 0..engine.pages() {
         if let Some(page) = engine.page_now(number) {
@@ -92,47 +93,23 @@ fn present<W: Write>(output: &mut W, number: u32, page: &Page) -> io::Result<boo
     Ok(any)
 }
 
-/// `show log`.
-pub fn log<W: Write>(output: &mut W, engine: &Engine, from: u64) -> io::Result<()> {
-    let end = engine.status().end.0;
+/// `show log`: the records from an LSN on. They are gathered, so that a refusal stands alone. Device: a read failed. Memory: a
+/// growth was refused.
+pub fn log(alloc: Global, world: &mut World<Disk>, from: u64) -> Result<String, Fault> {
+    let mut listing = String::new(alloc);
     let mut at = FIRST;
-    let mut is_empty = true;
-    while at < end {
-        let Some(record) = engine.record_at(Lsn(at)) else {
+    // Each record begins at a byte of its own.
+    for _ in FIRST..world.engine().status().end.0 {
+        let Some(logged) = world.record_at(Lsn(at))? else {
             break;
         };
         if at >= from {
-            writeln!(output, "{}", ShownRecord(record))?;
-            is_empty = false;
+            writeln!(listing, "{}", ShownRecord(&logged))?;
         }
-        at = at.saturating_add(spelled_len(record));
+        at = at.saturating_add(encoded_len(&logged) as u64);
     }
-    if is_empty {
-        writeln!(output, "none")?;
+    if listing.is_empty() {
+        listing.push_str("none\n")?;
     }
-    Ok(())
-}
-
-/// How many bytes of the log a record takes.
-fn spelled_len(record: &Record) -> u64
-    ensures { 28 ≤ result }
-{
-    match &record.body {
-        Body::Update { before, after, .. } => 35 + image_len(before) + image_len(after),
-        Body::Compensation { after, .. } => 42 + image_len(after),
-        Body::EndCheckpoint {
-            transactions,
-            pages,
-        } => 32 + 21 * transactions.as_slice().len() as u64 + 12 * pages.as_slice().len() as u64,
-        _ => 28,
-    }
-}
-
-fn image_len(image: &Image) -> u64
-    ensures { result ≤ 31 }
-{
-    match image {
-        Some(value) => value.len() as u64,
-        None => 0,
-    }
+    Ok(listing)
 }

@@ -1,4 +1,4 @@
-use super::row::{Row, WORLD, run_rows};
+use super::row::{Row, WORLD, run_row};
 use crate::program::program;
 use std::test::Fail;
 
@@ -15,8 +15,23 @@ const BAD_WORLDS: [&str; 9] = [
     "show status",
 ];
 
+/// First lines whose world is refused.
+const REFUSED_WORLDS: [&str; 11] = [
+    "world pages=4 log=0 frames=4 workers=2 pending=1000",
+    "world pages=4 log=4194305 frames=4 workers=2 pending=1000",
+    "world pages=4 log=8 frames=4 workers=0 pending=1000",
+    "world pages=4 log=8 frames=4 workers=9 pending=1000",
+    "world pages=0 log=8 frames=4 workers=2 pending=1000",
+    "world pages=4097 log=8 frames=4 workers=2 pending=1000",
+    "world pages=4 log=8 frames=0 workers=2 pending=1000",
+    "world pages=4 log=8 frames=4097 workers=2 pending=1000",
+    "world pages=4 log=8 frames=4 workers=2 pending=0",
+    "world pages=4 log=8 frames=4 workers=2 pending=1000001",
+    "world pages=18446744073709551615 log=8 frames=4 workers=2 pending=1",
+];
+
 /// Lines that are none of the language.
-const BAD_LINES: [&str; 46] = [
+const BAD_LINES: [&str; 57] = [
     " ",
     "nothing",
     "COMMIT 1",
@@ -59,8 +74,19 @@ const BAD_LINES: [&str; 46] = [
     "apply",
     "apply 4294967296",
     "drain 0",
+    "log-write 0",
+    "log_sync",
+    "ctl-sync 0",
+    "force 1",
+    "fail",
+    "fail log",
+    "fail log 0",
+    "fail log 1 1",
+    "fail log 18446744073709551616",
+    "fail disk 1",
     "show",
     "show page",
+    "show page 4",
     "show log x",
     "world pages=4 log=8 frames=4 workers=2 pending=1000",
 ];
@@ -69,8 +95,10 @@ const BAD_LINES: [&str; 46] = [
 fn sim_tells_bad_worlds(rt: HostRuntime) -> Result<(), Fail> {
     for line in BAD_WORLDS {
         let script = format!(in rt.alloc(); "#\n{line}\n")?;
-        let row = Row::sim(script.as_str(), "").failing("line 2: bad line\n", 2);
-        run_rows(&rt, &[row])?;
+        run_row(
+            &rt,
+            Row::sim(script.as_str(), "").failing("line 2: bad line\n", 2),
+        )?;
     }
     Ok(())
 }
@@ -80,8 +108,10 @@ fn sim_tells_bad_lines(rt: HostRuntime) -> Result<(), Fail> {
     for line in BAD_LINES {
         let script = format!(in rt.alloc(); "{WORLD}feed 16 16\n{line}\nfeed 16 16\n")?;
         let output = "ok taken=0 records=0 end=16\n";
-        let row = Row::sim(script.as_str(), output).failing("line 3: bad line\n", 2);
-        run_rows(&rt, &[row])?;
+        run_row(
+            &rt,
+            Row::sim(script.as_str(), output).failing("line 3: bad line\n", 2),
+        )?;
     }
     Ok(())
 }
@@ -94,15 +124,15 @@ fn sim_counts_lines(rt: HostRuntime) -> Result<(), Fail> {
         "world pages=0004 log=08 frames=4 workers=2 pending=1000\nfeed 0016 000000000000000000000016";
     let passed = format!(in rt.alloc(); "\n# \u{e9}\n{WORLD}\n#\r\nfeed 16 16\n\nx")?;
     let fed = "ok taken=0 records=0 end=16\n";
-    let rows = [
-        Row::sim(bare, ""),
-        Row::sim(zeros, fed),
+    run_row(&rt, Row::sim(bare, ""))?;
+    run_row(&rt, Row::sim(zeros, fed))?;
+    run_row(
+        &rt,
         Row::sim(passed.as_str(), fed).failing("line 8: bad line\n", 2),
-        Row::sim("", "").failing("line 1: bad line\n", 2),
-        Row::sim("\n\n", "").failing("line 3: bad line\n", 2),
-        Row::sim("#", "").failing("line 2: bad line\n", 2),
-    ];
-    run_rows(&rt, &rows)
+    )?;
+    run_row(&rt, Row::sim("", "").failing("line 1: bad line\n", 2))?;
+    run_row(&rt, Row::sim("\n\n", "").failing("line 3: bad line\n", 2))?;
+    run_row(&rt, Row::sim("#", "").failing("line 2: bad line\n", 2))
 }
 
 /// A line that is no text is a bad line, also where a comment that is none is passed over.
@@ -127,53 +157,12 @@ fn sim_wants_text(rt: HostRuntime) -> Result<(), Fail> {
 /// A world that is refused ends the script, whatever follows.
 #[test]
 fn sim_refuses_worlds(rt: HostRuntime) -> Result<(), Fail> {
-    let refused = "refused 37 BadConfig\n";
-    let rows = [
-        Row::sim(
-            "world pages=4 log=0 frames=4 workers=2 pending=1000\nx\n",
-            refused,
-        ),
-        Row::sim(
-            "world pages=4 log=4194305 frames=4 workers=2 pending=1000\n",
-            refused,
-        ),
-        Row::sim(
-            "world pages=4 log=8 frames=4 workers=0 pending=1000\n",
-            refused,
-        ),
-        Row::sim(
-            "world pages=4 log=8 frames=4 workers=9 pending=1000\n",
-            refused,
-        ),
-        Row::sim(
-            "world pages=0 log=8 frames=4 workers=2 pending=1000\n",
-            refused,
-        ),
-        Row::sim(
-            "world pages=4097 log=8 frames=4 workers=2 pending=1000\n",
-            refused,
-        ),
-        Row::sim(
-            "world pages=4 log=8 frames=0 workers=2 pending=1000\n",
-            refused,
-        ),
-        Row::sim(
-            "world pages=4 log=8 frames=4097 workers=2 pending=1000\n",
-            refused,
-        ),
-        Row::sim(
-            "world pages=4 log=8 frames=4 workers=2 pending=0\n",
-            refused,
-        ),
-        Row::sim(
-            "world pages=4 log=8 frames=4 workers=2 pending=1000001\n",
-            refused,
-        ),
-        Row::sim(
-            "world pages=18446744073709551615 log=8 frames=4 workers=2 pending=1\n",
-            refused,
-        ),
-    ];
-    let rows = rows.map(|row| row.failing("", 3));
-    run_rows(&rt, &rows)
+    for line in REFUSED_WORLDS {
+        let script = format!(in rt.alloc(); "{line}\nx\n")?;
+        run_row(
+            &rt,
+            Row::sim(script.as_str(), "refused 37 BadConfig\n").failing("", 3),
+        )?;
+    }
+    Ok(())
 }

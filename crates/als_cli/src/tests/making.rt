@@ -1,24 +1,22 @@
-use super::row::{Row, run_rows};
+use super::row::{Row, run_row};
 use crate::program::program;
 use std::test::Fail;
 
-/// The bytes are those of the format, written down by hand and by another program.
-#[test]
-fn make_writes_log_texts(rt: HostRuntime) -> Result<(), Fail> {
-    let rows = [
-        Row::make_hex("pages 4", "414c534c4f4730310000000400000000\n"),
-        Row::make_hex(
-            "pages 4\nu 1 0 0 - aa\ncommit 1\nend 1\n",
-            "414c534c4f4730310000000400000000
+/// Record lines, and the text that they make: the bytes are those of the format, written down by hand and by another program.
+const TEXTS: [(&str, &str); 4] = [
+    ("pages 4", "414c534c4f4730310000000400000000\n"),
+    (
+        "pages 4\nu 1 0 0 - aa\ncommit 1\nend 1\n",
+        "414c534c4f4730310000000400000000
 000000240100000000000000000000100000000000000000000000010000000000ff01aa
 0000001c030000000000000000000034000000000000001000000001
 0000001c050000000000000000000050000000000000003400000001
 ",
-        ),
-        // A compensation, as a takeover would write it.
-        Row::make_hex(
-            "pages 4\nu 1 0 0 - aa\ncommit 1\nu 2 0 1 - bb\nu 2 0 0 aa cc\nend 1\nc 2 0 0 aa 80\n",
-            "414c534c4f4730310000000400000000
+    ),
+    // A compensation, as a takeover would write it.
+    (
+        "pages 4\nu 1 0 0 - aa\ncommit 1\nu 2 0 1 - bb\nu 2 0 0 aa cc\nend 1\nc 2 0 0 aa 80\n",
+        "414c534c4f4730310000000400000000
 000000240100000000000000000000100000000000000000000000010000000000ff01aa
 0000001c030000000000000000000034000000000000001000000001
 000000240100000000000000000000500000000000000000000000020000000001ff01bb
@@ -26,10 +24,10 @@ fn make_writes_log_texts(rt: HostRuntime) -> Result<(), Fail> {
 0000001c050000000000000000000099000000000000003400000001
 0000002b0200000000000000000000b50000000000000074000000020000000000000050000000000001aa
 ",
-        ),
-        // Nothing is checked but the spelling; checkpoint records count for transaction 0.
-        Row::make_hex(
-            "# odd records
+    ),
+    // Nothing is checked but the spelling; checkpoint records count for transaction 0.
+    (
+        "# odd records
 pages 00005000
 
 u 4294967295 4294967295 255 . 00ff
@@ -43,7 +41,7 @@ ckptend
 c 7 1 2 . 18446744073709551615 prev=3
 end 7
 end 7 prev=0",
-            "414c534c4f4730310000138800000000
+        "414c534c4f4730310000138800000000
 000000250100000000000000000000100000000000000000ffffffffffffffffff000200ff
 000000230100000000000000000000350000000000000007ffffffff0000000102ffff
 0000002007000000000000000000005800000000000000000000000000000000
@@ -56,9 +54,30 @@ end 7 prev=0",
 0000001c050000000000000000000132000000000000010800000007
 0000001c05000000000000000000014e000000000000000000000007
 ",
-        ),
-    ];
-    run_rows(&rt, &rows)
+    ),
+];
+
+/// Scripts, and the number of their first bad line.
+const BAD: [(&str, u64); 11] = [
+    ("", 1),
+    ("#\n\n", 3),
+    ("# no end of line", 2),
+    ("pages\n", 1),
+    ("pages 4 4\n", 1),
+    ("pages 4294967296\n", 1),
+    ("pages 4\r\n", 1),
+    ("commit 1\npages 4\n", 1),
+    ("pages 4\ncommit 1\npages 4\n", 3),
+    ("pages 4\nfeed 0 16\n", 2),
+    ("\n# c\npages 4\n\n# c\ncommit 1\nx\n", 7),
+];
+
+#[test]
+fn make_writes_log_texts(rt: HostRuntime) -> Result<(), Fail> {
+    for (lines, text) in TEXTS {
+        run_row(&rt, Row::make_hex(lines, text))?;
+    }
+    Ok(())
 }
 
 /// A value may have 254 bytes, and no more.
@@ -70,11 +89,11 @@ fn make_takes_long_values(rt: HostRuntime) -> Result<(), Fail> {
 0000021f01000000000000000000001000000000000000000000000100000000";
     let output = format!(in rt.alloc(); "{head}00fefe{longest}{longest}\n")?;
     let too_long = format!(in rt.alloc(); "pages 1\nu 1 0 0 - {longest}5a\n")?;
-    let rows = [
-        Row::make_hex(script.as_str(), output.as_str()),
+    run_row(&rt, Row::make_hex(script.as_str(), output.as_str()))?;
+    run_row(
+        &rt,
         Row::make_hex(too_long.as_str(), "").failing("line 2: bad line\n", 2),
-    ];
-    run_rows(&rt, &rows)
+    )
 }
 
 /// Without `--hex` the text itself is written.
@@ -100,18 +119,9 @@ fn make_writes_bytes(rt: HostRuntime) -> Result<(), Fail> {
 /// A bad line is told by its number, and nothing is written.
 #[test]
 fn make_tells_bad_lines(rt: HostRuntime) -> Result<(), Fail> {
-    let rows = [
-        Row::make_hex("", "").failing("line 1: bad line\n", 2),
-        Row::make_hex("#\n\n", "").failing("line 3: bad line\n", 2),
-        Row::make_hex("# no end of line", "").failing("line 2: bad line\n", 2),
-        Row::make_hex("pages\n", "").failing("line 1: bad line\n", 2),
-        Row::make_hex("pages 4 4\n", "").failing("line 1: bad line\n", 2),
-        Row::make_hex("pages 4294967296\n", "").failing("line 1: bad line\n", 2),
-        Row::make_hex("pages 4\r\n", "").failing("line 1: bad line\n", 2),
-        Row::make_hex("commit 1\npages 4\n", "").failing("line 1: bad line\n", 2),
-        Row::make_hex("pages 4\ncommit 1\npages 4\n", "").failing("line 3: bad line\n", 2),
-        Row::make_hex("pages 4\nfeed 0 16\n", "").failing("line 2: bad line\n", 2),
-        Row::make_hex("\n# c\npages 4\n\n# c\ncommit 1\nx\n", "").failing("line 7: bad line\n", 2),
-    ];
-    run_rows(&rt, &rows)
+    for (lines, number) in BAD {
+        let errors = format!(in rt.alloc(); "line {number}: bad line\n")?;
+        run_row(&rt, Row::make_hex(lines, "").failing(errors.as_str(), 2))?;
+    }
+    Ok(())
 }

@@ -45,27 +45,41 @@ impl<'a> Row<'a> {
     }
 }
 
-/// Runs each row of a table.
-pub fn run_rows<R: Abort + AllocGlobal>(rt: &R, rows: &[Row]) -> Result<(), Fail> {
-    for row in rows {
-        let mut output = Vec::new(rt.alloc());
-        let mut errors = Vec::new(rt.alloc());
-        let script = row.script;
-        let status = program(
-            rt.alloc(),
-            row.words,
-            script.as_bytes(),
-            &mut output,
-            &mut errors,
-        );
-        let output = std::str::from_utf8(output.as_slice())?;
-        let errors = std::str::from_utf8(errors.as_slice())?;
-        assert!(rt; output == row.output, "{script} wrote {output}");
-        assert!(rt;
-            errors == row.errors,
-            "{script} wrote to standard error {errors}"
-        );
-        assert!(rt; status == row.status, "{script} ended with {status}");
+/// Runs a row of a table.
+pub fn run_row<R: Abort + AllocGlobal>(rt: &R, row: Row) -> Result<(), Fail> {
+    let mut output = Vec::new(rt.alloc());
+    let mut errors = Vec::new(rt.alloc());
+    let script = row.script;
+    let status = program(
+        rt.alloc(),
+        row.words,
+        script.as_bytes(),
+        &mut output,
+        &mut errors,
+    );
+    let output = std::str::from_utf8(output.as_slice())?;
+    let errors = std::str::from_utf8(errors.as_slice())?;
+    assert!(rt; output == row.output, "{script} wrote {output}");
+    assert!(rt;
+        errors == row.errors,
+        "{script} wrote to standard error {errors}"
+    );
+    assert!(rt; status == row.status, "{script} ended with {status}");
+    Ok(())
+}
+
+/// Runs scripts that end well, each given by its lines and by what they print. In front of each stand lines that print this
+/// by themselves.
+pub fn run_scripts<R: Abort + AllocGlobal>(
+    rt: &R,
+    front: (&str, &str),
+    scripts: &[(&str, &str)],
+) -> Result<(), Fail> {
+    let (front, printed) = front;
+    for (lines, output) in scripts {
+        let script = format!(in rt.alloc(); "{front}{lines}")?;
+        let output = format!(in rt.alloc(); "{printed}{output}")?;
+        run_row(rt, Row::sim(script.as_str(), output.as_str()))?;
     }
     Ok(())
 }

@@ -1,51 +1,23 @@
-use super::row::{Row, WORLD, run_rows};
+use super::row::{Row, WORLD, run_row, run_scripts};
 use std::test::Fail;
 
-/// The record lines of a transaction of one update, at 16, 52 and 80; the text ends at 108.
-const ONE_UPDATE: &str = "u 1 0 0 - aa\ncommit 1\nend 1\n";
-
-/// The script of `examples/first-path.als`.
-#[test]
-fn first_path(rt: HostRuntime) -> Result<(), Fail> {
-    let script = "world pages=4 log=8 frames=4 workers=2 pending=1000
+/// Whole scripts, and what they print.
+const SCRIPTS: [(&str, &str); 5] = [
+    // `examples/first-path.als`
+    (
+        "world pages=4 log=8 frames=4 workers=2 pending=1000
 u 1 0 0 - aa
 commit 1
 end 1
 feed 16 108
 drain
 show page 0
-";
-    let output = "ok taken=92 records=3 end=108\nok\npage 0 lsn=16\n0/0 aa\n";
-    run_rows(&rt, &[Row::sim(script, output)])
-}
-
-/// A record is held as soon as its last byte has come, whatever the pieces.
-#[test]
-fn feed_byte_by_byte(rt: HostRuntime) -> Result<(), Fail> {
-    let mut script = format!(in rt.alloc(); "{WORLD}{ONE_UPDATE}")?;
-    let mut output = String::new(rt.alloc());
-    let mut end = 16;
-    for at in 16..108 {
-        let next = at + 1;
-        let records = match next {
-            52 | 80 | 108 => 1,
-            _ => 0,
-        };
-        if records == 1 {
-            end = next;
-        }
-        writeln!(script, "feed {at} {next}")?;
-        writeln!(output, "ok taken=1 records={records} end={end}")?;
-    }
-    run_rows(&rt, &[Row::sim(script.as_str(), output.as_str())])
-}
-
-/// What a feed answers: records taken and partial, a value that is too long, too much pending.
-#[test]
-fn feed_answers(rt: HostRuntime) -> Result<(), Fail> {
-    let rows = [
-        Row::sim(
-            "world pages=4 log=8 frames=4 workers=2 pending=1000
+",
+        "ok taken=92 records=3 end=108\nok\npage 0 lsn=16\n0/0 aa\n",
+    ),
+    // Records taken and partial.
+    (
+        "world pages=4 log=8 frames=4 workers=2 pending=1000
 u 1 0 0 - aa
 commit 1
 end 1
@@ -59,7 +31,7 @@ feed 52 108
 feed 108 108
 show log 16
 ",
-            "ok taken=63 records=1 end=52
+        "ok taken=63 records=1 end=52
 state=Following end=52 ack=16 pending=1 leases=0
 ok
 refused 5 WrongLsn taken=0 records=0 end=52
@@ -71,9 +43,10 @@ ok taken=0 records=0 end=108
 52 commit trans=1 prev=16
 80 end trans=1 prev=52
 ",
-        ),
-        Row::sim(
-            "world pages=4096 log=8 frames=4 workers=2 pending=1000
+    ),
+    // A value that is too long.
+    (
+        "world pages=4096 log=8 frames=4 workers=2 pending=1000
 u 1 4095 14 - 000102030405060708090a0b0c0d0e0f101112131415161718191a1b1c1d1e
 u 1 0 0 - 000102030405060708090a0b0c0d0e0f101112131415161718191a1b1c1d1e1f
 feed 16 149
@@ -85,7 +58,7 @@ drain
 show page 4095
 show db
 ",
-            "refused 7 BadValue taken=66 records=1 end=82
+        "refused 7 BadValue taken=66 records=1 end=82
 refused 7 BadValue taken=0 records=0 end=82
 state=Refusing end=82 ack=16 pending=1 leases=0
 ok
@@ -95,9 +68,10 @@ page 4095 lsn=16
 4095/14 000102030405060708090a0b0c0d0e0f101112131415161718191a1b1c1d1e
 4095/14 000102030405060708090a0b0c0d0e0f101112131415161718191a1b1c1d1e
 ",
-        ),
-        Row::sim(
-            "world pages=4 log=8 frames=4 workers=2 pending=1
+    ),
+    // Too much pending.
+    (
+        "world pages=4 log=8 frames=4 workers=2 pending=1
 u 1 0 0 - aa
 commit 1
 end 1
@@ -106,20 +80,15 @@ feed 52 80
 drain
 feed 52 80
 ",
-            "ok taken=36 records=1 end=52
+        "ok taken=36 records=1 end=52
 refused 36 Backlog taken=0 records=0 end=52
 ok
 ok taken=28 records=1 end=80
 ",
-        ),
-    ];
-    run_rows(&rt, &rows)
-}
-
-/// Redo of one page, and what is shown before and behind it.
-#[test]
-fn redo_and_show(rt: HostRuntime) -> Result<(), Fail> {
-    let script = "world pages=4 log=8 frames=4 workers=2 pending=1000
+    ),
+    // Redo of one page, and what is shown before and behind it.
+    (
+        "world pages=4 log=8 frames=4 workers=2 pending=1000
 u 1 0 0 - aa
 u 1 0 14 - .
 u 1 3 1 - 0001
@@ -143,9 +112,8 @@ show status
 show log 52
 show log 53
 show log 153
-show page 4
-";
-    let output = "ok taken=0 records=0 end=16
+",
+        "ok taken=0 records=0 end=16
 empty
 none
 page 3 lsn=0
@@ -172,17 +140,41 @@ state=Following end=152 ack=16 pending=0 leases=0
 87 update trans=1 3/1 - 0001 prev=52
 124 commit trans=1 prev=87
 none
-";
-    run_rows(
-        &rt,
-        &[Row::sim(script, output).failing("line 25: bad line\n", 2)],
-    )
+",
+    ),
+];
+
+#[test]
+fn scripts_are_run(rt: HostRuntime) -> Result<(), Fail> {
+    run_scripts(&rt, ("", ""), &SCRIPTS)
+}
+
+/// A record is held as soon as its last byte has come, whatever the pieces.
+#[test]
+fn feed_byte_by_byte(rt: HostRuntime) -> Result<(), Fail> {
+    let mut script = format!(in rt.alloc(); "{WORLD}u 1 0 0 - aa\ncommit 1\nend 1\n")?;
+    let mut output = String::new(rt.alloc());
+    let mut end = 16;
+    for at in 16..108 {
+        let next = at + 1;
+        let records = match next {
+            52 | 80 | 108 => 1,
+            _ => 0,
+        };
+        if records == 1 {
+            end = next;
+        }
+        writeln!(script, "feed {at} {next}")?;
+        writeln!(output, "ok taken=1 records={records} end={end}")?;
+    }
+    run_row(&rt, Row::sim(script.as_str(), output.as_str()))
 }
 
 /// More changes of a page than one redo takes, and a page that has none.
 #[test]
 fn drain_goes_round(rt: HostRuntime) -> Result<(), Fail> {
-    let mut script = format!(in rt.alloc(); "{WORLD}u 1 2 0 - 00\nu 1 1 0 - 00\n")?;
+    let world = "world pages=4 log=32 frames=4 workers=2 pending=1000\n";
+    let mut script = format!(in rt.alloc(); "{world}u 1 2 0 - 00\nu 1 1 0 - 00\n")?;
     for _ in 0..130 {
         script.push_str("u 1 2 0 00 00\n")?;
     }
@@ -195,5 +187,5 @@ state=Following end=4898 ack=16 pending=0 leases=0
 2/0 00
 ok
 ";
-    run_rows(&rt, &[Row::sim(script.as_str(), output)])
+    run_row(&rt, Row::sim(script.as_str(), output))
 }

@@ -6,6 +6,7 @@ ghost use Rattle.als_cli.specs.RawRecord.{record_of};
 use super::raw_body::RawBody;
 use super::raw_record::append_record;
 use crate::script::RecordLine;
+use als_record::LogHeader;
 use std::alloc::{AllocError, Global};
 use std::collections::HashMap;
 use std::marker::Model;
@@ -35,7 +36,7 @@ impl LogText {
     pub fn new(alloc: Global, pages: u32) -> Result<LogText, AllocError>
         ensures { IfOk result (λ t. t ≡ header_bytes pages) }
     {
-        let header = header(pages);
+        let header = LogHeader { pages }.encode();
         let bytes = Vec::from_slice(alloc, &header)?;
         let mut ends = Vec::new(alloc);
         ends.push(bytes.len())?;
@@ -88,15 +89,4 @@ impl LogText {
             _ => self.last_of.get(&line.trans).copied().unwrap_or(0),
         }
     }
-}
-
-/// The header of a log text.
-#[tactic(auto, unfolding(als_record::specs::LogText::header_bytes))]
-fn header(pages: u32) -> [u8; 16]
-    ensures { result ≡ header_bytes pages }
-{
-    let p = pages.to_be_bytes();
-    [
-        b'A', b'L', b'S', b'L', b'O', b'G', b'0', b'1', p[0], p[1], p[2], p[3], 0, 0, 0, 0,
-    ]
 }
