@@ -1,4 +1,4 @@
-//! Measures what the standby does with a primary's log: decoding, judging, and whole feeds.
+//! Measures what the standby does with a primary's log: decoding, judging, receiving, and whole feeds.
 #![tactic(auto)]
 
 // A primary that writes a valid log.
@@ -9,6 +9,10 @@ mod writer;
 mod small;
 // Random numbers that come again.
 mod dice;
+// Over the bytes alone: decoding, judging, receiving.
+mod reading;
+// A whole engine, fed.
+mod feed;
 // What is measured, and how it is told.
 mod measure;
 

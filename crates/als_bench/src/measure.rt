@@ -1,14 +1,12 @@
-use crate::primary::{PAGES, Primary};
-use als_engine::{Config, Engine};
-use als_record::{Lsn, decode};
-use als_validator::Validator;
-use std::alloc::Global;
+use crate::feed::measure_feed;
+use crate::primary::Primary;
+use crate::reading::{decode_all, judge_all, receive_all};
 use std::io;
 use std::rt::Clock;
 use std::time::{Duration, Instant};
 
 /// The first record's offset.
-const FIRST: usize = 16;
+pub const FIRST: usize = 16;
 
 /// Measures each job over a log of so many MB with 16 open transactions, and with 1 and with 256.
 pub fn measure_all<R: Print + Clock + AllocGlobal>(rt: &R, megabytes: usize) -> io::Result<()> {
@@ -21,12 +19,32 @@ pub fn measure_all<R: Print + Clock + AllocGlobal>(rt: &R, megabytes: usize) -> 
             Err(fault) => return println!(rt; "{fault}"),
         };
         println!(rt; "{megabytes} MB, {open} open transactions")?;
-        let text = text.as_slice();
-        measure(rt, "decode", text, || decode_all(rt.alloc(), text))?;
-        measure(rt, "decode and judge", text, || judge_all(rt.alloc(), text))?;
-        for piece in [65_536, 100] {
-            feed_all(rt, text, piece)?;
-        }
+        measure_log(rt, text.as_slice())?;
+    }
+    Ok(())
+}
+
+/// Measures each job over a log.
+fn measure_log<R: Print + Clock + AllocGlobal>(rt: &R, text: &[u8]) -> io::Result<()> {
+    measure(rt, "decode", None, text, || decode_all(rt.alloc(), text))?;
+    measure(
+        rt,
+        "decode and judge",
+        None,
+        text,
+        || judge_all(rt.alloc(), text),
+    )?;
+    for piece in [100, 65_536, 1_000_000] {
+        measure(
+            rt,
+            "receive",
+            Some(piece),
+            text,
+            || receive_all(rt.alloc(), text, piece),
+        )?;
+    }
+    for piece in [65_536, 100] {
+        measure_feed(rt, text, piece)?;
     }
     Ok(())
 }
@@ -35,6 +53,7 @@ pub fn measure_all<R: Print + Clock + AllocGlobal>(rt: &R, megabytes: usize) -> 
 fn measure<R: Print + Clock, F: FnOnce() -> u64>(
     rt: &R,
     name: &str,
+    piece: Option<usize>,
     text: &[u8],
     job: F,
 ) -> io::Result<()>
@@ -42,13 +61,14 @@ fn measure<R: Print + Clock, F: FnOnce() -> u64>(
 {
     let start = Instant::now(rt)?;
     let records = job();
-    tell(rt, name, text.len(), records, start.elapsed(rt)?)
+    tell(rt, name, piece, text.len(), records, start.elapsed(rt)?)
 }
 
-/// Prints a figure.
-fn tell<R: Print>(
+/// Prints a figure, of a job that takes a log whole or in pieces of so many bytes.
+pub fn tell<R: Print>(
     rt: &R,
     name: &str,
+    piece: Option<usize>,
     bytes: usize,
     records: u64,
     took: Duration,
@@ -58,90 +78,9 @@ fn tell<R: Print>(
     let rate = records.saturating_mul(1_000_000) / micros;
     let each = nanos / records.max(1);
     let speed = bytes as u64 / micros;
-    println!(rt; "{name}: {records} records, {rate} records/s, {each} ns each, {speed} MB/s")
-}
-
-/// Decodes each record.
-fn decode_all(alloc: Global, text: &[u8]) -> u64 {
-    let mut at = FIRST;
-    let mut records = 0u64;
-    for _ in 0..u64::MAX {
-        let Some(rest) = text.get(at..) else {
-            break;
-        };
-        match decode(alloc, rest, Lsn(at as u64), PAGES) {
-            Ok(Some((_, len))) => at = at.saturating_add(len),
-            _ => break,
-        }
-        records = records.saturating_add(1);
+    match piece {
+        Some(piece) => print!(rt; "{name} in pieces of {piece}: ")?,
+        None => print!(rt; "{name}: ")?,
     }
-    records
-}
-
-/// Decodes each record and lets the validator judge and take it.
-fn judge_all(alloc: Global, text: &[u8]) -> u64 {
-    let Ok(mut validator) = Validator::new(alloc, PAGES) else {
-        return 0;
-    };
-    let mut at = FIRST;
-    let mut records = 0u64;
-    for _ in 0..u64::MAX {
-        let Some(rest) = text.get(at..) else {
-            break;
-        };
-        let Ok(Some((logged, len))) = decode(alloc, rest, Lsn(at as u64), PAGES) else {
-            break;
-        };
-        if validator.check(&logged).is_err() {
-            break;
-        }
-        match validator.reserve() {
-            Ok(()) => validator.admit(&logged),
-            Err(_) => break,
-        }
-        at = at.saturating_add(len);
-        records = records.saturating_add(1);
-    }
-    records
-}
-
-/// Feeds a log in pieces of so many bytes. Redo has its turn in between, and its time is not counted.
-fn feed_all<R: Print + Clock + AllocGlobal>(rt: &R, text: &[u8], piece: usize) -> io::Result<()> {
-    let config = Config {
-        pages: u64::from(PAGES),
-        frames: u64::from(PAGES),
-        pending: 1_000_000,
-        readers: 1,
-    };
-    let Ok(mut engine) = Engine::empty(rt.alloc(), config) else {
-        return println!(rt; "32 Memory");
-    };
-    let mut records = 0u64;
-    let mut took = Duration::ZERO;
-    let mut start = Instant::now(rt)?;
-    for bytes in text.get(FIRST..).unwrap_or(&[]).chunks(piece.max(1)) {
-        match engine.feed(bytes) {
-            Ok(fed) => records = records.saturating_add(fed.records as u64),
-            Err(refusal) => return println!(rt; "{}", refusal.fault),
-        }
-        if engine.status().pending > 900_000 {
-            took = took.saturating_add(start.elapsed(rt)?);
-            drain(&mut engine);
-            start = Instant::now(rt)?;
-        }
-    }
-    took = took.saturating_add(start.elapsed(rt)?);
-    println!(rt; "feed in pieces of {piece}:")?;
-    tell(rt, "feed", text.len(), records, took)
-}
-
-/// Redoes all that is pending.
-fn drain(engine: &mut Engine) {
-    for page in 0..PAGES {
-        for _ in 0..u64::MAX {
-            if engine.apply(page).is_err() {
-                break;
-            }
-        }
-    }
+    println!(rt; "{records} records, {rate} records/s, {each} ns each, {speed} MB/s")
 }
