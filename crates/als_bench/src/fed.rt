@@ -40,8 +40,7 @@ pub fn feed_all<R: Print + Clock + AllocGlobal>(
         }
     }
     took = took.saturating_add(start.elapsed(rt)?);
-    println!(rt; "feed in pieces of {piece}:")?;
-    tell(rt, "feed", text.len(), records, took)
+    tell(rt, "feed", Some(piece), text.len(), records, took)
 }
 
 /// Writes and syncs the log, and redoes what is pending.

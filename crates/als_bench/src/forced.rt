@@ -108,7 +108,7 @@ fn report<R: Print>(
     let stored = split.written.saturating_add(split.synced);
     let marked = split.marked.saturating_add(split.acknowledged);
     let whole = split.fed.saturating_add(stored).saturating_add(marked);
-    tell(rt, name, text.len(), records, whole)?;
+    tell(rt, name, Some(FRAME), text.len(), records, whole)?;
     println!(rt;
         "  feed {} ms, log writes {} ms, log syncs {} ms, mark writes {} ms, control syncs {} ms",
         split.fed.as_millis(),

@@ -1,4 +1,4 @@
-//! Measures what the standby does with a primary's log: decoding, judging, and whole feeds.
+//! Measures what the standby does with a primary's log: decoding, judging, receiving, and whole feeds.
 #![tactic(auto)]
 
 // A primary that writes a valid log.
@@ -9,6 +9,8 @@ mod writer;
 mod small;
 // Random numbers that come again.
 mod dice;
+// Over the bytes alone: decoding, judging, receiving.
+mod reading;
 // The devices of a standby.
 mod devices;
 // Whole feeds.

@@ -1,9 +1,7 @@
 use crate::fed::feed_all;
 use crate::forced::force_all;
-use crate::primary::{PAGES, Primary};
-use als_record::{Lsn, decode};
-use als_validator::Validator;
-use std::alloc::Global;
+use crate::primary::Primary;
+use crate::reading::{decode_all, judge_all, receive_all};
 use std::fs::File;
 use std::io;
 use std::rt::{Clock, Files};
@@ -12,8 +10,8 @@ use std::time::{Duration, Instant};
 /// The first record's offset.
 pub const FIRST: usize = 16;
 
-/// Measures each job over a log of so many MB with 16 open transactions, and with 1 and with 256. In the folder, if one is
-/// given, it makes the device files of a standby.
+/// Measures each job over a log of so many MB with 16 open transactions, and with 1 and with 256. In the
+/// folder, if one is given, it makes the device files of a standby.
 pub fn measure_all<R: Print + Clock + AllocGlobal + Files<File = File>>(
     rt: &R,
     megabytes: usize,
@@ -28,15 +26,35 @@ pub fn measure_all<R: Print + Clock + AllocGlobal + Files<File = File>>(
             Err(fault) => return println!(rt; "{fault}"),
         };
         println!(rt; "{megabytes} MB, {open} open transactions")?;
-        let text = text.as_slice();
-        measure(rt, "decode", text, || decode_all(rt.alloc(), text))?;
-        measure(rt, "decode and judge", text, || judge_all(rt.alloc(), text))?;
-        for piece in [65_536, 100] {
-            feed_all(rt, text, piece)?;
-        }
+        measure_log(rt, text.as_slice())?;
         if open == 16 {
-            force_all(rt, text, folder)?;
+            force_all(rt, text.as_slice(), folder)?;
         }
+    }
+    Ok(())
+}
+
+/// Measures each job over a log.
+fn measure_log<R: Print + Clock + AllocGlobal>(rt: &R, text: &[u8]) -> io::Result<()> {
+    measure(rt, "decode", None, text, || decode_all(rt.alloc(), text))?;
+    measure(
+        rt,
+        "decode and judge",
+        None,
+        text,
+        || judge_all(rt.alloc(), text),
+    )?;
+    for piece in [100, 65_536, 1_000_000] {
+        measure(
+            rt,
+            "receive",
+            Some(piece),
+            text,
+            || receive_all(rt.alloc(), text, piece),
+        )?;
+    }
+    for piece in [65_536, 100] {
+        feed_all(rt, text, piece)?;
     }
     Ok(())
 }
@@ -45,6 +63,7 @@ pub fn measure_all<R: Print + Clock + AllocGlobal + Files<File = File>>(
 fn measure<R: Print + Clock, F: FnOnce() -> u64>(
     rt: &R,
     name: &str,
+    piece: Option<usize>,
     text: &[u8],
     job: F,
 ) -> io::Result<()>
@@ -52,13 +71,14 @@ fn measure<R: Print + Clock, F: FnOnce() -> u64>(
 {
     let start = Instant::now(rt)?;
     let records = job();
-    tell(rt, name, text.len(), records, start.elapsed(rt)?)
+    tell(rt, name, piece, text.len(), records, start.elapsed(rt)?)
 }
 
-/// Prints a figure.
+/// Prints a figure, of a job that takes a log whole or in pieces of so many bytes.
 pub fn tell<R: Print>(
     rt: &R,
     name: &str,
+    piece: Option<usize>,
     bytes: usize,
     records: u64,
     took: Duration,
@@ -68,49 +88,9 @@ pub fn tell<R: Print>(
     let rate = records.saturating_mul(1_000_000) / micros;
     let each = nanos / records.max(1);
     let speed = bytes as u64 / micros;
-    println!(rt; "{name}: {records} records, {rate} records/s, {each} ns each, {speed} MB/s")
-}
-
-/// Decodes each record.
-fn decode_all(alloc: Global, text: &[u8]) -> u64 {
-    let mut at = FIRST;
-    let mut records = 0u64;
-    for _ in 0..u64::MAX {
-        let Some(rest) = text.get(at..) else {
-            break;
-        };
-        match decode(alloc, rest, Lsn(at as u64), PAGES) {
-            Ok(Some((_, len))) => at = at.saturating_add(len),
-            _ => break,
-        }
-        records = records.saturating_add(1);
+    match piece {
+        Some(piece) => print!(rt; "{name} in pieces of {piece}: ")?,
+        None => print!(rt; "{name}: ")?,
     }
-    records
-}
-
-/// Decodes each record and lets the validator judge and take it.
-fn judge_all(alloc: Global, text: &[u8]) -> u64 {
-    let Ok(mut validator) = Validator::new(alloc, PAGES) else {
-        return 0;
-    };
-    let mut at = FIRST;
-    let mut records = 0u64;
-    for _ in 0..u64::MAX {
-        let Some(rest) = text.get(at..) else {
-            break;
-        };
-        let Ok(Some((logged, len))) = decode(alloc, rest, Lsn(at as u64), PAGES) else {
-            break;
-        };
-        if validator.check(&logged).is_err() {
-            break;
-        }
-        match validator.reserve() {
-            Ok(()) => validator.admit(&logged),
-            Err(_) => break,
-        }
-        at = at.saturating_add(len);
-        records = records.saturating_add(1);
-    }
-    records
+    println!(rt; "{records} records, {rate} records/s, {each} ns each, {speed} MB/s")
 }
