@@ -310,3 +310,10 @@ fn a_reading_fails_with_the_device(rt: HostRuntime) -> Result<(), Fail> {
     }
     Ok(())
 }
+
+fn can_be_sent<T: Send + Drop>(_: T) {}
+
+#[test]
+fn a_log_can_be_sent(rt: HostRuntime) {
+    can_be_sent(commits(&rt, rt.alloc(), 1, 0));
+}
