@@ -11,6 +11,7 @@ use std::time::{Duration, Instant};
 const FRAME: usize = 65_536;
 
 /// How long each part of the work took.
+#[derive(Drop)]
 struct Split {
     fed: Duration,
     written: Duration,
