@@ -63,3 +63,12 @@ pub fn drain<D: BlockDisk + Drop>(engine: &mut Engine<D>) {
         }
     }
 }
+
+/// Writes each block of the log with unwritten bytes.
+pub fn write_all<D: BlockDisk + Drop>(engine: &mut Engine<D>) {
+    for _ in 0..u64::MAX {
+        if engine.log_write().is_err() {
+            break;
+        }
+    }
+}

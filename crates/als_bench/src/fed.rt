@@ -1,7 +1,7 @@
-use crate::devices::{drain, in_memory, standby};
+use crate::devices::{drain, in_memory, standby, write_all};
 use crate::measure::{FIRST, tell};
-use als_engine::{Engine, Fault};
 use als_disk::MemDisk;
+use als_engine::{Engine, Fault};
 use std::io;
 use std::rt::Clock;
 use std::time::{Duration, Instant};
@@ -45,7 +45,7 @@ pub fn feed_all<R: Print + Clock + AllocGlobal>(
 
 /// Writes and syncs the log, and redoes what is pending.
 fn write_out(engine: &mut Engine<MemDisk>) -> Result<(), Fault> {
-    while engine.log_write().is_ok() {}
+    write_all(engine);
     engine.log_sync()?;
     drain(engine);
     Ok(())

@@ -1,4 +1,4 @@
-use crate::devices::{drain, in_folder, in_memory, standby};
+use crate::devices::{drain, in_folder, in_memory, standby, write_all};
 use crate::measure::{FIRST, tell};
 use als_disk::BlockDisk;
 use als_engine::{Disks, Engine, Fault};
@@ -26,7 +26,12 @@ pub fn force_all<R: Print + Clock + AllocGlobal + Files<File = File>>(
     text: &[u8],
     folder: Option<&str>,
 ) -> io::Result<()> {
-    force_over(rt, "feed and force in memory", text, in_memory(rt.alloc(), text))?;
+    force_over(
+        rt,
+        "feed and force in memory",
+        text,
+        in_memory(rt.alloc(), text),
+    )?;
     match folder {
         Some(folder) => {
             let disks = in_folder(rt, folder, text)?;
@@ -77,7 +82,7 @@ fn force<R: Clock, D: BlockDisk + Drop>(
     split: &mut Split,
 ) -> io::Result<Result<(), Fault>> {
     let start = Instant::now(rt)?;
-    while engine.log_write().is_ok() {}
+    write_all(engine);
     let written = Instant::now(rt)?;
     if let Err(fault) = engine.log_sync() {
         return Ok(Err(fault));
