@@ -60,7 +60,10 @@ fn a_record_is_acknowledged_or_the_store_is_broken(rt: HostRuntime) {
         Ok(store) => store,
         Err(_) => return,
     };
-    assert_eq!(rt; admit(&rt, &mut store, Lsn(16)), Err(Fault::Invalid(Cause::BadPrev)));
+    assert_eq!(rt;
+        admit(&rt, &mut store, Lsn(16)),
+        Err(Fault::Invalid(Cause::BadPrev))
+    );
     assert_eq!(rt; store.len(), 0);
     assert_eq!(rt; admit(&rt, &mut store, Lsn(0)), Ok(()));
     assert_eq!(rt; store.end(), Lsn(44));
