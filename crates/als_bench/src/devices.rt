@@ -1,0 +1,74 @@
+use crate::primary::PAGES;
+use als_disk::{BlockDisk, FileDisk, MemDisk};
+use als_engine::{Config, Disks, Engine, Fault};
+use std::alloc::Global;
+use std::fs::File;
+use std::io;
+use std::rt::Files;
+
+/// The blocks of a control device.
+const CONTROL: u64 = 321;
+
+/// How many blocks a log device needs for a text and for what a takeover would append.
+fn log_blocks(text: &[u8]) -> u64 {
+    (text.len() as u64 / 512).saturating_add(1 << 16)
+}
+
+/// Devices in memory for a log.
+pub fn in_memory(alloc: Global, text: &[u8]) -> Disks<MemDisk> {
+    Disks {
+        log: MemDisk::new(alloc, log_blocks(text)),
+        control: MemDisk::new(alloc, CONTROL),
+        pages: MemDisk::new(alloc, u64::from(PAGES)),
+    }
+}
+
+/// Device files in a folder, which are made anew.
+pub fn in_folder<R: AllocGlobal + Files<File = File>>(
+    rt: &R,
+    folder: &str,
+    text: &[u8],
+) -> io::Result<Disks<FileDisk>> {
+    let log = format!(in rt.alloc(); "{folder}/log.blk")?;
+    let control = format!(in rt.alloc(); "{folder}/control.blk")?;
+    let pages = format!(in rt.alloc(); "{folder}/pages.blk")?;
+    Ok(Disks {
+        log: FileDisk::create(rt, log.as_str(), log_blocks(text))?,
+        control: FileDisk::create(rt, control.as_str(), CONTROL)?,
+        pages: FileDisk::create(rt, pages.as_str(), u64::from(PAGES))?,
+    })
+}
+
+/// A standby over new devices.
+pub fn standby<D: BlockDisk + Drop>(alloc: Global, disks: Disks<D>) -> Result<Engine<D>, Fault> {
+    let config = Config {
+        pages: u64::from(PAGES),
+        frames: u64::from(PAGES),
+        pending: 1_000_000,
+        readers: 1,
+    };
+    match Engine::format(alloc, disks, config) {
+        Ok(engine) => Ok(engine),
+        Err(refused) => Err(refused.fault),
+    }
+}
+
+/// Redoes all that is pending.
+pub fn drain<D: BlockDisk + Drop>(engine: &mut Engine<D>) {
+    for page in 0..PAGES {
+        for _ in 0..u64::MAX {
+            if engine.apply(page).is_err() {
+                break;
+            }
+        }
+    }
+}
+
+/// Writes each block of the log with unwritten bytes.
+pub fn write_all<D: BlockDisk + Drop>(engine: &mut Engine<D>) {
+    for _ in 0..u64::MAX {
+        if engine.log_write().is_err() {
+            break;
+        }
+    }
+}

@@ -1,0 +1,38 @@
+//! Measures what the standby does with a primary's log: decoding, judging, receiving, and whole feeds.
+#![tactic(auto)]
+
+// A primary that writes a valid log.
+mod primary;
+// One of its transactions at a time.
+mod writer;
+// A small value.
+mod small;
+// Random numbers that come again.
+mod dice;
+// Over the bytes alone: decoding, judging, receiving.
+mod reading;
+// The devices of a standby.
+mod devices;
+// Whole feeds.
+mod fed;
+// Feeds that are forced.
+mod forced;
+// What is measured, and how it is told.
+mod measure;
+
+use measure::measure_all;
+use std::{env, io};
+
+/// Tells the figures for a log of so many MB, the first word of the command line; in the folder that the second one names, if
+/// there is one, it makes the device files of a standby. With no word, how to ask.
+fn main(rt: HostRuntime) -> io::Result<()> {
+    let mut words = env::args(&rt)?.skip(1);
+    let megabytes = words.next().and_then(|word| word.parse::<usize>().ok());
+    let folder = words.next();
+    match megabytes {
+        Some(megabytes) if megabytes <= 1024 => measure_all(&rt, megabytes, folder.as_deref()),
+        _ => println!(rt;
+            "als_bench MB [FOLDER]: records and MB a second for a log of so many MB, at most 1024; over device files in the folder too"
+        ),
+    }
+}

@@ -1,0 +1,71 @@
+use crate::measure::FIRST;
+use crate::primary::PAGES;
+use als_receiver::Receiver;
+use als_record::{Lsn, decode};
+use als_validator::Validator;
+use std::alloc::Global;
+
+/// Decodes each record, and answers how many there are.
+pub fn decode_all(alloc: Global, text: &[u8]) -> u64 {
+    let mut at = FIRST;
+    let mut records = 0u64;
+    for _ in 0..u64::MAX {
+        let Some(rest) = text.get(at..) else {
+            break;
+        };
+        match decode(alloc, rest, Lsn(at as u64), PAGES) {
+            Ok(Some((_, len))) => at = at.saturating_add(len),
+            _ => break,
+        }
+        records = records.saturating_add(1);
+    }
+    records
+}
+
+/// Decodes each record and lets the validator judge and take it.
+pub fn judge_all(alloc: Global, text: &[u8]) -> u64 {
+    let Ok(mut validator) = Validator::new(alloc, PAGES) else {
+        return 0;
+    };
+    let mut at = FIRST;
+    let mut records = 0u64;
+    for _ in 0..u64::MAX {
+        let Some(rest) = text.get(at..) else {
+            break;
+        };
+        let Ok(Some((logged, len))) = decode(alloc, rest, Lsn(at as u64), PAGES) else {
+            break;
+        };
+        if validator.check(&logged).is_err() {
+            break;
+        }
+        match validator.reserve() {
+            Ok(()) => validator.admit(&logged),
+            Err(_) => break,
+        }
+        at = at.saturating_add(len);
+        records = records.saturating_add(1);
+    }
+    records
+}
+
+/// Takes a log in pieces of so many bytes, and hands out its records.
+pub fn receive_all(alloc: Global, text: &[u8], piece: usize) -> u64 {
+    let mut receiver = Receiver::new(alloc, Lsn(FIRST as u64), PAGES);
+    let mut records = 0u64;
+    for bytes in text.get(FIRST..).unwrap_or(&[]).chunks(piece.max(1)) {
+        if bytes.len() as u64 >= u64::MAX - receiver.position() {
+            break;
+        }
+        if receiver.push(bytes).is_err() {
+            break;
+        }
+        for _ in 0..u64::MAX {
+            match receiver.next() {
+                Ok(Some(_)) => records = records.saturating_add(1),
+                _ => break,
+            }
+        }
+    }
+    records
+}
