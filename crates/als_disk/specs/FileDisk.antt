@@ -16,3 +16,7 @@ file_slot disk = mem_slot disk.mirror
 -- how often a call has failed
 abbrev pub file_failures : FileDisk → ℕ
 file_failures disk = mem_failures disk.mirror + number disk.failed
+
+-- how often a write or a sync was called for
+abbrev pub file_attempts : FileDisk → ℕ
+file_attempts disk = number disk.attempted

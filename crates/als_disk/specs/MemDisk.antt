@@ -20,3 +20,7 @@ mem_newest disk = newest_of disk.synced disk.unsynced
 -- how often a write found no memory
 abbrev pub mem_failures : MemDisk → ℕ
 mem_failures disk = number disk.failed
+
+-- how often a write or a sync was called for
+abbrev pub mem_attempts : MemDisk → ℕ
+mem_attempts disk = number disk.attempted

@@ -1,4 +1,4 @@
-ghost use Rattle.std.specs.Prelude.{◌≡◌, ◌<◌, ℕ, Contains, OnOk, OnErr};
+ghost use Rattle.std.specs.Prelude.{◌≡◌, ◌<◌, ◌+◌, ℕ, Contains, OnOk, OnErr};
 ghost use Rattle.als_disk.specs.Failures.{CountsFailure};
 ghost use Rattle.als_disk.specs.Slot.{Slot, written, FailsToWrite, KeepsReadable, SameBlocks, SameBlocksBut, HoldsBlocks, GivesCandidates};
 
@@ -19,6 +19,10 @@ pub trait BlockDisk {
     /// How often a call has failed. It is a true count, which never wraps.
     ghost failures: { Self → ℕ };
 
+    /// How often a write or a sync was called for, failed ones too; reads are not counted. It is a
+    /// true count, which never wraps.
+    ghost attempts: { Self → ℕ };
+
     /// How many blocks there are.
     fn blocks(&self) -> u64
         ensures { result ≡ block_count self.now };
@@ -30,7 +34,8 @@ pub trait BlockDisk {
         ensures err { OnErr result (into.new ≡ into.old) }
         ensures blocks { SameBlocks (slot self.old) (slot self.new) }
         ensures count { block_count self.new ≡ block_count self.old }
-        ensures failures { CountsFailure result (failures self.old) (failures self.new) };
+        ensures failures { CountsFailure result (failures self.old) (failures self.new) }
+        ensures attempts { attempts self.new ≡ attempts self.old };
 
     /// Writes a block.
     fn write(&mut self, i: u64, block: &[u8; 512]) -> Result<(), DeviceError>
@@ -39,7 +44,8 @@ pub trait BlockDisk {
         ensures err { OnErr result (FailsToWrite (slot self.old i) (slot self.new i) block.now) }
         ensures others { SameBlocksBut i (slot self.old) (slot self.new) }
         ensures count { block_count self.new ≡ block_count self.old }
-        ensures failures { CountsFailure result (failures self.old) (failures self.new) };
+        ensures failures { CountsFailure result (failures self.old) (failures self.new) }
+        ensures attempts { attempts self.new ≡ attempts self.old + 1 };
 
     /// Leaves in each block what a read gives, so that a crash leaves nothing else. A sync that
     /// fails changes nothing.
@@ -47,7 +53,8 @@ pub trait BlockDisk {
         ensures ok { OnOk result ((k : ℕ) → KeepsReadable (slot self.old k) (slot self.new k)) }
         ensures err { OnErr result (SameBlocks (slot self.old) (slot self.new)) }
         ensures count { block_count self.new ≡ block_count self.old }
-        ensures failures { CountsFailure result (failures self.old) (failures self.new) };
+        ensures failures { CountsFailure result (failures self.old) (failures self.new) }
+        ensures attempts { attempts self.new ≡ attempts self.old + 1 };
 
     /// A read may give something, and nothing that a crash may not leave.
     ghost gives_candidates: { (disk : Self) → GivesCandidates (slot disk) };

@@ -7,12 +7,13 @@ use crate::{BlockDisk, DeviceError, Fuse, Restart};
 /// A device that fails where its fuse burns.
 ///
 /// Where it does, a write still reaches the device below and is answered as failed, and a read or a
-/// sync does not reach it.
+/// sync does not reach it. It counts the writes and syncs that it is called for itself.
 #[derive(Drop)]
 pub struct FailingDisk<D> {
     inner: D,
     fuse: Fuse,
     failed: Count,
+    attempted: Count,
 }
 
 impl<D: BlockDisk> FailingDisk<D> {
@@ -20,11 +21,13 @@ impl<D: BlockDisk> FailingDisk<D> {
         ensures count { ⟦<FailingDisk<D> as BlockDisk>⟧.block_count result ≡ D.block_count inner }
         ensures slots { (k : ℕ) → ⟦<FailingDisk<D> as BlockDisk>⟧.slot result k ≡ D.slot inner k }
         ensures failures { ⟦<FailingDisk<D> as BlockDisk>⟧.failures result ≡ D.failures inner }
+        ensures attempts { ⟦<FailingDisk<D> as BlockDisk>⟧.attempts result ≡ 0 }
     {
         FailingDisk {
             inner,
             fuse,
             failed: Count::Zero,
+            attempted: Count::Zero,
         }
     }
 }
@@ -35,6 +38,8 @@ impl<D: BlockDisk> BlockDisk for FailingDisk<D> {
     ghost slot = { λ disk. D.slot disk.inner };
 
     ghost failures = { λ disk. D.failures disk.inner + number disk.failed };
+
+    ghost attempts = { λ disk. number disk.attempted };
 
     ghost gives_candidates = { λ disk. D.gives_candidates disk.inner };
 
@@ -53,6 +58,7 @@ impl<D: BlockDisk> BlockDisk for FailingDisk<D> {
     }
 
     fn write(&mut self, i: u64, block: &[u8; 512]) -> Result<(), DeviceError> {
+        self.attempted.step();
         let burns = self.fuse.burn();
         let answer = self.inner.write(i, block);
         if burns {
@@ -63,6 +69,7 @@ impl<D: BlockDisk> BlockDisk for FailingDisk<D> {
     }
 
     fn sync(&mut self) -> Result<(), DeviceError> {
+        self.attempted.step();
         if self.fuse.burn() {
             self.failed.step();
             return Err(DeviceError);
@@ -78,12 +85,14 @@ impl<D: Restart> Restart for FailingDisk<D> {
             inner,
             fuse,
             failed,
+            attempted,
         } = self;
         let (inner, used) = inner.crash(picks);
         let disk = FailingDisk {
             inner,
             fuse,
             failed,
+            attempted,
         };
         (disk, used)
     }

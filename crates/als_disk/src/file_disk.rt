@@ -26,6 +26,7 @@ pub struct FileDisk {
     mirror: MemDisk,
     broken: bool,
     failed: Count,
+    attempted: Count,
     ghost fits: { mem_blocks mirror * 512 < 2 ^ 64 },
 }
 
@@ -112,6 +113,7 @@ impl FileDisk {
             mirror,
             broken: false,
             failed: Count::Zero,
+            attempted: Count::Zero,
         })
     }
 
@@ -132,12 +134,13 @@ impl FileDisk {
             mirror,
             broken: false,
             failed: Count::Zero,
+            attempted: Count::Zero,
         })
     }
 }
 
 impl BlockDisk for FileDisk {
-    ghost use Rattle.als_disk.specs.FileDisk.{file_blocks, file_slot, file_failures};
+    ghost use Rattle.als_disk.specs.FileDisk.{file_blocks, file_slot, file_failures, file_attempts};
     ghost use Rattle.als_disk.specs.Store.{slot_of-gives_candidates};
 
     ghost block_count = { file_blocks };
@@ -145,6 +148,8 @@ impl BlockDisk for FileDisk {
     ghost slot = { file_slot };
 
     ghost failures = { file_failures };
+
+    ghost attempts = { file_attempts };
 
     ghost gives_candidates = { λ disk. slot_of-gives_candidates disk.mirror.synced disk.mirror.unsynced };
 
@@ -163,6 +168,7 @@ impl BlockDisk for FileDisk {
     }
 
     fn write(&mut self, i: u64, block: &[u8; 512]) -> Result<(), DeviceError> {
+        self.attempted.step();
         if self.broken {
             self.failed.step();
             return Err(DeviceError);
@@ -177,6 +183,7 @@ impl BlockDisk for FileDisk {
     }
 
     fn sync(&mut self) -> Result<(), DeviceError> {
+        self.attempted.step();
         if self.broken {
             self.failed.step();
             return Err(DeviceError);
@@ -206,6 +213,7 @@ mod tests {
             mirror: MemDisk::new(rt.alloc(), 1),
             broken: false,
             failed: Count::Zero,
+            attempted: Count::Zero,
         };
         let mut block = [0; 512];
         assert_eq!(rt; disk.read(0, &mut block), Ok(()));

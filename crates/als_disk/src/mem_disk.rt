@@ -1,4 +1,4 @@
-ghost use Rattle.std.specs.Prelude.{◌≡◌, ◌<◌, ℕ, Contains, IsOk, OnOk, OnErr};
+ghost use Rattle.std.specs.Prelude.{◌≡◌, ◌<◌, ◌+◌, ℕ, Contains, IsOk, OnOk, OnErr};
 ghost use Rattle.als_disk.specs.Failures.{CountsFailure};
 ghost use Rattle.als_disk.specs.Slot.{only, written, HoldsBlocks, SameBlocks, SameBlocksBut};
 ghost use Rattle.als_disk.specs.Store.{zeros, slot_of, HasRoom, IsInRange, slot_of-gives_candidates};
@@ -18,6 +18,7 @@ pub struct MemDisk {
     synced: Synced,
     unsynced: Writes,
     failed: Count,
+    attempted: Count,
     ghost room: { HasRoom synced unsynced },
     ghost in_range: { IsInRange unsynced blocks },
     ghost contents: { HoldsBlocks (slot_of synced unsynced) },
@@ -29,6 +30,7 @@ impl MemDisk {
         ensures count { ⟦<MemDisk as BlockDisk>⟧.block_count result ≡ blocks }
         ensures zeros { (k : ℕ) → ⟦<MemDisk as BlockDisk>⟧.slot result k ≡ only zeros }
         ensures failures { ⟦<MemDisk as BlockDisk>⟧.failures result ≡ 0 }
+        ensures attempts { ⟦<MemDisk as BlockDisk>⟧.attempts result ≡ 0 }
     {
         MemDisk {
             alloc,
@@ -36,18 +38,21 @@ impl MemDisk {
             synced: BTreeMap::new(alloc),
             unsynced: BTreeMap::new(alloc),
             failed: Count::Zero,
+            attempted: Count::Zero,
         }
     }
 }
 
 impl BlockDisk for MemDisk {
-    ghost use Rattle.als_disk.specs.MemDisk.{mem_blocks, mem_slot, mem_newest, mem_failures};
+    ghost use Rattle.als_disk.specs.MemDisk.{mem_blocks, mem_slot, mem_newest, mem_failures, mem_attempts};
 
     ghost block_count = { mem_blocks };
 
     ghost slot = { mem_slot };
 
     ghost failures = { mem_failures };
+
+    ghost attempts = { mem_attempts };
 
     ghost gives_candidates = { λ disk. slot_of-gives_candidates disk.synced disk.unsynced };
 
@@ -76,7 +81,9 @@ impl BlockDisk for MemDisk {
         ensures others { SameBlocksBut i (mem_slot self.old) (mem_slot self.new) }
         ensures count { mem_blocks self.new ≡ mem_blocks self.old }
         ensures failures { CountsFailure result (mem_failures self.old) (mem_failures self.new) }
+        ensures attempts { mem_attempts self.new ≡ mem_attempts self.old + 1 }
     {
+        self.attempted.step();
         match store::put(self.alloc, &mut self.synced, &mut self.unsynced, i, block) {
             Ok(()) => Ok(()),
             Err(AllocError) => {
@@ -92,7 +99,9 @@ impl BlockDisk for MemDisk {
         ensures newest { (k : ℕ) → mem_slot self.new k ≡ only (mem_newest self.old k) }
         ensures count { mem_blocks self.new ≡ mem_blocks self.old }
         ensures failures { mem_failures self.new ≡ mem_failures self.old }
+        ensures attempts { mem_attempts self.new ≡ mem_attempts self.old + 1 }
     {
+        self.attempted.step();
         store::settle(&mut self.synced, &mut self.unsynced);
         Ok(())
     }
@@ -106,6 +115,7 @@ impl Restart for MemDisk {
             mut synced,
             mut unsynced,
             failed,
+            attempted,
         } = self;
         let used = store::settle_by(&mut synced, &mut unsynced, picks);
         let disk = MemDisk {
@@ -114,6 +124,7 @@ impl Restart for MemDisk {
             synced,
             unsynced,
             failed,
+            attempted,
         };
         (disk, used)
     }

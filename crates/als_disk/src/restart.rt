@@ -16,5 +16,6 @@ pub trait Restart: BlockDisk {
         ensures used { result.1 ≡ min (length picks.now) (choices_below (Self.slot self) (Self.block_count self)) }
         ensures candidate { (k : ℕ) → KeepsCandidate (Self.slot self k) (Self.slot result.0 k) }
         ensures count { Self.block_count result.0 ≡ Self.block_count self }
-        ensures failures { Self.failures result.0 ≡ Self.failures self };
+        ensures failures { Self.failures result.0 ≡ Self.failures self }
+        ensures attempts { Self.attempts result.0 ≡ Self.attempts self };
 }

@@ -11,6 +11,7 @@ write-tells c = record {
   others = c.ensures.others;
   count = c.ensures.count;
   failures = c.ensures.failures;
+  attempts = c.ensures.attempts;
 }
 
 pub sync-tells : goal.sync-tells
@@ -21,4 +22,5 @@ sync-tells c =
       err = OnErr-ok _ c.result c.ensures.ok;
       count = c.ensures.count;
       failures = CountsFailure-ok c.result _ _ c.ensures.ok c.ensures.failures;
+      attempts = c.ensures.attempts;
     }
