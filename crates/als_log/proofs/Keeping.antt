@@ -27,8 +27,8 @@ module _ {pages : ℕ} {log : List Record} {base written synced cursor blocks : 
       let len : length bytes ≡ end_of log - base = ap length h.tail.held ∙ length-drop base (log_text pages log) ∙ ap (λ (n : ℕ). n - base) (length-text pages log) in
       omega (arith, len, h.tail.low, h.order.order, h.order.within)
 
-  pub local : (failures room : ℕ) → IsLocal (record { pages = pages; log = log; written = written; synced = synced; blocks = blocks; failures = failures; room = room })
-  local failures room = record {
+  pub local : (failures attempts room : ℕ) → IsLocal (record { pages = pages; log = log; written = written; synced = synced; blocks = blocks; failures = failures; attempts = attempts; room = room })
+  local failures attempts room = record {
     is_log = h.order.is_log;
     fits = h.order.fits;
     written = h.order.within;

@@ -5,8 +5,8 @@ use Rattle.als_record.specs.Spelling.{record_len}
 use Rattle.als_record.specs.LogText.{end_of, IsLog}
 
 -- The database's page count; the records; up to where blocks have been written; the end of the last record that was
--- wholly written at the last sync, 16 if none; how many blocks the device has; how often it has failed; how many bytes
--- can be appended without memory.
+-- wholly written at the last sync, 16 if none; how many blocks the device has; how often it has failed; how often it was
+-- called to write or to sync; how many bytes can be appended without memory.
 pub record Local : Type 0 where
   pub pages : ℕ
   pub log : List Record
@@ -14,6 +14,7 @@ pub record Local : Type 0 where
   pub synced : ℕ
   pub blocks : ℕ
   pub failures : ℕ
+  pub attempts : ℕ
   pub room : ℕ
 
 -- the end of the last of these records that ends at or below a limit, where they begin at an offset; the offset if there

@@ -5,10 +5,15 @@ use Rattle.als_log.specs.declared.fault.Fault.{Fault}
 use Rattle.als_log.specs.declared.fault.Fault.TheVariants.{NothingToDo, LogFull, Device, Memory}
 use Rattle.als_log.specs.Local.{Local, HasRoomFor}
 
--- the device has failed, and nothing else has changed
-pub record OnlyFails (old new : Local) : Type 0 where
+-- a read of the device has failed, and nothing else has changed
+pub record ReadFails (old new : Local) : Type 0 where
   pub failed : old.failures < new.failures
   pub same : new ≡ record old { failures = new.failures }
+
+-- the one write or sync that was made of the device has failed, and nothing else has changed
+pub record AttemptFails (old new : Local) : Type 0 where
+  pub failed : old.failures < new.failures
+  pub same : new ≡ record old { failures = new.failures; attempts = old.attempts + 1 }
 
 -- a device could not be laid out: it failed, or there was no memory and it was not touched
 abbrev pub RefusesFormat : Fault → ℕ → ℕ → Type 0
@@ -27,20 +32,20 @@ RefusesRecord Device l len reserve_after = ⊥
 -- no block was written: there was none to write, or the device failed
 abbrev pub RefusesBlock : Fault → Local → Local → Type 0
 RefusesBlock NothingToDo old new = (old.written ≡ end_of old.log) × (new ≡ old)
-RefusesBlock Device old new = (old.written < end_of old.log) × OnlyFails old new
+RefusesBlock Device old new = (old.written < end_of old.log) × AttemptFails old new
 RefusesBlock LogFull old new = ⊥
 RefusesBlock Memory old new = ⊥
 
 -- the device was not synced: it failed
 abbrev pub RefusesSync : Fault → Local → Local → Type 0
-RefusesSync Device old new = OnlyFails old new
+RefusesSync Device old new = AttemptFails old new
 RefusesSync NothingToDo old new = ⊥
 RefusesSync LogFull old new = ⊥
 RefusesSync Memory old new = ⊥
 
 -- no record could be read: the device failed, or there was no memory
 abbrev pub RefusesReading : Fault → Local → Local → Type 0
-RefusesReading Device old new = OnlyFails old new
+RefusesReading Device old new = ReadFails old new
 RefusesReading Memory old new = new ≡ old
 RefusesReading NothingToDo old new = ⊥
 RefusesReading LogFull old new = ⊥

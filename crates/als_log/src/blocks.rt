@@ -37,6 +37,7 @@ pub(crate) fn write<D: BlockDisk>(
     ensures err { OnErr result ((text : List ℕ) (end front synced : ℕ) → HasText text end i block.now → IsStored (D.slot disk.old) text front synced → front ≤ end → synced ≤ end → IsStored (D.slot disk.new) text front synced) }
     ensures count { D.block_count disk.new ≡ D.block_count disk.old }
     ensures failures { CountsFailure result (D.failures disk.old) (D.failures disk.new) }
+    ensures attempts { D.attempts disk.new ≡ D.attempts disk.old + 1 }
 {
     disk.write(i, block)?;
     Ok(())
@@ -48,6 +49,7 @@ pub(crate) fn sync<D: BlockDisk>(disk: &mut D) -> Result<(), DeviceError>
     ensures err { OnErr result ((text : List ℕ) (front synced : ℕ) → IsStored (D.slot disk.old) text front synced → IsStored (D.slot disk.new) text front synced) }
     ensures count { D.block_count disk.new ≡ D.block_count disk.old }
     ensures failures { CountsFailure result (D.failures disk.old) (D.failures disk.new) }
+    ensures attempts { D.attempts disk.new ≡ D.attempts disk.old + 1 }
 {
     disk.sync()?;
     Ok(())
@@ -59,6 +61,7 @@ pub(crate) fn lay_out<D: BlockDisk>(disk: &mut D, front: &[u8; 16]) -> Result<()
     ensures ok { OnOk result (IsStored (D.slot disk.new) front.now 16 16) }
     ensures count { D.block_count disk.new ≡ D.block_count disk.old }
     ensures failures { CountsFailure result (D.failures disk.old) (D.failures disk.new) }
+    ensures attempts { OnOk result (D.attempts disk.new ≡ D.attempts disk.old + 2) }
 {
     let block = block_at(front.as_slice(), 0);
     disk.write(0, &block)?;

@@ -50,7 +50,7 @@ impl<D: BlockDisk> Model for LocalLog<D> {
 
     ghost Value = { Local };
 
-    ghost view = { λ l. record { pages = l.pages; log = records_in l.history; written = l.written; synced = l.synced; blocks = D.block_count l.disk; failures = D.failures l.disk; room = vec_capacity l.tail - vec_len l.tail } };
+    ghost view = { λ l. record { pages = l.pages; log = records_in l.history; written = l.written; synced = l.synced; blocks = D.block_count l.disk; failures = D.failures l.disk; attempts = D.attempts l.disk; room = vec_capacity l.tail - vec_len l.tail } };
 
     ghost invariant = { λ l. IsHeld l.pages (records_in l.history) l.base l.written l.synced l.cursor (D.block_count l.disk) l.tail.items (D.slot l.disk) };
 }
@@ -71,7 +71,7 @@ impl<D: BlockDisk> LocalLog<D> {
     pub fn format(alloc: Global, disk: D, pages: u32) -> Result<LocalLog<D>, Unformatted<D>>
         requires pages { 1 ≤ pages × (pages ≤ 4096) }
         requires blocks { (1 ≤ D.block_count disk) × (D.block_count disk ≤ 4194304) }
-        ensures ok { IfOk result (λ l. l ≡ record { pages = pages; log = []; written = 16; synced = 16; blocks = D.block_count disk; failures = D.failures disk; room = l.room }) }
+        ensures ok { IfOk result (λ l. l ≡ record { pages = pages; log = []; written = 16; synced = 16; blocks = D.block_count disk; failures = D.failures disk; attempts = D.attempts disk + 2; room = l.room }) }
         ensures err { IfErr result (λ u. RefusesFormat u.fault (D.failures disk) (D.failures u.disk)) }
         ensures blocks { IfErr result (λ u. D.block_count u.disk ≡ D.block_count disk) }
     {
@@ -188,11 +188,12 @@ impl<D: BlockDisk> LocalLog<D> {
         }
     }
 
-    /// Writes the first block with unwritten bytes, with zeros behind the log's end. It takes no memory.
+    /// Writes the first block with unwritten bytes, with zeros behind the log's end: one write of the device. It takes no
+    /// memory.
     ///
-    /// `NothingToDo`: no byte is unwritten. `Device`: the device failed, and the block counts as unwritten.
+    /// `NothingToDo`: no byte is unwritten, and the device is not called. `Device`: the device failed, and the block counts as unwritten.
     pub fn write_block(&mut self) -> Result<(), Fault>
-        ensures ok { OnOk result ((self.old.written < end_of self.old.log) × (self.new ≡ record self.old { written = next_written self.old.log self.old.written })) }
+        ensures ok { OnOk result ((self.old.written < end_of self.old.log) × (self.new ≡ record self.old { written = next_written self.old.log self.old.written; attempts = self.old.attempts + 1 })) }
         ensures err { IfErr result (λ e. RefusesBlock e self.old self.new) }
     {
         let end = self.base + self.tail.len() as u64;
@@ -207,11 +208,11 @@ impl<D: BlockDisk> LocalLog<D> {
     }
 
     /// Makes the records that are wholly written certain to survive a crash, and forgets the bytes in front of the block
-    /// of their end. It takes no memory.
+    /// of their end: one sync of the device. It takes no memory.
     ///
     /// `Device`: the device failed, and nothing else has changed.
     pub fn sync(&mut self) -> Result<(), Fault>
-        ensures ok { OnOk result (self.new ≡ record self.old { synced = whole_end self.old.log self.old.written; room = self.new.room }) }
+        ensures ok { OnOk result (self.new ≡ record self.old { synced = whole_end self.old.log self.old.written; attempts = self.old.attempts + 1; room = self.new.room }) }
         ensures room { OnOk result (self.old.room ≤ self.new.room) }
         ensures err { IfErr result (λ e. RefusesSync e self.old self.new) }
     {
@@ -264,6 +265,7 @@ impl<D: BlockDisk> LocalLog<D> {
         ensures stored { AllHaveText (λ b. (D.slot result b).readable) (log_text self.pages self.log) self.written }
         ensures count { D.block_count result ≡ self.blocks }
         ensures failures { D.failures result ≡ self.failures }
+        ensures attempts { D.attempts result ≡ self.attempts }
         ensures facts { IsLocal self }
     {
         self.disk

@@ -30,6 +30,7 @@ fn read_block<D: BlockDisk>(
     ensures ok { OnOk result ((text : List ℕ) → IsSource (D.slot disk.old) source.entry.bytes.now text source.entry.base → (o : ℕ) → o < 512 → slice_index into.new o ≡ slice_index text (512 * i + o)) }
     ensures same { SameBlocks (D.slot disk.old) (D.slot disk.new) }
     ensures count { D.block_count disk.new ≡ D.block_count disk.old }
+    ensures attempts { D.attempts disk.new ≡ D.attempts disk.old }
     ensures failures { CountsFailure result (D.failures disk.old) (D.failures disk.new) }
 {
     if 512 * i < source.base {
@@ -77,6 +78,7 @@ fn read_text<D: BlockDisk>(
     ensures len { OnOk result (vec_len out.new ≡ count) }
     ensures same { SameBlocks (D.slot disk.old) (D.slot disk.new) }
     ensures count { D.block_count disk.new ≡ D.block_count disk.old }
+    ensures attempts { D.attempts disk.new ≡ D.attempts disk.old }
     ensures done { OnOk result (D.failures disk.new ≡ D.failures disk.old) }
     ensures err { IfErr result (λ e. FailsToRead e (D.failures disk.old) (D.failures disk.new)) }
 {
@@ -108,6 +110,7 @@ fn walk<D: BlockDisk>(
     ensures past { IfOk result (λ at. (at ≡ to) ⊎ (record_at (records_in source.entry.history.now) to ≡ None)) }
     ensures same { SameBlocks (D.slot disk.old) (D.slot disk.new) }
     ensures count { D.block_count disk.new ≡ D.block_count disk.old }
+    ensures attempts { D.attempts disk.new ≡ D.attempts disk.old }
     ensures done { OnOk result (D.failures disk.new ≡ D.failures disk.old) }
     ensures err { IfErr result (λ e. FailsToRead e (D.failures disk.old) (D.failures disk.new)) }
 {
@@ -133,6 +136,7 @@ fn read_record<D: BlockDisk>(
     ensures ok { IfOk result (λ r. record_at (records_in source.entry.history.now) at ≡ Some r) }
     ensures same { SameBlocks (D.slot disk.old) (D.slot disk.new) }
     ensures count { D.block_count disk.new ≡ D.block_count disk.old }
+    ensures attempts { D.attempts disk.new ≡ D.attempts disk.old }
     ensures done { OnOk result (D.failures disk.new ≡ D.failures disk.old) }
     ensures err { IfErr result (λ e. FailsToRead e (D.failures disk.old) (D.failures disk.new)) }
 {
@@ -173,6 +177,7 @@ pub(crate) fn find<D: BlockDisk>(
     ensures ok { IfOk result (λ x. x.1 ≡ record_at (records_in source.entry.history.now) to) }
     ensures same { SameBlocks (D.slot disk.old) (D.slot disk.new) }
     ensures count { D.block_count disk.new ≡ D.block_count disk.old }
+    ensures attempts { D.attempts disk.new ≡ D.attempts disk.old }
     ensures done { OnOk result (D.failures disk.new ≡ D.failures disk.old) }
     ensures err { IfErr result (λ e. FailsToRead e (D.failures disk.old) (D.failures disk.new)) }
 {

@@ -17,6 +17,7 @@ loop-block-preserved g c =
       same = λ k. c.in_ok-read_block.ensures.same k ∙ i.same k;
       count = c.in_ok-read_block.ensures.count ∙ i.count;
       failures = c.in_ok-read_block.ensures.failures ∙ i.failures;
+      attempts = c.in_ok-read_block.ensures.attempts ∙ i.attempts;
     }
 
 pub returns-clause-ok : goal.returns-clause-ok

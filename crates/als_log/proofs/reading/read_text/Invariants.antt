@@ -11,6 +11,7 @@ invariant-loop-block g l = record {
   same : SameBlocks (g.D.BlockDisk.slot l.initial.disk) (g.D.BlockDisk.slot l.disk);
   count : g.D.BlockDisk.block_count l.disk ≡ g.D.BlockDisk.block_count l.initial.disk;
   failures : g.D.BlockDisk.failures l.disk ≡ g.D.BlockDisk.failures l.initial.disk;
+  attempts : g.D.BlockDisk.attempts l.disk ≡ g.D.BlockDisk.attempts l.initial.disk;
 }
 
 abbrev pub decreases-loop-block : goal.decreases-loop-block

@@ -58,4 +58,5 @@ loop-at-preserved g c =
       same = λ k. c.in_ok-read_text.ensures.same k ∙ c.loop-at.invariant.same k;
       count = c.in_ok-read_text.ensures.count ∙ c.loop-at.invariant.count;
       failures = c.in_ok-read_text.ensures.done ∙ c.loop-at.invariant.failures;
+      attempts = c.in_ok-read_text.ensures.attempts ∙ c.loop-at.invariant.attempts;
     }

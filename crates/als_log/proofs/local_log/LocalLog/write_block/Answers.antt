@@ -41,7 +41,7 @@ returns-in_err-write-clause-err g c =
     let len : c.len.result ≡ length c.self.inside.tail.items = omega (arith, c.len.ensures) in
     let more : c.self.inside.written < end_of log = omega (arith, reach h, len, c.if-self-end.false, h.order.within) in
     let p = err_from_is_err_and c.from_residual.result c.from_residual.ensures.1 in
-    rw (p.1, p.2, ← c.self.view_is, c.write.ensures.count) (more, record { failed = c.in_err-write.ensures.failures; same = refl })
+    rw (p.1, p.2, ← c.self.view_is, c.write.ensures.count, c.write.ensures.attempts) (more, record { failed = c.in_err-write.ensures.failures; same = refl })
 
 pub invariant_of-self-2 : goal.invariant_of-self-2
 invariant_of-self-2 g c =
@@ -65,4 +65,4 @@ returns-clause-ok g c =
     let more : c.self.inside.written < end_of log = omega (arith, reach h, len, c.if-self-end.false, h.order.within) in
     let next : c.min-self-inside.result ≡ min (end_of log) (512 * (c.self.inside.written / 512) + 512)
     = c.min-self-inside.ensures ∙ ap (λ n. min n (512 * (c.self.inside.written / 512) + 512)) (let e : c.self.inside.base + c.len.result ≡ end_of log = omega (arith, reach h, len) in e) in
-    rw (← c.self.view_is, c.write.ensures.count, next, c.in_ok-write.ensures.failures) (more, refl)
+    rw (← c.self.view_is, c.write.ensures.count, next, c.in_ok-write.ensures.failures, c.write.ensures.attempts) (more, refl)
