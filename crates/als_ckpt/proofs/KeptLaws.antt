@@ -87,10 +87,10 @@ module _ (pages log_bytes blocks : ℕ) where
     }
 
   -- what the callers see
-  pub IsControlled-kept : (slot : Slot) (synced newest : ControlState) (since : List ControlState) (sure : Bool) (failures : ℕ)
+  pub IsControlled-kept : (slot : Slot) (synced newest : ControlState) (since : List ControlState) (sure : Bool) (failures attempts : ℕ)
       → IsKept slot pages log_bytes blocks synced newest since sure
-      → IsControlled (record { pages = pages; log_bytes = log_bytes; synced = synced; since = since; sure = sure; blocks = blocks; failures = failures })
-  IsControlled-kept slot synced newest since sure failures kept = record {
+      → IsControlled (record { pages = pages; log_bytes = log_bytes; synced = synced; since = since; sure = sure; blocks = blocks; failures = failures; attempts = attempts })
+  IsControlled-kept slot synced newest since sure failures attempts kept = record {
     room = kept.room;
     fits = kept.fits;
     rising = kept.rising;

@@ -1,5 +1,5 @@
 -- The control block of a database: what it says, its bytes, and what is known of it between two syncs.
-use Rattle.std.specs.Prelude.{◌≡◌, ℕ, ◌≤◌, Bool, true, List, [], ◌∷◌, ◌++◌, replicate, Option, None, Some, Contains, codes}
+use Rattle.std.specs.Prelude.{◌≡◌, ℕ, ◌+◌, ◌≤◌, Bool, true, List, [], ◌∷◌, ◌++◌, replicate, Option, None, Some, Contains, codes}
 use Rattle.std.specs.Int.{w32, w64, to_be_bytes}
 use Rattle.als_ckpt.specs.declared.phase.Phase.{Phase}
 use Rattle.als_ckpt.specs.declared.phase.Phase.TheVariants.{Following, Sealed, Primary}
@@ -56,7 +56,8 @@ first_state = record {
 
 -- The control block of a database with so many pages and a log device of so many bytes: the state of the last sync, and
 -- each that was written since, that of a failed write too. It is sure where no write has failed since that sync: a read
--- gives the last state then. The control device has so many blocks, and has failed so often.
+-- gives the last state then. The control device has so many blocks, has failed so often, and was called so often to write
+-- or to sync.
 pub record Controlled : Type 0 where
   pub pages : ℕ
   pub log_bytes : ℕ
@@ -65,10 +66,11 @@ pub record Controlled : Type 0 where
   pub sure : Bool
   pub blocks : ℕ
   pub failures : ℕ
+  pub attempts : ℕ
 
 -- a control block of which the synced state alone stands
-abbrev pub new_control : ℕ → ℕ → ControlState → ℕ → ℕ → Controlled
-new_control pages log_bytes state blocks failures = record {
+abbrev pub new_control : ℕ → ℕ → ControlState → ℕ → ℕ → ℕ → Controlled
+new_control pages log_bytes state blocks failures attempts = record {
   pages = pages;
   log_bytes = log_bytes;
   synced = state;
@@ -76,6 +78,7 @@ new_control pages log_bytes state blocks failures = record {
   sure = true;
   blocks = blocks;
   failures = failures;
+  attempts = attempts;
 }
 
 -- the last of a state and those that follow it
@@ -111,10 +114,10 @@ pub record IsControlled (control : Controlled) : Type 0 where
   pub from_synced : (s : ControlState) → IsAmong control s → control.synced.mark.0 ≤ s.mark.0
   pub to_newest : (s : ControlState) → IsAmong control s → s.mark.0 ≤ (newest control).mark.0
 
--- the newest state alone stands, after a sync
+-- the newest state alone stands, after one sync
 abbrev pub settled : Controlled → Controlled
-settled control = record control { synced = newest control; since = [] }
+settled control = record control { synced = newest control; since = []; attempts = control.attempts + 1 }
 
--- one more state is written
+-- one more state is written, by one write
 abbrev pub with_state : Controlled → ControlState → Controlled
-with_state control s = record control { since = control.since ++ s ∷ [] }
+with_state control s = record control { since = control.since ++ s ∷ []; attempts = control.attempts + 1 }

@@ -1,4 +1,4 @@
-ghost use Rattle.std.specs.Prelude.{◌≡◌, ◌≢◌, ◌≤◌, ◌<◌, ◌⊎◌, ℕ, ◌∷◌, List, Contains, true, false, OnOk, OnErr, IfOk, IfErr};
+ghost use Rattle.std.specs.Prelude.{◌≡◌, ◌≢◌, ◌≤◌, ◌<◌, ◌+◌, ◌⊎◌, ℕ, ◌∷◌, List, Contains, true, false, OnOk, OnErr, IfOk, IfErr};
 ghost use Rattle.als_disk.specs.Failures.{CountsFailure};
 ghost use Rattle.als_disk.specs.Slot.{only, IsSettled, SameBlocks};
 ghost use Rattle.als_ckpt.specs.Control.{control_block, first_state, newest, with_state, settled, new_control, IsControlState, IsControlled, IsBlockOf};
@@ -43,6 +43,7 @@ impl<D: BlockDisk> Model for Control<D> {
       sure = is_sure c.writes;
       blocks = D.block_count c.disk;
       failures = D.failures c.disk;
+      attempts = D.attempts c.disk;
     } };
 
     ghost invariant = { λ c. IsKept (D.slot c.disk 0) c.pages c.log_bytes (D.block_count c.disk) c.synced c.last
@@ -57,7 +58,7 @@ impl<D: BlockDisk> Control<D> {
         requires room { 321 ≤ D.block_count disk }
         requires pages { (1 ≤ pages) × (pages ≤ 4096) }
         requires log_bytes { 16 ≤ log_bytes }
-        ensures ok { IfOk result (λ c. c ≡ new_control pages log_bytes first_state (D.block_count disk) (D.failures disk)) }
+        ensures ok { IfOk result (λ c. c ≡ new_control pages log_bytes first_state (D.block_count disk) (D.failures disk) (D.attempts disk + 2)) }
         ensures err { IfErr result (λ r. (r.fault ≡ Fault.Device) × (D.failures disk < D.failures r.disk)
             × (D.block_count r.disk ≡ D.block_count disk)) }
         ensures err_candidates { IfErr result (λ r. (content : List ℕ) → Contains (D.slot r.disk 0).candidates content
@@ -83,7 +84,7 @@ impl<D: BlockDisk> Control<D> {
     pub fn read(mut disk: D, pages: u32, log_bytes: u64) -> Result<Control<D>, Refused<D>>
         requires room { 321 ≤ D.block_count disk }
         requires settled { IsSettled (D.slot disk 0) }
-        ensures ok { IfOk result (λ c. (c ≡ new_control pages log_bytes c.synced (D.block_count disk) (D.failures disk))
+        ensures ok { IfOk result (λ c. (c ≡ new_control pages log_bytes c.synced (D.block_count disk) (D.failures disk) (D.attempts disk))
             × (D.slot disk 0 ≡ only (control_block pages c.synced)) × IsControlState log_bytes c.synced) }
         ensures only { (s : AnyState) → IsControlState log_bytes s → D.slot disk 0 ≡ only (control_block pages s)
             → IfOk result (λ c. c.synced ≡ s) }
@@ -121,7 +122,7 @@ impl<D: BlockDisk> Control<D> {
         self.synced.mark
     }
 
-    /// Writes a state.
+    /// Writes a state, by one write of the disk.
     fn write(&mut self, state: ControlState) -> Result<(), Fault>
         requires fits { IsControlState self.old.log_bytes state }
         requires rises { (newest self.old).mark.0 ≤ state.mark.0 }
@@ -139,7 +140,7 @@ impl<D: BlockDisk> Control<D> {
         answer
     }
 
-    /// Writes the newest state with another mark: the log is stable up to it.
+    /// Writes the newest state with another mark, by one write of the disk: the log is stable up to it.
     ///
     /// `Device`: the disk failed, and the state may have been written or not.
     pub fn write_mark(&mut self, mark: Lsn) -> Result<(), Fault>
@@ -155,7 +156,7 @@ impl<D: BlockDisk> Control<D> {
         self.write(state)
     }
 
-    /// Writes the newest state with another phase, mark and seal.
+    /// Writes the newest state with another phase, mark and seal, by one write of the disk.
     ///
     /// `Device`: the disk failed, and the state may have been written or not.
     pub fn write_phase(&mut self, phase: Phase, mark: Lsn, seal: Lsn) -> Result<(), Fault>
@@ -176,13 +177,13 @@ impl<D: BlockDisk> Control<D> {
         self.write(state)
     }
 
-    /// Syncs the disk: the newest state alone stays.
+    /// Syncs the disk, by one sync: the newest state alone stays.
     ///
     /// `Device`: the disk failed, and no state has gone away.
     pub fn sync(&mut self) -> Result<(), Fault>
         requires { self.old.sure ≡ true }
         ensures ok { OnOk result (self.new ≡ settled self.old) }
-        ensures err { OnErr result (self.new ≡ record self.old { failures = self.new.failures }) }
+        ensures err { OnErr result (self.new ≡ record self.old { failures = self.new.failures; attempts = self.old.attempts + 1 }) }
         ensures fault { IfErr result (λ fault. fault ≡ Fault.Device) }
         ensures failures { CountsFailure result self.old.failures self.new.failures }
     {
@@ -199,6 +200,7 @@ impl<D: BlockDisk> Control<D> {
         ensures facts { IsControlled self }
         ensures count { D.block_count result ≡ self.blocks }
         ensures failures { D.failures result ≡ self.failures }
+        ensures attempts { D.attempts result ≡ self.attempts }
     {
         let Control { disk, .. } = self;
         disk

@@ -1,5 +1,5 @@
 // Control blocks on a disk.
-ghost use Rattle.std.specs.Prelude.{◌≡◌, ◌≢◌, ◌≤◌, ◌<◌, ◌⊎◌, ℕ, IsErrOf, List, Contains, OnOk, OnErr, IfOk, IfErr};
+ghost use Rattle.std.specs.Prelude.{◌≡◌, ◌≢◌, ◌≤◌, ◌<◌, ◌+◌, ◌⊎◌, ℕ, IsErrOf, List, Contains, OnOk, OnErr, IfOk, IfErr};
 ghost use Rattle.als_disk.specs.Failures.{CountsFailure};
 ghost use Rattle.als_disk.specs.Slot.{only, written, FailsToWrite, IsSettled, SameBlocks};
 ghost use Rattle.als_disk.specs.Store.{zeros};
@@ -22,6 +22,7 @@ pub fn clear<D: BlockDisk>(disk: &mut D) -> Result<(), Fault>
     ensures fault { IfErr result (λ fault. fault ≡ Fault.Device) }
     ensures count { D.block_count disk.new ≡ D.block_count disk.old }
     ensures failures { CountsFailure result (D.failures disk.old) (D.failures disk.new) }
+    ensures attempts { OnOk result (D.attempts disk.new ≡ D.attempts disk.old + 2) }
 {
     disk.write(0, &[0; BLOCK])?;
     disk.sync()?;
@@ -40,6 +41,7 @@ pub(crate) fn write_state<D: BlockDisk>(
     ensures fault { IfErr result (λ fault. fault ≡ Fault.Device) }
     ensures count { D.block_count disk.new ≡ D.block_count disk.old }
     ensures failures { CountsFailure result (D.failures disk.old) (D.failures disk.new) }
+    ensures attempts { D.attempts disk.new ≡ D.attempts disk.old + 1 }
 {
     let block = encode(pages, state);
     disk.write(0, &block)?;
@@ -56,6 +58,7 @@ pub(crate) fn store_first<D: BlockDisk>(disk: &mut D, pages: u32) -> Result<Cont
     ensures fault { IfErr result (λ fault. fault ≡ Fault.Device) }
     ensures count { D.block_count disk.new ≡ D.block_count disk.old }
     ensures failures { CountsFailure result (D.failures disk.old) (D.failures disk.new) }
+    ensures attempts { OnOk result (D.attempts disk.new ≡ D.attempts disk.old + 2) }
 {
     let state = ControlState::first();
     write_state(disk, pages, &state)?;
@@ -78,6 +81,7 @@ pub(crate) fn read_state<D: BlockDisk>(
         × ((s : AnyState) → IsControlState log_bytes s → D.slot disk.old 0 ≢ only (control_block pages s)) }
     ensures device { IsErrOf result Fault.Device → D.failures disk.old < D.failures disk.new }
     ensures ok { OnOk result (D.failures disk.new ≡ D.failures disk.old) }
+    ensures attempts { D.attempts disk.new ≡ D.attempts disk.old }
     ensures blocks { SameBlocks (D.slot disk.old) (D.slot disk.new) }
     ensures count { D.block_count disk.new ≡ D.block_count disk.old }
 {
