@@ -138,11 +138,11 @@ module _ (pages held : ℕ) (l : Local) (c : Controlled) (warm : List Warm) (val
         sure = h.sure;
       })
 
-  pub view-push : (failures : ℕ) (l' : Local) (r : Record) (warm' : List Warm) (change : Option Change) → l' ≡ record l { log = l.log ++ r ∷ []; room = l'.room } → Routes warm change warm'
-      → stored_of pages l' c warm' broken failures ≡ with_log (stored_of pages l c warm broken failures) (l.log ++ r ∷ [])
-  view-push failures l' r warm' change e routes =
-      ap (λ (x : Local). stored_of pages x c warm' broken failures) e
-      ∙ ap (λ (xs : List ℕ). record (stored_of pages l c warm broken failures) { log = l.log ++ r ∷ []; applied = xs }) (routes_count warm warm' change routes).2
+  pub view-push : (failures attempts : ℕ) (l' : Local) (r : Record) (warm' : List Warm) (change : Option Change) → l' ≡ record l { log = l.log ++ r ∷ []; room = l'.room } → Routes warm change warm'
+      → stored_of pages l' c warm' broken failures attempts ≡ with_log (stored_of pages l c warm broken failures attempts) (l.log ++ r ∷ [])
+  view-push failures attempts l' r warm' change e routes =
+      ap (λ (x : Local). stored_of pages x c warm' broken failures attempts) e
+      ∙ ap (λ (xs : List ℕ). record (stored_of pages l c warm broken failures attempts) { log = l.log ++ r ∷ []; applied = xs }) (routes_count warm warm' change routes).2
 
   -- changes redone
   pub stored-apply : (page : ℕ) (warm' : List Warm) (lsn : Lsn) → AppliesAt warm page warm' lsn → IsStored pages l held c warm' validator broken
@@ -163,8 +163,8 @@ module _ (pages held : ℕ) (l : Local) (c : Controlled) (warm : List Warm) (val
         sure = h.sure;
       }
 
-  pub view-apply : (failures page : ℕ) (warm' : List Warm) (lsn : Lsn) → AppliesAt warm page warm' lsn → AppliesFirst (stored_of pages l c warm broken failures) page lsn (stored_of pages l c warm' broken failures)
-  view-apply failures page warm' lsn applied =
+  pub view-apply : (failures attempts page : ℕ) (warm' : List Warm) (lsn : Lsn) → AppliesAt warm page warm' lsn → AppliesFirst (stored_of pages l c warm broken failures attempts) page lsn (stored_of pages l c warm' broken failures attempts)
+  view-apply failures attempts page warm' lsn applied =
       let w : Warm = applied.w in
       let w' : Warm = applied.w' in
       let r = applied.redoes in
@@ -175,15 +175,15 @@ module _ (pages held : ℕ) (l : Local) (c : Controlled) (warm : List Warm) (val
         front = r.front;
         last = r.last;
         rest = r.rest;
-        changes = waiting_seen (stored_of pages l c warm broken failures) warm page w refl h.are_pages applied.found ∙ r.waits;
+        changes = waiting_seen (stored_of pages l c warm broken failures attempts) warm page w refl h.are_pages applied.found ∙ r.waits;
         most = r.most;
         all = r.all;
         lsn_is = r.lsn_is;
-        after = ap (λ (xs : List ℕ). record (stored_of pages l c warm broken failures) { applied = xs }) (ap applied_of applied.after ∙ map-set (λ (v : Warm). v.state.lsn) warm page w' ∙ ap (λ (q : ℕ). slice_set (applied_of warm) page q) lsn-is);
+        after = ap (λ (xs : List ℕ). record (stored_of pages l c warm broken failures attempts) { applied = xs }) (ap applied_of applied.after ∙ map-set (λ (v : Warm). v.state.lsn) warm page w' ∙ ap (λ (q : ℕ). slice_set (applied_of warm) page q) lsn-is);
       }
 
   -- a log synced
-  pub stored-synced : (l' : Local) → IsLocal l → l' ≡ record l { synced = whole_end l.log l.written; room = l'.room } → IsStored pages l' held c warm validator broken
+  pub stored-synced : (l' : Local) → IsLocal l → l' ≡ record l { synced = whole_end l.log l.written; attempts = l.attempts + 1; room = l'.room } → IsStored pages l' held c warm validator broken
   stored-synced l' facts e = subst (λ (x : Local). IsStored pages x held c warm validator broken) (sym e) (record {
     log_pages = h.log_pages;
     is_log = h.is_log;
@@ -247,12 +247,12 @@ module _ (pages held : ℕ) (l : Local) (c : Controlled) (warm : List Warm) (val
   }) h.sure)
 
 -- a store just formatted
-pub stored-new : (pages blocks log_failures control_blocks control_failures : ℕ) (l : Local) (c : Controlled) (warm : List Warm) (validator : Validator) → pages ≤ 4096
-    → l ≡ record { pages = pages; log = []; written = 16; synced = 16; blocks = blocks; failures = log_failures; room = l.room } → c ≡ new_control pages (512 * blocks) first_state control_blocks control_failures
+pub stored-new : (pages blocks log_failures log_attempts control_blocks control_failures control_attempts : ℕ) (l : Local) (c : Controlled) (warm : List Warm) (validator : Validator) → pages ≤ 4096
+    → l ≡ record { pages = pages; log = []; written = 16; synced = 16; blocks = blocks; failures = log_failures; attempts = log_attempts; room = l.room } → c ≡ new_control pages (512 * blocks) first_state control_blocks control_failures control_attempts
     → warm ≡ fresh_from 0 pages → IsValidatorOf pages validator [] → IsStored pages l 0 c warm validator false
-stored-new pages blocks log_failures control_blocks control_failures l c warm validator le el ec ew judged =
-    let fresh_log : Local = record { pages = pages; log = []; written = 16; synced = 16; blocks = blocks; failures = log_failures; room = l.room } in
-    let fresh_control : Controlled = new_control pages (512 * blocks) first_state control_blocks control_failures in
+stored-new pages blocks log_failures log_attempts control_blocks control_failures control_attempts l c warm validator le el ec ew judged =
+    let fresh_log : Local = record { pages = pages; log = []; written = 16; synced = 16; blocks = blocks; failures = log_failures; attempts = log_attempts; room = l.room } in
+    let fresh_control : Controlled = new_control pages (512 * blocks) first_state control_blocks control_failures control_attempts in
     subst (λ (x : Local). IsStored pages x 0 c warm validator false) (sym el) (
     subst (λ (y : Controlled). IsStored pages fresh_log 0 y warm validator false) (sym ec) (
     subst (λ (ws : List Warm). IsStored pages fresh_log 0 fresh_control ws validator false) (sym ew) (record {
@@ -275,13 +275,13 @@ stored-new pages blocks log_failures control_blocks control_failures l c warm va
     )
     )
 
-pub view-new : (pages blocks log_failures control_blocks control_failures failures : ℕ) (l : Local) (c : Controlled) (warm : List Warm)
-    → l ≡ record { pages = pages; log = []; written = 16; synced = 16; blocks = blocks; failures = log_failures; room = l.room } → c ≡ new_control pages (512 * blocks) first_state control_blocks control_failures
-    → warm ≡ fresh_from 0 pages → stored_of pages l c warm false failures ≡ formatted pages blocks (log_failures + control_failures + failures)
-view-new pages blocks log_failures control_blocks control_failures failures l c warm el ec ew =
-    ap (λ (x : Local). stored_of pages x c warm false failures) el
-    ∙ ap (λ (y : Controlled). record { pages = pages; log = []; applied = applied_of warm; blocks = blocks; written = 16; synced = 16; control = y.synced; since = y.since; broken = false; failures = log_failures + y.failures + failures }) ec
-    ∙ ap (λ (xs : List ℕ). record (formatted pages blocks (log_failures + control_failures + failures)) { applied = xs }) (ap applied_of ew ∙ applied-fresh 0 pages)
+pub view-new : (pages blocks log_failures log_attempts control_blocks control_failures control_attempts failures attempts : ℕ) (l : Local) (c : Controlled) (warm : List Warm)
+    → l ≡ record { pages = pages; log = []; written = 16; synced = 16; blocks = blocks; failures = log_failures; attempts = log_attempts; room = l.room } → c ≡ new_control pages (512 * blocks) first_state control_blocks control_failures control_attempts
+    → warm ≡ fresh_from 0 pages → stored_of pages l c warm false failures attempts ≡ formatted pages blocks (log_failures + control_failures + failures) (l.attempts + c.attempts + attempts)
+view-new pages blocks log_failures log_attempts control_blocks control_failures control_attempts failures attempts l c warm el ec ew =
+    ap (λ (x : Local). record (stored_of pages x c warm false failures attempts) { attempts = l.attempts + c.attempts + attempts }) el
+    ∙ ap (λ (y : Controlled). record { pages = pages; log = []; applied = applied_of warm; blocks = blocks; written = 16; synced = 16; control = y.synced; since = y.since; broken = false; failures = log_failures + y.failures + failures; attempts = l.attempts + c.attempts + attempts }) ec
+    ∙ ap (λ (xs : List ℕ). record (formatted pages blocks (log_failures + control_failures + failures) (l.attempts + c.attempts + attempts)) { applied = xs }) (ap applied_of ew ∙ applied-fresh 0 pages)
 
 -- a record appended, after room was made for it
 pub appended : (l l' l'' : Local) (r : Record) → l' ≡ record l { room = l'.room } → l'' ≡ record l' { log = l'.log ++ r ∷ []; room = l''.room } → l'' ≡ record l { log = l.log ++ r ∷ []; room = l''.room }

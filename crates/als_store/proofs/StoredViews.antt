@@ -99,8 +99,8 @@ unfolding is_valid may_follow_all
 valid-nil pages = record { text = log-nil pages; valid = refl }
 
 -- a store is seen as its parts are
-pub seen_from : (pages held failures : ℕ) (l : Local) (c : Controlled) (warm : List Warm) (validator : Validator) (broken : Bool) → IsStored pages l held c warm validator broken → IsSeen (stored_of pages l c warm broken failures) warm
-seen_from pages held failures l c warm validator broken h = record { applied = refl; are_pages = h.are_pages; count = h.count }
+pub seen_from : (pages held failures attempts : ℕ) (l : Local) (c : Controlled) (warm : List Warm) (validator : Validator) (broken : Bool) → IsStored pages l held c warm validator broken → IsSeen (stored_of pages l c warm broken failures attempts) warm
+seen_from pages held failures attempts l c warm validator broken h = record { applied = refl; are_pages = h.are_pages; count = h.count }
 
 -- ---- a record more
 

@@ -14,8 +14,8 @@ abbrev pub applied_of : List Warm → List ℕ
 applied_of warm = map (λ w. w.state.lsn) warm
 
 -- what a caller sees
-abbrev pub stored_of : ℕ → Local → Controlled → List Warm → Bool → ℕ → Stored
-stored_of pages l c warm broken page_failures = record {
+abbrev pub stored_of : ℕ → Local → Controlled → List Warm → Bool → ℕ → ℕ → Stored
+stored_of pages l c warm broken page_failures page_attempts = record {
   pages = pages;
   log = l.log;
   applied = applied_of warm;
@@ -26,6 +26,7 @@ stored_of pages l c warm broken page_failures = record {
   since = c.since;
   broken = broken;
   failures = l.failures + c.failures + page_failures;
+  attempts = l.attempts + c.attempts + page_attempts;
 }
 
 -- Each mark of the control states is the end of a record, at or below the synced end.

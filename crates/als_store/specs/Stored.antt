@@ -34,6 +34,8 @@ pub record Stored : Type 0 where
   pub broken : Bool
   -- how often a device has failed
   pub failures : ℕ
+  -- how often a device was called to write or to sync
+  pub attempts : ℕ
 
 -- the control state that was written last
 abbrev pub newest : Stored → ControlState
@@ -47,8 +49,8 @@ abbrev pub with_log : Stored → List Record → Stored
 with_log s log = record s { log = log }
 
 -- a store over devices that were just formatted
-abbrev pub formatted : ℕ → ℕ → ℕ → Stored
-formatted pages blocks failures = record { pages = pages; log = []; applied = replicate pages 0; blocks = blocks; written = 16; synced = 16; control = first_state; since = []; broken = false; failures = failures }
+abbrev pub formatted : ℕ → ℕ → ℕ → ℕ → Stored
+formatted pages blocks failures attempts = record { pages = pages; log = []; applied = replicate pages 0; blocks = blocks; written = 16; synced = 16; control = first_state; since = []; broken = false; failures = failures; attempts = attempts }
 
 -- ---- records
 

@@ -16,7 +16,7 @@ ghost use Rattle.als_store.specs.Events.{Breaks, FailsToRead, HasUnwritten, Writ
 ghost use Rattle.als_store.specs.Devices.{AreKept};
 ghost use Rattle.als_log.specs.Local.{HasRoomFor, next_written, whole_end};
 ghost use Rattle.als_log.specs.Reading.{record_at};
-ghost use Rattle.als_log.specs.Outcomes.{OnlyFails, RefusesFormat};
+ghost use Rattle.als_log.specs.Outcomes.{ReadFails, AttemptFails, RefusesFormat};
 
 use crate::disks::Disks;
 use crate::fault::Fault;
@@ -54,7 +54,7 @@ impl<D: BlockDisk> Model for Store<D> {
 
     ghost Value = { Stored };
 
-    ghost view = { λ s. stored_of s.pages s.log s.control s.warm s.broken (D.failures s.page_disk) };
+    ghost view = { λ s. stored_of s.pages s.log s.control s.warm s.broken (D.failures s.page_disk) (D.attempts s.page_disk) };
 
     ghost invariant = { λ s. IsStored s.pages s.log s.count s.control s.warm s.validator s.broken };
 }
@@ -182,8 +182,8 @@ fn append<D: BlockDisk>(log: &mut LocalLog<D>, logged: &Record, reserve_after: u
 
 /// Writes the first block of the log with unwritten bytes.
 fn write_block<D: BlockDisk>(log: &mut LocalLog<D>) -> Result<(), Fault>
-    ensures ok { OnOk result ((log.old.written < end_of log.old.log) × (log.new ≡ record log.old { written = next_written log.old.log log.old.written })) }
-    ensures err { IfErr result (λ f. ((f ≡ fault.NothingToDo) × (log.old.written ≡ end_of log.old.log) × (log.new ≡ log.old)) ⊎ ((f ≡ fault.Device) × (log.old.written < end_of log.old.log) × OnlyFails log.old log.new)) }
+    ensures ok { OnOk result ((log.old.written < end_of log.old.log) × (log.new ≡ record log.old { written = next_written log.old.log log.old.written; attempts = log.old.attempts + 1 })) }
+    ensures err { IfErr result (λ f. ((f ≡ fault.NothingToDo) × (log.old.written ≡ end_of log.old.log) × (log.new ≡ log.old)) ⊎ ((f ≡ fault.Device) × (log.old.written < end_of log.old.log) × AttemptFails log.old log.new)) }
 {
     match log.write_block() {
         Ok(()) => Ok(()),
@@ -194,8 +194,8 @@ fn write_block<D: BlockDisk>(log: &mut LocalLog<D>) -> Result<(), Fault>
 
 /// Syncs the log.
 fn sync_log<D: BlockDisk>(log: &mut LocalLog<D>) -> Result<(), Fault>
-    ensures ok { OnOk result (log.new ≡ record log.old { synced = whole_end log.old.log log.old.written; room = log.new.room }) }
-    ensures err { IfErr result (λ f. (f ≡ fault.Device) × OnlyFails log.old log.new) }
+    ensures ok { OnOk result (log.new ≡ record log.old { synced = whole_end log.old.log log.old.written; attempts = log.old.attempts + 1; room = log.new.room }) }
+    ensures err { IfErr result (λ f. (f ≡ fault.Device) × AttemptFails log.old log.new) }
 {
     match log.sync() {
         Ok(()) => Ok(()),
@@ -206,7 +206,7 @@ fn sync_log<D: BlockDisk>(log: &mut LocalLog<D>) -> Result<(), Fault>
 /// The record of the log at an LSN.
 fn read_log<D: BlockDisk>(log: &mut LocalLog<D>, lsn: Lsn) -> Result<Option<Record>, Fault>
     ensures ok { IfOk result (λ found. (found ≡ record_at log.old.log lsn.0) × (log.new ≡ log.old)) }
-    ensures err { IfErr result (λ f. ((f ≡ fault.Memory) × (log.new ≡ log.old)) ⊎ ((f ≡ fault.Device) × OnlyFails log.old log.new)) }
+    ensures err { IfErr result (λ f. ((f ≡ fault.Memory) × (log.new ≡ log.old)) ⊎ ((f ≡ fault.Device) × ReadFails log.old log.new)) }
 {
     match log.read_at(lsn) {
         Ok(found) => Ok(found),
@@ -224,7 +224,7 @@ impl<D: BlockDisk> Store<D> {
         requires some_blocks { 1 ≤ D.block_count disks.log }
         requires few_blocks { D.block_count disks.log ≤ 4194304 }
         requires control { 321 ≤ D.block_count disks.control }
-        ensures ok { IfOk result (λ s. s ≡ formatted pages (D.block_count disks.log) (D.failures disks.log + D.failures disks.control + D.failures disks.pages)) }
+        ensures ok { IfOk result (λ s. s ≡ formatted pages (D.block_count disks.log) (D.failures disks.log + D.failures disks.control + D.failures disks.pages) s.attempts) }
         ensures err { IfErr result (λ u. (u.fault ≡ fault.Memory) ⊎ ((u.fault ≡ fault.Device) × (D.failures disks.log + D.failures disks.control < D.failures u.disks.log + D.failures u.disks.control))) }
     {
         let Disks {
@@ -355,7 +355,7 @@ impl<D: BlockDisk> Store<D> {
         Ok(())
     }
 
-    /// Writes the first block of the log with unwritten bytes. NothingToDo: there is none. Device: the device failed.
+    /// Writes the first block of the log with unwritten bytes: one write of the log device. NothingToDo: there is none. Device: the device failed.
     pub fn log_write(&mut self) -> Result<(), Fault>
         requires { self.old.broken ≡ false }
         ensures ok { OnOk result (WritesLog self.old self.new) }
@@ -371,7 +371,7 @@ impl<D: BlockDisk> Store<D> {
         }
     }
 
-    /// Syncs the log device.
+    /// Syncs the log device, by one sync.
     pub fn log_sync(&mut self) -> Result<(), Fault>
         requires { self.old.broken ≡ false }
         ensures ok { OnOk result (SyncsLog self.old self.new) }
@@ -387,7 +387,7 @@ impl<D: BlockDisk> Store<D> {
         }
     }
 
-    /// Writes the control block with the synced end as its mark. NothingToDo: the last mark written is that already.
+    /// Writes the control block with the synced end as its mark: one write of the control device. NothingToDo: the last mark written is that already.
     pub fn mark_write(&mut self) -> Result<(), Fault>
         requires { self.old.broken ≡ false }
         ensures ok { OnOk result (WritesMark self.old self.new) }
@@ -408,7 +408,7 @@ impl<D: BlockDisk> Store<D> {
         }
     }
 
-    /// Syncs the control device, and answers the acknowledged LSN.
+    /// Syncs the control device, by one sync, and answers the acknowledged LSN.
     pub fn ctl_sync(&mut self) -> Result<Lsn, Fault>
         requires { self.old.broken ≡ false }
         ensures ok { IfOk result (λ lsn. SyncsControl self.old lsn self.new) }

@@ -18,7 +18,7 @@ returns-then-not-fits-clause-cause g c =
     let fits = subst (λ (h : Stored). IsRecord h.pages c.args.logged.now) (sym c.self.view_is) c.requires.fits in
     let at = subst (λ (h : Stored). c.args.logged.now.lsn.0 ≡ end_of h.log) (sym c.self.view_is) c.requires.at in
     let good = good_from (first_bad s.log.log c.args.logged.now) c.judge.result c.in_ok-judge.was (c.judge.ensures s.pages s.log.log c.self.invariant.judged c.self.invariant.is_log fits at) in
-    let seen = stored_of s.pages s.log s.control s.warm s.broken (g.D.BlockDisk.failures s.page_disk) in
+    let seen = stored_of s.pages s.log s.control s.warm s.broken (g.D.BlockDisk.failures s.page_disk) (g.D.BlockDisk.attempts s.page_disk) in
     rw (← c.self.view_is)
     (inr (inl (
       good,
@@ -76,14 +76,14 @@ returns-clause-ok g c =
     let good = good_from (first_bad s.log.log r) c.judge.result c.in_ok-judge.was (c.judge.ensures s.pages s.log.log c.self.invariant.judged c.self.invariant.is_log fits at) in
     rw (← c.self.view_is) (
       good,
-      view-push s.pages s.count s.log s.control s.warm s.validator s.broken c.self.invariant (g.D.BlockDisk.failures s.page_disk) c.append.new.log r c.route_change.new.warm (change_of r)
+      view-push s.pages s.count s.log s.control s.warm s.validator s.broken c.self.invariant (g.D.BlockDisk.failures s.page_disk) (g.D.BlockDisk.attempts s.page_disk) c.append.new.log r c.route_change.new.warm (change_of r)
           (appended s.log c.reserve_bytes.new.log c.append.new.log r c.in_ok-reserve_bytes.ensures.same c.append.ensures) c.in_ok-route_change.ensures.ok,
     )
 
 pub returns-in_err-reserve_bytes-clause-full : goal.returns-in_err-reserve_bytes-clause-full
 returns-in_err-reserve_bytes-clause-full g c =
     let s = c.self.inside in
-    let seen = stored_of s.pages s.log s.control s.warm s.broken (g.D.BlockDisk.failures s.page_disk) in
+    let seen = stored_of s.pages s.log s.control s.warm s.broken (g.D.BlockDisk.failures s.page_disk) (g.D.BlockDisk.attempts s.page_disk) in
     let fits = subst (λ (h : Stored). IsRecord h.pages c.args.logged.now) (sym c.self.view_is) c.requires.fits in
     let at = subst (λ (h : Stored). c.args.logged.now.lsn.0 ≡ end_of h.log) (sym c.self.view_is) c.requires.at in
     let good = good_from (first_bad s.log.log c.args.logged.now) c.judge.result c.in_ok-judge.was (c.judge.ensures s.pages s.log.log c.self.invariant.judged c.self.invariant.is_log fits at) in
@@ -94,7 +94,7 @@ returns-in_err-reserve_bytes-clause-full g c =
 pub returns-in_err-make_room-clause-full : goal.returns-in_err-make_room-clause-full
 returns-in_err-make_room-clause-full g c =
     let s = c.self.inside in
-    let seen = stored_of s.pages s.log s.control s.warm s.broken (g.D.BlockDisk.failures s.page_disk) in
+    let seen = stored_of s.pages s.log s.control s.warm s.broken (g.D.BlockDisk.failures s.page_disk) (g.D.BlockDisk.attempts s.page_disk) in
     let fits = subst (λ (h : Stored). IsRecord h.pages c.args.logged.now) (sym c.self.view_is) c.requires.fits in
     let at = subst (λ (h : Stored). c.args.logged.now.lsn.0 ≡ end_of h.log) (sym c.self.view_is) c.requires.at in
     let good = good_from (first_bad s.log.log c.args.logged.now) c.judge.result c.in_ok-judge.was (c.judge.ensures s.pages s.log.log c.self.invariant.judged c.self.invariant.is_log fits at) in
@@ -105,7 +105,7 @@ returns-in_err-make_room-clause-full g c =
 pub returns-in_err-route_change-clause-full : goal.returns-in_err-route_change-clause-full
 returns-in_err-route_change-clause-full g c =
     let s = c.self.inside in
-    let seen = stored_of s.pages s.log s.control s.warm s.broken (g.D.BlockDisk.failures s.page_disk) in
+    let seen = stored_of s.pages s.log s.control s.warm s.broken (g.D.BlockDisk.failures s.page_disk) (g.D.BlockDisk.attempts s.page_disk) in
     let fits = subst (λ (h : Stored). IsRecord h.pages c.args.logged.now) (sym c.self.view_is) c.requires.fits in
     let at = subst (λ (h : Stored). c.args.logged.now.lsn.0 ≡ end_of h.log) (sym c.self.view_is) c.requires.at in
     let good = good_from (first_bad s.log.log c.args.logged.now) c.judge.result c.in_ok-judge.was (c.judge.ensures s.pages s.log.log c.self.invariant.judged c.self.invariant.is_log fits at) in
@@ -116,7 +116,7 @@ returns-in_err-route_change-clause-full g c =
 pub returns-clause-full : goal.returns-clause-full
 returns-clause-full g c =
     let s = c.self.inside in
-    let seen = stored_of s.pages s.log s.control s.warm s.broken (g.D.BlockDisk.failures s.page_disk) in
+    let seen = stored_of s.pages s.log s.control s.warm s.broken (g.D.BlockDisk.failures s.page_disk) (g.D.BlockDisk.attempts s.page_disk) in
     let fits = subst (λ (h : Stored). IsRecord h.pages c.args.logged.now) (sym c.self.view_is) c.requires.fits in
     let at = subst (λ (h : Stored). c.args.logged.now.lsn.0 ≡ end_of h.log) (sym c.self.view_is) c.requires.at in
     let good = good_from (first_bad s.log.log c.args.logged.now) c.judge.result c.in_ok-judge.was (c.judge.ensures s.pages s.log.log c.self.invariant.judged c.self.invariant.is_log fits at) in

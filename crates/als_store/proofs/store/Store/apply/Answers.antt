@@ -14,7 +14,7 @@ pub returns-clause-ok : goal.returns-clause-ok
 returns-clause-ok g c =
     let s = c.self.inside in
     rw (← c.self.view_is)
-    (view-apply s.pages s.count s.log s.control s.warm s.validator s.broken c.self.invariant (g.D.BlockDisk.failures s.page_disk) c.args.page c.apply.new.self c.in-Some.lsn c.in-Some.ensures.some)
+    (view-apply s.pages s.count s.log s.control s.warm s.validator s.broken c.self.invariant (g.D.BlockDisk.failures s.page_disk) (g.D.BlockDisk.attempts s.page_disk) c.args.page c.apply.new.self c.in-Some.lsn c.in-Some.ensures.some)
 
 pub invariant_of-self : goal.invariant_of-self
 invariant_of-self g c = rw c.in_default.ensures.none.1 c.self.invariant
@@ -23,8 +23,9 @@ pub returns-in_default-clause-err : goal.returns-in_default-clause-err
 returns-in_default-clause-err g c =
     let s = c.self.inside in
     let failures = g.D.BlockDisk.failures s.page_disk in
+    let attempts = g.D.BlockDisk.attempts s.page_disk in
     rw (← c.self.view_is) (
       refl,
-      dry (stored_of s.pages s.log s.control s.warm s.broken failures) s.warm c.args.page (seen_from s.pages s.count failures s.log s.control s.warm s.validator s.broken c.self.invariant) c.in_default.ensures.none.0,
-      ap (λ (ws : List Warm). stored_of s.pages s.log s.control ws s.broken failures) c.in_default.ensures.none.1,
+      dry (stored_of s.pages s.log s.control s.warm s.broken failures attempts) s.warm c.args.page (seen_from s.pages s.count failures attempts s.log s.control s.warm s.validator s.broken c.self.invariant) c.in_default.ensures.none.0,
+      ap (λ (ws : List Warm). stored_of s.pages s.log s.control ws s.broken failures attempts) c.in_default.ensures.none.1,
     )

@@ -8,6 +8,7 @@ pub returns : goal.returns
 returns g c =
     let s = c.self.inside in
     let failures = g.D.BlockDisk.failures s.page_disk in
+    let attempts = g.D.BlockDisk.attempts s.page_disk in
     c.waiting.ensures
-    ∙ pending_seen (stored_of s.pages s.log s.control s.warm s.broken failures) s.warm (seen_from s.pages s.count failures s.log s.control s.warm s.validator s.broken c.self.invariant)
+    ∙ pending_seen (stored_of s.pages s.log s.control s.warm s.broken failures attempts) s.warm (seen_from s.pages s.count failures attempts s.log s.control s.warm s.validator s.broken c.self.invariant)
     ∙ ap (λ (x : Stored). pending_of x) c.self.view_is
