@@ -18,9 +18,9 @@ pub last_state-push : (state : ControlState) (since : List ControlState) (next :
 last_state-push state [] next = refl
 last_state-push state (x ∷ rest) next = last_state-push x rest next
 
-pub ready_new : (held : Stored) (receiver : Reception) (pages blocks failures : ℕ) → held ≡ formatted pages blocks failures → receiver ≡ fresh 16 pages → IsReady held receiver
-ready_new held receiver pages blocks failures e f = record {
-  rests = rests_new held receiver pages blocks failures e f;
+pub ready_new : (held : Stored) (receiver : Reception) (pages blocks failures attempts : ℕ) → held ≡ formatted pages blocks failures attempts → receiver ≡ fresh 16 pages → IsReady held receiver
+ready_new held receiver pages blocks failures attempts e f = record {
+  rests = rests_new held receiver pages blocks failures attempts e f;
   marks = subst (λ (h : Stored). acknowledged h ≤ (newest h).mark.0) (sym e) (omega arith);
 }
 

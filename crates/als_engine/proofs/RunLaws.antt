@@ -12,10 +12,12 @@ run_more old mid new [] (r ∷ replies) step reply run one = absurd run
 run_more old mid new (s ∷ steps) [] step reply run one = absurd run
 run_more old mid new (s ∷ steps) (r ∷ replies) step reply run one = (run.0, run.1, run_more run.0 mid new steps replies step reply run.2 one)
 
--- the steps up to one are run, and there is room for the replies to the others
+-- the steps up to one are run, each with one write or sync of a device at most, and there is room for the replies to the others
 pub record IsUnderWay (old : Machine) (steps : List Step) (i : ℕ) (replies : List Reply) (now : Machine) (len capacity : ℕ) : Type 0 where
   pub run : Run old (take i steps) replies now
   pub keeps : Keeps old now
+  pub attempts : now.held.attempts ≤ old.held.attempts + i
+  pub within : i ≤ length steps
   pub len_is : len ≡ i
   pub room : length steps ≤ capacity
 

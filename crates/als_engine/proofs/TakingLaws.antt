@@ -210,8 +210,8 @@ unfolding end_of
 end-start = refl
 
 -- a new receiver at the start of an empty log
-pub rests_new : (held : Stored) (receiver : Reception) (pages blocks failures : ℕ) → held ≡ formatted pages blocks failures → receiver ≡ fresh 16 pages → Rests held receiver
-rests_new held receiver pages blocks failures e f = rests_empty held receiver (record {
+pub rests_new : (held : Stored) (receiver : Reception) (pages blocks failures attempts : ℕ) → held ≡ formatted pages blocks failures attempts → receiver ≡ fresh 16 pages → Rests held receiver
+rests_new held receiver pages blocks failures attempts e f = rests_empty held receiver (record {
   wanted = ap (λ (x : Reception). x.wanted) f ∙ sym end-start ∙ ap (λ (h : Stored). end_of h.log) (sym e);
   pages = ap (λ (x : Reception). x.pages) f ∙ ap (λ (h : Stored). h.pages) (sym e);
   takes = ap (λ (x : Reception). x.refusal) f;

@@ -42,22 +42,22 @@ abbrev pub Applies : Machine → ℕ → Result Lsn Fault → Machine → Type 0
 Applies old page (Ok lsn) new = Changes old (λ held after. AppliesFirst held page lsn after) new
 Applies old page (Err fault) new = RefusesStopped old fault new ⊎ HasNothing old fault (IsDry old.held page) new
 
--- the first block with unwritten bytes of the log is written
+-- the first block with unwritten bytes of the log is written, by one write of a device
 abbrev pub LogWrites : Machine → Result (Unit {0}) Fault → Machine → Type 0
 LogWrites old (Ok done) new = Changes old WritesLog new
 LogWrites old (Err fault) new = RefusesStopped old fault new ⊎ (HasNothing old fault (HasUnwritten old.held → ⊥) new ⊎ FailsIn old fault (λ held after. HasUnwritten held × Breaks held after) new)
 
--- the log is synced
+-- the log is synced, by one sync of a device
 abbrev pub LogSyncs : Machine → Result (Unit {0}) Fault → Machine → Type 0
 LogSyncs old (Ok done) new = Changes old SyncsLog new
 LogSyncs old (Err fault) new = RefusesStopped old fault new ⊎ FailsIn old fault Breaks new
 
--- the control block is written with the synced end as its mark
+-- the control block is written with the synced end as its mark, by one write of a device
 abbrev pub MarkWrites : Machine → Result (Unit {0}) Fault → Machine → Type 0
 MarkWrites old (Ok done) new = Changes old WritesMark new
 MarkWrites old (Err fault) new = RefusesStopped old fault new ⊎ (HasNothing old fault (HasUnmarked old.held → ⊥) new ⊎ FailsIn old fault BreaksMark new)
 
--- the control block is synced, and its mark is answered: no log byte below it can be lost
+-- the control block is synced, by one sync of a device, and its mark is answered: no log byte below it can be lost
 abbrev pub ControlSyncs : Machine → Result Lsn Fault → Machine → Type 0
 ControlSyncs old (Ok lsn) new = Changes old (λ held after. SyncsControl held lsn after) new
 ControlSyncs old (Err fault) new = RefusesStopped old fault new ⊎ FailsIn old fault Breaks new

@@ -19,9 +19,10 @@ pub record Machine : Type 0 where
   -- the kept fault of an engine that refuses
   pub refused : Option Fault
 
--- a standby over devices that were just formatted: the log device has so many blocks, and the devices had failed so often
-abbrev pub formatted_machine : Config → ℕ → ℕ → Machine
-formatted_machine config blocks failures = record { held = formatted config.pages blocks failures; limit = config.pending; partial = []; refused = None }
+-- a standby over devices that were just formatted: the log device has so many blocks, and the devices had failed so often and
+-- were called so often to write or to sync
+abbrev pub formatted_machine : Config → ℕ → ℕ → ℕ → Machine
+formatted_machine config blocks failures attempts = record { held = formatted config.pages blocks failures attempts; limit = config.pending; partial = []; refused = None }
 
 -- no write and no sync has failed
 abbrev pub IsRunning : Machine → Type 0

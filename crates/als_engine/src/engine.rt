@@ -56,7 +56,7 @@ impl<D: BlockDisk> Engine<D> {
     /// out of its range, or a device has too few blocks, or the log's too many; the devices are unchanged then. Device: a
     /// device failed. Memory: a growth was refused. On a refusal the devices come back.
     pub fn format(alloc: Global, disks: Disks<D>, config: Config) -> Result<Engine<D>, Refused<D>>
-        ensures ok { IfOk result (λ e. IsWorld config (D.block_count disks.log) (D.block_count disks.control) (D.block_count disks.pages) × (e ≡ formatted_machine config (D.block_count disks.log) (D.failures disks.log + D.failures disks.control + D.failures disks.pages))) }
+        ensures ok { IfOk result (λ e. IsWorld config (D.block_count disks.log) (D.block_count disks.control) (D.block_count disks.pages) × (e ≡ formatted_machine config (D.block_count disks.log) (D.failures disks.log + D.failures disks.control + D.failures disks.pages) e.held.attempts)) }
         ensures err { IfErr result (λ r. ((r.fault ≡ Fault.BadConfig) × (IsWorld config (D.block_count disks.log) (D.block_count disks.control) (D.block_count disks.pages) → ⊥) × (r.disks ≡ disks)) ⊎ (IsWorld config (D.block_count disks.log) (D.block_count disks.control) (D.block_count disks.pages) × ((r.fault ≡ Fault.Memory) ⊎ ((r.fault ≡ Fault.Device) × (D.failures disks.log + D.failures disks.control < D.failures r.disks.log + D.failures r.disks.control))))) }
     {
         if !config.fits(&disks) {
@@ -151,8 +151,8 @@ impl<D: BlockDisk> Engine<D> {
         Ok(lsn)
     }
 
-    /// Writes the first block of the log with unwritten bytes. NothingToDo: there is none. Device: the write failed, and the
-    /// engine has stopped.
+    /// Writes the first block of the log with unwritten bytes: it makes one write of a device. NothingToDo: there is none.
+    /// Device: the write failed, and the engine has stopped.
     pub fn log_write(&mut self) -> Result<(), Fault>
         ensures { LogWrites self.old result self.new }
     {
@@ -163,7 +163,7 @@ impl<D: BlockDisk> Engine<D> {
         Ok(())
     }
 
-    /// Syncs the log. Device: the sync failed, and the engine has stopped.
+    /// Syncs the log: it makes one sync of a device. Device: the sync failed, and the engine has stopped.
     pub fn log_sync(&mut self) -> Result<(), Fault>
         ensures { LogSyncs self.old result self.new }
     {
@@ -174,8 +174,8 @@ impl<D: BlockDisk> Engine<D> {
         Ok(())
     }
 
-    /// Writes the control block with the log's synced end as its mark. NothingToDo: the last mark written is not below it.
-    /// Device: the write failed, and the engine has stopped.
+    /// Writes the control block with the log's synced end as its mark: it makes one write of a device. NothingToDo: the last
+    /// mark written is not below it. Device: the write failed, and the engine has stopped.
     pub fn mark_write(&mut self) -> Result<(), Fault>
         ensures { MarkWrites self.old result self.new }
     {
@@ -186,8 +186,8 @@ impl<D: BlockDisk> Engine<D> {
         Ok(())
     }
 
-    /// Syncs the control block, and answers its mark: the acknowledged LSN from now on. Device: the sync failed, and the
-    /// engine has stopped.
+    /// Syncs the control block, and answers its mark: the acknowledged LSN from now on. It makes one sync of a device. Device:
+    /// the sync failed, and the engine has stopped.
     pub fn ctl_sync(&mut self) -> Result<Lsn, Fault>
         ensures { ControlSyncs self.old result self.new }
     {
@@ -203,6 +203,8 @@ impl<D: BlockDisk> Engine<D> {
         ensures steps { Steps self.old step.now result self.new }
         // what is acknowledged stays so, and the log only grows
         ensures keeps { Keeps self.old self.new }
+        // one write or sync of a device at most
+        ensures attempts { self.new.held.attempts ≤ self.old.held.attempts + 1 }
     {
         let _ = &self.limit;
         match step {

@@ -1,4 +1,4 @@
-ghost use Rattle.std.specs.Prelude.{◌≡◌, IfOk, IfErr};
+ghost use Rattle.std.specs.Prelude.{◌≡◌, ◌≤◌, ◌+◌, length, IfOk, IfErr};
 ghost use Rattle.als_engine.specs.Machine.{Keeps};
 ghost use Rattle.als_engine.specs.Events.{Reads};
 ghost use Rattle.als_engine.specs.Runs.{Run};
@@ -66,6 +66,8 @@ pub fn run<D: BlockDisk>(
     ensures run { IfOk result (λ x. Run world steps.now x.1.items x.0) }
     // What is acknowledged stays so, and the log only grows.
     ensures keeps { IfOk result (λ x. Keeps world x.0) }
+    // Each step makes one write or sync of a device at most.
+    ensures attempts { IfOk result (λ x. x.0.held.attempts ≤ world.held.attempts + length steps.now) }
     ensures err { IfErr result (λ w. w ≡ world) }
 {
     let mut world = world;
