@@ -82,9 +82,10 @@ impl<D: BlockDisk> Engine<D> {
     }
 
     /// The devices. Whatever a crash leaves of them, the control block has a mark from the acknowledged LSN to the synced end,
-    /// and the log device has the held log's text below that mark.
+    /// and the log device has the held log's text below that mark. Their attempts together are the machine's.
     pub fn into_disks(self) -> Disks<D>
-        ensures { AreKept self.held (D.slot result.log) (D.slot result.control) }
+        ensures kept { AreKept self.held (D.slot result.log) (D.slot result.control) }
+        ensures attempts { D.attempts result.log + D.attempts result.control + D.attempts result.pages ≡ self.held.attempts }
     {
         self.store.into_disks()
     }

@@ -266,9 +266,10 @@ impl<D: BlockDisk> Store<D> {
         })
     }
 
-    /// The devices. Whatever a crash leaves of them has all acknowledged bytes.
+    /// The devices. Whatever a crash leaves of them has all acknowledged bytes. Their attempts together are the store's.
     pub fn into_disks(self) -> Disks<D>
-        ensures { AreKept self (D.slot result.log) (D.slot result.control) }
+        ensures kept { AreKept self (D.slot result.log) (D.slot result.control) }
+        ensures attempts { D.attempts result.log + D.attempts result.control + D.attempts result.pages ≡ self.attempts }
     {
         let Store {
             log,

@@ -1,8 +1,8 @@
 use Rattle.als_store.proofs.KeptLaws.{kept}
 use Rattle.als_store.proofs.store.Store.into_disks.Goals as goal
 
-pub returns : goal.returns
-returns g c =
+pub returns-clause-kept : goal.returns-clause-kept
+returns-clause-kept g c =
     let s = c.self.inside in
     rw (← c.self.view_is)
     (kept s.pages s.count (g.D.BlockDisk.failures s.page_disk) (g.D.BlockDisk.attempts s.page_disk) s.log s.control s.warm s.validator s.broken c.self.invariant c.into_disk.ensures.facts c.into_disk-2.ensures.facts
