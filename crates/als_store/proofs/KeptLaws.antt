@@ -30,4 +30,5 @@ module _ (pages held failures attempts : ℕ) (l : Local) (c : Controlled) (warm
     marks = λ content has. control_of content (blocks content has);
     valid = h.is_log;
     room = local.fits;
+    fit = h.fit;
   }

@@ -22,8 +22,10 @@ use Rattle.als_log.specs.Local.{Local, IsLocal, IsFrontEnd, whole_end, whole_fro
 use Rattle.als_ckpt.specs.declared.control_state.ControlState.{ControlState}
 use Rattle.als_ckpt.specs.Control.{Controlled, IsAmong, newest, last_state, with_state, settled, first_state, new_control}
 use Rattle.als_store.specs.Warm.{Warm, ArePagesOf, CanRoute, AppliesAt, total_waiting, fresh_from}
+use Rattle.als_record.specs.Tail as tail
+use Rattle.als_record.specs.Transactions as transactions
 use Rattle.als_record.specs.Tail.{tail_len}
-use Rattle.als_store.specs.Stored.{Stored, AppliesFirst, formatted, with_log, IsTooLong}
+use Rattle.als_store.specs.Stored.{Stored, AppliesFirst, formatted, with_log, IsTooLong, FrontsFit}
 use Rattle.als_store.specs.Parts.{IsStored, AreMarks, applied_of, stored_of}
 use Rattle.als_store.proofs.PageLists.{length-fresh, total-fresh, total-set, redoes-shorter}
 use Rattle.als_store.proofs.StoredPages.{IsLog-push, pages-fresh, pages-apply, can_route, end-nil}
@@ -38,6 +40,34 @@ length-below_end (r ∷ rest) = omega (arith, sum_by-cons record_len r rest, rec
 -- an end of records in front stays one as the log grows
 pub front-push : (log : List Record) (r : Record) (at : ℕ) → IsFrontEnd log at → IsFrontEnd (log ++ r ∷ []) at
 front-push log r at f = record { front = f.front; rest = f.rest ++ r ∷ []; parts = ap (λ (xs : List Record). xs ++ r ∷ []) f.parts ∙ append_assoc f.front f.rest (r ∷ []); ends = f.ends }
+
+-- a front of a log with one more record: all of it, or a front of the log before
+front_of_push : (front rest log : List Record) (r : Record) → log ++ r ∷ [] ≡ front ++ rest → (front ≡ log ++ r ∷ []) ⊎ ((rest' : List Record) × (log ≡ front ++ rest'))
+front_of_push [] rest log r e = inr (log, refl)
+front_of_push (x ∷ []) rest [] r e = let same : r ≡ x = cc in inl (ap (λ (y : Record). y ∷ []) (sym same))
+front_of_push (x ∷ y ∷ front) rest [] r e = absurd cc
+front_of_push (x ∷ front) rest (y ∷ log) r e =
+    let first : y ≡ x = cc in
+    let others : log ++ r ∷ [] ≡ front ++ rest = cc in
+    elim (front_of_push front rest log r others) [
+      | inl all ↦ inl (ap (λ (z : Record). z ∷ front) (sym first) ∙ ap (λ (zs : List Record). y ∷ zs) all)
+      | inr part ↦ inr (part.0, ap (λ (z : Record). z ∷ log) first ∙ ap (λ (zs : List Record). x ∷ zs) part.1)
+    ]
+
+-- a record with room for it and for the tail behind it
+fit-push : (blocks : ℕ) (log : List Record) (r : Record) → FrontsFit blocks log → end_of log + record_len r + tail_len (log ++ r ∷ []) ≤ 512 * blocks → FrontsFit blocks (log ++ r ∷ [])
+fit-push blocks log r fit left front rest parts = elim (front_of_push front rest log r parts) [
+  | inl all ↦ subst (λ (xs : List Record). end_of xs + tail_len xs ≤ 512 * blocks) (sym all) (omega (arith, end_of-push log r, left))
+  | inr part ↦ fit front part.0 part.1
+]
+
+tail_len-nil : tail_len [] ≡ 0
+unfolding tail_len tail.tail_of tail.numbered tail.tail_steps transactions.unended transactions.transactions tail.undoes tail.losing transactions.all_surviving
+tail_len-nil = refl
+
+fit-nil : (blocks : ℕ) → 1 ≤ blocks → FrontsFit blocks []
+fit-nil blocks some [] rest parts = omega (arith, some, end-nil, tail_len-nil)
+fit-nil blocks some (r ∷ front) rest parts = absurd cc
 
 -- ---- control states
 
@@ -110,6 +140,7 @@ module _ (pages held : ℕ) (l : Local) (c : Controlled) (warm : List Warm) (val
   stored-again l' validator' e judged = subst (λ (x : Local). IsStored pages x held c warm validator' broken) (sym e) (record {
     log_pages = h.log_pages;
     is_log = h.is_log;
+    fit = h.fit;
     judged = judged;
     are_pages = h.are_pages;
     count = h.count;
@@ -122,12 +153,13 @@ module _ (pages held : ℕ) (l : Local) (c : Controlled) (warm : List Warm) (val
 
   -- a record more
   pub stored-push : (l' : Local) (r : Record) (warm' : List Warm) (validator' : Validator) → IsRecord pages r → r.lsn.0 ≡ end_of l.log → first_bad l.log r ≡ None
-      → l' ≡ record l { log = l.log ++ r ∷ []; room = l'.room } → IsValidatorOf pages validator' (l.log ++ r ∷ []) → Routes warm (change_of r) warm' → IsStored pages l' (held + 1) c warm' validator' broken
-  stored-push l' r warm' validator' fits at good e judged routes =
+      → end_of l.log + record_len r + tail_len (l.log ++ r ∷ []) ≤ 512 * l.blocks → l' ≡ record l { log = l.log ++ r ∷ []; room = l'.room } → IsValidatorOf pages validator' (l.log ++ r ∷ []) → Routes warm (change_of r) warm' → IsStored pages l' (held + 1) c warm' validator' broken
+  stored-push l' r warm' validator' fits at good left e judged routes =
       let k = routes_count warm warm' (change_of r) routes in
       subst (λ (x : Local). IsStored pages x (held + 1) c warm' validator' broken) (sym e) (record {
         log_pages = h.log_pages;
         is_log = valid_push pages l.log r h.is_log fits at good;
+        fit = fit-push l.blocks l.log r h.fit left;
         judged = judged;
         are_pages = routes_pages l.log r warm warm' (change_of r) refl at routes h.are_pages;
         count = k.0 ∙ h.count;
@@ -153,6 +185,7 @@ module _ (pages held : ℕ) (l : Local) (c : Controlled) (warm : List Warm) (val
       record {
         log_pages = h.log_pages;
         is_log = h.is_log;
+        fit = h.fit;
         judged = h.judged;
         are_pages = pages-apply pages l.log warm page warm' lsn h.is_log.text h.are_pages applied;
         count = ap length applied.after ∙ length-set warm page w' ∙ h.count;
@@ -187,6 +220,7 @@ module _ (pages held : ℕ) (l : Local) (c : Controlled) (warm : List Warm) (val
   stored-synced l' facts e = subst (λ (x : Local). IsStored pages x held c warm validator broken) (sym e) (record {
     log_pages = h.log_pages;
     is_log = h.is_log;
+    fit = h.fit;
     judged = h.judged;
     are_pages = h.are_pages;
     count = h.count;
@@ -206,6 +240,7 @@ module _ (pages held : ℕ) (l : Local) (c : Controlled) (warm : List Warm) (val
   with_control c' broken' marks sure = record {
     log_pages = h.log_pages;
     is_log = h.is_log;
+    fit = h.fit;
     judged = h.judged;
     are_pages = h.are_pages;
     count = h.count;
@@ -247,10 +282,10 @@ module _ (pages held : ℕ) (l : Local) (c : Controlled) (warm : List Warm) (val
   }) h.sure)
 
 -- a store just formatted
-pub stored-new : (pages blocks log_failures log_attempts control_blocks control_failures control_attempts : ℕ) (l : Local) (c : Controlled) (warm : List Warm) (validator : Validator) → pages ≤ 4096
+pub stored-new : (pages blocks log_failures log_attempts control_blocks control_failures control_attempts : ℕ) (l : Local) (c : Controlled) (warm : List Warm) (validator : Validator) → pages ≤ 4096 → 1 ≤ blocks
     → l ≡ record { pages = pages; log = []; written = 16; synced = 16; blocks = blocks; failures = log_failures; attempts = log_attempts; room = l.room } → c ≡ new_control pages (512 * blocks) first_state control_blocks control_failures control_attempts
     → warm ≡ fresh_from 0 pages → IsValidatorOf pages validator [] → IsStored pages l 0 c warm validator false
-stored-new pages blocks log_failures log_attempts control_blocks control_failures control_attempts l c warm validator le el ec ew judged =
+stored-new pages blocks log_failures log_attempts control_blocks control_failures control_attempts l c warm validator le some el ec ew judged =
     let fresh_log : Local = record { pages = pages; log = []; written = 16; synced = 16; blocks = blocks; failures = log_failures; attempts = log_attempts; room = l.room } in
     let fresh_control : Controlled = new_control pages (512 * blocks) first_state control_blocks control_failures control_attempts in
     subst (λ (x : Local). IsStored pages x 0 c warm validator false) (sym el) (
@@ -258,6 +293,7 @@ stored-new pages blocks log_failures log_attempts control_blocks control_failure
     subst (λ (ws : List Warm). IsStored pages fresh_log 0 fresh_control ws validator false) (sym ew) (record {
       log_pages = refl;
       is_log = valid-nil pages;
+      fit = fit-nil blocks some;
       judged = judged;
       are_pages = pages-fresh pages;
       count = length-fresh 0 pages;

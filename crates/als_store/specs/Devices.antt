@@ -8,7 +8,7 @@ use Rattle.als_log.specs.Local.{IsFrontEnd}
 use Rattle.als_log.specs.Texts.{AllHaveText}
 use Rattle.als_ckpt.specs.declared.control_state.ControlState.{ControlState}
 use Rattle.als_ckpt.specs.Control.{control_block, IsControlState}
-use Rattle.als_store.specs.Stored.{Stored, acknowledged}
+use Rattle.als_store.specs.Stored.{Stored, acknowledged, FrontsFit}
 
 -- the bytes of a control block with a mark that is acknowledged or above, and below which the whole log is synced
 pub record IsControlOf (s : Stored) (content : List ℕ) : Type 0 where
@@ -27,3 +27,4 @@ pub record AreKept (s : Stored) (log control : ℕ → Slot) : Type 0 where
   pub marks : (content : List ℕ) → Contains (control 0).candidates content → IsControlOf s content
   pub valid : IsValidLog s.pages s.log
   pub room : end_of s.log ≤ 512 * s.blocks
+  pub fit : FrontsFit s.blocks s.log

@@ -7,7 +7,7 @@ use Rattle.als_log.specs.Local.{Local, IsFrontEnd}
 use Rattle.als_ckpt.specs.declared.control_state.ControlState.{ControlState}
 use Rattle.als_ckpt.specs.Control.{Controlled, newest, IsAmong}
 use Rattle.als_store.specs.Warm.{Warm, total_waiting, ArePagesOf}
-use Rattle.als_store.specs.Stored.{Stored}
+use Rattle.als_store.specs.Stored.{Stored, FrontsFit}
 
 -- the page_LSNs of pages
 abbrev pub applied_of : List Warm → List ℕ
@@ -40,6 +40,7 @@ pub record AreMarks (l : Local) (c : Controlled) : Type 0 where
 pub record IsStored (pages : ℕ) (l : Local) (held : ℕ) (c : Controlled) (warm : List Warm) (validator : Validator) (broken : Bool) : Type 0 where
   pub log_pages : l.pages ≡ pages
   pub is_log : IsValidLog pages l.log
+  pub fit : FrontsFit l.blocks l.log
   pub judged : IsValidatorOf pages validator l.log
   pub are_pages : ArePagesOf l.log warm
   pub count : length warm ≡ pages

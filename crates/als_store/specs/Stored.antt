@@ -58,6 +58,11 @@ formatted pages blocks failures attempts = record { pages = pages; log = []; app
 abbrev pub IsTooLong : Stored → Record → Type 0
 IsTooLong s r = 512 * s.blocks < end_of s.log + record_len r + tail_len (s.log ++ r ∷ [])
 
+-- A log device of so many blocks has room for each front of the log with the tail that a takeover would append to it: so one
+-- can go ahead whatever a crash leaves.
+abbrev pub FrontsFit : ℕ → List Record → Type 0
+FrontsFit blocks log = (front rest : List Record) → log ≡ front ++ rest → end_of front + tail_len front ≤ 512 * blocks
+
 -- why a record is not held: the first cause that it may not follow, or else no room, or a growth was refused
 abbrev pub IsRefused : Stored → Record → Fault → Type 0
 IsRefused s r fault =

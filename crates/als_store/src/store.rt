@@ -11,7 +11,7 @@ ghost use Rattle.als_analysis.specs.Open.{rows_of};
 ghost use Rattle.als_validator.specs.Validated.{IsValidatorOf, HasRoom};
 ghost use Rattle.als_store.specs.declared.fault.Fault.TheVariants as fault;
 ghost use Rattle.als_store.specs.Warm.{CanRoute, IsRouted, total_waiting, fresh_from};
-ghost use Rattle.als_store.specs.Stored.{Stored, formatted, acknowledged, with_log, pending_of, AppliesFirst, IsDry, WaitsFrom, ShowsPage, StandsAt, IsRefused, IsTooLong, judgement_of};
+ghost use Rattle.als_store.specs.Stored.{Stored, formatted, acknowledged, with_log, pending_of, AppliesFirst, IsDry, WaitsFrom, ShowsPage, StandsAt, IsRefused, IsTooLong, FrontsFit, judgement_of};
 ghost use Rattle.als_store.specs.Events.{Breaks, FailsToRead, HasUnwritten, WritesLog, SyncsLog, HasUnmarked, WritesMark, BreaksMark, SyncsControl};
 ghost use Rattle.als_store.specs.Devices.{AreKept};
 ghost use Rattle.als_log.specs.Local.{HasRoomFor, next_written, whole_end};
@@ -295,6 +295,7 @@ impl<D: BlockDisk> Store<D> {
     pub fn end(&self) -> Lsn
         ensures end { result.0 ≡ end_of self.now.log }
         ensures limit { end_of self.now.log ≤ 2 ^ 31 }
+        ensures fit { FrontsFit self.now.blocks self.now.log }
         ensures log { IsValidLog self.now.pages self.now.log }
     {
         self.log.end()

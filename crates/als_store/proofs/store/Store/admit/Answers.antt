@@ -1,7 +1,8 @@
 use Rattle.std.proofs.Common.{◌≡◌, ◌+◌, ◌*◌, ◌<◌, ◌≤◌, ◌∷◌, ◌++◌, [], List, None, sym, subst, refl, arith, inl, inr}
 use Rattle.std.proofs.lemmas.Result.{err_from_is_err_and}
-use Rattle.als_record.specs.Spelling.{IsRecord}
+use Rattle.als_record.specs.Spelling.{IsRecord, record_len}
 use Rattle.als_record.specs.LogText.{end_of}
+use Rattle.als_record.specs.Tail.{tail_len}
 use Rattle.als_record.specs.Pages.{change_of}
 use Rattle.als_record.specs.Validity.{first_bad}
 use Rattle.als_store.specs.declared.fault.Fault.TheVariants as fault
@@ -63,8 +64,10 @@ invariant_of-self-2 g c =
     let fits = subst (λ (h : Stored). IsRecord h.pages r) (sym c.self.view_is) c.requires.fits in
     let at = subst (λ (h : Stored). r.lsn.0 ≡ end_of h.log) (sym c.self.view_is) c.requires.at in
     let good = good_from (first_bad s.log.log r) c.judge.result c.in_ok-judge.was (c.judge.ensures s.pages s.log.log c.self.invariant.judged c.self.invariant.is_log fits at) in
+    let left : end_of s.log.log + record_len r + tail_len (s.log.log ++ r ∷ []) ≤ 512 * s.log.blocks =
+    omega (arith, c.encoded_len-len.ensures.len, c.reserve_after-reserve_after.ensures s.pages s.log.log c.self.invariant.judged at good, c.if-not-fits.ensures.0 refl) in
     let judged = c.admit.ensures s.pages s.log.log (c.in_ok-make_room.ensures.same s.pages s.log.log c.self.invariant.judged) (valid_push s.pages s.log.log r c.self.invariant.is_log fits at good) in
-    stored-push s.pages s.count s.log s.control s.warm s.validator s.broken c.self.invariant c.append.new.log r c.route_change.new.warm c.admit.new.self fits at good
+    stored-push s.pages s.count s.log s.control s.warm s.validator s.broken c.self.invariant c.append.new.log r c.route_change.new.warm c.admit.new.self fits at good left
     (appended s.log c.reserve_bytes.new.log c.append.new.log r c.in_ok-reserve_bytes.ensures.same c.append.ensures) judged c.in_ok-route_change.ensures.ok
 
 pub returns-clause-ok : goal.returns-clause-ok

@@ -14,7 +14,7 @@ invariant_of-result g c =
     let control_failures = g.D.BlockDisk.failures c.clear_control.new.control in
     let control_attempts = g.D.BlockDisk.attempts c.clear_control.new.control + 2 in
     let made = c.in-Ok-create.ensures.ok ∙ ap (λ (n : ℕ). new_control c.args.pages (512 * n) first_state control_blocks control_failures control_attempts) (c.blocks-log_bytes.ensures ∙ ap (λ (l : Local). l.blocks) c.in-Ok-format.ensures.ok) in
-    stored-new c.args.pages blocks log_failures log_attempts control_blocks control_failures control_attempts c.in-Ok-format.log c.in-Ok-create.control c.in-Ok.parts.0 c.in-Ok.parts.1 c.requires.few_pages c.in-Ok-format.ensures.ok made c.in-Ok.ensures.warm c.in-Ok.ensures.validator
+    stored-new c.args.pages blocks log_failures log_attempts control_blocks control_failures control_attempts c.in-Ok-format.log c.in-Ok-create.control c.in-Ok.parts.0 c.in-Ok.parts.1 c.requires.few_pages c.requires.some_blocks c.in-Ok-format.ensures.ok made c.in-Ok.ensures.warm c.in-Ok.ensures.validator
 
 pub returns-clause-ok : goal.returns-clause-ok
 returns-clause-ok g c =
