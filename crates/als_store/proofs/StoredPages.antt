@@ -1,5 +1,5 @@
 -- The pages of a held log: as the log grows, and as changes are redone.
-use Rattle.std.proofs.Common.{◌≡◌, ℕ, zero, suc, ◌+◌, ◌<◌, ◌≤◌, ◌⊎◌, true, false, List, [], ◌∷◌, ◌++◌, length, Option, Some, None, IsTrue, refl, sym, ap, subst, ◌∙◌, inl, inr, fold, append_assoc, append-nil, arith}
+use Rattle.std.proofs.Common.{◌≡◌, ℕ, zero, suc, ◌+◌, ◌<◌, ◌≤◌, true, false, List, [], ◌∷◌, ◌++◌, length, Some, None, refl, sym, ap, subst, ◌∙◌, inl, inr, fold, append_assoc, append-nil, arith}
 use Rattle.std.specs.Prelude.{slice_get, slice_set}
 use Rattle.std.specs.List.{AllByRecursion}
 use Rattle.std.proofs.lemmas.Bool.{cases_eq}
@@ -7,10 +7,10 @@ use Rattle.std.proofs.lemmas.Option.{same_Some, slice_get_cases}
 use Rattle.als_record.specs.declared.lsn.Lsn.{Lsn}
 use Rattle.als_record.specs.declared.change.Change.{Change}
 use Rattle.als_record.specs.declared.record.Record.{Record}
-use Rattle.als_record.specs.Spelling.{record_len, IsRecord}
-use Rattle.als_record.specs.LogText.{end_of, follow_from, IsLog}
+use Rattle.als_record.specs.Spelling.{IsRecord}
+use Rattle.als_record.specs.LogText.{end_of, IsLog}
 use Rattle.als_record.specs.Pages.{PageState, change_of, empty_page, redone, page_at, changes_on, changes_above, lsn_after, IsChangeAbove, IsFittingChange}
-use Rattle.als_record.proofs.PageLaws.{end_of-push, follow_from-push, record_len-least, page_at-nil, changes_above-nil, changes_on-none, changes_on-same, changes_on-other, page_at-push, changes_above-push, changes_above-front, lsn_after-last, changes_above-cons, changes_above-each, changes_above-fit, changes_above-head, lsn-fold}
+use Rattle.als_record.proofs.PageLaws.{end_of-push, follow_from-push, page_at-nil, changes_above-nil, changes_on-none, changes_on-same, changes_on-other, page_at-push, changes_above-push, changes_above-front, lsn_after-last, changes_above-cons, changes_above-each, changes_above-fit, changes_above-head, lsn-fold}
 use Rattle.als_store.specs.Warm.{Warm, AreNext, IsPageOf, ArePagesOf, CanRoute, IsRouted, Redoes, AppliesAt, MakesPlace, fresh_from}
 use Rattle.als_store.proofs.PageLists.{get-set_here, get-set_other}
 

@@ -1,27 +1,27 @@
 -- The parts of a store, after each event.
-use Rattle.std.proofs.Common.{◌≡◌, ℕ, zero, suc, ◌+◌, ◌<◌, ◌≤◌, ◌⊎◌, List, [], ◌∷◌, ◌++◌, length, Option, Some, None, refl, sym, ap, subst, ◌∙◌, inl, inr, arith, length-append, append_assoc}
-use Rattle.std.specs.Prelude.{Bool, ◌*◌, ◌^◌, true, false, slice_get, slice_set, slice_index, replicate, IfSome, Contains, nat_le, if◌then◌else◌, IsTrue}
+use Rattle.std.proofs.Common.{◌≡◌, ℕ, suc, ◌+◌, ◌<◌, ◌≤◌, List, [], ◌∷◌, ◌++◌, length, Option, Some, None, refl, sym, ap, subst, ◌∙◌, inl, inr, arith, length-append, append_assoc}
+use Rattle.std.specs.Prelude.{Bool, ◌*◌, true, false, slice_set, IfSome, Contains, IsTrue}
 use Rattle.std.proofs.lemmas.Bool.{cases_lt, le-leb, lt-leb}
 use Rattle.std.specs.List.{sum_by}
 use Rattle.als_disk.specs.SlotLaws.{Contains-one}
 use Rattle.std.proofs.lemmas.List.{map-set, length-set}
 use Rattle.std.proofs.lemmas.List.Sums.{sum_by-cons}
-use Rattle.std.proofs.lemmas.List.Elements.{Contains-append_left, Contains-push, Contains-push_cases}
+use Rattle.std.proofs.lemmas.List.Elements.{Contains-push_cases}
 use Rattle.std.proofs.lemmas.Option.{slice_get_within}
 use Rattle.als_record.specs.declared.lsn.Lsn.{Lsn}
 use Rattle.als_record.specs.declared.change.Change.{Change}
 use Rattle.als_record.specs.declared.record.Record.{Record}
 use Rattle.als_record.specs.Spelling.{record_len, IsRecord}
 use Rattle.als_record.specs.LogText.{end_of}
-use Rattle.als_record.specs.Validity.{first_bad, IsValidLog}
-use Rattle.als_record.specs.Pages.{PageState, change_of}
-use Rattle.als_record.proofs.PageLaws.{end_of-push, record_len-least, lsn_after-last, lsn-fold}
+use Rattle.als_record.specs.Validity.{first_bad}
+use Rattle.als_record.specs.Pages.{change_of}
+use Rattle.als_record.proofs.PageLaws.{record_len-least, lsn_after-last, lsn-fold}
 use Rattle.als_validator.specs.declared.validator.Validator.{Validator}
 use Rattle.als_validator.specs.Validated.{IsValidatorOf, HasRoom}
 use Rattle.als_log.specs.Local.{Local, IsLocal, IsFrontEnd, whole_end, whole_from}
 use Rattle.als_ckpt.specs.declared.control_state.ControlState.{ControlState}
-use Rattle.als_ckpt.specs.Control.{Controlled, IsAmong, newest, last_state, with_state, settled, first_state, new_control}
-use Rattle.als_store.specs.Warm.{Warm, ArePagesOf, CanRoute, MakesPlaces, AppliesAt, total_waiting, fresh_from}
+use Rattle.als_ckpt.specs.Control.{Controlled, newest, last_state, with_state, settled, first_state, new_control}
+use Rattle.als_store.specs.Warm.{Warm, CanRoute, MakesPlaces, AppliesAt, total_waiting, fresh_from}
 use Rattle.als_record.specs.Tail.{tail_len}
 use Rattle.als_store.specs.Stored.{Stored, AppliesFirst, formatted, with_log, IsTooLong}
 use Rattle.als_store.specs.Parts.{IsStored, AreMarks, applied_of, stored_of, spare_of}

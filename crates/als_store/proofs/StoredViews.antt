@@ -1,31 +1,27 @@
 -- What callers see of a held log, from its parts.
-use Rattle.std.proofs.Common.{◌≡◌, ℕ, zero, suc, ◌+◌, ◌^◌, ◌<◌, ◌≤◌, ◌⊎◌, List, [], ◌∷◌, ◌++◌, length, map, get_or, Option, Some, None, refl, sym, ap, subst, ◌∙◌, inl, inr, fold, arith, length-append}
-use Rattle.std.specs.Prelude.{Bool, ◌*◌, true, false, slice_get, slice_set, slice_index, replicate, MatchOption, IfSome}
+use Rattle.std.proofs.Common.{◌≡◌, ℕ, zero, suc, ◌+◌, ◌<◌, ◌≤◌, List, [], ◌∷◌, ◌++◌, length, get_or, Option, Some, None, refl, sym, ap, subst, ◌∙◌, inl, inr, arith, length-append}
+use Rattle.std.specs.Prelude.{Bool, true, false, slice_get, slice_index, replicate, MatchOption, IfSome}
 use Rattle.std.specs.Option.{option_map}
 use Rattle.std.proofs.Math.Seq.{map-set_same}
-use Rattle.std.proofs.lemmas.List.{map-set, length-set}
+use Rattle.std.proofs.lemmas.List.{length-set}
 use Rattle.std.proofs.lemmas.List.Sums.{sum_by-cons}
-use Rattle.std.proofs.lemmas.Option.{same_Some, slice_get_cases, slice_get_within, slice_get-map, get_or_from_slice_get}
-use Rattle.als_record.specs.declared.lsn.Lsn.{Lsn}
+use Rattle.std.proofs.lemmas.Option.{slice_get_cases, slice_get_within, slice_get-map, get_or_from_slice_get}
 use Rattle.als_record.specs.declared.change.Change.{Change}
 use Rattle.als_record.specs.declared.record.Record.{Record}
-use Rattle.als_record.specs.Spelling.{record_len, IsRecord}
+use Rattle.als_record.specs.Spelling.{IsRecord}
 use Rattle.als_record.specs.LogText.{end_of, follow_from, IsLog}
 use Rattle.als_record.specs.Validity.{first_bad, may_follow, may_follow_all, is_valid, IsValidLog}
 use Rattle.als_record.proofs.Validity.{first_bad-none, may_follow-admitted, is_valid-push}
 use Rattle.std.proofs.lemmas.Bool.{and_from}
 use Rattle.als_validator.specs.declared.validator.Validator.{Validator}
-use Rattle.als_validator.specs.Validated.{IsValidatorOf}
-use Rattle.als_record.specs.Pages.{PageState, change_of, empty_page, redone, changes_above, lsn_after}
-use Rattle.als_record.proofs.PageLaws.{end_of-push, record_len-least, lsn_after-last, lsn-fold}
-use Rattle.als_store.specs.Warm.{Warm, IsPageOf, ArePagesOf, CanRoute, IsRouted, HasPlace, MakesPlace, MakesPlaces, AppliesAt, NothingWaits, WaitsFirst, total_waiting, fresh_from}
-use Rattle.als_log.specs.Local.{Local, IsFrontEnd}
-use Rattle.als_ckpt.specs.declared.control_state.ControlState.{ControlState}
-use Rattle.als_ckpt.specs.Control.{Controlled, IsAmong, newest}
-use Rattle.als_store.specs.Stored.{Stored, waiting_on, waiting_from, pending_of, AppliesFirst, IsDry, WaitsFrom, with_log}
-use Rattle.als_store.specs.Parts.{IsStored, AreMarks, applied_of, stored_of}
-use Rattle.als_store.proofs.PageLists.{length-fresh, total-fresh, total-set, get-set_here, routed_inside, redoes-shorter}
-use Rattle.als_store.proofs.StoredPages.{IsLog-push, pages-fresh, pages-push_none, pages-push_change, pages-place, pages-apply, can_route, end-nil}
+use Rattle.als_record.specs.Pages.{change_of, changes_above}
+use Rattle.als_store.specs.Warm.{Warm, IsPageOf, ArePagesOf, CanRoute, IsRouted, HasPlace, MakesPlace, MakesPlaces, NothingWaits, WaitsFirst, total_waiting, fresh_from}
+use Rattle.als_log.specs.Local.{Local}
+use Rattle.als_ckpt.specs.Control.{Controlled}
+use Rattle.als_store.specs.Stored.{Stored, waiting_on, waiting_from, pending_of, IsDry, WaitsFrom}
+use Rattle.als_store.specs.Parts.{IsStored, applied_of, stored_of}
+use Rattle.als_store.proofs.PageLists.{total-set, get-set_here, routed_inside}
+use Rattle.als_store.proofs.StoredPages.{IsLog-push, pages-push_none, pages-push_change, pages-place}
 
 sum_two : (a b c d : ℕ) → a ≡ b → c ≡ d → a + c ≡ b + d
 sum_two a b c d e f = omega (arith, e, f)

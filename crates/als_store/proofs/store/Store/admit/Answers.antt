@@ -1,16 +1,14 @@
-use Rattle.std.proofs.Common.{◌≡◌, ◌+◌, ◌*◌, ◌<◌, ◌≤◌, ◌∷◌, ◌++◌, [], List, None, sym, subst, refl, ap, ◌∙◌, arith, inl, inr}
-use Rattle.std.proofs.lemmas.Result.{err_from_is_err_and}
+use Rattle.std.proofs.Common.{◌≡◌, ◌∷◌, ◌++◌, [], sym, subst, refl, ap, ◌∙◌, arith, inl, inr}
 use Rattle.als_record.specs.Spelling.{IsRecord}
 use Rattle.als_record.specs.LogText.{end_of}
 use Rattle.als_record.specs.Pages.{change_of}
 use Rattle.als_record.specs.Validity.{first_bad}
-use Rattle.als_store.specs.declared.fault.Fault.TheVariants as fault
-use Rattle.als_store.specs.Stored.{Stored, with_log, IsTooLong}
+use Rattle.als_store.specs.Stored.{Stored, with_log}
 use Rattle.als_store.specs.Spare.{Holding}
 use Rattle.als_store.specs.Parts.{stored_of}
 use Rattle.als_store.proofs.StoredViews.{valid_push, places_count}
 use Rattle.als_store.proofs.StoredParts.{can_route_change, stored-again, stored-room, stored-push, view-room, view-push, length-below_end, appended, too_long, not_too_long}
-use Rattle.als_store.proofs.JudgingLaws.{good_from, refused_from, not_judged}
+use Rattle.als_store.proofs.JudgingLaws.{good_from}
 use Rattle.als_store.proofs.store.Store.admit.Goals as goal
 
 pub returns-then-not-fits-clause-cause : goal.returns-then-not-fits-clause-cause

@@ -1,7 +1,7 @@
-use Rattle.std.proofs.Common.{◌≡◌, ◌<◌, ◌+◌, ◌++◌, ◌∷◌, [], ◌∙◌, length, get_or, Some, refl, sym, ap, arith, length-append, length-set}
-use Rattle.std.specs.Prelude.{slice_get, slice_set}
+use Rattle.std.proofs.Common.{◌≡◌, ◌<◌, ◌++◌, ◌∷◌, [], length, refl, ap, arith, length-append, length-set}
+use Rattle.std.specs.Prelude.{slice_set}
 use Rattle.std.proofs.lemmas.Option.{slice_get_read}
-use Rattle.als_store.specs.Warm.{Warm, CanRoute}
+use Rattle.als_store.specs.Warm.{Warm}
 use Rattle.als_store.proofs.PageLists.{total-set, routed_inside}
 use Rattle.als_store.proofs.warm_pages.WarmPages.route.Goals as goal
 
