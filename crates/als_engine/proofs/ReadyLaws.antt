@@ -24,7 +24,7 @@ ready_new held receiver pages blocks failures attempts e f = record {
   marks = subst (λ (h : Stored). acknowledged h ≤ (newest h).mark.0) (sym e) (omega arith);
 }
 
-pub ready_dropped : (held : Stored) (receiver after : Reception) → IsReady held receiver → after ≡ with_kept receiver [] → IsReady held after
+pub ready_dropped : (held : Stored) (receiver after : Reception) → IsReady held receiver → after ≡ with_kept receiver [] after.room → IsReady held after
 ready_dropped held receiver after ready e = record { rests = rests_dropped held receiver after ready.rests e; marks = ready.marks }
 
 -- a log that grew has the same marks

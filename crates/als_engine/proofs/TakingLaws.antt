@@ -201,9 +201,9 @@ rests_empty held receiver meets none = record {
 }
 
 -- a receiver whose partial record was dropped
-pub rests_dropped : (held : Stored) (receiver after : Reception) → Rests held receiver → after ≡ with_kept receiver [] → Rests held after
+pub rests_dropped : (held : Stored) (receiver after : Reception) → Rests held receiver → after ≡ with_kept receiver [] after.room → Rests held after
 rests_dropped held receiver after rests e = subst (λ (x : Reception). Rests held x) (sym e)
-    (rests_empty held (with_kept receiver []) (record { wanted = rests.meets.wanted; pages = rests.meets.pages; takes = rests.meets.takes }) refl)
+    (rests_empty held (with_kept receiver [] after.room) (record { wanted = rests.meets.wanted; pages = rests.meets.pages; takes = rests.meets.takes }) refl)
 
 end-start : end_of [] ≡ 16
 unfolding end_of

@@ -46,9 +46,9 @@ impl<D: BlockDisk> Model for Engine<D> {
 
     ghost Value = { Machine };
 
-    ghost view = { λ e. record { held = e.store; limit = e.limit; partial = e.receiver.kept; refused = e.refused } };
+    ghost view = { λ e. record { held = e.store.stored; limit = e.limit; partial = e.receiver.kept; refused = e.refused } };
 
-    ghost invariant = { λ e. IsReady e.store e.receiver };
+    ghost invariant = { λ e. IsReady e.store.stored e.receiver };
 }
 
 impl<D: BlockDisk> Engine<D> {

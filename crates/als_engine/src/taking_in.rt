@@ -16,9 +16,9 @@ pub(crate) fn take_piece<D: BlockDisk>(
     receiver: &mut Receiver,
     piece: &[u8],
 ) -> Result<(), Fault>
-    requires { Rests held.old receiver.old }
-    ensures ok { OnOk result (TakesAll held.old (receiver.old.kept ++ piece.now) held.new receiver.new) }
-    ensures err { IfErr result (TakesFront held.old (receiver.old.kept ++ piece.now) held.new) }
+    requires { Rests held.old.stored receiver.old }
+    ensures ok { OnOk result (TakesAll held.old.stored (receiver.old.kept ++ piece.now) held.new.stored receiver.new) }
+    ensures err { IfErr result (TakesFront held.old.stored (receiver.old.kept ++ piece.now) held.new.stored) }
 {
     let mut rest = piece;
     while !rest.is_empty() {
@@ -35,10 +35,10 @@ fn take_chunk<D: BlockDisk>(
     receiver: &mut Receiver,
     chunk: &[u8],
 ) -> Result<(), Fault>
-    requires rests { Rests held.old receiver.old }
+    requires rests { Rests held.old.stored receiver.old }
     requires few { length chunk.now ≤ 65536 }
-    ensures ok { OnOk result (TakesAll held.old (receiver.old.kept ++ chunk.now) held.new receiver.new) }
-    ensures err { IfErr result (TakesFront held.old (receiver.old.kept ++ chunk.now) held.new) }
+    ensures ok { OnOk result (TakesAll held.old.stored (receiver.old.kept ++ chunk.now) held.new.stored receiver.new) }
+    ensures err { IfErr result (TakesFront held.old.stored (receiver.old.kept ++ chunk.now) held.new.stored) }
 {
     let _ = held.end();
     receiver.push(chunk)?;
@@ -47,9 +47,9 @@ fn take_chunk<D: BlockDisk>(
 
 /// Gives each record that is whole to the store.
 fn take_records<D: BlockDisk>(held: &mut Store<D>, receiver: &mut Receiver) -> Result<(), Fault>
-    requires { Meets held.old receiver.old }
-    ensures ok { OnOk result (TakesAll held.old receiver.old.kept held.new receiver.new) }
-    ensures err { IfErr result (TakesFront held.old receiver.old.kept held.new) }
+    requires { Meets held.old.stored receiver.old }
+    ensures ok { OnOk result (TakesAll held.old.stored receiver.old.kept held.new.stored receiver.new) }
+    ensures err { IfErr result (TakesFront held.old.stored receiver.old.kept held.new.stored) }
 {
     while take_record(held, receiver)? {}
     Ok(())
@@ -57,9 +57,9 @@ fn take_records<D: BlockDisk>(held: &mut Store<D>, receiver: &mut Receiver) -> R
 
 /// Gives the next record to the store, if it is whole; says whether it was.
 fn take_record<D: BlockDisk>(held: &mut Store<D>, receiver: &mut Receiver) -> Result<bool, Fault>
-    requires { Meets held.old receiver.old }
-    ensures ok { IfOk result (λ more. MatchBool more (TakesOne held.old receiver.old held.new receiver.new) ((held.new ≡ held.old) × (receiver.new ≡ receiver.old) × Rests held.old receiver.old)) }
-    ensures err { IfErr result (λ fault. (held.new ≡ held.old) × IsCause held.old receiver.old.kept fault) }
+    requires { Meets held.old.stored receiver.old }
+    ensures ok { IfOk result (λ more. MatchBool more (TakesOne held.old.stored receiver.old held.new.stored receiver.new) ((held.new.stored ≡ held.old.stored) × (receiver.new ≡ receiver.old) × Rests held.old.stored receiver.old)) }
+    ensures err { IfErr result (λ fault. (held.new.stored ≡ held.old.stored) × IsCause held.old.stored receiver.old.kept fault) }
 {
     match receiver.next() {
         Ok(Some(logged)) => {

@@ -11,9 +11,9 @@ use Rattle.als_record.specs.Spelling.{record_len, spelling, IsRecord}
 use Rattle.als_record.specs.LogText.{spellings, follow_from}
 use Rattle.als_record.specs.Reading.{read_record}
 use Rattle.als_receiver.specs.declared.refusal.Refusal.{Refusal}
-use Rattle.als_receiver.specs.Reception.{Reception, fresh, is_memory, RefusesBytes, Refuses}
+use Rattle.als_receiver.specs.Reception.{Reception, fresh, with_room, is_memory, WantsMemory, RefusesBytes, Refuses}
 use Rattle.als_receiver.specs.History.{Call, Runs, handed, bytes_after, KeepsAll, reading_of, IsEmptied, Accounts, EndAlike}
-use Rattle.als_receiver.specs.History.Call.{Push, Next, Drop}
+use Rattle.als_receiver.specs.History.Call.{Push, Next, Drop, Room}
 use Rattle.als_receiver.proofs.ReadingLaws.{read_record-more}
 
 -- ---- what a refusal leaves
@@ -26,18 +26,21 @@ record SameBytes (old new : Reception) : Type 0 where
 same : (old new : Reception) → new ≡ old → SameBytes old new
 same old new is = record { pages = ap (λ (s : Reception). s.pages) is; wanted = ap (λ (s : Reception). s.wanted) is; kept = ap (λ (s : Reception). s.kept) is }
 
+room-same : (old new : Reception) → new ≡ with_room old new.room → SameBytes old new
+room-same old new is = record { pages = ap (λ (s : Reception). s.pages) is; wanted = ap (λ (s : Reception). s.wanted) is; kept = ap (λ (s : Reception). s.kept) is }
+
 refuses-same : (old : Reception) (e : Refusal) (new : Reception) → Refuses old e new → SameBytes old new
 refuses-same old e new h = by_refusal old.refusal h
   where
-    by_fault : (b : Bool) → MatchBool b (new ≡ old) (RefusesBytes old e new) → SameBytes old new
-    by_fault true is = same old new is
+    by_fault : (b : Bool) → MatchBool b (WantsMemory old new) (RefusesBytes old e new) → SameBytes old new
+    by_fault true wants = same old new wants.same
     by_fault false refused = record {
       pages = ap (λ (s : Reception). s.pages) refused.stays;
       wanted = ap (λ (s : Reception). s.wanted) refused.stays;
       kept = ap (λ (s : Reception). s.kept) refused.stays;
     }
 
-    by_refusal : (o : Option Refusal) → MatchOption o ((e.lsn.0 ≡ old.wanted) × MatchBool (is_memory e.fault) (new ≡ old) (RefusesBytes old e new)) (λ before. (e ≡ before) × (new ≡ old))
+    by_refusal : (o : Option Refusal) → MatchOption o ((e.lsn.0 ≡ old.wanted) × MatchBool (is_memory e.fault) (WantsMemory old new) (RefusesBytes old e new)) (λ before. (e ≡ before) × (new ≡ old))
         → SameBytes old new
     by_refusal None h = by_fault (is_memory e.fault) h.1
     by_refusal (Some before) h = same old new h.1
@@ -71,6 +74,8 @@ accounted done s (Drop bytes ∷ calls) t (between, does, rest) =
     let count : length front ≡ length (front ++ s.kept) - length bytes = omega (arith, length-append front s.kept, ap length does.0) in
     ap (λ xs. bytes_after xs calls) (take_at front s.kept (length (front ++ s.kept) - length bytes) count ∙ sym (append-nil front) ∙ ap (λ xs. front ++ xs) (sym kept))
     ∙ accounted done between calls t rest
+accounted done s (Room ∷ calls) t (between, does, rest) =
+    ap (λ bytes. bytes_after (spellings done ++ bytes) calls) (sym (room-same s between does).kept) ∙ accounted done between calls t rest
 
 -- ---- where the records stand
 
@@ -120,6 +125,7 @@ placed s (Next (Ok None) ∷ calls) t (between, does, rest) = placed-same s betw
 placed s (Next (Err e) ∷ calls) t (between, does, rest) = placed-same s between (handed calls) t (refuses-same s e between does) (placed between calls t rest)
 placed s (Drop bytes ∷ calls) t (between, does, rest) =
     placed-at s between (handed calls) t (ap (λ (u : Reception). u.pages) does.1) (ap (λ (u : Reception). u.wanted) does.1) (placed between calls t rest)
+placed s (Room ∷ calls) t (between, does, rest) = placed-same s between (handed calls) t (room-same s between does) (placed between calls t rest)
 
 -- a history from the first record on accounts for its bytes
 pub history-accounts : (wanted pages : ℕ) (calls : List Call) (s : Reception) → Runs (fresh wanted pages) calls s → Accounts wanted pages calls s
@@ -147,12 +153,14 @@ pushed [] = []
 pushed (Push piece ∷ calls) = piece ++ pushed calls
 pushed (Next answer ∷ calls) = pushed calls
 pushed (Drop bytes ∷ calls) = pushed calls
+pushed (Room ∷ calls) = pushed calls
 
 bytes_after-pushed : (before : List ℕ) (calls : List Call) → KeepsAll calls → bytes_after before calls ≡ before ++ pushed calls
 bytes_after-pushed before [] h = sym (append-nil before)
 bytes_after-pushed before (Push piece ∷ calls) h = bytes_after-pushed (before ++ piece) calls h ∙ append_assoc before piece (pushed calls)
 bytes_after-pushed before (Next answer ∷ calls) h = bytes_after-pushed before calls h
 bytes_after-pushed before (Drop bytes ∷ calls) h = absurd h
+bytes_after-pushed before (Room ∷ calls) h = bytes_after-pushed before calls h
 
 reads-from : (s between : Reception) (calls : List Call) (t : Reception) → SameBytes s between → Reads between.pages between.wanted (bytes_after between.kept calls) (handed calls) t.kept
     → Reads s.pages s.wanted (bytes_after s.kept calls) (handed calls) t.kept
@@ -181,6 +189,7 @@ reads s (Next (Ok (Some r)) ∷ calls) t (between, does, rest) all =
 reads s (Next (Ok None) ∷ calls) t (between, does, rest) all = reads-from s between calls t (same s between does.same) (reads between calls t rest all)
 reads s (Next (Err e) ∷ calls) t (between, does, rest) all = reads-from s between calls t (refuses-same s e between does) (reads between calls t rest all)
 reads s (Drop bytes ∷ calls) t (between, does, rest) all = absurd all
+reads s (Room ∷ calls) t (between, does, rest) all = reads-from s between calls t (room-same s between does) (reads between calls t rest all)
 
 -- two readings of the same bytes that leave no whole record are one
 record OneReading (rs others : List Record) (rest left : List ℕ) : Type 0 where
@@ -232,8 +241,8 @@ refuses-own s e new h own = by_refusal s.refusal h
     stays : new ≡ s → IsOwnRefusal new
     stays is = subst IsOwnRefusal (sym is) own
 
-    by_fault : (b : Bool) → e.lsn.0 ≡ s.wanted → MatchBool b (new ≡ s) (RefusesBytes s e new) → IsOwnRefusal new
-    by_fault true place is = stays is
+    by_fault : (b : Bool) → e.lsn.0 ≡ s.wanted → MatchBool b (WantsMemory s new) (RefusesBytes s e new) → IsOwnRefusal new
+    by_fault true place wants = stays wants.same
     by_fault false place refused = subst IsOwnRefusal (sym refused.stays) (λ f found.
         let one : e ≡ f = some-same e f found in
         subst (λ (x : Refusal). (read_record s.pages s.wanted s.kept ≡ Err x.fault) × (x.lsn.0 ≡ s.wanted)) one (refused.reading, place))
@@ -241,7 +250,7 @@ refuses-own s e new h own = by_refusal s.refusal h
         some-same : (x y : Refusal) → ◌≡◌ {A = Option Refusal} (Some x) (Some y) → x ≡ y
         some-same x y h = cc h
 
-    by_refusal : (o : Option Refusal) → MatchOption o ((e.lsn.0 ≡ s.wanted) × MatchBool (is_memory e.fault) (new ≡ s) (RefusesBytes s e new)) (λ before. (e ≡ before) × (new ≡ s))
+    by_refusal : (o : Option Refusal) → MatchOption o ((e.lsn.0 ≡ s.wanted) × MatchBool (is_memory e.fault) (WantsMemory s new) (RefusesBytes s e new)) (λ before. (e ≡ before) × (new ≡ s))
         → IsOwnRefusal new
     by_refusal None h = by_fault (is_memory e.fault) h.0 h.1
     by_refusal (Some before) h = stays h.1
@@ -257,6 +266,7 @@ own-refusal s (Next (Ok (Some r)) ∷ calls) t (between, does, rest) all own =
 own-refusal s (Next (Ok None) ∷ calls) t (between, does, rest) all own = own-refusal between calls t rest all (subst IsOwnRefusal (sym does.same) own)
 own-refusal s (Next (Err e) ∷ calls) t (between, does, rest) all own = own-refusal between calls t rest all (refuses-own s e between does own)
 own-refusal s (Drop bytes ∷ calls) t (between, does, rest) all own = absurd all
+own-refusal s (Room ∷ calls) t (between, does, rest) all own = own-refusal between calls t rest all (subst IsOwnRefusal (sym does) own)
 
 -- histories with the same bytes end alike
 pub histories-alike : (wanted pages : ℕ) (first second : List Call) (s t : Reception) → Runs (fresh wanted pages) first s → Runs (fresh wanted pages) second t

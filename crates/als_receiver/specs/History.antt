@@ -7,19 +7,22 @@ use Rattle.als_record.specs.Spelling.{record_len, IsRecord}
 use Rattle.als_record.specs.LogText.{spellings, follow_from}
 use Rattle.als_record.specs.Reading.{read_record}
 use Rattle.als_receiver.specs.declared.refusal.Refusal.{Refusal}
-use Rattle.als_receiver.specs.Reception.{Reception, with_kept, Answers}
+use Rattle.als_receiver.specs.Reception.{Reception, with_kept, with_room, Answers}
 
--- a call: a piece pushed, an answer to the question for the next record, or the bytes that were dropped
+-- a call: a piece pushed, an answer to the question for the next record, the bytes that were dropped, or room asked for, with
+-- a piece that found none too
 pub data Call : Type 0 where
   Push : (piece : List ℕ) → Call
   Next : (answer : Result (Option Record) Refusal) → Call
   Drop : (bytes : List ℕ) → Call
+  Room : Call
 
 -- what a call does
 abbrev pub Does : Reception → Call → Reception → Type 0
-Does old (Push piece) new = new ≡ with_kept old (old.kept ++ piece)
+Does old (Push piece) new = new ≡ with_kept old (old.kept ++ piece) new.room
 Does old (Next answer) new = Answers old answer new
-Does old (Drop bytes) new = (bytes ≡ old.kept) × (new ≡ with_kept old [])
+Does old (Drop bytes) new = (bytes ≡ old.kept) × (new ≡ with_kept old [] new.room)
+Does old Room new = new ≡ with_room old new.room
 
 -- calls lead from one state to another
 abbrev pub Runs : Reception → List Call → Reception → Type 0
@@ -38,6 +41,7 @@ handed [] = []
 handed (Push piece ∷ calls) = handed calls
 handed (Next answer ∷ calls) = handed_by answer ++ handed calls
 handed (Drop bytes ∷ calls) = handed calls
+handed (Room ∷ calls) = handed calls
 
 -- all bytes pushed but those dropped, behind the bytes that came before
 abbrev pub bytes_after : List ℕ → List Call → List ℕ
@@ -45,6 +49,7 @@ bytes_after before [] = before
 bytes_after before (Push piece ∷ calls) = bytes_after (before ++ piece) calls
 bytes_after before (Next answer ∷ calls) = bytes_after before calls
 bytes_after before (Drop bytes ∷ calls) = bytes_after (take (length before - length bytes) before) calls
+bytes_after before (Room ∷ calls) = bytes_after before calls
 
 -- nothing was dropped
 abbrev pub KeepsAll : List Call → Type 0
@@ -52,6 +57,7 @@ KeepsAll [] = Unit {0}
 KeepsAll (Push piece ∷ calls) = KeepsAll calls
 KeepsAll (Next answer ∷ calls) = KeepsAll calls
 KeepsAll (Drop bytes ∷ calls) = ⊥
+KeepsAll (Room ∷ calls) = KeepsAll calls
 
 -- what the bytes kept begin with, if it is read now
 abbrev pub reading_of : Reception → Result (Option (Record × ℕ)) Fault

@@ -4,27 +4,33 @@ use Rattle.als_record.specs.declared.fault.Fault.{Fault}
 use Rattle.als_record.specs.declared.fault.Fault.TheVariants.{BadHeader, BadLength, BadType, BadReserved, WrongLsn, BadKey, BadValue, Memory}
 use Rattle.als_record.specs.declared.record.Record.{Record}
 use Rattle.als_record.specs.Spelling.{record_len, spelling, IsRecord}
-use Rattle.als_record.specs.Reading.{read_record}
+use Rattle.als_record.specs.Reading.{read_record, TakesMemory}
 use Rattle.als_receiver.specs.declared.refusal.Refusal.{Refusal}
 
--- the page count of the database, the LSN of the next record, the bytes kept for it, and the refusal that stays
+-- the page count of the database, the LSN of the next record, the bytes kept for it, how many more can be pushed with no
+-- memory, and the refusal that stays
 pub record Reception : Type 0 where
   pub pages : ℕ
   pub wanted : ℕ
   pub kept : List ℕ
+  pub room : ℕ
   pub refusal : Option Refusal
 
 -- a receiver before its first bytes
 abbrev pub fresh : ℕ → ℕ → Reception
-fresh wanted pages = record { pages = pages; wanted = wanted; kept = []; refusal = None }
+fresh wanted pages = record { pages = pages; wanted = wanted; kept = []; room = 0; refusal = None }
 
--- the bytes kept are these, and all else stays
-abbrev pub with_kept : Reception → List ℕ → Reception
-with_kept old bytes = record { pages = old.pages; wanted = old.wanted; kept = bytes; refusal = old.refusal }
+-- the bytes kept are these and the room is this, and all else stays
+abbrev pub with_kept : Reception → List ℕ → ℕ → Reception
+with_kept old bytes room = record { pages = old.pages; wanted = old.wanted; kept = bytes; room = room; refusal = old.refusal }
+
+-- the room is this, and all else stays
+abbrev pub with_room : Reception → ℕ → Reception
+with_room old room = with_kept old old.kept room
 
 -- this refusal stays from now on
 abbrev pub with_refusal : Reception → Refusal → Reception
-with_refusal old refusal = record { pages = old.pages; wanted = old.wanted; kept = old.kept; refusal = Some refusal }
+with_refusal old refusal = record { pages = old.pages; wanted = old.wanted; kept = old.kept; room = old.room; refusal = Some refusal }
 
 -- the record at the front of the bytes kept is handed out, and the next one is wanted behind it
 pub record HandsOut (old : Reception) (r : Record) (new : Reception) : Type 0 where
@@ -33,7 +39,7 @@ pub record HandsOut (old : Reception) (r : Record) (new : Reception) : Type 0 wh
   pub place : r.lsn.0 ≡ old.wanted
   pub fits : IsRecord old.pages r
   pub bytes : old.kept ≡ spelling r ++ new.kept
-  pub after : new ≡ record { pages = old.pages; wanted = old.wanted + record_len r; kept = new.kept; refusal = None }
+  pub after : new ≡ record { pages = old.pages; wanted = old.wanted + record_len r; kept = new.kept; room = old.room; refusal = None }
 
 -- the bytes kept are less than a record, and nothing changes
 pub record Waits (old new : Reception) : Type 0 where
@@ -58,11 +64,16 @@ pub record RefusesBytes (old : Reception) (refusal : Refusal) (new : Reception) 
   pub reading : read_record old.pages old.wanted old.kept ≡ Err refusal.fault
   pub stays : new ≡ with_refusal old refusal
 
--- a refusal: the one that stays, else want of memory, which changes nothing, or the first of the bytes
+-- memory is wanted for the rows of the end_chkpt that the bytes kept begin with, and nothing changes
+pub record WantsMemory (old new : Reception) : Type 0 where
+  pub rows : TakesMemory (read_record old.pages old.wanted old.kept)
+  pub same : new ≡ old
+
+-- a refusal: the one that stays, else want of memory, or the first of the bytes
 abbrev pub Refuses : Reception → Refusal → Reception → Type 0
 Refuses old refusal new =
     MatchOption old.refusal
-    ((refusal.lsn.0 ≡ old.wanted) × MatchBool (is_memory refusal.fault) (new ≡ old) (RefusesBytes old refusal new))
+    ((refusal.lsn.0 ≡ old.wanted) × MatchBool (is_memory refusal.fault) (WantsMemory old new) (RefusesBytes old refusal new))
     (λ before. (refusal ≡ before) × (new ≡ old))
 
 -- what a call for the next record answers, and what it leaves

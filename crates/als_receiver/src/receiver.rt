@@ -1,4 +1,4 @@
-ghost use Rattle.std.specs.Prelude.{◌≡◌, ◌+◌, ◌<◌, ◌^◌, [], ◌++◌, length, MatchBool, OnOk, OnErr};
+ghost use Rattle.std.specs.Prelude.{◌≡◌, ◌+◌, ◌<◌, ◌≤◌, ◌^◌, [], ◌++◌, length, MatchBool, IsOk, OnOk, OnErr};
 
 use crate::refusal::Refusal;
 use als_record::{Fault, Lsn, Record, decode};
@@ -22,13 +22,13 @@ impl Model for Receiver {
 
     ghost Value = { Reception };
 
-    ghost view = { λ r. record { pages = r.pages; wanted = r.wanted.0; kept = r.kept.items; refusal = r.refusal } };
+    ghost view = { λ r. record { pages = r.pages; wanted = r.wanted.0; kept = r.kept.items; room = r.kept.spare; refusal = r.refusal } };
 
     ghost invariant = { λ r. r.wanted.0 + length r.kept.items < 2 ^ 64 };
 }
 
 impl Receiver {
-    ghost use Rattle.als_receiver.specs.Reception.{fresh, with_kept, with_refusal, is_memory, Answers};
+    ghost use Rattle.als_receiver.specs.Reception.{fresh, with_kept, with_room, with_refusal, is_memory, Answers};
 
     /// A receiver for a database of `pages` pages that wants the record at `at` first. It takes no memory.
     pub fn new(alloc: Global, at: Lsn, pages: u32) -> Receiver
@@ -42,19 +42,34 @@ impl Receiver {
         }
     }
 
-    /// Adds bytes to those kept. Only want of memory is refused, and changes nothing. Log texts have less than 2^64
-    /// bytes: `position` tells where these begin.
+    /// Adds bytes to those kept. Only want of memory is refused, where the room was too small and could not grow, and
+    /// loses nothing. Log texts have less than 2^64 bytes: `position` tells where these begin.
     pub fn push(&mut self, piece: &[u8]) -> Result<(), AllocError>
         requires { self.old.wanted + length self.old.kept + length piece.now < 2 ^ 64 }
-        ensures ok { OnOk result (self.new ≡ with_kept self.old (self.old.kept ++ piece.now)) }
-        ensures err { OnErr result (self.new ≡ self.old) }
+        ensures ok { OnOk result (self.new ≡ with_kept self.old (self.old.kept ++ piece.now) self.new.room) }
+        ensures err { OnErr result (self.new ≡ with_room self.old self.new.room) }
+        // Where there is room it takes no memory, and no more room than the piece is long.
+        ensures reserved { length piece.now ≤ self.old.room → IsOk result }
+        ensures room { self.old.room ≤ self.new.room + length piece.now }
+        ensures kept_room { OnErr result (self.old.room ≤ self.new.room) }
     {
         self.kept.extend_from_slice(piece)
     }
 
+    /// Makes room for so many bytes more, which can then be pushed with no memory. Only want of memory is refused, where the
+    /// room was too small and could not grow. Nothing changes but the room, which never shrinks.
+    pub fn reserve(&mut self, len: usize) -> Result<(), AllocError>
+        ensures same { self.new ≡ with_room self.old self.new.room }
+        ensures ok { OnOk result (len ≤ self.new.room) }
+        ensures reserved { len ≤ self.old.room → IsOk result }
+        ensures room { self.old.room ≤ self.new.room }
+    {
+        self.kept.reserve(len)
+    }
+
     /// The next record, `None` where more bytes are needed. A refusal says where the record should stand and which of
-    /// the shape faults it has, and every later call gives it again; but want of memory (32, only at an end_chkpt's
-    /// rows) is not kept: the call may be made again.
+    /// the shape faults it has, and every later call gives it again; but want of memory, which only the rows of an
+    /// end_chkpt meet, is not kept: the call may be made again.
     pub fn next(&mut self) -> Result<Option<Record>, Refusal>
         ensures { Answers self.old result self.new }
     {
@@ -100,9 +115,10 @@ impl Receiver {
         self.kept.len()
     }
 
-    /// Forgets the bytes kept. It takes no memory, and a refusal stays.
+    /// Forgets the bytes kept, whose room is free again. It takes no memory, and a refusal stays.
     pub fn drop_partial(&mut self)
-        ensures { self.new ≡ with_kept self.old [] }
+        ensures same { self.new ≡ with_kept self.old [] self.new.room }
+        ensures room { self.old.room + length self.old.kept ≤ self.new.room }
     {
         self.kept.clear();
     }

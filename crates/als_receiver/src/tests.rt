@@ -132,3 +132,18 @@ fn want_of_memory_is_not_kept(rt: HostRuntime) {
     assert!(rt; matches!(answer, Ok(Some(_))));
     assert_eq!(rt; receiver.next_lsn(), Lsn(69));
 }
+
+#[test]
+fn room_that_was_made_takes_the_pieces(rt: HostRuntime) {
+    let mut receiver = Receiver::new(rt.alloc(), Lsn(16), 4);
+    // A refused growth is met once at most, and loses nothing.
+    if receiver.reserve(LOG.len()).is_err() {
+        assert!(rt; receiver.reserve(LOG.len()).is_ok());
+    }
+    assert_eq!(rt; receiver.partial(), 0);
+    assert!(rt; receiver.push(&LOG[..40]).is_ok());
+    assert!(rt; matches!(receiver.next(), Ok(Some(_))));
+    assert_eq!(rt; receiver.position(), 56);
+    assert!(rt; receiver.push(&LOG[40..]).is_ok());
+    assert_eq!(rt; receiver.position(), 108);
+}

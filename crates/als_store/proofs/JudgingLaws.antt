@@ -1,5 +1,5 @@
 -- What the validator answers, as the store passes it on.
-use Rattle.std.proofs.Common.{◌≡◌, ◌⊎◌, Option, Some, None, Result, Ok, Err, refl, sym, ap, ◌∙◌, inl, inr}
+use Rattle.std.proofs.Common.{◌≡◌, Option, Some, None, Result, Ok, Err, refl, sym, ap, ◌∙◌, inl}
 use Rattle.als_record.specs.declared.cause.Cause.{Cause}
 use Rattle.als_record.specs.declared.record.Record.{Record}
 use Rattle.als_record.specs.Validity.{first_bad}

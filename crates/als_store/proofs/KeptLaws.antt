@@ -1,5 +1,5 @@
 -- What the devices of a store hold, from what the log's and the control block's say.
-use Rattle.std.proofs.Common.{◌≡◌, ℕ, ◌+◌, ◌*◌, ◌≤◌, List, ◌∷◌, refl, sym, ap, subst, ◌∙◌, arith}
+use Rattle.std.proofs.Common.{ℕ, List, ◌∷◌, ap, subst, ◌∙◌, arith}
 use Rattle.std.specs.Prelude.{Bool, Contains}
 use Rattle.als_record.specs.LogText.{log_text}
 use Rattle.als_disk.specs.Slot.{Slot}

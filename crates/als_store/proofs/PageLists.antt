@@ -1,9 +1,9 @@
 -- Lists of pages: one of them changed, and how many changes wait over all.
-use Rattle.std.proofs.Common.{◌≡◌, ℕ, zero, suc, ◌+◌, ◌-◌, ◌<◌, ◌≤◌, List, [], ◌∷◌, ◌++◌, length, get_or, set, Option, Some, None, refl, sym, ap, subst, ◌∙◌, length-append, arith, sum_by, inl, inr}
+use Rattle.std.proofs.Common.{◌≡◌, ℕ, zero, suc, ◌+◌, ◌<◌, ◌≤◌, false, List, [], ◌∷◌, ◌++◌, length, get_or, Some, refl, sym, ap, subst, ◌∙◌, length-append, arith, inl, inr}
 use Rattle.std.specs.Prelude.{slice_get, slice_set}
 use Rattle.std.proofs.lemmas.Bool.{cases_lt}
 use Rattle.std.proofs.lemmas.Option.{same_Some, slice_get_within, get_or_from_slice_get}
-use Rattle.std.proofs.lemmas.List.Sums.{sum_by-set, sum_by-append}
+use Rattle.std.proofs.lemmas.List.Sums.{sum_by-set}
 use Rattle.als_record.specs.declared.lsn.Lsn.{Lsn}
 use Rattle.als_record.specs.declared.change.Change.{Change}
 use Rattle.als_record.specs.Pages.{empty_page}
@@ -31,7 +31,7 @@ length-fresh id zero = refl
 length-fresh id (suc count) = ap suc (length-fresh (suc id) count)
 
 abbrev fresh : ℕ → Warm
-fresh id = record { id = id; state = empty_page; pending = [] }
+fresh id = record { id = id; state = empty_page; pending = []; has_room = false }
 
 -- one page more at the end
 pub fresh-push : (id count : ℕ) → fresh_from id count ++ fresh (id + count) ∷ [] ≡ fresh_from id (suc count)

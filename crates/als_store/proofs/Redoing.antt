@@ -1,5 +1,5 @@
 -- Redoing one change after another.
-use Rattle.std.proofs.Common.{◌≡◌, ℕ, ◌+◌, ◌<◌, ◌≤◌, ◌⊎◌, List, [], ◌∷◌, ◌++◌, length, Option, Some, None, fold, refl, sym, ap, subst, ◌∙◌, inl, inr, append_assoc, append-nil, length-append, arith}
+use Rattle.std.proofs.Common.{◌≡◌, ℕ, ◌+◌, ◌≤◌, ◌⊎◌, List, [], ◌∷◌, ◌++◌, length, Option, Some, None, fold, sym, ap, ◌∙◌, inl, inr, append_assoc, length-append, arith}
 use Rattle.std.proofs.lemmas.Grind.{fold-append}
 use Rattle.als_record.specs.declared.lsn.Lsn.{Lsn}
 use Rattle.als_record.specs.declared.change.Change.{Change}
@@ -19,11 +19,12 @@ abbrev pub RedoneSoFar : Warm → Warm → ℕ → Option Lsn → Type 0
 RedoneSoFar old now count None = (count ≡ 0) × (now ≡ old)
 RedoneSoFar old now count (Some lsn) = IsFrontRedone old now count lsn
 
-abbrev warm : ℕ → PageState → List Change → Warm
-warm id state pending = record { id = id; state = state; pending = pending }
+-- this page with another content and other changes that wait
+abbrev warm : Warm → PageState → List Change → Warm
+warm base state pending = record base { state = state; pending = pending }
 
-made : (id id' : ℕ) (state state' : PageState) (pending pending' : List Change) → id ≡ id' → state ≡ state' → pending ≡ pending' → warm id state pending ≡ warm id' state' pending'
-made id id' state state' pending pending' e f g = ap (λ (i : ℕ). warm i state pending) e ∙ ap (λ (s : PageState). warm id' s pending) f ∙ ap (λ (cs : List Change). warm id' state' cs) g
+made : (base : Warm) (state state' : PageState) (pending pending' : List Change) → state ≡ state' → pending ≡ pending' → warm base state pending ≡ warm base state' pending'
+made base state state' pending pending' f g = ap (λ (s : PageState). warm base s pending) f ∙ ap (λ (cs : List Change). warm base state' cs) g
 
 page_after : (base : Warm) (state : PageState) (pending other : List Change) → pending ≡ other → (record base { state = state; pending = pending }) ≡ record base { state = state; pending = other }
 page_after base state pending other e = ap (λ (cs : List Change). record base { state = state; pending = cs }) e
@@ -45,14 +46,14 @@ redone_more old now new count (Some before) lsn so_far one =
     let rest-is : new.pending ≡ one.rest = ap (λ (w : Warm). w.pending) one.after in
     let done = so_far.front ++ so_far.last ∷ [] in
     let state-is : now.state ≡ fold redone old.state done = ap (λ (w : Warm). w.state) so_far.after in
-    let id-is : now.id ≡ old.id = ap (λ (w : Warm). w.id) so_far.after in
     record {
       front = done;
       last = one.change;
       waits = so_far.waits ∙ ap (λ (cs : List Change). done ++ cs) (one.waits ∙ ap (λ (cs : List Change). one.change ∷ cs) (sym rest-is)) ∙ sym (append_assoc done (one.change ∷ []) new.pending);
       count_is = omega (arith, so_far.count_is, length-append so_far.front (so_far.last ∷ []));
       lsn_is = one.lsn_is;
-      after = one.after ∙ made now.id old.id (redone now.state one.change) (fold redone old.state (done ++ one.change ∷ [])) one.rest new.pending id-is
+      after = one.after ∙ ap (λ (w : Warm). warm w (redone now.state one.change) one.rest) so_far.after
+          ∙ made old (redone now.state one.change) (fold redone old.state (done ++ one.change ∷ [])) one.rest new.pending
           (ap (λ (s : PageState). redone s one.change) state-is ∙ sym (fold-append redone old.state done (one.change ∷ []))) (sym rest-is);
     }
 

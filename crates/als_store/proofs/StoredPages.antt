@@ -1,5 +1,5 @@
 -- The pages of a held log: as the log grows, and as changes are redone.
-use Rattle.std.proofs.Common.{◌≡◌, ℕ, zero, suc, ◌+◌, ◌<◌, ◌≤◌, ◌⊎◌, List, [], ◌∷◌, ◌++◌, length, Option, Some, None, IsTrue, refl, sym, ap, subst, ◌∙◌, inl, inr, fold, append_assoc, append-nil, arith}
+use Rattle.std.proofs.Common.{◌≡◌, ℕ, zero, suc, ◌+◌, ◌<◌, ◌≤◌, true, false, List, [], ◌∷◌, ◌++◌, length, Some, None, refl, sym, ap, subst, ◌∙◌, inl, inr, fold, append_assoc, append-nil, arith}
 use Rattle.std.specs.Prelude.{slice_get, slice_set}
 use Rattle.std.specs.List.{AllByRecursion}
 use Rattle.std.proofs.lemmas.Bool.{cases_eq}
@@ -7,11 +7,11 @@ use Rattle.std.proofs.lemmas.Option.{same_Some, slice_get_cases}
 use Rattle.als_record.specs.declared.lsn.Lsn.{Lsn}
 use Rattle.als_record.specs.declared.change.Change.{Change}
 use Rattle.als_record.specs.declared.record.Record.{Record}
-use Rattle.als_record.specs.Spelling.{record_len, IsRecord}
-use Rattle.als_record.specs.LogText.{end_of, follow_from, IsLog}
+use Rattle.als_record.specs.Spelling.{IsRecord}
+use Rattle.als_record.specs.LogText.{end_of, IsLog}
 use Rattle.als_record.specs.Pages.{PageState, change_of, empty_page, redone, page_at, changes_on, changes_above, lsn_after, IsChangeAbove, IsFittingChange}
-use Rattle.als_record.proofs.PageLaws.{end_of-push, follow_from-push, record_len-least, page_at-nil, changes_above-nil, changes_on-none, changes_on-same, changes_on-other, page_at-push, changes_above-push, changes_above-front, lsn_after-last, changes_above-cons, changes_above-each, changes_above-fit, changes_above-head, lsn-fold}
-use Rattle.als_store.specs.Warm.{Warm, AreNext, IsPageOf, ArePagesOf, CanRoute, IsRouted, Redoes, AppliesAt, fresh_from}
+use Rattle.als_record.proofs.PageLaws.{end_of-push, follow_from-push, page_at-nil, changes_above-nil, changes_on-none, changes_on-same, changes_on-other, page_at-push, changes_above-push, changes_above-front, lsn_after-last, changes_above-cons, changes_above-each, changes_above-fit, changes_above-head, lsn-fold}
+use Rattle.als_store.specs.Warm.{Warm, AreNext, IsPageOf, ArePagesOf, CanRoute, IsRouted, Redoes, AppliesAt, MakesPlace, fresh_from}
 use Rattle.als_store.proofs.PageLists.{get-set_here, get-set_other}
 
 -- ---- the log
@@ -39,10 +39,10 @@ next-changes_above pages log page lsn h = next-list pages log page lsn (changes_
 
 -- ---- empty pages
 
-fresh-get : (id count p : ℕ) (w : Warm) → slice_get (fresh_from id count) p ≡ Some w → w ≡ record { id = id + p; state = empty_page; pending = [] }
+fresh-get : (id count p : ℕ) (w : Warm) → slice_get (fresh_from id count) p ≡ Some w → w ≡ record { id = id + p; state = empty_page; pending = []; has_room = false }
 fresh-get id zero p w h = absurd cc
-fresh-get id (suc count) zero w h = let e : id ≡ id + 0 = omega arith in sym (same_Some _ w h) ∙ ap (λ (i : ℕ). record { id = i; state = empty_page; pending = [] }) e
-fresh-get id (suc count) (suc p) w h = let e : suc id + p ≡ id + suc p = omega arith in fresh-get (suc id) count p w h ∙ ap (λ (i : ℕ). record { id = i; state = empty_page; pending = [] }) e
+fresh-get id (suc count) zero w h = let e : id ≡ id + 0 = omega arith in sym (same_Some _ w h) ∙ ap (λ (i : ℕ). record { id = i; state = empty_page; pending = []; has_room = false }) e
+fresh-get id (suc count) (suc p) w h = let e : suc id + p ≡ id + suc p = omega arith in fresh-get (suc id) count p w h ∙ ap (λ (i : ℕ). record { id = i; state = empty_page; pending = []; has_room = false }) e
 
 pub end-nil : end_of [] ≡ 16
 unfolding end_of
@@ -51,7 +51,7 @@ end-nil = refl
 pub pages-fresh : (count : ℕ) → ArePagesOf [] (fresh_from 0 count)
 pages-fresh count = record {
   numbered = λ p w there. let e : 0 + p ≡ p = omega arith in ap (λ (v : Warm). v.id) (fresh-get 0 count p w there) ∙ e;
-  each = λ p w there. let one : IsPageOf [] (record { id = 0 + p; state = empty_page; pending = [] }) = record {
+  each = λ p w there. let one : IsPageOf [] (record { id = 0 + p; state = empty_page; pending = []; has_room = false }) = record {
     below = omega (arith, end-nil);
     content = sym (page_at-nil (0 + p) 0);
     pending = sym (changes_above-nil (0 + p) 0);
@@ -121,12 +121,13 @@ pub pages-push_change : (log : List Record) (r : Record) (c : Change) (pages new
 pages-push_change log r c pages new at change routed h =
     let i = c.key.page in
     let w : Warm = routed.w in
-    let w' : Warm = record w { pending = w.pending ++ c ∷ [] } in
+    let w' : Warm = record w { pending = w.pending ++ c ∷ []; has_room = false } in
     let id : w.id ≡ i = h.numbered i w routed.found in
     let there' : (p : ℕ) (v : Warm) → slice_get new p ≡ Some v → slice_get (slice_set pages i w') p ≡ Some v = λ p v there. ap (λ (ws : List Warm). slice_get ws p) (sym routed.after) ∙ there in
     let same : (v : Warm) → slice_get new i ≡ Some v → w' ≡ v = λ v there. same_Some w' v (sym (get-set_here pages i w w' routed.found) ∙ there' i v there) in
     let other : (p : ℕ) (v : Warm) → (p ≡ i → ⊥) → slice_get new p ≡ Some v → slice_get pages p ≡ Some v = λ p v ne there. sym (get-set_other pages i p w' ne) ∙ there' p v there in
-    let changed : IsPageOf (log ++ r ∷ []) w' = with_pending (log ++ r ∷ []) w (w.pending ++ changes_on w.id (r ∷ [])) (w.pending ++ c ∷ []) (ap (λ (cs : List Change). w.pending ++ cs) (changes_on-same w.id r c change (sym id))) (page-push log r w at (h.each i w routed.found)) in
+    let pushed = with_pending (log ++ r ∷ []) w (w.pending ++ changes_on w.id (r ∷ [])) (w.pending ++ c ∷ []) (ap (λ (cs : List Change). w.pending ++ cs) (changes_on-same w.id r c change (sym id))) (page-push log r w at (h.each i w routed.found)) in
+    let changed : IsPageOf (log ++ r ∷ []) w' = record { below = pushed.below; content = pushed.content; pending = pushed.pending } in
     record {
       numbered = λ p v there. elim (cases_eq p i) [
         | inl e ↦ ap (λ (x : Warm). x.id) (sym (same v (subst (λ q. slice_get new q ≡ Some v) e there))) ∙ id ∙ sym e
@@ -175,6 +176,29 @@ pages-apply count log pages page new lsn is_log h applied =
       ];
       each = λ p v there. elim (cases_eq p page) [
         | inl e ↦ subst (λ (x : Warm). IsPageOf log x) (same v (subst (λ q. slice_get new q ≡ Some v) e there)) changed
+        | inr ne ↦ h.each p v (other p v ne there)
+      ];
+    }
+
+-- ---- room
+
+-- room for one more change of a page changes nothing else
+pub pages-place : (log : List Record) (page : ℕ) (pages new : List Warm) → MakesPlace pages page new → ArePagesOf log pages → ArePagesOf log new
+pages-place log page pages new made h =
+    let w : Warm = made.w in
+    let w' : Warm = record w { has_room = true } in
+    let was : IsPageOf log w = h.each page w made.found in
+    let is : IsPageOf log w' = record { below = was.below; content = was.content; pending = was.pending } in
+    let there' : (p : ℕ) (v : Warm) → slice_get new p ≡ Some v → slice_get (slice_set pages page w') p ≡ Some v = λ p v there. ap (λ (ws : List Warm). slice_get ws p) (sym made.after) ∙ there in
+    let same : (v : Warm) → slice_get new page ≡ Some v → w' ≡ v = λ v there. same_Some w' v (sym (get-set_here pages page w w' made.found) ∙ there' page v there) in
+    let other : (p : ℕ) (v : Warm) → (p ≡ page → ⊥) → slice_get new p ≡ Some v → slice_get pages p ≡ Some v = λ p v ne there. sym (get-set_other pages page p w' ne) ∙ there' p v there in
+    record {
+      numbered = λ p v there. elim (cases_eq p page) [
+        | inl e ↦ ap (λ (x : Warm). x.id) (sym (same v (subst (λ q. slice_get new q ≡ Some v) e there))) ∙ h.numbered page w made.found ∙ sym e
+        | inr ne ↦ h.numbered p v (other p v ne there)
+      ];
+      each = λ p v there. elim (cases_eq p page) [
+        | inl e ↦ subst (λ (x : Warm). IsPageOf log x) (same v (subst (λ q. slice_get new q ≡ Some v) e there)) is
         | inr ne ↦ h.each p v (other p v ne there)
       ];
     }

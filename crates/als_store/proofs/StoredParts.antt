@@ -1,35 +1,36 @@
 -- The parts of a store, after each event.
-use Rattle.std.proofs.Common.{◌≡◌, ℕ, zero, suc, ◌+◌, ◌<◌, ◌≤◌, ◌⊎◌, List, [], ◌∷◌, ◌++◌, length, Option, Some, None, refl, sym, ap, subst, ◌∙◌, inl, inr, arith, length-append, append_assoc}
-use Rattle.std.specs.Prelude.{Bool, ◌*◌, ◌^◌, true, false, slice_get, slice_set, slice_index, replicate, IfSome, Contains, nat_le, if◌then◌else◌, IsTrue}
+use Rattle.std.proofs.Common.{◌≡◌, ℕ, suc, ◌+◌, ◌<◌, ◌≤◌, ◌⊎◌, List, [], ◌∷◌, ◌++◌, length, Option, Some, None, refl, sym, ap, subst, ◌∙◌, inl, inr, arith, length-append, append_assoc}
+use Rattle.std.specs.Prelude.{Bool, ◌*◌, true, false, slice_set, IfSome, Contains, IsTrue}
 use Rattle.std.proofs.lemmas.Bool.{cases_lt, le-leb, lt-leb}
 use Rattle.std.specs.List.{sum_by}
 use Rattle.als_disk.specs.SlotLaws.{Contains-one}
 use Rattle.std.proofs.lemmas.List.{map-set, length-set}
 use Rattle.std.proofs.lemmas.List.Sums.{sum_by-cons}
-use Rattle.std.proofs.lemmas.List.Elements.{Contains-append_left, Contains-push, Contains-push_cases}
+use Rattle.std.proofs.lemmas.List.Elements.{Contains-push_cases}
 use Rattle.std.proofs.lemmas.Option.{slice_get_within}
 use Rattle.als_record.specs.declared.lsn.Lsn.{Lsn}
 use Rattle.als_record.specs.declared.change.Change.{Change}
 use Rattle.als_record.specs.declared.record.Record.{Record}
 use Rattle.als_record.specs.Spelling.{record_len, IsRecord}
 use Rattle.als_record.specs.LogText.{end_of}
-use Rattle.als_record.specs.Validity.{first_bad, IsValidLog}
-use Rattle.als_record.specs.Pages.{PageState, change_of}
+use Rattle.als_record.specs.Validity.{first_bad}
+use Rattle.als_record.specs.Pages.{change_of}
 use Rattle.als_record.proofs.PageLaws.{end_of-push, record_len-least, lsn_after-last, lsn-fold}
 use Rattle.als_validator.specs.declared.validator.Validator.{Validator}
-use Rattle.als_validator.specs.Validated.{IsValidatorOf}
+use Rattle.als_validator.specs.Validated.{IsValidatorOf, HasRoom}
 use Rattle.als_log.specs.Local.{Local, IsLocal, IsFrontEnd, whole_end, whole_from}
 use Rattle.als_ckpt.specs.declared.control_state.ControlState.{ControlState}
-use Rattle.als_ckpt.specs.Control.{Controlled, IsAmong, newest, last_state, with_state, settled, first_state, new_control}
-use Rattle.als_store.specs.Warm.{Warm, ArePagesOf, CanRoute, AppliesAt, total_waiting, fresh_from}
+use Rattle.als_ckpt.specs.Control.{Controlled, newest, last_state, with_state, settled, first_state, new_control}
+use Rattle.als_store.specs.Warm.{Warm, CanRoute, MakesPlaces, AppliesAt, total_waiting, fresh_from}
 use Rattle.als_record.specs.Tail as tail
 use Rattle.als_record.specs.Transactions as transactions
 use Rattle.als_record.specs.Tail.{tail_len}
 use Rattle.als_store.specs.Stored.{Stored, AppliesFirst, formatted, with_log, IsTooLong, FrontsFit}
-use Rattle.als_store.specs.Parts.{IsStored, AreMarks, applied_of, stored_of}
+use Rattle.als_store.specs.Parts.{IsStored, AreMarks, applied_of, stored_of, spare_of}
+use Rattle.als_store.specs.Spare.{HasSpare}
 use Rattle.als_store.proofs.PageLists.{length-fresh, total-fresh, total-set, redoes-shorter}
 use Rattle.als_store.proofs.StoredPages.{IsLog-push, pages-fresh, pages-apply, can_route, end-nil}
-use Rattle.als_store.proofs.StoredViews.{Routes, routes_count, routes_pages, valid_push, valid-nil, applied-fresh, waiting_seen}
+use Rattle.als_store.proofs.StoredViews.{places_count, places_pages, place_made, Routes, routes_count, routes_pages, valid_push, valid-nil, applied-fresh, waiting_seen}
 
 -- how many records a log can have
 pub length-below_end : (log : List Record) → length log ≤ end_of log
@@ -124,6 +125,17 @@ whole_end-covers log at written f le =
     let covers = whole_from-covers written 16 f.front f.rest (omega (arith, sum, f.ends, le)) in
     subst (λ (xs : List Record). at ≤ whole_end xs written) (sym f.parts) (omega (arith, covers, sum, f.ends))
 
+-- ---- room for a record
+
+-- where room was made in all parts, a record can be taken with no memory
+pub spare_made : (l : Local) (validator : Validator) (old new : List Warm) (r : Record) (len : ℕ) → len ≡ record_len r → len ≤ l.room → HasRoom validator → MakesPlaces old (change_of r) new → HasSpare (spare_of l validator new) r
+spare_made l validator old new r len is bytes room places = record {
+  bytes = omega (arith, is, bytes);
+  table = room.table;
+  commits = omega (arith, room.committed);
+  place = place_made old new (change_of r) places;
+}
+
 -- ---- the store after each event
 
 pub can_route_change : (pages held : ℕ) (l : Local) (c : Controlled) (warm : List Warm) (validator : Validator) (broken : Bool) (r : Record) (change : Option Change) → change_of r ≡ change → IsStored pages l held c warm validator broken → IsRecord pages r → r.lsn.0 ≡ end_of l.log
@@ -150,6 +162,31 @@ module _ (pages held : ℕ) (l : Local) (c : Controlled) (warm : List Warm) (val
     marks = record { pages = h.marks.pages; bytes = h.marks.bytes; newest_synced = h.marks.newest_synced; fronts = h.marks.fronts };
     sure = h.sure;
   })
+
+  -- room for a record in all parts
+  pub stored-room : (l' : Local) (warm' : List Warm) (validator' : Validator) (change : Option Change) → l' ≡ record l { room = l'.room } → IsValidatorOf pages validator' l.log → MakesPlaces warm change warm'
+      → IsStored pages l' held c warm' validator' broken
+  stored-room l' warm' validator' change e judged places =
+      let k = places_count warm warm' change places in
+      subst (λ (x : Local). IsStored pages x held c warm' validator' broken) (sym e) (record {
+        log_pages = h.log_pages;
+        is_log = h.is_log;
+        fit = h.fit;
+        judged = judged;
+        are_pages = places_pages l.log warm warm' change places h.are_pages;
+        count = k.0 ∙ h.count;
+        held_is = h.held_is;
+        few = omega (arith, k.1, h.few);
+        few_pages = h.few_pages;
+        marks = record { pages = h.marks.pages; bytes = h.marks.bytes; newest_synced = h.marks.newest_synced; fronts = h.marks.fronts };
+        sure = h.sure;
+      })
+
+  pub view-room : (failures attempts : ℕ) (l' : Local) (warm' : List Warm) (change : Option Change) → l' ≡ record l { room = l'.room } → MakesPlaces warm change warm'
+      → stored_of pages l' c warm' broken failures attempts ≡ stored_of pages l c warm broken failures attempts
+  view-room failures attempts l' warm' change e places =
+      ap (λ (x : Local). stored_of pages x c warm' broken failures attempts) e
+      ∙ ap (λ (xs : List ℕ). record (stored_of pages l c warm broken failures attempts) { applied = xs }) (places_count warm warm' change places).2
 
   -- a record more
   pub stored-push : (l' : Local) (r : Record) (warm' : List Warm) (validator' : Validator) → IsRecord pages r → r.lsn.0 ≡ end_of l.log → first_bad l.log r ≡ None

@@ -1,31 +1,27 @@
 -- What callers see of a held log, from its parts.
-use Rattle.std.proofs.Common.{◌≡◌, ℕ, zero, suc, ◌+◌, ◌^◌, ◌<◌, ◌≤◌, ◌⊎◌, List, [], ◌∷◌, ◌++◌, length, map, get_or, Option, Some, None, refl, sym, ap, subst, ◌∙◌, inl, inr, fold, arith, length-append}
-use Rattle.std.specs.Prelude.{Bool, ◌*◌, true, false, slice_get, slice_set, slice_index, replicate, MatchOption, IfSome}
+use Rattle.std.proofs.Common.{◌≡◌, ℕ, zero, suc, ◌+◌, ◌<◌, ◌≤◌, List, [], ◌∷◌, ◌++◌, length, get_or, Option, Some, None, refl, sym, ap, subst, ◌∙◌, inl, inr, arith, length-append}
+use Rattle.std.specs.Prelude.{Bool, true, false, slice_get, slice_index, replicate, MatchOption, IfSome}
 use Rattle.std.specs.Option.{option_map}
 use Rattle.std.proofs.Math.Seq.{map-set_same}
-use Rattle.std.proofs.lemmas.List.{map-set, length-set}
+use Rattle.std.proofs.lemmas.List.{length-set}
 use Rattle.std.proofs.lemmas.List.Sums.{sum_by-cons}
-use Rattle.std.proofs.lemmas.Option.{same_Some, slice_get_cases, slice_get_within, slice_get-map, get_or_from_slice_get}
-use Rattle.als_record.specs.declared.lsn.Lsn.{Lsn}
+use Rattle.std.proofs.lemmas.Option.{slice_get_cases, slice_get_within, slice_get-map, get_or_from_slice_get}
 use Rattle.als_record.specs.declared.change.Change.{Change}
 use Rattle.als_record.specs.declared.record.Record.{Record}
-use Rattle.als_record.specs.Spelling.{record_len, IsRecord}
+use Rattle.als_record.specs.Spelling.{IsRecord}
 use Rattle.als_record.specs.LogText.{end_of, follow_from, IsLog}
 use Rattle.als_record.specs.Validity.{first_bad, may_follow, may_follow_all, is_valid, IsValidLog}
 use Rattle.als_record.proofs.Validity.{first_bad-none, may_follow-admitted, is_valid-push}
 use Rattle.std.proofs.lemmas.Bool.{and_from}
 use Rattle.als_validator.specs.declared.validator.Validator.{Validator}
-use Rattle.als_validator.specs.Validated.{IsValidatorOf}
-use Rattle.als_record.specs.Pages.{PageState, change_of, empty_page, redone, changes_above, lsn_after}
-use Rattle.als_record.proofs.PageLaws.{end_of-push, record_len-least, lsn_after-last, lsn-fold}
-use Rattle.als_store.specs.Warm.{Warm, IsPageOf, ArePagesOf, CanRoute, IsRouted, AppliesAt, NothingWaits, WaitsFirst, total_waiting, fresh_from}
-use Rattle.als_log.specs.Local.{Local, IsFrontEnd}
-use Rattle.als_ckpt.specs.declared.control_state.ControlState.{ControlState}
-use Rattle.als_ckpt.specs.Control.{Controlled, IsAmong, newest}
-use Rattle.als_store.specs.Stored.{Stored, waiting_on, waiting_from, pending_of, AppliesFirst, IsDry, WaitsFrom, with_log}
-use Rattle.als_store.specs.Parts.{IsStored, AreMarks, applied_of, stored_of}
-use Rattle.als_store.proofs.PageLists.{length-fresh, total-fresh, total-set, redoes-shorter}
-use Rattle.als_store.proofs.StoredPages.{IsLog-push, pages-fresh, pages-push_none, pages-push_change, pages-apply, can_route, end-nil}
+use Rattle.als_record.specs.Pages.{change_of, changes_above}
+use Rattle.als_store.specs.Warm.{Warm, IsPageOf, ArePagesOf, CanRoute, IsRouted, HasPlace, MakesPlace, MakesPlaces, NothingWaits, WaitsFirst, total_waiting, fresh_from}
+use Rattle.als_log.specs.Local.{Local}
+use Rattle.als_ckpt.specs.Control.{Controlled}
+use Rattle.als_store.specs.Stored.{Stored, waiting_on, waiting_from, pending_of, IsDry, WaitsFrom}
+use Rattle.als_store.specs.Parts.{IsStored, applied_of, stored_of}
+use Rattle.als_store.proofs.PageLists.{total-set, get-set_here, routed_inside}
+use Rattle.als_store.proofs.StoredPages.{IsLog-push, pages-push_none, pages-push_change, pages-place}
 
 sum_two : (a b c d : ℕ) → a ≡ b → c ≡ d → a + c ≡ b + d
 sum_two a b c d e f = omega (arith, e, f)
@@ -111,7 +107,7 @@ Routes old change new = MatchOption change (new ≡ old) (λ c. IsRouted old c n
 routed_count : (old new : List Warm) (c : Change) → IsRouted old c new → (length new ≡ length old) × (total_waiting new ≡ total_waiting old + 1) × (applied_of new ≡ applied_of old)
 routed_count old new c r =
     let w : Warm = r.w in
-    let w' : Warm = record w { pending = w.pending ++ c ∷ [] } in
+    let w' : Warm = record w { pending = w.pending ++ c ∷ []; has_room = false } in
     let i = c.key.page in
     let there : get_or old i w ≡ w = get_or_from_slice_get old i w w r.found in
     let total = total-set old i w w' r.found in (
@@ -127,6 +123,43 @@ routes_count old new (Some c) r = let k = routed_count old new c r in (k.0, omeg
 pub routes_pages : (log : List Record) (r : Record) (old new : List Warm) (change : Option Change) → change_of r ≡ change → r.lsn.0 ≡ end_of log → Routes old change new → ArePagesOf log old → ArePagesOf (log ++ r ∷ []) new
 routes_pages log r old new None e at same h = subst (λ (ws : List Warm). ArePagesOf (log ++ r ∷ []) ws) (sym same) (pages-push_none log r old at e h)
 routes_pages log r old new (Some c) e at routed h = pages-push_change log r c old new at e routed h
+
+-- ---- room for a record
+
+placed_count : (old new : List Warm) (page : ℕ) → MakesPlace old page new → (length new ≡ length old) × (total_waiting new ≡ total_waiting old) × (applied_of new ≡ applied_of old)
+placed_count old new page made =
+    let w : Warm = made.w in
+    let w' : Warm = record w { has_room = true } in
+    let there : get_or old page w ≡ w = get_or_from_slice_get old page w w made.found in
+    let total = total-set old page w w' made.found in (
+      ap length made.after ∙ length-set old page w',
+      omega (arith, ap total_waiting made.after, total),
+      ap applied_of made.after ∙ map-set_same (λ (v : Warm). v.state.lsn) old page w' w (sym (ap (λ (v : Warm). v.state.lsn) there)),
+    )
+
+pub places_count : (old new : List Warm) (change : Option Change) → MakesPlaces old change new → (length new ≡ length old) × (total_waiting new ≡ total_waiting old) × (applied_of new ≡ applied_of old)
+places_count old new None same = (ap length same, ap total_waiting same, ap applied_of same)
+places_count old new (Some c) made = placed_count old new c.key.page made
+
+pub places_pages : (log : List Record) (old new : List Warm) (change : Option Change) → MakesPlaces old change new → ArePagesOf log old → ArePagesOf log new
+places_pages log old new None same h = subst (λ (ws : List Warm). ArePagesOf log ws) (sym same) h
+places_pages log old new (Some c) made h = pages-place log c.key.page old new made h
+
+-- where room was made for a change there is room
+pub place_made : (old new : List Warm) (change : Option Change) → MakesPlaces old change new → IfSome change (λ c. HasPlace new c.key.page)
+place_made old new None same = tt
+place_made old new (Some c) made =
+    let page = c.key.page in
+    let w : Warm = made.w in
+    let here = get-set_here old page w (record w { has_room = true }) made.found in
+    slice_get-map (λ (v : Warm). v.has_room) new page ∙ ap (option_map (λ (v : Warm). v.has_room)) (ap (λ (ws : List Warm). slice_get ws page) made.after ∙ here)
+
+-- the page of a change that can be routed is there
+pub change_inside : (pages : List Warm) (change : Option Change) → IfSome change (CanRoute pages) → IfSome change (λ c. c.key.page < length pages)
+change_inside pages None can = tt
+change_inside pages (Some c) can = routed_inside pages c can
+
+-- ---- a valid log
 
 -- a record that fits, stands at the end and is not refused makes a valid log again
 pub valid_push : (pages : ℕ) (log : List Record) (r : Record) → IsValidLog pages log → IsRecord pages r → r.lsn.0 ≡ end_of log → first_bad log r ≡ None → IsValidLog pages (log ++ r ∷ [])

@@ -1,7 +1,6 @@
 -- What the devices of a store hold, whatever a crash leaves of them.
 use Rattle.std.specs.Prelude.{◌≡◌, ℕ, ◌*◌, ◌≤◌, List, ◌∷◌, Contains}
 use Rattle.als_record.specs.LogText.{log_text, end_of}
-use Rattle.als_record.specs.Tail.{tail_len}
 use Rattle.als_record.specs.Validity.{IsValidLog}
 use Rattle.als_disk.specs.Slot.{Slot}
 use Rattle.als_log.specs.Local.{IsFrontEnd}

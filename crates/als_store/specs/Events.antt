@@ -1,5 +1,5 @@
 -- What each event on the log and on the control block makes of a store: each of them makes one write or one sync of a device.
-use Rattle.std.specs.Prelude.{◌≡◌, ℕ, ◌+◌, ◌<◌, ◌≤◌, true, List, [], ◌∷◌, ◌++◌}
+use Rattle.std.specs.Prelude.{◌≡◌, ◌+◌, ◌<◌, true, [], ◌∷◌, ◌++◌}
 use Rattle.als_record.specs.declared.lsn.Lsn.{Lsn}
 use Rattle.als_record.specs.LogText.{end_of}
 use Rattle.als_log.specs.Local.{next_written, whole_end}

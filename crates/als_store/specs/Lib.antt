@@ -1,6 +1,7 @@
 pub mod Faults
 pub mod Warm
 pub mod Stored
+pub mod Spare
 pub mod Events
 pub mod Devices
 pub mod Parts

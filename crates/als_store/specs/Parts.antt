@@ -1,13 +1,14 @@
 -- The parts of a store, and what a caller sees of them.
-use Rattle.std.specs.Prelude.{◌≡◌, ℕ, ◌+◌, ◌*◌, ◌≤◌, Bool, true, false, List, length, map}
+use Rattle.std.specs.Prelude.{◌≡◌, ℕ, ◌+◌, ◌-◌, ◌*◌, ◌≤◌, Bool, true, false, List, length, map, vec_len, vec_capacity}
 use Rattle.als_record.specs.Validity.{IsValidLog}
 use Rattle.als_validator.specs.declared.validator.Validator.{Validator}
 use Rattle.als_validator.specs.Validated.{IsValidatorOf}
 use Rattle.als_log.specs.Local.{Local, IsFrontEnd}
 use Rattle.als_ckpt.specs.declared.control_state.ControlState.{ControlState}
 use Rattle.als_ckpt.specs.Control.{Controlled, newest, IsAmong}
-use Rattle.als_store.specs.Warm.{Warm, total_waiting, ArePagesOf}
+use Rattle.als_store.specs.Warm.{Warm, places_of, total_waiting, ArePagesOf}
 use Rattle.als_store.specs.Stored.{Stored, FrontsFit}
+use Rattle.als_store.specs.Spare.{Spare}
 
 -- the page_LSNs of pages
 abbrev pub applied_of : List Warm → List ℕ
@@ -27,6 +28,15 @@ stored_of pages l c warm broken page_failures page_attempts = record {
   broken = broken;
   failures = l.failures + c.failures + page_failures;
   attempts = l.attempts + c.attempts + page_attempts;
+}
+
+-- what can be taken with no memory
+abbrev pub spare_of : Local → Validator → List Warm → Spare
+spare_of l validator warm = record {
+  bytes = l.room;
+  table = validator.table.has_room;
+  commits = vec_capacity validator.committed - vec_len validator.committed;
+  places = places_of warm;
 }
 
 -- Each mark of the control states is the end of a record, at or below the synced end.

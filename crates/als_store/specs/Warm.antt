@@ -1,5 +1,5 @@
 -- A page in memory and the changes that wait for it.
-use Rattle.std.specs.Prelude.{◌≡◌, ℕ, zero, suc, ◌+◌, ◌<◌, ◌≤◌, ◌⊎◌, List, [], ◌∷◌, ◌++◌, length, Option, Some, None, slice_get, slice_set}
+use Rattle.std.specs.Prelude.{◌≡◌, ℕ, zero, suc, ◌<◌, ◌≤◌, ◌⊎◌, Bool, true, false, List, [], ◌∷◌, ◌++◌, length, map, Option, Some, None, MatchOption, slice_get, slice_set}
 use Rattle.std.specs.List.{sum_by, fold}
 use Rattle.als_record.specs.declared.change.Change.{Change}
 use Rattle.als_record.specs.declared.record.Record.{Record}
@@ -9,11 +9,13 @@ use Rattle.als_record.specs.declared.lsn.Lsn.{Lsn}
 use Rattle.als_page.specs.declared.page.Page.{Page}
 use Rattle.als_page.specs.Page.{state_of}
 
--- what callers see of a page: its number, its content, and the changes that are not redone yet, in order
+-- what callers see of a page: its number, its content, the changes that are not redone yet, in order, and whether there is
+-- room for one more
 pub record Warm : Type 0 where
   pub id : ℕ
   pub state : PageState
   pub pending : List Change
+  pub has_room : Bool
 
 -- changes of a page in rising order, each above an LSN: redo can take them one after another
 abbrev pub AreNext : ℕ → ℕ → List Change → Type 0
@@ -55,17 +57,35 @@ pub record IsCounted (pages : List Warm) (count : ℕ) : Type 0 where
 -- empty pages, numbered from here on
 abbrev pub fresh_from : ℕ → ℕ → List Warm
 fresh_from id zero = []
-fresh_from id (suc count) = record { id = id; state = empty_page; pending = [] } ∷ fresh_from (suc id) count
+fresh_from id (suc count) = record { id = id; state = empty_page; pending = []; has_room = false } ∷ fresh_from (suc id) count
 
 -- a change can go behind those that its page waits for
 abbrev pub CanRoute : List Warm → Change → Type 0
 CanRoute pages change = (w : Warm) × (slice_get pages change.key.page ≡ Some w) × AreNext w.id w.state.lsn (w.pending ++ change ∷ [])
 
+-- for each page whether there is room for one more change
+abbrev pub places_of : List Warm → List Bool
+places_of pages = map (λ w. w.has_room) pages
+
+-- there is room for one more change of a page
+abbrev pub HasPlace : List Warm → ℕ → Type 0
+HasPlace pages page = slice_get (places_of pages) page ≡ Some true
+
+-- the pages, where room was made for one more change of a page
+pub record MakesPlace (old : List Warm) (page : ℕ) (new : List Warm) : Type 0 where
+  pub w : Warm
+  pub found : slice_get old page ≡ Some w
+  pub after : new ≡ slice_set old page (record w { has_room = true })
+
+-- what making room for a record makes of the pages, by whether it changes one
+abbrev pub MakesPlaces : List Warm → Option Change → List Warm → Type 0
+MakesPlaces old change new = MatchOption change (new ≡ old) (λ c. MakesPlace old c.key.page new)
+
 -- the pages, where a change went behind those that its page waits for
 pub record IsRouted (old : List Warm) (change : Change) (new : List Warm) : Type 0 where
   pub w : Warm
   pub found : slice_get old change.key.page ≡ Some w
-  pub after : new ≡ slice_set old change.key.page (record w { pending = w.pending ++ change ∷ [] })
+  pub after : new ≡ slice_set old change.key.page (record w { pending = w.pending ++ change ∷ []; has_room = false })
 
 -- the first changes that a page waits for are redone, at most 64
 pub record AppliesAt (old : List Warm) (page : ℕ) (new : List Warm) (lsn : Lsn) : Type 0 where

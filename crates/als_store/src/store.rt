@@ -1,4 +1,5 @@
-ghost use Rattle.std.specs.Prelude.{◌≡◌, ℕ, ◌<◌, ◌≤◌, ◌+◌, ◌*◌, ◌^◌, ◌⊎◌, true, false, List, [], ◌∷◌, ◌++◌, length, replicate, IfOk, IfErr, IfSome, MatchOption, None, OnOk, OnErr, Err};
+ghost use Rattle.std.specs.Prelude.{◌≡◌, ℕ, ◌<◌, ◌≤◌, ◌+◌, ◌*◌, ◌^◌, ◌⊎◌, true, false, List, [], ◌∷◌, ◌++◌, length, replicate, IfOk, IfErr, IfSome, MatchOption, None, IsOk, OnOk, OnErr, Err};
+ghost use Rattle.std.specs.Result.{IsErrOf};
 ghost use Rattle.std.specs.Option.{option_copied};
 ghost use Rattle.als_record.specs.declared.record.Record.{Record as AnyRecord};
 ghost use Rattle.als_record.specs.Spelling.{record_len, IsRecord};
@@ -10,7 +11,9 @@ ghost use Rattle.als_record.specs.Pages.{change_of};
 ghost use Rattle.als_analysis.specs.Open.{rows_of};
 ghost use Rattle.als_validator.specs.Validated.{IsValidatorOf, HasRoom};
 ghost use Rattle.als_store.specs.declared.fault.Fault.TheVariants as fault;
-ghost use Rattle.als_store.specs.Warm.{CanRoute, IsRouted, total_waiting, fresh_from};
+ghost use Rattle.als_store.specs.Warm.{CanRoute, HasPlace, MakesPlaces, IsRouted, total_waiting, fresh_from};
+ghost use Rattle.als_store.specs.Spare.{HasSpare};
+ghost use Rattle.als_store.specs.Parts.{spare_of};
 ghost use Rattle.als_store.specs.Stored.{Stored, formatted, acknowledged, with_log, pending_of, AppliesFirst, IsDry, WaitsFrom, ShowsPage, StandsAt, IsRefused, IsTooLong, FrontsFit, judgement_of};
 ghost use Rattle.als_store.specs.Events.{Breaks, FailsToRead, HasUnwritten, WritesLog, SyncsLog, HasUnmarked, WritesMark, BreaksMark, SyncsControl};
 ghost use Rattle.als_store.specs.Devices.{AreKept};
@@ -49,25 +52,41 @@ pub struct Store<D: BlockDisk> {
 
 impl<D: BlockDisk> Model for Store<D> {
     ghost use Rattle.std.specs.Prelude.{◌+◌};
-    ghost use Rattle.als_store.specs.Stored.{Stored};
-    ghost use Rattle.als_store.specs.Parts.{IsStored, stored_of};
+    ghost use Rattle.als_store.specs.Spare.{Holding};
+    ghost use Rattle.als_store.specs.Parts.{IsStored, stored_of, spare_of};
 
-    ghost Value = { Stored };
+    ghost Value = { Holding };
 
-    ghost view = { λ s. stored_of s.pages s.log s.control s.warm s.broken (D.failures s.page_disk) (D.attempts s.page_disk) };
+    ghost view = { λ s. record { stored = stored_of s.pages s.log s.control s.warm s.broken (D.failures s.page_disk) (D.attempts s.page_disk); spare = spare_of s.log s.validator s.warm } };
 
     ghost invariant = { λ s. IsStored s.pages s.log s.count s.control s.warm s.validator s.broken };
 }
 
-/// Adds what a record changes, if anything, behind what its page waits for. An `Err` changes nothing.
-fn route_change(warm: &mut WarmPages, logged: &Record) -> Result<(), AllocError>
-    requires can { IfSome (change_of logged.now) (CanRoute warm.old) }
-    requires room { total_waiting warm.old + 1 < 2 ^ 64 }
-    ensures ok { OnOk result (MatchOption (change_of logged.now) (warm.new ≡ warm.old) (λ c. IsRouted warm.old c warm.new)) }
-    ensures err { OnErr result (warm.new ≡ warm.old) }
+/// Room for what a record changes, if anything, behind what its page waits for. An `Err` changes nothing.
+fn reserve_change(warm: &mut WarmPages, logged: &Record) -> Result<(), Fault>
+    requires { IfSome (change_of logged.now) (λ c. c.key.page < length warm.old) }
+    ensures ok { OnOk result (MakesPlaces warm.old (change_of logged.now) warm.new) }
+    ensures err { IfErr result (λ f. (f ≡ fault.Memory) × (warm.new ≡ warm.old)) }
+    ensures reserved { IfSome (change_of logged.now) (λ c. HasPlace warm.old c.key.page) → IsOk result }
 {
     match logged.change() {
         None => Ok(()),
+        Some(change) => match warm.reserve(change.key.page) {
+            Ok(()) => Ok(()),
+            Err(_) => Err(Fault::Memory),
+        },
+    }
+}
+
+/// Adds what a record changes, if anything, behind what its page waits for. It takes no memory.
+fn route_change(warm: &mut WarmPages, logged: &Record)
+    requires can { IfSome (change_of logged.now) (CanRoute warm.old) }
+    requires count { total_waiting warm.old + 1 < 2 ^ 64 }
+    requires place { IfSome (change_of logged.now) (λ c. HasPlace warm.old c.key.page) }
+    ensures { MatchOption (change_of logged.now) (warm.new ≡ warm.old) (λ c. IsRouted warm.old c warm.new) }
+{
+    match logged.change() {
+        None => {}
         Some(change) => warm.route(change),
     }
 }
@@ -85,10 +104,11 @@ fn judge(validator: &Validator, logged: &Record) -> Result<(), Fault>
 }
 
 /// Room for one more record in the validator.
-fn make_room(validator: &mut Validator) -> Result<(), Fault>
+fn reserve_judgement(validator: &mut Validator) -> Result<(), Fault>
     ensures same { (pages : ℕ) (log : List AnyRecord) → IsValidatorOf pages validator.old log → IsValidatorOf pages validator.new log }
     ensures ok { OnOk result (HasRoom validator.new) }
     ensures err { IfErr result (λ f. f ≡ fault.Memory) }
+    ensures reserved { HasRoom validator.old → IsOk result }
 {
     match validator.reserve() {
         Ok(()) => Ok(()),
@@ -159,11 +179,33 @@ fn reserve_bytes<D: BlockDisk>(log: &mut LocalLog<D>, len: usize) -> Result<(), 
     ensures same { log.new ≡ record log.old { room = log.new.room } }
     ensures ok { OnOk result (len ≤ log.new.room) }
     ensures err { IfErr result (λ f. f ≡ fault.Memory) }
+    ensures reserved { len ≤ log.old.room → IsOk result }
 {
     match log.reserve(len) {
         Ok(()) => Ok(()),
         Err(_) => Err(Fault::Memory),
     }
+}
+
+/// Room for a record in all parts that it changes. Memory is wanted only where one of them has no room for it yet.
+fn make_room<D: BlockDisk>(
+    log: &mut LocalLog<D>,
+    validator: &mut Validator,
+    warm: &mut WarmPages,
+    logged: &Record,
+) -> Result<(), Fault>
+    requires { IfSome (change_of logged.now) (λ c. c.key.page < length warm.old) }
+    ensures log { log.new ≡ record log.old { room = log.new.room } }
+    ensures validator { (pages : ℕ) (log : List AnyRecord) → IsValidatorOf pages validator.old log → IsValidatorOf pages validator.new log }
+    ensures pages { OnOk result (MakesPlaces warm.old (change_of logged.now) warm.new) }
+    ensures ok { OnOk result (HasSpare (spare_of log.new validator.new warm.new) logged.now) }
+    ensures err { IfErr result (λ f. (f ≡ fault.Memory) × (warm.new ≡ warm.old)) }
+    ensures reserved { HasSpare (spare_of log.old validator.old warm.old) logged.now → IsOk result }
+{
+    reserve_bytes(log, encoded_len(logged))?;
+    reserve_judgement(validator)?;
+    reserve_change(warm, logged)?;
+    Ok(())
 }
 
 /// Appends a record for which there is room on the device and in memory.
@@ -224,7 +266,7 @@ impl<D: BlockDisk> Store<D> {
         requires some_blocks { 1 ≤ D.block_count disks.log }
         requires few_blocks { D.block_count disks.log ≤ 4194304 }
         requires control { 321 ≤ D.block_count disks.control }
-        ensures ok { IfOk result (λ s. s ≡ formatted pages (D.block_count disks.log) (D.failures disks.log + D.failures disks.control + D.failures disks.pages) s.attempts) }
+        ensures ok { IfOk result (λ s. s.stored ≡ formatted pages (D.block_count disks.log) (D.failures disks.log + D.failures disks.control + D.failures disks.pages) s.stored.attempts) }
         ensures err { IfErr result (λ u. (u.fault ≡ fault.Memory) ⊎ ((u.fault ≡ fault.Device) × (D.failures disks.log + D.failures disks.control < D.failures u.disks.log + D.failures u.disks.control))) }
     {
         let Disks {
@@ -268,8 +310,8 @@ impl<D: BlockDisk> Store<D> {
 
     /// The devices. Whatever a crash leaves of them has all acknowledged bytes. Their attempts together are the store's.
     pub fn into_disks(self) -> Disks<D>
-        ensures kept { AreKept self (D.slot result.log) (D.slot result.control) }
-        ensures attempts { D.attempts result.log + D.attempts result.control + D.attempts result.pages ≡ self.attempts }
+        ensures kept { AreKept self.stored (D.slot result.log) (D.slot result.control) }
+        ensures attempts { D.attempts result.log + D.attempts result.control + D.attempts result.pages ≡ self.stored.attempts }
     {
         let Store {
             log,
@@ -286,72 +328,86 @@ impl<D: BlockDisk> Store<D> {
 
     /// The database's page count.
     pub fn pages(&self) -> u32
-        ensures { result ≡ self.now.pages }
+        ensures { result ≡ self.now.stored.pages }
     {
         self.pages
     }
 
     /// The offset after the last record.
     pub fn end(&self) -> Lsn
-        ensures end { result.0 ≡ end_of self.now.log }
-        ensures limit { end_of self.now.log ≤ 2 ^ 31 }
-        ensures fit { FrontsFit self.now.blocks self.now.log }
-        ensures log { IsValidLog self.now.pages self.now.log }
+        ensures end { result.0 ≡ end_of self.now.stored.log }
+        ensures limit { end_of self.now.stored.log ≤ 2 ^ 31 }
+        ensures fit { FrontsFit self.now.stored.blocks self.now.stored.log }
+        ensures log { IsValidLog self.now.stored.pages self.now.stored.log }
     {
         self.log.end()
     }
 
     /// How many records are held.
     pub fn len(&self) -> usize
-        ensures count { result ≡ length self.now.log }
-        ensures log { IsValidLog self.now.pages self.now.log }
+        ensures count { result ≡ length self.now.stored.log }
+        ensures log { IsValidLog self.now.stored.pages self.now.stored.log }
     {
         self.count
     }
 
     /// The offset below which no log byte can be lost: the mark in the control block as last synced.
     pub fn acknowledged(&self) -> Lsn
-        ensures { result.0 ≡ acknowledged self.now }
+        ensures { result.0 ≡ acknowledged self.now.stored }
     {
         self.control.acknowledged()
     }
 
     /// A write or a sync has failed.
     pub fn is_broken(&self) -> bool
-        ensures { result ≡ self.now.broken }
+        ensures { result ≡ self.now.stored.broken }
     {
         self.broken
     }
 
     /// How many changes wait for redo.
     pub fn pending(&self) -> usize
-        ensures { result ≡ pending_of self.now }
+        ensures { result ≡ pending_of self.now.stored }
     {
         self.warm.waiting()
+    }
+
+    /// Makes room for a record that stands at the log's end, in all parts that it changes: it can then be held with no memory.
+    /// Memory: a growth was refused, in a part that had no room for the record.
+    pub fn reserve(&mut self, logged: &Record) -> Result<(), Fault>
+        requires fits { IsRecord self.old.stored.pages logged.now }
+        requires at { logged.now.lsn.0 ≡ end_of self.old.stored.log }
+        ensures same { self.new.stored ≡ self.old.stored }
+        ensures ok { OnOk result (HasSpare self.new.spare logged.now) }
+        ensures err { IfErr result (λ f. f ≡ fault.Memory) }
+        ensures reserved { HasSpare self.old.spare logged.now → IsOk result }
+    {
+        make_room(&mut self.log, &mut self.validator, &mut self.warm, logged)?;
+        Ok(())
     }
 
     /// Holds a record that stands at the log's end. It is refused for the first cause why it may not follow the log, else by
     /// LogFull where the log device has no room for it and for the tail that a takeover would then append, and by Memory where
     /// a growth is refused. An `Err` changes nothing.
     pub fn admit(&mut self, logged: &Record) -> Result<(), Fault>
-        requires fits { IsRecord self.old.pages logged.now }
-        requires at { logged.now.lsn.0 ≡ end_of self.old.log }
-        ensures ok { OnOk result ((first_bad self.old.log logged.now ≡ None) × (self.new ≡ with_log self.old (self.old.log ++ logged.now ∷ []))) }
-        ensures err { OnErr result (self.new ≡ self.old) }
-        ensures cause { IfErr result (IsRefused self.old logged.now) }
-        ensures full { first_bad self.old.log logged.now ≡ None → IsTooLong self.old logged.now → result ≡ Err fault.LogFull }
+        requires fits { IsRecord self.old.stored.pages logged.now }
+        requires at { logged.now.lsn.0 ≡ end_of self.old.stored.log }
+        ensures ok { OnOk result ((first_bad self.old.stored.log logged.now ≡ None) × (self.new.stored ≡ with_log self.old.stored (self.old.stored.log ++ logged.now ∷ []))) }
+        ensures err { OnErr result (self.new.stored ≡ self.old.stored) }
+        ensures cause { IfErr result (IsRefused self.old.stored logged.now) }
+        ensures full { first_bad self.old.stored.log logged.now ≡ None → IsTooLong self.old.stored logged.now → result ≡ Err fault.LogFull }
+        // Memory is wanted only where a part has no room for the record yet.
+        ensures reserved { HasSpare self.old.spare logged.now → IsErrOf result fault.Memory → ⊥ }
     {
         judge(&self.validator, logged)?;
         let _ = self.log.end();
-        let len = encoded_len(logged);
         let reserve_after = self.validator.reserve_after(logged);
-        if !self.log.fits(len as u64, reserve_after) {
+        if !self.log.fits(encoded_len(logged) as u64, reserve_after) {
             return Err(Fault::LogFull);
         }
-        reserve_bytes(&mut self.log, len)?;
-        make_room(&mut self.validator)?;
-        route_change(&mut self.warm, logged)?;
+        make_room(&mut self.log, &mut self.validator, &mut self.warm, logged)?;
         self.validator.admit(logged);
+        route_change(&mut self.warm, logged);
         append(&mut self.log, logged, reserve_after);
         self.count += 1;
         Ok(())
@@ -359,9 +415,9 @@ impl<D: BlockDisk> Store<D> {
 
     /// Writes the first block of the log with unwritten bytes: one write of the log device. NothingToDo: there is none. Device: the device failed.
     pub fn log_write(&mut self) -> Result<(), Fault>
-        requires { self.old.broken ≡ false }
-        ensures ok { OnOk result (WritesLog self.old self.new) }
-        ensures err { IfErr result (λ f. ((f ≡ fault.NothingToDo) × (HasUnwritten self.old → ⊥) × (self.new ≡ self.old)) ⊎ ((f ≡ fault.Device) × HasUnwritten self.old × Breaks self.old self.new)) }
+        requires { self.old.stored.broken ≡ false }
+        ensures ok { OnOk result (WritesLog self.old.stored self.new.stored) }
+        ensures err { IfErr result (λ f. ((f ≡ fault.NothingToDo) × (HasUnwritten self.old.stored → ⊥) × (self.new.stored ≡ self.old.stored)) ⊎ ((f ≡ fault.Device) × HasUnwritten self.old.stored × Breaks self.old.stored self.new.stored)) }
     {
         match write_block(&mut self.log) {
             Ok(()) => Ok(()),
@@ -375,9 +431,9 @@ impl<D: BlockDisk> Store<D> {
 
     /// Syncs the log device, by one sync.
     pub fn log_sync(&mut self) -> Result<(), Fault>
-        requires { self.old.broken ≡ false }
-        ensures ok { OnOk result (SyncsLog self.old self.new) }
-        ensures err { IfErr result (λ f. (f ≡ fault.Device) × Breaks self.old self.new) }
+        requires { self.old.stored.broken ≡ false }
+        ensures ok { OnOk result (SyncsLog self.old.stored self.new.stored) }
+        ensures err { IfErr result (λ f. (f ≡ fault.Device) × Breaks self.old.stored self.new.stored) }
     {
         let _ = self.log.end();
         match sync_log(&mut self.log) {
@@ -391,9 +447,9 @@ impl<D: BlockDisk> Store<D> {
 
     /// Writes the control block with the synced end as its mark: one write of the control device. NothingToDo: the last mark written is that already.
     pub fn mark_write(&mut self) -> Result<(), Fault>
-        requires { self.old.broken ≡ false }
-        ensures ok { OnOk result (WritesMark self.old self.new) }
-        ensures err { IfErr result (λ f. ((f ≡ fault.NothingToDo) × (HasUnmarked self.old → ⊥) × (self.new ≡ self.old)) ⊎ ((f ≡ fault.Device) × BreaksMark self.old self.new)) }
+        requires { self.old.stored.broken ≡ false }
+        ensures ok { OnOk result (WritesMark self.old.stored self.new.stored) }
+        ensures err { IfErr result (λ f. ((f ≡ fault.NothingToDo) × (HasUnmarked self.old.stored → ⊥) × (self.new.stored ≡ self.old.stored)) ⊎ ((f ≡ fault.Device) × BreaksMark self.old.stored self.new.stored)) }
     {
         let _ = self.log.end();
         let synced = self.log.synced();
@@ -412,9 +468,9 @@ impl<D: BlockDisk> Store<D> {
 
     /// Syncs the control device, by one sync, and answers the acknowledged LSN.
     pub fn ctl_sync(&mut self) -> Result<Lsn, Fault>
-        requires { self.old.broken ≡ false }
-        ensures ok { IfOk result (λ lsn. SyncsControl self.old lsn self.new) }
-        ensures err { IfErr result (λ f. (f ≡ fault.Device) × Breaks self.old self.new) }
+        requires { self.old.stored.broken ≡ false }
+        ensures ok { IfOk result (λ lsn. SyncsControl self.old.stored lsn self.new.stored) }
+        ensures err { IfErr result (λ f. (f ≡ fault.Device) × Breaks self.old.stored self.new.stored) }
     {
         match self.control.sync() {
             Ok(()) => Ok(self.control.acknowledged()),
@@ -427,7 +483,7 @@ impl<D: BlockDisk> Store<D> {
 
     /// The transaction table: a row for each unended transaction, in rising TransID.
     pub fn table(&self) -> &[OpenTransaction]
-        ensures { rows_of result.now ≡ table_of self.now.log }
+        ensures { rows_of result.now ≡ table_of self.now.stored.log }
     {
         self.validator.rows()
     }
@@ -435,8 +491,8 @@ impl<D: BlockDisk> Store<D> {
     /// Redoes the first changes that a page waits for, at most 64, and answers its page_LSN. NothingToDo: none waits, or
     /// there is no such page.
     pub fn apply(&mut self, page: u32) -> Result<Lsn, Fault>
-        ensures ok { IfOk result (λ lsn. AppliesFirst self.old page lsn self.new) }
-        ensures err { IfErr result (λ f. (f ≡ fault.NothingToDo) × IsDry self.old page × (self.new ≡ self.old)) }
+        ensures ok { IfOk result (λ lsn. AppliesFirst self.old.stored page lsn self.new.stored) }
+        ensures err { IfErr result (λ f. (f ≡ fault.NothingToDo) × IsDry self.old.stored page × (self.new.stored ≡ self.old.stored)) }
     {
         let Some(lsn) = self.warm.apply(page) else {
             return Err(Fault::NothingToDo);
@@ -446,14 +502,14 @@ impl<D: BlockDisk> Store<D> {
 
     /// The first page from there on for which changes wait.
     pub fn next_pending(&self, from: u32) -> Option<u32>
-        ensures { WaitsFrom self.now from result }
+        ensures { WaitsFrom self.now.stored from result }
     {
         self.warm.next_waiting(from)
     }
 
     /// The page as it is now.
     pub fn page_now(&self, page: u32) -> Option<&Page>
-        ensures { ShowsPage self.now page (option_copied result) }
+        ensures { ShowsPage self.now.stored page (option_copied result) }
     {
         match self.warm.get(page) {
             Some(warm) => Some(warm.page()),
@@ -464,8 +520,8 @@ impl<D: BlockDisk> Store<D> {
     /// The record that stands at an LSN, read from the log device where it is no longer in memory. Device and Memory change
     /// nothing, but that the failure is counted.
     pub fn record_at(&mut self, lsn: Lsn) -> Result<Option<Record>, Fault>
-        ensures ok { IfOk result (λ r. StandsAt self.old.log lsn r × (self.new ≡ self.old)) }
-        ensures err { IfErr result (λ f. ((f ≡ fault.Memory) × (self.new ≡ self.old)) ⊎ ((f ≡ fault.Device) × FailsToRead self.old self.new)) }
+        ensures ok { IfOk result (λ r. StandsAt self.old.stored.log lsn r × (self.new.stored ≡ self.old.stored)) }
+        ensures err { IfErr result (λ f. ((f ≡ fault.Memory) × (self.new.stored ≡ self.old.stored)) ⊎ ((f ≡ fault.Device) × FailsToRead self.old.stored self.new.stored)) }
     {
         let found = read_log(&mut self.log, lsn)?;
         Ok(found)

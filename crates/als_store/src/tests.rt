@@ -77,3 +77,25 @@ fn a_record_is_acknowledged_or_the_store_is_broken(rt: HostRuntime) {
     }
     assert_eq!(rt; store.table().len(), 1);
 }
+
+#[test]
+fn a_record_is_held_in_the_room_that_was_made(rt: HostRuntime) {
+    let alloc: Global = rt.alloc();
+    let disks = Disks {
+        log: MemDisk::new(alloc, 8),
+        control: MemDisk::new(alloc, 321),
+        pages: MemDisk::new(alloc, 4),
+    };
+    let mut store = match Store::format(alloc, disks, 4) {
+        Ok(store) => store,
+        Err(_) => return,
+    };
+    let logged = commit_at(store.end(), Lsn(0));
+    // A refused growth is met once at most, and changes nothing that is held.
+    if store.reserve(&logged).is_err() {
+        assert_eq!(rt; store.reserve(&logged), Ok(()));
+    }
+    assert_eq!(rt; store.len(), 0);
+    assert_eq!(rt; store.admit(&logged), Ok(()));
+    assert_eq!(rt; store.len(), 1);
+}

@@ -1,4 +1,4 @@
-ghost use Rattle.std.specs.Prelude.{◌≡◌, ℕ, ◌<◌, ◌≤◌, ◌+◌, ◌⊎◌, List, [], ◌∷◌, ◌++◌, length, Some, None, IfSome, IfNone, OnOk, OnErr, vec_len};
+ghost use Rattle.std.specs.Prelude.{◌≡◌, ℕ, ◌<◌, ◌≤◌, ◌+◌, ◌⊎◌, true, false, List, [], ◌∷◌, ◌++◌, length, Some, None, IfSome, IfNone, IsOk, OnOk, OnErr, vec_len};
 ghost use Rattle.als_record.specs.declared.change.Change.{Change as AnyChange};
 ghost use Rattle.als_record.specs.Pages.{empty_page};
 ghost use Rattle.als_store.specs.Warm.{Warm, IsShown, AreNext, RedoesOne, Redoes};
@@ -17,27 +17,33 @@ const BATCH: usize = 64;
 pub struct WarmPage {
     page: Page,
     pending: VecDeque<Change>,
+    // The queue has a place for one more change.
+    has_room: bool,
 }
 
 impl Model for WarmPage {
+    ghost use Rattle.std.specs.Prelude.{◌≡◌, ◌<◌, true};
+    ghost use Rattle.std.specs.VecDeque.{deque_len, deque_capacity};
     ghost use Rattle.als_page.specs.Page.{state_of};
     ghost use Rattle.als_store.specs.Warm.{Warm, AreNext};
 
     ghost Value = { Warm };
 
-    ghost view = { λ w. record { id = w.page.id; state = state_of w.page; pending = w.pending.items } };
+    ghost view = { λ w. record { id = w.page.id; state = state_of w.page; pending = w.pending.items; has_room = w.has_room } };
 
-    ghost invariant = { λ w. AreNext w.page.id (state_of w.page).lsn w.pending.items };
+    ghost invariant = { λ w. AreNext w.page.id (state_of w.page).lsn w.pending.items
+        × (w.has_room ≡ true → deque_len w.pending < deque_capacity w.pending) };
 }
 
 impl WarmPage {
     /// The empty page, which waits for nothing.
     pub fn empty(alloc: Global, id: u32) -> WarmPage
-        ensures { result ≡ record { id = id; state = empty_page; pending = [] } }
+        ensures { result ≡ record { id = id; state = empty_page; pending = []; has_room = false } }
     {
         WarmPage {
             page: Page::empty(id),
             pending: VecDeque::new(alloc),
+            has_room: false,
         }
     }
 
@@ -55,14 +61,28 @@ impl WarmPage {
         self.pending.len()
     }
 
-    /// Adds a change behind those that wait. An `Err` changes nothing.
-    pub fn route(&mut self, change: Change) -> Result<(), AllocError>
-        requires { AreNext self.old.id self.old.state.lsn (self.old.pending ++ change ∷ []) }
-        ensures ok { OnOk result (self.new ≡ record self.old { pending = self.old.pending ++ change ∷ [] }) }
+    /// Makes room for one more change: the next `route` takes no memory. An `Err` changes nothing.
+    pub fn reserve(&mut self) -> Result<(), AllocError>
+        ensures ok { OnOk result (self.new ≡ record self.old { has_room = true }) }
         ensures err { OnErr result (self.new ≡ self.old) }
+        ensures reserved { self.old.has_room ≡ true → IsOk result }
     {
-        self.pending.push_back(change)?;
+        if self.has_room {
+            return Ok(());
+        }
+        self.pending.reserve(1)?;
+        self.has_room = true;
         Ok(())
+    }
+
+    /// Adds a change behind those that wait. It takes no memory.
+    pub fn route(&mut self, change: Change)
+        requires next { AreNext self.old.id self.old.state.lsn (self.old.pending ++ change ∷ []) }
+        requires room { self.old.has_room ≡ true }
+        ensures { self.new ≡ record self.old { pending = self.old.pending ++ change ∷ []; has_room = false } }
+    {
+        self.pending.push_back_reserved(change);
+        self.has_room = false;
     }
 
     /// Redoes the first changes that wait, at most 64, and answers the page_LSN. `None`: nothing waits.

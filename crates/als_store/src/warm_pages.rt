@@ -1,6 +1,6 @@
-ghost use Rattle.std.specs.Prelude.{◌≡◌, ℕ, ◌<◌, ◌≤◌, ◌+◌, ◌^◌, List, length, slice_get, Some, None, OnOk, OnErr, IfOk, IfSome, IfNone};
+ghost use Rattle.std.specs.Prelude.{◌≡◌, ℕ, ◌<◌, ◌≤◌, ◌+◌, ◌^◌, List, length, slice_get, Some, None, IsOk, OnOk, OnErr, IfOk, IfSome, IfNone};
 ghost use Rattle.std.specs.Option.{option_copied};
-ghost use Rattle.als_store.specs.Warm.{Warm, fresh_from, total_waiting, CanRoute, IsRouted, AppliesAt, NothingWaits, WaitsFirst};
+ghost use Rattle.als_store.specs.Warm.{Warm, fresh_from, total_waiting, CanRoute, HasPlace, MakesPlace, IsRouted, AppliesAt, NothingWaits, WaitsFirst};
 
 use crate::warm_page::WarmPage;
 use als_record::{Change, Lsn};
@@ -52,17 +52,28 @@ impl WarmPages {
         self.waiting
     }
 
-    /// Adds a change behind those that its page waits for. An `Err` changes nothing.
-    pub fn route(&mut self, change: Change) -> Result<(), AllocError>
-        requires can { CanRoute self.old change }
-        requires room { total_waiting self.old + 1 < 2 ^ 64 }
-        ensures ok { OnOk result (IsRouted self.old change self.new) }
+    /// Makes room for one more change of a page. An `Err` changes nothing.
+    pub fn reserve(&mut self, page: u32) -> Result<(), AllocError>
+        requires { page < length self.old }
+        ensures ok { OnOk result (MakesPlace self.old page self.new) }
         ensures err { OnErr result (self.new ≡ self.old) }
+        ensures reserved { HasPlace self.old page → IsOk result }
+    {
+        let page = &mut self.pages[page as usize];
+        page.reserve()?;
+        Ok(())
+    }
+
+    /// Adds a change behind those that its page waits for. It takes no memory.
+    pub fn route(&mut self, change: Change)
+        requires can { CanRoute self.old change }
+        requires count { total_waiting self.old + 1 < 2 ^ 64 }
+        requires place { HasPlace self.old change.key.page }
+        ensures { IsRouted self.old change self.new }
     {
         let page = &mut self.pages[change.key.page as usize];
-        page.route(change)?;
+        page.route(change);
         self.waiting += 1;
-        Ok(())
     }
 
     /// Redoes the first changes that a page waits for, at most 64, and answers its page_LSN. `None`: nothing waits there.

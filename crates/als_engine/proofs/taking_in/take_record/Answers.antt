@@ -5,4 +5,4 @@ pub returns-in_ok-admit-in-Ok-Some-clause-ok : goal.returns-in_ok-admit-in-Ok-So
 returns-in_ok-admit-in-Ok-Some-clause-ok g c =
     let out = rw c.in-Ok-Some.field-0-is at c.in-Ok-Some.ensures in
     let held = c.in_ok-admit-in-Ok-Some.ensures.ok in
-    hands_one c.args.held.now c.admit.new.self c.args.receiver.now c.next.new.self c.in-Ok-Some.logged c.requires (fits_held c.args.held.now c.in-Ok-Some.logged held.0 c.in_ok-admit-in-Ok-Some.ensures.full) out held.1
+    hands_one c.args.held.now.stored c.admit.new.self.stored c.args.receiver.now c.next.new.self c.in-Ok-Some.logged c.requires (fits_held c.args.held.now.stored c.in-Ok-Some.logged held.0 c.in_ok-admit-in-Ok-Some.ensures.full) out held.1

@@ -3,7 +3,7 @@ use Rattle.als_engine.proofs.TakingLaws.{SoFar}
 use Rattle.als_engine.proofs.taking_in.take_records.Given as goal
 
 abbrev pub invariant-loop : goal.invariant-loop
-invariant-loop g l = SoFar l.fn.held l.fn.receiver.kept l.held l.receiver
+invariant-loop g l = SoFar l.fn.held.stored l.fn.receiver.kept l.held.stored l.receiver
 
 abbrev pub decreases-loop : goal.decreases-loop
 decreases-loop g l = length l.receiver.kept

@@ -1,5 +1,4 @@
-use Rattle.std.proofs.Common.{inl, inr}
-use Rattle.als_store.proofs.Redoing.{redone_more, redoes_all}
+use Rattle.als_store.proofs.Redoing.{redone_more}
 use Rattle.als_store.proofs.warm_page.WarmPage.apply.Goals as goal
 
 pub loop-preserved : goal.loop-preserved

@@ -1,7 +1,7 @@
-use Rattle.std.proofs.Common.{◌≡◌, ◌<◌, ◌∙◌, length, List, [], Some, vec_len, refl, sym, ap, subst, arith}
-use Rattle.std.specs.Prelude.{slice_get, slice_set}
-use Rattle.std.proofs.lemmas.Option.{slice_get_read, same_Some}
-use Rattle.als_store.specs.Warm.{Warm, NothingWaits}
+use Rattle.std.proofs.Common.{◌<◌, ◌∙◌, length, vec_len, refl, ap, arith}
+use Rattle.std.specs.Prelude.{slice_set}
+use Rattle.std.proofs.lemmas.Option.{slice_get_read}
+use Rattle.als_store.specs.Warm.{Warm}
 use Rattle.als_store.proofs.PageLists.{set_same, nothing_waits}
 use Rattle.als_store.proofs.warm_pages.WarmPages.apply.Goals as goal
 

@@ -1,4 +1,4 @@
-use Rattle.std.proofs.Common.{◌≡◌, vec_len}
+use Rattle.std.proofs.Common.{◌≡◌}
 use Rattle.als_store.specs.Warm.{fresh_from}
 use Rattle.als_store.proofs.warm_pages.WarmPages.empty.Given as goal
 

@@ -1,0 +1,7 @@
+use Rattle.als_store.proofs.StoredParts.{spare_made}
+use Rattle.als_store.proofs.store.make_room.Goals as goal
+
+pub returns-clause-ok : goal.returns-clause-ok
+returns-clause-ok g c =
+    spare_made c.reserve_bytes.new.log c.reserve_judgement.new.validator c.args.warm.now c.reserve_change.new.warm c.args.logged.now c.encoded_len.result c.encoded_len.ensures.len
+    c.in_ok-reserve_bytes.ensures.ok c.in_ok-reserve_judgement.ensures.ok c.in_ok-reserve_change.ensures.ok

@@ -1,0 +1,10 @@
+use Rattle.als_store.proofs.tests.a_record_is_held_in_the_room_that_was_made.Goals as goal
+
+pub reserve-requires-clause-fits : goal.reserve-requires-clause-fits
+reserve-requires-clause-fits g c = c.commit_at-logged.ensures.fits c.in-Ok.store.stored.pages
+
+pub reserve-requires-then-is_err-clause-fits : goal.reserve-requires-then-is_err-clause-fits
+reserve-requires-then-is_err-clause-fits g c = c.commit_at-logged.ensures.fits c.reserve.new.self.stored.pages
+
+pub admit-requires-clause-fits : goal.admit-requires-clause-fits
+admit-requires-clause-fits g c = c.commit_at-logged.ensures.fits c.if-is_err.store.stored.pages
