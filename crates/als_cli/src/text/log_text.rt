@@ -12,7 +12,6 @@ use std::collections::HashMap;
 use std::marker::Model;
 
 /// The log text of record lines: a header, and a record for each line, with its place and its PrevLSN filled in.
-#[derive(Drop)]
 pub struct LogText {
     bytes: Vec<u8>,
     /// Where the header and then each record ends.
@@ -29,6 +28,21 @@ impl Model for LogText {
     ghost Value = { List ℕ };
 
     ghost view = { λ t. t.bytes.items };
+}
+
+// Written out: a derived drop is proved part by part wherever a text is let go of, this one only here.
+impl Drop for LogText {
+    fn drop(self) {
+        let LogText {
+            bytes,
+            ends,
+            last_of,
+            last_checkpoint: _,
+        } = self;
+        drop(bytes);
+        drop(ends);
+        drop(last_of);
+    }
 }
 
 impl LogText {
