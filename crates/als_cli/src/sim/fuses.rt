@@ -1,7 +1,7 @@
 use super::disk::Disk;
-use crate::script::{Device, FailLine, WorldLine};
 use als_disk::{FailingDisk, Fuse, MemDisk};
 use als_engine::Disks;
+use als_script::{Device, FailLine, WorldLine};
 use std::alloc::{AllocError, Global};
 
 /// Blocks of the control device.

@@ -3,9 +3,8 @@ use super::fuses::Fuses;
 use super::stepping::{one_step, step_of};
 use super::{combined, printing, showing};
 use crate::failure::Failure;
-use crate::script::{CombinedLine, Line, ShowLine, StepLine, WorldLine};
-use crate::text::LogText;
 use als_engine::{Config, Disks, Engine, Fault, World};
+use als_script::{CombinedLine, Line, LogText, ShowLine, StepLine, WorldLine};
 use std::alloc::Global;
 use std::io::Write;
 

@@ -1,11 +1,11 @@
 ghost use Rattle.std.specs.Prelude.{◌≡◌, ◌++◌, length, IfOk, OnOk, Some};
 ghost use Rattle.als_record.specs.LogText.{header_bytes};
 ghost use Rattle.als_record.specs.Spelling.{spelling};
-ghost use Rattle.als_cli.specs.RawRecord.{record_of};
+ghost use Rattle.als_script.specs.RawRecord.{record_of};
 
 use super::raw_body::RawBody;
 use super::raw_record::append_record;
-use crate::script::RecordLine;
+use crate::record_line::RecordLine;
 use als_record::LogHeader;
 use std::alloc::{AllocError, Global};
 use std::collections::HashMap;
