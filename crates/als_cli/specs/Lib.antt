@@ -1,2 +1,1 @@
-pub mod RawRecord
 pub mod Status

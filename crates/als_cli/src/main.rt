@@ -9,10 +9,6 @@ mod command;
 mod failure;
 // Standard input, whole.
 mod input;
-// The lines of a script.
-mod script;
-// Log texts made from record lines.
-mod text;
 // `als make`.
 mod make;
 // `als sim`.

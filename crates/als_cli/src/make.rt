@@ -1,6 +1,5 @@
 use crate::failure::Failure;
-use crate::script::{RecordLine, Words, is_command, line_number, number_past};
-use crate::text::LogText;
+use als_script::{LogText, RecordLine, Words, is_command, line_number, number_past};
 use std::alloc::Global;
 use std::io::Write;
 use std::str;

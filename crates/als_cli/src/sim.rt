@@ -18,7 +18,7 @@ mod shown_record;
 mod shown_image;
 
 use crate::failure::Failure;
-use crate::script::{is_command, line_number, number_past};
+use als_script::{is_command, line_number, number_past};
 use simulation::Simulation;
 use std::alloc::Global;
 use std::io::Write;

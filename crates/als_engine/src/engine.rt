@@ -31,7 +31,6 @@ use std::marker::Model;
 ///
 /// Once a write or a sync has failed it has stopped: each event is answered by Stopped and changes nothing, and the queries
 /// go on.
-#[derive(Drop)]
 pub struct Engine<D: BlockDisk> {
     alloc: Global,
     store: Store<D>,
@@ -49,6 +48,21 @@ impl<D: BlockDisk> Model for Engine<D> {
     ghost view = { λ e. record { held = e.store.stored; limit = e.limit; partial = e.receiver.kept; refused = e.refused } };
 
     ghost invariant = { λ e. IsReady e.store.stored e.receiver };
+}
+
+// Written out: a derived drop would be proved part by part wherever an engine is let go of, this one only here.
+impl<D: BlockDisk + Drop> Drop for Engine<D> {
+    fn drop(self) {
+        let Engine {
+            alloc: _,
+            store,
+            receiver,
+            limit: _,
+            refused: _,
+        } = self;
+        drop(store);
+        drop(receiver);
+    }
 }
 
 impl<D: BlockDisk> Engine<D> {
@@ -87,7 +101,15 @@ impl<D: BlockDisk> Engine<D> {
         ensures kept { AreKept self.held (D.slot result.log) (D.slot result.control) }
         ensures attempts { D.attempts result.log + D.attempts result.control + D.attempts result.pages ≡ self.held.attempts }
     {
-        self.store.into_disks()
+        let Engine {
+            alloc: _,
+            store,
+            receiver,
+            limit: _,
+            refused: _,
+        } = self;
+        drop(receiver);
+        store.into_disks()
     }
 
     /// Takes a piece of the primary's log: each record that is whole now goes into the held log, and the rest waits as a

@@ -1,18 +1,31 @@
 use super::disk::Disk;
-use crate::script::{Device, FailLine, WorldLine};
 use als_disk::{FailingDisk, Fuse, MemDisk};
 use als_engine::Disks;
+use als_script::{Device, FailLine, WorldLine};
 use std::alloc::{AllocError, Global};
 
 /// Blocks of the control device.
 const CONTROL_BLOCKS: u64 = 321;
 
 /// What makes the standby's devices fail.
-#[derive(Drop)]
 pub struct Fuses {
     log: Fuse,
     control: Fuse,
     pages: Fuse,
+}
+
+// Written out: a derived drop is proved part by part wherever a value is let go of, this one only here.
+impl Drop for Fuses {
+    fn drop(self) {
+        let Fuses {
+            log,
+            control,
+            pages,
+        } = self;
+        drop(log);
+        drop(control);
+        drop(pages);
+    }
 }
 
 impl Fuses {

@@ -3,9 +3,8 @@ use super::fuses::Fuses;
 use super::stepping::{one_step, step_of};
 use super::{combined, printing, showing};
 use crate::failure::Failure;
-use crate::script::{CombinedLine, Line, ShowLine, StepLine, WorldLine};
-use crate::text::LogText;
 use als_engine::{Config, Disks, Engine, Fault, World};
+use als_script::{CombinedLine, Line, LogText, ShowLine, StepLine, WorldLine};
 use std::alloc::Global;
 use std::io::Write;
 
@@ -13,12 +12,26 @@ use std::io::Write;
 const WORKER_LIMIT: u64 = 8;
 
 /// A standby in a world, what makes its devices fail, and the primary's log text of the record lines so far.
-#[derive(Drop)]
 pub struct Simulation {
     alloc: Global,
     world: World<Disk>,
     fuses: Fuses,
     text: LogText,
+}
+
+// Written out: a derived drop is proved part by part wherever a value is let go of, this one only here.
+impl Drop for Simulation {
+    fn drop(self) {
+        let Simulation {
+            alloc: _,
+            world,
+            fuses,
+            text,
+        } = self;
+        drop(world);
+        drop(fuses);
+        drop(text);
+    }
 }
 
 impl Simulation {

@@ -1,6 +1,6 @@
 use super::disk::Disk;
-use crate::script::StepLine;
 use als_engine::{Fault, FeedFault, Reply, Step, World, run};
+use als_script::StepLine;
 use std::alloc::Global;
 
 /// The step of a line; None where it names bytes that the text has not.

@@ -1,4 +1,4 @@
-use super::words::Words;
+use crate::words::Words;
 
 /// A line of several steps.
 #[derive(Clone, Copy)]

@@ -1,7 +1,7 @@
 ghost use Rattle.std.specs.Prelude.{◌<◌};
 
-use super::device::Device;
-use super::words::Words;
+use crate::device::Device;
+use crate::words::Words;
 
 /// A line that makes a device fail: `fail log K`, `fail control K` or `fail pages K`.
 #[derive(Clone, Copy)]

@@ -1,4 +1,4 @@
-use super::words::Words;
+use crate::words::Words;
 
 /// A line of one step.
 #[derive(Clone, Copy)]

@@ -1,7 +1,7 @@
 ghost use Rattle.std.specs.Prelude.{◌≡◌, ◌≤◌, ◌++◌, ◌∷◌, [], OnOk};
 ghost use Rattle.std.specs.Int.{w32, w64, to_be_bytes};
 ghost use Rattle.als_record.specs.Spelling.{type_byte, body_len, body_bytes};
-ghost use Rattle.als_cli.specs.RawRecord.{body_of};
+ghost use Rattle.als_script.specs.RawRecord.{body_of};
 
 use super::raw_image::{RawImage, image_bytes, length_byte};
 use std::alloc::AllocError;

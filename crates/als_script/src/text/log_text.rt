@@ -1,18 +1,17 @@
 ghost use Rattle.std.specs.Prelude.{◌≡◌, ◌++◌, length, IfOk, OnOk, Some};
 ghost use Rattle.als_record.specs.LogText.{header_bytes};
 ghost use Rattle.als_record.specs.Spelling.{spelling};
-ghost use Rattle.als_cli.specs.RawRecord.{record_of};
+ghost use Rattle.als_script.specs.RawRecord.{record_of};
 
 use super::raw_body::RawBody;
 use super::raw_record::append_record;
-use crate::script::RecordLine;
+use crate::record_line::RecordLine;
 use als_record::LogHeader;
 use std::alloc::{AllocError, Global};
 use std::collections::HashMap;
 use std::marker::Model;
 
 /// The log text of record lines: a header, and a record for each line, with its place and its PrevLSN filled in.
-#[derive(Drop)]
 pub struct LogText {
     bytes: Vec<u8>,
     /// Where the header and then each record ends.
@@ -29,6 +28,21 @@ impl Model for LogText {
     ghost Value = { List ℕ };
 
     ghost view = { λ t. t.bytes.items };
+}
+
+// Written out: a derived drop is proved part by part wherever a text is let go of, this one only here.
+impl Drop for LogText {
+    fn drop(self) {
+        let LogText {
+            bytes,
+            ends,
+            last_of,
+            last_checkpoint: _,
+        } = self;
+        drop(bytes);
+        drop(ends);
+        drop(last_of);
+    }
 }
 
 impl LogText {

@@ -3,8 +3,8 @@ use Rattle.std.specs.Prelude.{ℕ, []}
 use Rattle.als_record.specs.declared.record.Body.{Body}
 use Rattle.als_record.specs.declared.record.Body.TheVariants as held
 use Rattle.als_record.specs.declared.record.Record.{Record}
-use Rattle.als_cli.specs.declared.text.raw_body.RawBody.{RawBody}
-use Rattle.als_cli.specs.declared.text.raw_body.RawBody.TheVariants.{Update, Compensation, Commit, Rollback, End, BeginCheckpoint, EndCheckpoint}
+use Rattle.als_script.specs.declared.text.raw_body.RawBody.{RawBody}
+use Rattle.als_script.specs.declared.text.raw_body.RawBody.TheVariants.{Update, Compensation, Commit, Rollback, End, BeginCheckpoint, EndCheckpoint}
 
 -- what a record says that has a line's numbers and values; an end_chkpt has no rows
 abbrev pub body_of : RawBody → Body

@@ -1,4 +1,4 @@
-use super::words::Words;
+use crate::words::Words;
 
 /// The first line of a script: how large the standby and its devices are.
 #[derive(Clone, Copy)]

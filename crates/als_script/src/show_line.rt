@@ -1,4 +1,4 @@
-use super::words::Words;
+use crate::words::Words;
 
 /// A line that asks for what is there.
 #[derive(Clone, Copy)]

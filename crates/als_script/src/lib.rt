@@ -1,3 +1,6 @@
+//! What scripts and record lines say, and the log text that record lines make.
+#![tactic(auto)]
+
 // A line's words.
 mod words;
 // A line of a record.
@@ -18,6 +21,8 @@ mod show_line;
 mod line;
 // Which lines of a text are commands.
 mod commands;
+// Log texts made from record lines.
+mod text;
 
 pub use combined_line::CombinedLine;
 pub use commands::{is_command, line_number, number_past};
@@ -27,5 +32,6 @@ pub use line::Line;
 pub use record_line::RecordLine;
 pub use show_line::ShowLine;
 pub use step_line::StepLine;
+pub use text::{LogText, RawBody, RawImage};
 pub use words::Words;
 pub use world_line::WorldLine;

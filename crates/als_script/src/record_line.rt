@@ -1,5 +1,5 @@
-use super::words::Words;
 use crate::text::RawBody;
+use crate::words::Words;
 
 /// A line of a record.
 #[derive(Drop)]

@@ -1,8 +1,8 @@
-use super::combined_line::CombinedLine;
-use super::fail_line::FailLine;
-use super::record_line::RecordLine;
-use super::show_line::ShowLine;
-use super::step_line::StepLine;
+use crate::combined_line::CombinedLine;
+use crate::fail_line::FailLine;
+use crate::record_line::RecordLine;
+use crate::show_line::ShowLine;
+use crate::step_line::StepLine;
 
 /// A line of a simulation behind its first.
 #[derive(Drop)]

@@ -1,6 +1,6 @@
 ghost use Rattle.std.specs.Prelude.{◌≡◌, ◌++◌, OnOk};
 ghost use Rattle.als_record.specs.Spelling.{head, spelling};
-ghost use Rattle.als_cli.specs.RawRecord.{record_of};
+ghost use Rattle.als_script.specs.RawRecord.{record_of};
 
 use super::raw_body::{RawBody, kind_of, spell, spelled_len};
 use std::alloc::AllocError;
