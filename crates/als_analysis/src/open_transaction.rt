@@ -207,9 +207,9 @@ impl OpenTransaction {
         };
         match &logged.body {
             Body::Update { key, before, after } => {
-                let update = copy_of_update(logged, key, before, after);
-                self.undo_bytes += undo_len_of(&update);
-                self.left.push_reserved(update);
+                self.undo_bytes += undo_len_of(logged);
+                self.left
+                    .push_reserved(copy_of_update(logged, key, before, after));
             }
             Body::Compensation { .. } => {
                 if let Some(undone) = self.left.pop() {
