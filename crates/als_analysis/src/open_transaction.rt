@@ -193,6 +193,7 @@ impl OpenTransaction {
     }
 
     /// Notes one more record of the transaction.
+    #[inline(always)]
     pub(crate) fn extend(&mut self, logged: &Record)
         requires room { 0 < self.old.room }
         ensures row { self.new.row ≡ row_after self.old.row logged.now }
@@ -206,9 +207,9 @@ impl OpenTransaction {
         };
         match &logged.body {
             Body::Update { key, before, after } => {
-                let update = copy_of_update(logged, key, before, after);
-                self.undo_bytes += undo_len_of(&update);
-                self.left.push_reserved(update);
+                self.undo_bytes += undo_len_of(logged);
+                self.left
+                    .push_reserved(copy_of_update(logged, key, before, after));
             }
             Body::Compensation { .. } => {
                 if let Some(undone) = self.left.pop() {
@@ -221,6 +222,7 @@ impl OpenTransaction {
 }
 
 /// The same image. It takes no memory.
+#[inline(always)]
 fn copy_of(image: &Image) -> Image
     ensures { result ≡ image.now }
 {
@@ -234,6 +236,7 @@ fn copy_of(image: &Image) -> Image
 }
 
 /// The same update. It takes no memory.
+#[inline(always)]
 fn copy_of_update(logged: &Record, key: &Key, before: &Image, after: &Image) -> Record
     requires { logged.now.body ≡ Body.Update key.now before.now after.now }
     ensures { result ≡ logged.now }

@@ -22,6 +22,9 @@ const TRANSACTION_LIMIT: usize = 256;
 /// How many places are remembered, by the low bits of TransIDs.
 const PLACE_COUNT: usize = 1024;
 
+/// Up to so many transactions it is shorter to remember each of them anew than to go over all places.
+const FEW: usize = 64;
+
 /// The transaction table of ARIES, kept as its log grows: the unended transactions in rising TransID, with the updates
 /// that survive of each, and the length of what a takeover would append.
 #[derive(Drop)]
@@ -121,12 +124,27 @@ fn remember(places: &mut [u8; PLACE_COUNT], trans: TransId, at: usize) {
     places[bucket_of(trans)] = u8::try_from(at).unwrap_or(0);
 }
 
-/// The transactions above this place stand one lower.
+/// The transactions above this place stand one lower: all places are gone over.
 fn move_down(places: &mut [u8; PLACE_COUNT], at: usize) {
     let gone = u8::try_from(at).unwrap_or(0);
     for place in places.iter_mut() {
         *place = place.saturating_sub(u8::from(*place > gone));
     }
+}
+
+/// Remembers where the transactions from this place on stand.
+fn remember_from(places: &mut [u8; PLACE_COUNT], entries: &[OpenTransaction], from: usize) {
+    for at in from..entries.len() {
+        remember(places, entries[at].row().trans, at);
+    }
+}
+
+/// One transaction is gone from this place, and those behind it stand one lower.
+fn close_up(places: &mut [u8; PLACE_COUNT], entries: &[OpenTransaction], at: usize) {
+    if entries.len().saturating_sub(at) <= FEW {
+        return remember_from(places, entries, at);
+    }
+    move_down(places, at)
 }
 
 /// Keeps what an ended transaction had allocated for another one, where there is a place.
@@ -183,6 +201,7 @@ impl TransTable {
 
     /// Makes room for one more record, whatever it is: after an `Ok` the next `note` takes no memory. An `Err` changes
     /// nothing.
+    #[inline(always)]
     pub fn reserve(&mut self) -> Result<(), Fault>
         ensures ok { OnOk result (self.new ≡ record self.old { has_room = true }) }
         ensures err { OnErr result (self.new ≡ self.old) }
@@ -224,7 +243,7 @@ impl TransTable {
         let ended = self.entries.remove(at);
         self.reserve -= ended.owed();
         self.has_room = false;
-        move_down(&mut self.places, at);
+        close_up(&mut self.places, self.entries.as_slice(), at);
         keep_spare(&mut self.spares, ended);
     }
 

@@ -1,9 +1,26 @@
 use crate::measure::FIRST;
 use crate::primary::PAGES;
 use als_receiver::Receiver;
-use als_record::{Lsn, decode};
+use als_record::{Body, Lsn, Record, decode};
 use als_validator::Validator;
 use std::alloc::Global;
+
+/// The last byte of what a record writes, 0 for none. Whoever asks for it has the record made, as no reader of a record that
+/// is dropped unread has.
+#[inline(never)]
+fn last_byte(logged: &Record) -> usize {
+    match &logged.body {
+        Body::Update {
+            after: Some(value),
+            ..
+        }
+        | Body::Compensation {
+            after: Some(value),
+            ..
+        } => value.as_slice().last().map_or(0, |byte| *byte as usize),
+        _ => 0,
+    }
+}
 
 /// Decodes each record, and answers how many there are.
 pub fn decode_all(alloc: Global, text: &[u8]) -> u64 {
@@ -14,7 +31,9 @@ pub fn decode_all(alloc: Global, text: &[u8]) -> u64 {
             break;
         };
         match decode(alloc, rest, Lsn(at as u64), PAGES) {
-            Ok(Some((_, len))) => at = at.saturating_add(len),
+            Ok(Some((logged, len))) if last_byte(&logged) <= text.len() => {
+                at = at.saturating_add(len);
+            }
             _ => break,
         }
         records = records.saturating_add(1);
@@ -62,7 +81,9 @@ pub fn receive_all(alloc: Global, text: &[u8], piece: usize) -> u64 {
         }
         for _ in 0..u64::MAX {
             match receiver.next() {
-                Ok(Some(_)) => records = records.saturating_add(1),
+                Ok(Some(logged)) if last_byte(&logged) <= text.len() => {
+                    records = records.saturating_add(1);
+                }
                 _ => break,
             }
         }

@@ -70,6 +70,7 @@ impl Receiver {
     /// The next record, `None` where more bytes are needed. A refusal says where the record should stand and which of
     /// the shape faults it has, and every later call gives it again; but want of memory, which only the rows of an
     /// end_chkpt meet, is not kept: the call may be made again.
+    #[inline(always)]
     pub fn next(&mut self) -> Result<Option<Record>, Refusal>
         ensures { Answers self.old result self.new }
     {

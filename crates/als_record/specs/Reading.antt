@@ -138,6 +138,14 @@ type_at bytes = slice_index bytes 4
 abbrev pub is_reserved_zero : List ℕ → Bool
 is_reserved_zero bytes = (slice_index bytes 5 == 0) && (slice_index bytes 6 == 0) && (slice_index bytes 7 == 0)
 
+-- the record with the head of these bytes and this body
+abbrev pub headed : ℕ → List ℕ → Body → Record
+headed at bytes body = record { lsn = record { 0 = at }; prev = record { 0 = long_at 16 bytes }; trans = record { 0 = word_at 24 bytes }; body = body }
+
+-- a record of so many bytes with the head of these, where its body could be read
+abbrev pub with_head : ℕ → List ℕ → ℕ → Result Body Fault → Result (Option (Record × ℕ)) Fault
+with_head at bytes size read = read >>= λ body. Ok (Some (headed at bytes body, size))
+
 -- The record at the front of the bytes, and its length; None where more bytes are needed.
 unfoldable pub read_record : ℕ → ℕ → List ℕ → Result (Option (Record × ℕ)) Fault
 read_record pages at bytes =
@@ -147,8 +155,7 @@ read_record pages at bytes =
     else if not (is_reserved_zero bytes) then Err BadReserved
     else if not (long_at 8 bytes == at) then Err WrongLsn
     else if nat_lt (length bytes) (size_at bytes) then Ok None
-    else read_body pages (type_at bytes) (drop 28 (take (size_at bytes) bytes)) >>= λ body.
-    Ok (Some (record { lsn = record { 0 = at }; prev = record { 0 = long_at 16 bytes }; trans = record { 0 = word_at 24 bytes }; body = body }, size_at bytes))
+    else with_head at bytes (size_at bytes) (read_body pages (type_at bytes) (drop 28 (take (size_at bytes) bytes)))
 
 -- Reading gives an end_chkpt, the one record of which a part lies in memory of its own.
 abbrev pub HasRows : Body → Type 0

@@ -17,7 +17,7 @@ fn is_in_range(pages: u32, key: Key) -> bool
 }
 
 /// The body of an update.
-#[inline]
+#[inline(always)]
 #[tactic(auto, unfolding(crate::specs::Reading::read_update))]
 pub(crate) fn update(pages: u32, body: &[u8]) -> Result<Body, Fault>
     requires { 7 ≤ length body.now }
@@ -46,7 +46,7 @@ pub(crate) fn update(pages: u32, body: &[u8]) -> Result<Body, Fault>
 }
 
 /// The body of a compensation.
-#[inline]
+#[inline(always)]
 #[tactic(auto, unfolding(crate::specs::Reading::read_compensation))]
 pub(crate) fn compensation(pages: u32, body: &[u8]) -> Result<Body, Fault>
     requires { 14 ≤ length body.now }

@@ -1,9 +1,9 @@
-ghost use Rattle.std.specs.Prelude.{◌≡◌, ℕ, ◌<◌, ◌≤◌, ◌+◌, ◌-◌, ◌^◌, ◌++◌, List, length, take, drop, slice_index, Some, None, Ok, Err, IfOk, IfErr, IfSome};
+ghost use Rattle.std.specs.Prelude.{◌≡◌, true, ℕ, ◌<◌, ◌≤◌, ◌+◌, ◌-◌, ◌^◌, ◌++◌, List, length, take, drop, slice_index, Some, None, Ok, Err, IfOk, IfErr, IfSome};
 ghost use Rattle.std.specs.Result.{IsErrOf};
 ghost use Rattle.als_record.specs.declared.record.Record.{Record as AnyRecord};
 ghost use Rattle.als_record.specs.declared.fault.Fault.TheVariants.{Memory};
 ghost use Rattle.als_record.specs.Spelling.{spelling, record_len, IsRecord};
-ghost use Rattle.als_record.specs.Reading.{Gives, GivesRows, TakesMemory, is_size, read_body, read_record};
+ghost use Rattle.als_record.specs.Reading.{Gives, GivesRows, TakesMemory, is_size, is_type, type_at, headed, with_head, read_body, read_record};
 
 use crate::bodies::{compensation, update};
 use crate::fault::Fault;
@@ -28,30 +28,52 @@ fn may_be(kind: u8, size: usize) -> bool
     }
 }
 
-/// The body of a record of a type that there is.
-#[inline]
-#[tactic(auto, unfolding(crate::specs::Reading::read_body))]
-fn body_of(alloc: Global, pages: u32, kind: u8, body: &[u8]) -> Result<Body, Fault>
-    requires kind { 1 ≤ kind }
-    requires update { kind ≡ 1 → 7 ≤ length body.now }
-    requires compensation { kind ≡ 2 → 14 ≤ length body.now }
-    requires checkpoint { 7 ≤ kind → 4 ≤ length body.now }
-    ensures read { Gives (λ b. b) result (read_body pages kind body.now) }
-    ensures memory { IfErr result (λ e. e ≡ Memory → GivesRows (read_body pages kind body.now)) }
+/// The record of this head and body, in so many bytes.
+#[inline(always)]
+fn found(bytes: &[u8], at: Lsn, size: usize, body: Body) -> Result<Option<(Record, usize)>, Fault>
+    requires { 28 ≤ length bytes.now }
+    ensures { result ≡ Ok (Some (headed at.0 bytes.now body, size)) }
 {
-    match kind {
-        1 => update(pages, body),
-        2 => compensation(pages, body),
-        3 => Ok(Body::Commit),
-        4 => Ok(Body::Rollback),
-        5 => Ok(Body::End),
-        6 => Ok(Body::BeginCheckpoint),
-        _ => checkpoint(alloc, body),
+    let record = Record {
+        lsn: at,
+        prev: Lsn(long(bytes, 16)),
+        trans: TransId(word(bytes, 24)),
+        body,
+    };
+    Ok(Some((record, size)))
+}
+
+/// The whole record of a type that there is. Each arm builds its record itself, which then needs no move.
+#[inline(always)]
+#[tactic(auto, unfolding(crate::specs::Reading::read_body))]
+fn whole(
+    alloc: Global,
+    bytes: &[u8],
+    at: Lsn,
+    pages: u32,
+    size: usize,
+) -> Result<Option<(Record, usize)>, Fault>
+    requires whole { size ≤ length bytes.now }
+    requires kind { is_type (type_at bytes.now) ≡ true }
+    requires size { is_size (type_at bytes.now) size ≡ true }
+    ensures exact { Gives (λ o. o) result (with_head at.0 bytes.now size (read_body pages (type_at bytes.now) (drop 28 (take size bytes.now)))) }
+    ensures memory { IfErr result (λ e. e ≡ Memory → GivesRows (read_body pages (type_at bytes.now) (drop 28 (take size bytes.now)))) }
+{
+    let (front, _) = bytes.split_at(size);
+    let (_, body) = front.split_at(28);
+    match bytes[4] {
+        1 => found(bytes, at, size, update(pages, body)?),
+        2 => found(bytes, at, size, compensation(pages, body)?),
+        3 => found(bytes, at, size, Body::Commit),
+        4 => found(bytes, at, size, Body::Rollback),
+        5 => found(bytes, at, size, Body::End),
+        6 => found(bytes, at, size, Body::BeginCheckpoint),
+        _ => found(bytes, at, size, checkpoint(alloc, body)?),
     }
 }
 
 /// The steps in order, of which the first that applies decides.
-#[inline]
+#[inline(always)]
 #[tactic(auto, unfolding(crate::specs::Reading::read_record))]
 fn read(alloc: Global, bytes: &[u8], at: Lsn, pages: u32) -> Result<Option<(Record, usize)>, Fault>
     ensures exact { Gives (λ o. o) result (read_record pages at.0 bytes.now) }
@@ -77,16 +99,7 @@ fn read(alloc: Global, bytes: &[u8], at: Lsn, pages: u32) -> Result<Option<(Reco
     if bytes.len() < size {
         return Ok(None);
     }
-    let (whole, _) = bytes.split_at(size);
-    let (_, rest) = whole.split_at(28);
-    let body = body_of(alloc, pages, kind, rest)?;
-    let record = Record {
-        lsn: at,
-        prev: Lsn(long(bytes, 16)),
-        trans: TransId(word(bytes, 24)),
-        body,
-    };
-    Ok(Some((record, size)))
+    whole(alloc, bytes, at, pages, size)
 }
 
 /// The record at the front of the bytes, and its length in bytes, for a log in which it stands at `at` and a database of
@@ -95,6 +108,8 @@ fn read(alloc: Global, bytes: &[u8], at: Lsn, pages: u32) -> Result<Option<(Reco
 /// The first of these that applies decides: `BadLength` for a length that its type may not have, `BadType`, `BadReserved`,
 /// `WrongLsn` for another own LSN than `at`, `None` for a record that is not whole, `BadKey`, `BadValue`, and `BadLength` for
 /// a length that its fields do not make. `Memory`: the rows of an end_chkpt found no room.
+// Inlined with all that it calls but for the rows of an end_chkpt, so that a record is not moved from answer to answer.
+#[inline(always)]
 pub fn decode(
     alloc: Global,
     bytes: &[u8],

@@ -68,7 +68,7 @@ pub(crate) fn value_len(byte: u8) -> usize
 }
 
 /// The image of a length byte and the value's bytes.
-#[inline]
+#[inline(always)]
 pub(crate) fn image(byte: u8, bytes: &[u8]) -> Image
     requires { length bytes.now ≤ 31 }
     ensures { result ≡ image_of byte bytes.now }

@@ -65,6 +65,7 @@ fn pages(alloc: Global, count: usize, bytes: &[u8]) -> Result<PageRows, AllocErr
 }
 
 /// The body of an end_chkpt.
+#[inline(never)]
 #[tactic(auto, unfolding(crate::specs::Reading::read_checkpoint))]
 pub(crate) fn checkpoint(alloc: Global, body: &[u8]) -> Result<Body, Fault>
     requires { 4 ≤ length body.now }

@@ -24,4 +24,4 @@ pub invariant_of-self : goal.invariant_of-self
 invariant_of-self c =
     let room : 0 < min (vec_capacity c.self.inside.left) left_limit - vec_len c.self.inside.left = subst (λ (o : Open). 0 < o.room) (sym c.self.view_is) c.requires.room in
     let short : length c.self.inside.left.items < left_limit = omega arith in
-    rw (c.push_reserved.ensures.items, c.undo_len_of.ensures.len) (counted-push c.self.inside.left.items c.copy_of_update-update.result c.self.inside.undo_bytes c.self.invariant (rw (← c.undo_len_of.ensures.len) c.undo_len_of.ensures.limit) short)
+    rw (c.push_reserved.ensures.items, c.copy_of_update.ensures, c.undo_len_of.ensures.len) (counted-push c.self.inside.left.items c.args.logged.now c.self.inside.undo_bytes c.self.invariant (rw (← c.undo_len_of.ensures.len) c.undo_len_of.ensures.limit) short)
