@@ -5,8 +5,8 @@ use als_record::{Body, Lsn, Record, decode};
 use als_validator::Validator;
 use std::alloc::Global;
 
-/// The last byte of what a record writes, 0 for none. Whoever asks for it has the record made, as no reader of a record that
-/// is dropped unread has.
+/// The last byte of what a record writes, 0 for none. The jobs below ask for it, since a record that nobody reads is not even
+/// made.
 #[inline(never)]
 fn last_byte(logged: &Record) -> usize {
     match &logged.body {
