@@ -313,14 +313,22 @@ fn a_format_whose_device_fails_is_refused(rt: HostRuntime) {
     }
 }
 
+/// A standby over a log device of one block answers a piece so, ends there and goes on.
+fn fills_to(rt: &impl Abort, alloc: Global, piece: &[u8], wanted: Reply, end: Lsn) -> bool {
+    let Some((engine, _)) = standby(alloc, 1) else {
+        return false;
+    };
+    let Some(engine) = replies_are(alloc, engine, &[Step::Feed(piece)], &[wanted]) else {
+        return false;
+    };
+    let status = engine.status();
+    assert_eq!(rt; status.end, end);
+    assert_eq!(rt; status.state, State::Following);
+    true
+}
+
 /// A log device of one block has room for a sixth record and the tail after it only if its value has one byte.
 fn fills_one_block(rt: &impl Abort, alloc: Global) -> bool {
-    let Some((short, _)) = standby(alloc, 1) else {
-        return false;
-    };
-    let Some((long, _)) = standby(alloc, 1) else {
-        return false;
-    };
     let all = Reply::Fed(Fed {
         taken: 216,
         records: 6,
@@ -330,16 +338,8 @@ fn fills_one_block(rt: &impl Abort, alloc: Global) -> bool {
         records: 5,
         fault: Fault::LogFull,
     });
-    let Some(short) = replies_are(alloc, short, &[Step::Feed(&six_short())], &[all]) else {
-        return false;
-    };
-    let Some(long) = replies_are(alloc, long, &[Step::Feed(&six_long())], &[full]) else {
-        return false;
-    };
-    assert_eq!(rt; short.status().end, Lsn(232));
-    assert_eq!(rt; long.status().end, Lsn(196));
-    assert_eq!(rt; long.status().state, State::Following);
-    true
+    fills_to(rt, alloc, &six_short(), all, Lsn(232))
+        && fills_to(rt, alloc, &six_long(), full, Lsn(196))
 }
 
 #[test]
