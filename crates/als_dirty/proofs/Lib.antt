@@ -1,0 +1,4 @@
+pub mod RowLists
+pub mod ImageSteps
+pub mod TableSteps
+mod WorkedRows

@@ -1,0 +1,81 @@
+ghost use Rattle.std.specs.Prelude.{◌≡◌, ◌≤◌, length, IfOk};
+
+use crate::{DirtyTable, other_records_pass, rec_lsn_covers_each_image};
+use als_record::{LoggedPage, Lsn, PageRows};
+use std::alloc::{AllocError, Global};
+use std::test::Fail;
+
+// A new table. A refused growth is met once at most: it is made at the next try.
+fn fresh(alloc: Global, pages: u32) -> Result<DirtyTable, AllocError>
+    requires { pages ≤ 4096 }
+    ensures { IfOk result (λ table. length table ≡ pages) }
+{
+    if let Ok(table) = DirtyTable::new(alloc, pages) {
+        return Ok(table);
+    }
+    let table = DirtyTable::new(alloc, pages)?;
+    Ok(table)
+}
+
+// All rows, in the same way.
+fn rows_of(table: &DirtyTable, alloc: Global) -> Result<PageRows, AllocError> {
+    match table.rows(alloc) {
+        Ok(rows) => Ok(rows),
+        Err(_) => table.rows(alloc),
+    }
+}
+
+fn row(page: u32, lsn: u64) -> LoggedPage {
+    LoggedPage {
+        page,
+        rec_lsn: Lsn(lsn),
+    }
+}
+
+#[test]
+fn a_row_moves_at_the_sync(rt: HostRuntime) -> Result<(), Fail> {
+    let mut table = fresh(rt.alloc(), 2)?;
+    table.routed(0, Lsn(16));
+    table.routed(0, Lsn(80));
+    assert_eq!(rt; table.rec_lsn(0), Some(Lsn(16)));
+    table.written(0, Lsn(16), Some(Lsn(80)));
+    assert_eq!(rt; table.rec_lsn(0), Some(Lsn(16)));
+    assert_eq!(rt; table.written_lsn(0), Lsn(16));
+    assert_eq!(rt; table.synced_lsn(0), Lsn(0));
+    table.synced();
+    assert_eq!(rt; table.rec_lsn(0), Some(Lsn(80)));
+    assert_eq!(rt; table.synced_lsn(0), Lsn(16));
+    table.written(0, Lsn(80), None);
+    table.synced();
+    assert_eq!(rt; table.rec_lsn(0), None);
+    table.routed(0, Lsn(116));
+    assert_eq!(rt; table.rec_lsn(0), Some(Lsn(116)));
+    Ok(())
+}
+
+#[test]
+fn rows_stand_in_rising_page(rt: HostRuntime) -> Result<(), Fail> {
+    let mut table = fresh(rt.alloc(), 4096)?;
+    assert_eq!(rt; table.next_row(0), None);
+    assert!(rt; rows_of(&table, rt.alloc())?.as_slice().is_empty());
+    table.routed(4095, Lsn(16));
+    table.routed(3, Lsn(52));
+    table.routed(7, Lsn(88));
+    let rows = rows_of(&table, rt.alloc())?;
+    assert_eq!(rt;
+        rows.as_slice(),
+        [row(3, 52), row(7, 88), row(4095, 16)].as_slice()
+    );
+    assert_eq!(rt; table.next_row(0), Some(row(3, 52)));
+    assert_eq!(rt; table.next_row(3), Some(row(3, 52)));
+    assert_eq!(rt; table.next_row(4), Some(row(7, 88)));
+    assert_eq!(rt; table.next_row(8), Some(row(4095, 16)));
+    assert_eq!(rt; table.next_row(4096), None);
+    Ok(())
+}
+
+#[test]
+fn laws_take_nothing() {
+    rec_lsn_covers_each_image();
+    other_records_pass();
+}
