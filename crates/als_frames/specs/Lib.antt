@@ -1,0 +1,7 @@
+pub mod FaultNames
+pub mod Frames
+pub mod Outcomes
+pub mod Images
+pub mod Kept
+pub mod Table
+pub mod Batch

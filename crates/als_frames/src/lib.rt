@@ -1,0 +1,27 @@
+//! The pages of a database on a block device, some of them in frames in memory.
+#![tactic(auto)]
+
+// Why a call is refused.
+mod fault;
+// The page_LSNs of a frame.
+mod lsns;
+// A page in memory, and which of its images are on the device.
+mod frame;
+// The frames by their pages.
+mod table;
+// Pages on the device.
+mod blocks;
+// A device that could not be laid out.
+mod unformatted;
+// The frames over the device.
+mod frames;
+// What stays so as the log grows.
+mod laws;
+#[cfg(test)]
+mod tests;
+
+pub use fault::Fault;
+pub use frames::Frames;
+pub use laws::{mark_changes_no_page, record_changes_no_page};
+pub use lsns::Lsns;
+pub use unformatted::Unformatted;
