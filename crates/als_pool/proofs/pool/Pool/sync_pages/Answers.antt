@@ -1,0 +1,10 @@
+use Rattle.als_pool.proofs.Keeping.{keeps_sync_pages}
+use Rattle.als_pool.proofs.Lsns.{lsns_sync}
+use Rattle.als_pool.proofs.pool.Pool.sync_pages.Goals as goal
+
+pub returns-clause-keeps : goal.returns-clause-keeps
+returns-clause-keeps g c log below sure h =
+    keeps_sync_pages log below c.sync_all.result c.args.self.now c.sync_all.new.self c.sync_all.ensures.ok c.sync_all.ensures.err sure h
+
+pub returns-clause-lsns : goal.returns-clause-lsns
+returns-clause-lsns g c log below h = lsns_sync log below c.sync_all.result c.args.self.now c.sync_all.new.self c.sync_all.ensures.ok c.sync_all.ensures.err h

@@ -1,0 +1,5 @@
+pub mod FaultNames
+pub mod Queues
+pub mod Pooled
+pub mod Outcomes
+pub mod Images

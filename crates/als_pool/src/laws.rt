@@ -1,0 +1,36 @@
+ghost use Rattle.std.specs.Prelude.{◌≡◌, ℕ, ◌<◌, ◌≤◌, ◌+◌, ◌^◌, List, [], ◌∷◌, ◌++◌, length, Contains, Some, None};
+ghost use Rattle.als_record.specs.declared.change.Change.{Change as AnyChange};
+ghost use Rattle.als_record.specs.declared.record.Record.{Record as AnyRecord};
+ghost use Rattle.als_record.specs.LogText.{end_of, IsLog};
+ghost use Rattle.als_record.specs.Pages.{change_of};
+ghost use Rattle.als_frames.specs.Frames.{slot_of};
+ghost use Rattle.als_dirty.specs.Rows.{rec_lsn_of};
+ghost use Rattle.als_pool.specs.Queues.{total_waiting};
+ghost use Rattle.als_pool.specs.Pooled.{Pooled};
+ghost use Rattle.als_pool.specs.Outcomes.{CanRoute};
+ghost use Rattle.als_pool.specs.Images.{IsPoolOf, IsRowSound};
+
+/// A law, the meaning of RecLSN: whatever a crash leaves in the block of a page is an image of it from below the offset up to
+/// which the log survives, which lacks no record of the log below the page's RecLSN, and none where the page has no row.
+pub fn each_row_is_sound()
+    ensures { (log : List AnyRecord) (below : ℕ) (pool : Pooled) (page : ℕ) (content : List ℕ) → IsPoolOf log below pool → page < length pool.queues
+        → Contains (slot_of pool.frames page).candidates content → IsRowSound log page below (rec_lsn_of pool.dirty page) content }
+{}
+
+/// A law: the change of a record at the log's end can go behind those that its page waits for.
+pub fn change_can_be_routed()
+    ensures { (log : List AnyRecord) (below : ℕ) (pool : Pooled) (r : AnyRecord) (change : AnyChange) → IsPoolOf log below pool
+        → IsLog pool.frames.pages (log ++ r ∷ []) → r.lsn.0 ≡ end_of log → change_of r ≡ Some change → total_waiting pool.queues + 1 < 2 ^ 64
+        → CanRoute pool change }
+{}
+
+/// A law: a record that changes no page leaves the pool that of the log.
+pub fn other_records_pass()
+    ensures { (log : List AnyRecord) (below : ℕ) (pool : Pooled) (r : AnyRecord) → IsLog pool.frames.pages (log ++ r ∷ []) → r.lsn.0 ≡ end_of log
+        → change_of r ≡ None → IsPoolOf log below pool → IsPoolOf (log ++ r ∷ []) below pool }
+{}
+
+/// A law: the pool stays that of the log where more of the log survives each crash.
+pub fn mark_changes_nothing()
+    ensures { (log : List AnyRecord) (below more : ℕ) (pool : Pooled) → below ≤ more → IsPoolOf log below pool → IsPoolOf log more pool }
+{}

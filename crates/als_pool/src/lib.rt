@@ -1,0 +1,21 @@
+//! The buffer pool: the pages of a database on their device and in frames, what waits for redo, and the dirty page table.
+#![tactic(auto)]
+
+// Why a call is refused.
+mod fault;
+// What waits for a page.
+mod page_queue;
+// A device that could not be laid out.
+mod unformatted;
+// All pages.
+mod pool;
+// What holds of a pool for every log.
+mod laws;
+
+pub use fault::Fault;
+pub use laws::{change_can_be_routed, each_row_is_sound, mark_changes_nothing, other_records_pass};
+pub use pool::Pool;
+pub use unformatted::Unformatted;
+
+#[cfg(test)]
+mod tests;

@@ -1,0 +1,250 @@
+ghost use Rattle.std.specs.Prelude.{◌≡◌, ◌≢◌, ◌<◌, ◌≤◌, ℕ, [], length, IfOk};
+ghost use Rattle.als_pool.specs.Queues.{pending_of};
+ghost use Rattle.als_pool.specs.Pooled.{Pooled, lsn_now};
+ghost use Rattle.als_pool.specs.Outcomes.{with_place};
+
+use crate::{
+    Fault, Pool, change_can_be_routed, each_row_is_sound, mark_changes_nothing, other_records_pass,
+};
+use als_disk::{BlockDisk, FailingDisk, Fuse, MemDisk};
+use als_record::{Change, Image, Key, LoggedPage, Lsn, PageRows, Value};
+use std::alloc::{AllocError, Global};
+use std::process::Abort;
+use std::test::Fail;
+
+// Two empty pages. A call that is refused once is made again.
+fn formatted<D: BlockDisk + Drop>(rt: &impl Abort, alloc: Global, disk: D, frames: usize) -> Pool<D>
+    ensures { (page : ℕ) → page < 2 → (pending_of result.queues page ≡ []) × (lsn_now result page ≡ 0) }
+{
+    assert!(rt; 2 <= disk.blocks());
+    match Pool::format(alloc, disk, 2, frames) {
+        Ok(pool) => pool,
+        Err(unformatted) => match Pool::format(alloc, unformatted.disk, 2, frames) {
+            Ok(pool) => pool,
+            Err(_) => panic!(rt; "not laid out"),
+        },
+    }
+}
+
+// A value of one byte.
+fn one_byte(byte: u8) -> Image {
+    let mut value = Value::new();
+    match value.try_push(byte) {
+        Ok(()) => Some(value),
+        Err(_) => None,
+    }
+}
+
+// Makes room for one more change of a page.
+fn reserve<D: BlockDisk>(rt: &impl Abort, pool: &mut Pool<D>, page: u32)
+    requires { page < length pool.old.queues }
+    ensures { pool.new ≡ with_place pool.old page }
+{
+    if let Ok(()) = pool.reserve(page) {
+        return;
+    }
+    match pool.reserve(page) {
+        Ok(()) => {}
+        Err(_) => panic!(rt; "no memory"),
+    }
+}
+
+// A record at an offset changes slot 0 of a page that waits for nothing.
+fn route<D: BlockDisk>(rt: &impl Abort, pool: &mut Pool<D>, page: u32, at: u64)
+    requires next { lsn_now pool.old page < at }
+    requires first { 16 ≤ at }
+    requires none { pending_of pool.old.queues page ≡ [] }
+    ensures others { (p : ℕ) → p ≢ page → (pending_of pool.new.queues p ≡ pending_of pool.old.queues p) × (lsn_now pool.new p ≡ lsn_now pool.old p) }
+{
+    assert!(rt; page < pool.pages() && pool.waiting() < 1000);
+    reserve(rt, pool, page);
+    pool.route(Change {
+        lsn: Lsn(at),
+        key: Key { page, slot: 0 },
+        after: one_byte(0xaa),
+    });
+}
+
+// Two pages, each with one change that waits for it: at 16 of page 0, at 52 of page 1.
+fn two_changes<D: BlockDisk + Drop>(
+    rt: &impl Abort,
+    alloc: Global,
+    disk: D,
+    frames: usize,
+) -> Pool<D> {
+    let mut pool = formatted(rt, alloc, disk, frames);
+    route(rt, &mut pool, 0, 16);
+    route(rt, &mut pool, 1, 52);
+    pool
+}
+
+// The same on a device in memory.
+fn in_memory(rt: &impl Abort, alloc: Global, frames: usize) -> Pool<MemDisk> {
+    two_changes(rt, alloc, MemDisk::new(alloc, 2), frames)
+}
+
+// Redoes what waits for a page, again where memory is refused once.
+fn apply<D: BlockDisk>(pool: &mut Pool<D>, page: u32) -> Result<Lsn, Fault> {
+    match pool.apply(page) {
+        Err(Fault::Memory) => pool.apply(page),
+        answer => answer,
+    }
+}
+
+// Writes a page, again where the device finds no memory once.
+fn flush<D: BlockDisk>(pool: &mut Pool<D>, page: u32, acknowledged: u64) -> Result<(), Fault> {
+    match pool.flush_one(page, Lsn(acknowledged)) {
+        Err(Fault::Device) => pool.flush_one(page, Lsn(acknowledged)),
+        answer => answer,
+    }
+}
+
+// All rows, again where memory is refused once.
+fn rows_of<D: BlockDisk>(pool: &Pool<D>, alloc: Global) -> Result<PageRows, AllocError> {
+    match pool.rows(alloc) {
+        Ok(rows) => Ok(rows),
+        Err(_) => pool.rows(alloc),
+    }
+}
+
+fn row(page: u32, lsn: u64) -> LoggedPage {
+    LoggedPage {
+        page,
+        rec_lsn: Lsn(lsn),
+    }
+}
+
+#[test]
+fn a_frame_is_free_for_another_page_after_the_sync(rt: HostRuntime) {
+    let mut pool = in_memory(&rt, rt.alloc(), 1);
+    assert_eq!(rt; apply(&mut pool, 0), Ok(Lsn(16)));
+    assert_eq!(rt; apply(&mut pool, 1), Err(Fault::PoolFull));
+    assert_eq!(rt; flush(&mut pool, 0, 116), Ok(()));
+    assert_eq!(rt; apply(&mut pool, 1), Err(Fault::PoolFull));
+    assert!(rt; pool.sync_pages().is_ok());
+    assert_eq!(rt; apply(&mut pool, 1), Ok(Lsn(52)));
+    assert_eq!(rt; pool.waiting(), 0);
+}
+
+#[test]
+fn a_page_is_flushed_when_its_record_is_acknowledged(rt: HostRuntime) {
+    let mut pool = in_memory(&rt, rt.alloc(), 2);
+    assert_eq!(rt; flush(&mut pool, 0, 116), Err(Fault::NothingToDo));
+    assert_eq!(rt; apply(&mut pool, 0), Ok(Lsn(16)));
+    assert_eq!(rt; flush(&mut pool, 0, 16), Err(Fault::LogBehind));
+    assert_eq!(rt; flush(&mut pool, 0, 17), Ok(()));
+    assert_eq!(rt; flush(&mut pool, 0, 17), Err(Fault::NothingToDo));
+    assert_eq!(rt; flush(&mut pool, 7, 17), Err(Fault::NothingToDo));
+}
+
+#[test]
+fn rows_move_at_the_sync(rt: HostRuntime) -> Result<(), Fail> {
+    let mut pool = in_memory(&rt, rt.alloc(), 2);
+    assert_eq!(rt;
+        rows_of(&pool, rt.alloc())?.as_slice(),
+        [row(0, 16), row(1, 52)].as_slice()
+    );
+    assert_eq!(rt; apply(&mut pool, 0), Ok(Lsn(16)));
+    assert_eq!(rt; flush(&mut pool, 0, 116), Ok(()));
+    assert_eq!(rt; pool.next_row(0), Some(row(0, 16)));
+    assert!(rt; pool.sync_pages().is_ok());
+    assert_eq!(rt; pool.next_row(0), Some(row(1, 52)));
+    assert!(rt; 0 < pool.pages());
+    assert_eq!(rt; pool.rec_lsn(0), None);
+    Ok(())
+}
+
+#[test]
+fn what_waits_is_redone_once(rt: HostRuntime) {
+    let mut pool = in_memory(&rt, rt.alloc(), 2);
+    assert_eq!(rt; pool.waiting(), 2);
+    assert_eq!(rt; pool.next_pending(0), Some(0));
+    assert_eq!(rt; apply(&mut pool, 0), Ok(Lsn(16)));
+    assert_eq!(rt; apply(&mut pool, 0), Err(Fault::NothingToDo));
+    assert_eq!(rt; apply(&mut pool, 2), Err(Fault::NothingToDo));
+    assert_eq!(rt; pool.next_pending(0), Some(1));
+    assert_eq!(rt; pool.waiting(), 1);
+}
+
+#[test]
+fn a_page_is_shown_from_its_frame_or_its_block(rt: HostRuntime) -> Result<(), Fail> {
+    let mut pool = in_memory(&rt, rt.alloc(), 1);
+    assert_eq!(rt; apply(&mut pool, 0), Ok(Lsn(16)));
+    assert!(rt; 1 < pool.pages());
+    let framed = pool.page_now(0, Lsn(116))?;
+    assert_eq!(rt; framed.lsn(), Lsn(16));
+    assert!(rt; *framed.image(0) == one_byte(0xaa));
+    let stored = pool.page_now(1, Lsn(116))?;
+    assert_eq!(rt; stored.lsn(), Lsn(0));
+    assert_eq!(rt; stored.id(), 1);
+    Ok(())
+}
+
+// What stands in a block.
+fn block_of<D: BlockDisk + Drop>(rt: &impl Abort, mut disk: D, page: u64) -> [u8; 512] {
+    assert!(rt; page < disk.blocks());
+    let mut block = [0; 512];
+    assert!(rt; disk.read(page, &mut block).is_ok());
+    block
+}
+
+#[test]
+fn a_page_is_written_to_its_block(rt: HostRuntime) {
+    let mut pool = in_memory(&rt, rt.alloc(), 2);
+    assert_eq!(rt; apply(&mut pool, 1), Ok(Lsn(52)));
+    assert_eq!(rt; flush(&mut pool, 1, 116), Ok(()));
+    let block = block_of(&rt, pool.into_disk(), 1);
+    assert_eq!(rt;
+        &block[..14],
+        [0, 0, 0, 0, 0, 0, 0, 52, 0, 0, 0, 1, 0, 1].as_slice()
+    );
+    assert_eq!(rt; &block[32..34], [2, 0xaa].as_slice());
+}
+
+// A fuse, again where memory is refused once.
+fn fuse_of(alloc: Global) -> Result<Fuse, Fail> {
+    match Fuse::new(alloc) {
+        Ok(fuse) => Ok(fuse),
+        Err(_) => Ok(Fuse::new(alloc)?),
+    }
+}
+
+#[test]
+fn a_failing_device_is_answered(rt: HostRuntime) -> Result<(), Fail> {
+    let fuse = fuse_of(rt.alloc())?;
+    let disk = FailingDisk::new(MemDisk::new(rt.alloc(), 2), fuse.clone()?);
+    let mut pool = two_changes(&rt, rt.alloc(), disk, 1);
+    fuse.fail_at(1);
+    assert_eq!(rt; apply(&mut pool, 0), Err(Fault::Device));
+    assert_eq!(rt; apply(&mut pool, 0), Ok(Lsn(16)));
+    assert_eq!(rt; pool.next_row(0), Some(row(0, 16)));
+    fuse.fail_at(1);
+    assert_eq!(rt; pool.flush_one(0, Lsn(116)), Err(Fault::Device));
+    assert_eq!(rt; flush(&mut pool, 0, 116), Ok(()));
+    fuse.fail_at(1);
+    assert_eq!(rt; pool.sync_pages(), Err(Fault::Device));
+    assert_eq!(rt; pool.next_row(0), Some(row(0, 16)));
+    Ok(())
+}
+
+#[test]
+fn faults_have_names(rt: HostRuntime) {
+    assert_eq!(rt; Fault::LogBehind.number(), 22);
+    assert_eq!(rt; Fault::BadPage { page: 1 }.number(), 33);
+    assert_eq!(rt; Fault::LogBehind.name(), "LogBehind");
+}
+
+#[test]
+fn laws_take_nothing() {
+    each_row_is_sound();
+    change_can_be_routed();
+    other_records_pass();
+    mark_changes_nothing();
+}
+
+fn can_be_sent<T: Send + Drop>(_: T) {}
+
+#[test]
+fn a_pool_can_be_sent(rt: HostRuntime) {
+    can_be_sent(in_memory(&rt, rt.alloc(), 1));
+}
