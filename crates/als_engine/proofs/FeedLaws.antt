@@ -1,16 +1,14 @@
 -- A feed, from what went over to the held log.
-use Rattle.std.proofs.Common.{◌≡◌, ℕ, ◌+◌, ◌-◌, ◌<◌, ◌≤◌, List, [], ◌++◌, length, Option, None, Ok, refl, sym, ap, subst, ◌∙◌, length-append, arith}
+use Rattle.std.proofs.Common.{◌≡◌, ℕ, ◌-◌, List, [], ◌++◌, length, Option, None, Ok, ap, subst, length-append, arith}
 use Rattle.als_record.specs.declared.record.Record.{Record}
 use Rattle.als_record.specs.Reading.{read_record}
-use Rattle.als_record.specs.LogText.{spellings, end_of}
+use Rattle.als_record.specs.LogText.{end_of}
 use Rattle.als_record.specs.Validity.{IsValidLog}
 use Rattle.als_receiver.specs.Reception.{Reception}
 use Rattle.als_engine.specs.declared.fault.Fault.{Fault}
-use Rattle.als_engine.specs.declared.fed.Fed.{Fed}
-use Rattle.als_engine.specs.declared.fed.FeedFault.{FeedFault}
-use Rattle.als_store.specs.Stored.{Stored, pending_of}
+use Rattle.als_store.specs.Stored.{Stored}
 use Rattle.als_engine.specs.Machine.{Machine}
-use Rattle.als_engine.specs.Feeds.{grown, TakesLog, Splits, FeedsAll, FeedsFront, kept_fault}
+use Rattle.als_engine.specs.Feeds.{grown, TakesLog, FeedsAll, FeedsFront, kept_fault}
 use Rattle.als_engine.specs.TakingIn.{TakesAll, TakesFront}
 use Rattle.als_engine.proofs.TakingLaws.{end_grown}
 

@@ -1,4 +1,5 @@
 pub mod TakingLaws
+pub mod RoomLaws
 pub mod ReadyLaws
 pub mod FeedLaws
 pub mod KeepLaws

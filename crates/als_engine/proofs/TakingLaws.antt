@@ -1,5 +1,5 @@
 -- Records that go over one after another, and pieces of bytes one after another.
-use Rattle.std.proofs.Common.{◌≡◌, ℕ, ◌+◌, ◌<◌, ◌≤◌, ◌⊎◌, List, [], ◌∷◌, ◌++◌, length, take, drop, take-append-drop, Option, Some, None, Result, Ok, Err, refl, sym, ap, subst, ◌∙◌, inl, inr, append_assoc, append-nil, length-append, arith}
+use Rattle.std.proofs.Common.{◌≡◌, ℕ, ◌+◌, ◌<◌, List, [], ◌∷◌, ◌++◌, length, take, drop, take-append-drop, Some, None, Result, Ok, Err, refl, sym, ap, subst, ◌∙◌, inl, inr, append_assoc, append-nil, length-append, arith}
 use Rattle.als_record.specs.declared.record.Record.{Record}
 use Rattle.als_record.specs.Spelling.{record_len, spelling}
 use Rattle.std.specs.Prelude.{IfErr}
@@ -34,10 +34,12 @@ full_answer = Err LogFull
 pub fits_held : (held : Stored) (r : Record) → first_bad held.log r ≡ None → (first_bad held.log r ≡ None → IsTooLong held r → held_it ≡ full_answer) → IsTooLong held r → ⊥
 fits_held held r good full long = ok_is_no_err tt LogFull (full good long)
 
-pub hands_one : (held new : Stored) (before after : Reception) (r : Record) → Meets held before → (IsTooLong held r → ⊥) → HandsOut before r after → new ≡ grown held (r ∷ []) → TakesOne held before new after
-hands_one held new before after r meets fits out more = record {
+pub hands_one : (held new : Stored) (before after : Reception) (r : Record) → Meets held before → first_bad held.log r ≡ None → (IsTooLong held r → ⊥) → HandsOut before r after → new ≡ grown held (r ∷ []) → TakesOne held before new after
+hands_one held new before after r meets good fits out more = record {
   logged = r;
+  reading = ap (λ n. read_record n (end_of held.log) before.kept) (sym meets.pages) ∙ ap (λ n. read_record before.pages n before.kept) (sym meets.wanted) ∙ out.reading;
   whole = out.bytes;
+  good = good;
   fits = fits;
   after = more;
   meets = record {

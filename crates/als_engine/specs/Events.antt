@@ -1,7 +1,8 @@
 -- What each of the other events makes of the small machine, and what it answers.
-use Rattle.std.specs.Prelude.{◌≡◌, ℕ, ◌⊎◌, List, [], Option, None, Result, Ok, Err}
+use Rattle.std.specs.Prelude.{◌≡◌, ℕ, ◌⊎◌, [], Option, None, Result, Ok, Err}
 use Rattle.als_record.specs.declared.lsn.Lsn.{Lsn}
 use Rattle.als_record.specs.declared.record.Record.{Record}
+use Rattle.als_log.specs.Reading.{HasRowsAt}
 use Rattle.als_store.specs.Stored.{Stored, AppliesFirst, IsDry, StandsAt}
 use Rattle.als_store.specs.Events.{Breaks, FailsToRead, HasUnwritten, WritesLog, SyncsLog, HasUnmarked, WritesMark, BreaksMark, SyncsControl}
 use Rattle.als_engine.specs.declared.fault.Fault.{Fault}
@@ -64,7 +65,8 @@ ControlSyncs old (Err fault) new = RefusesStopped old fault new ⊎ FailsIn old 
 
 -- ---- a query that may read a device
 
--- the record at an LSN, if one stands there; a read that fails is counted, and nothing else changes
+-- the record at an LSN, if one stands there; memory is wanted for an end_chkpt's rows alone; a read that fails is counted,
+-- and nothing else changes
 abbrev pub Reads : Machine → Lsn → Result (Option Record) Fault → Machine → Type 0
 Reads old lsn (Ok found) new = StandsAt old.held.log lsn found × (new ≡ old)
-Reads old lsn (Err fault) new = ((fault ≡ Memory) × (new ≡ old)) ⊎ ((fault ≡ Device) × (held : Stored) × FailsToRead old.held held × (new ≡ record old { held = held }))
+Reads old lsn (Err fault) new = ((fault ≡ Memory) × HasRowsAt old.held.log lsn.0 × (new ≡ old)) ⊎ ((fault ≡ Device) × (held : Stored) × FailsToRead old.held held × (new ≡ record old { held = held }))

@@ -7,6 +7,7 @@ ghost use Rattle.als_store.specs.Stored.{acknowledged, pending_of, WaitsFrom, Sh
 ghost use Rattle.als_store.specs.Devices.{AreKept};
 ghost use Rattle.als_engine.specs.Config.{IsConfig, IsWorld};
 ghost use Rattle.als_engine.specs.Machine.{formatted_machine, state_of, state_from, Keeps};
+ghost use Rattle.als_engine.specs.Serving.{HasRoomForPiece};
 ghost use Rattle.als_engine.specs.Feeds.{Feeds, kept_fault};
 ghost use Rattle.als_engine.specs.Events.{Resyncs, Applies, LogWrites, LogSyncs, MarkWrites, ControlSyncs, Reads};
 ghost use Rattle.als_engine.specs.Runs.{Steps, reply_of};
@@ -40,14 +41,14 @@ pub struct Engine<D: BlockDisk> {
 }
 
 impl<D: BlockDisk> Model for Engine<D> {
-    ghost use Rattle.als_engine.specs.Machine.{Machine};
+    ghost use Rattle.als_engine.specs.Serving.{Serving};
     ghost use Rattle.als_engine.specs.TakingIn.{IsReady};
 
-    ghost Value = { Machine };
+    ghost Value = { Serving };
 
-    ghost view = { λ e. record { held = e.store.stored; limit = e.limit; partial = e.receiver.kept; refused = e.refused } };
+    ghost view = { λ e. record { machine = record { held = e.store.stored; limit = e.limit; partial = e.receiver.kept; refused = e.refused }; spare = e.store.spare; room = e.receiver.room } };
 
-    ghost invariant = { λ e. IsReady e.store.stored e.receiver };
+    ghost invariant = { λ e. IsReady e.store.stored e.receiver e.refused };
 }
 
 // Written out: a derived drop would be proved part by part wherever an engine is let go of, this one only here.
@@ -70,7 +71,7 @@ impl<D: BlockDisk> Engine<D> {
     /// out of its range, or a device has too few blocks, or the log's too many; the devices are unchanged then. Device: a
     /// device failed. Memory: a growth was refused. On a refusal the devices come back.
     pub fn format(alloc: Global, disks: Disks<D>, config: Config) -> Result<Engine<D>, Refused<D>>
-        ensures ok { IfOk result (λ e. IsWorld config (D.block_count disks.log) (D.block_count disks.control) (D.block_count disks.pages) × (e ≡ formatted_machine config (D.block_count disks.log) (D.failures disks.log + D.failures disks.control + D.failures disks.pages) e.held.attempts)) }
+        ensures ok { IfOk result (λ e. IsWorld config (D.block_count disks.log) (D.block_count disks.control) (D.block_count disks.pages) × (e.machine ≡ formatted_machine config (D.block_count disks.log) (D.failures disks.log + D.failures disks.control + D.failures disks.pages) e.machine.held.attempts)) }
         ensures err { IfErr result (λ r. ((r.fault ≡ Fault.BadConfig) × (IsWorld config (D.block_count disks.log) (D.block_count disks.control) (D.block_count disks.pages) → ⊥) × (r.disks ≡ disks)) ⊎ (IsWorld config (D.block_count disks.log) (D.block_count disks.control) (D.block_count disks.pages) × ((r.fault ≡ Fault.Memory) ⊎ ((r.fault ≡ Fault.Device) × (D.failures disks.log + D.failures disks.control < D.failures r.disks.log + D.failures r.disks.control))))) }
     {
         if !config.fits(&disks) {
@@ -98,8 +99,8 @@ impl<D: BlockDisk> Engine<D> {
     /// The devices. Whatever a crash leaves of them, the control block has a mark from the acknowledged LSN to the synced end,
     /// and the log device has the held log's text below that mark. Their attempts together are the machine's.
     pub fn into_disks(self) -> Disks<D>
-        ensures kept { AreKept self.held (D.slot result.log) (D.slot result.control) }
-        ensures attempts { D.attempts result.log + D.attempts result.control + D.attempts result.pages ≡ self.held.attempts }
+        ensures kept { AreKept self.machine.held (D.slot result.log) (D.slot result.control) }
+        ensures attempts { D.attempts result.log + D.attempts result.control + D.attempts result.pages ≡ self.machine.held.attempts }
     {
         let Engine {
             alloc: _,
@@ -115,9 +116,12 @@ impl<D: BlockDisk> Engine<D> {
     /// Takes a piece of the primary's log: each record that is whole now goes into the held log, and the rest waits as a
     /// partial record. Stopped is answered first, then in Refusing the kept fault, then Backlog where the pending changes have
     /// reached the limit: then nothing is taken. After another fault the whole records in front of it are held and no partial
-    /// record is kept; a fault of the record (2 to 16) is kept, LogFull and Memory are not.
+    /// record is kept; a fault of the record (2 to 16) is kept, LogFull and Memory are not. Memory does not come where there
+    /// is room for the piece.
     pub fn feed(&mut self, piece: &[u8]) -> Result<Fed, FeedFault>
-        ensures { Feeds self.old piece.now result self.new }
+        ensures feeds { Feeds self.old.machine piece.now result self.new.machine }
+        // Where there is room for the piece, memory is not wanted.
+        ensures reserved { HasRoomForPiece self.old piece.now → IfErr result (λ refusal. refusal.fault ≡ Fault.Memory → ⊥) }
     {
         let stopped = self.store.is_broken();
         if stopped {
@@ -152,7 +156,9 @@ impl<D: BlockDisk> Engine<D> {
 
     /// Drops the partial record, and takes the log again after a refusal. Stopped changes nothing.
     pub fn resync(&mut self) -> Result<(), Fault>
-        ensures { Resyncs self.old result self.new }
+        ensures resyncs { Resyncs self.old.machine result self.new.machine }
+        // The room of the bytes that were dropped is free again.
+        ensures room { OnOk result (self.old.room + length self.old.machine.partial ≤ self.new.room) }
     {
         if self.store.is_broken() {
             return Err(Fault::Stopped);
@@ -165,7 +171,7 @@ impl<D: BlockDisk> Engine<D> {
     /// Redoes the first changes that a page waits for, at most 64, and answers its page_LSN. NothingToDo: none waits, or there
     /// is no such page. Stopped comes before it; both change nothing.
     pub fn apply(&mut self, page: u32) -> Result<Lsn, Fault>
-        ensures { Applies self.old page result self.new }
+        ensures { Applies self.old.machine page result self.new.machine }
     {
         if self.store.is_broken() {
             return Err(Fault::Stopped);
@@ -177,7 +183,7 @@ impl<D: BlockDisk> Engine<D> {
     /// Writes the first block of the log with unwritten bytes: it makes one write of a device. NothingToDo: there is none.
     /// Device: the write failed, and the engine has stopped.
     pub fn log_write(&mut self) -> Result<(), Fault>
-        ensures { LogWrites self.old result self.new }
+        ensures { LogWrites self.old.machine result self.new.machine }
     {
         if self.store.is_broken() {
             return Err(Fault::Stopped);
@@ -188,7 +194,7 @@ impl<D: BlockDisk> Engine<D> {
 
     /// Syncs the log: it makes one sync of a device. Device: the sync failed, and the engine has stopped.
     pub fn log_sync(&mut self) -> Result<(), Fault>
-        ensures { LogSyncs self.old result self.new }
+        ensures { LogSyncs self.old.machine result self.new.machine }
     {
         if self.store.is_broken() {
             return Err(Fault::Stopped);
@@ -200,7 +206,7 @@ impl<D: BlockDisk> Engine<D> {
     /// Writes the control block with the log's synced end as its mark: it makes one write of a device. NothingToDo: the last
     /// mark written is not below it. Device: the write failed, and the engine has stopped.
     pub fn mark_write(&mut self) -> Result<(), Fault>
-        ensures { MarkWrites self.old result self.new }
+        ensures { MarkWrites self.old.machine result self.new.machine }
     {
         if self.store.is_broken() {
             return Err(Fault::Stopped);
@@ -212,7 +218,7 @@ impl<D: BlockDisk> Engine<D> {
     /// Syncs the control block, and answers its mark: the acknowledged LSN from now on. It makes one sync of a device. Device:
     /// the sync failed, and the engine has stopped.
     pub fn ctl_sync(&mut self) -> Result<Lsn, Fault>
-        ensures { ControlSyncs self.old result self.new }
+        ensures { ControlSyncs self.old.machine result self.new.machine }
     {
         if self.store.is_broken() {
             return Err(Fault::Stopped);
@@ -223,11 +229,11 @@ impl<D: BlockDisk> Engine<D> {
 
     /// One step of the small machine.
     pub fn step(&mut self, step: &Step) -> Reply
-        ensures steps { Steps self.old step.now result self.new }
+        ensures steps { Steps self.old.machine step.now result self.new.machine }
         // what is acknowledged stays so, and the log only grows
-        ensures keeps { Keeps self.old self.new }
+        ensures keeps { Keeps self.old.machine self.new.machine }
         // one write or sync of a device at most
-        ensures attempts { self.new.held.attempts ≤ self.old.held.attempts + 1 }
+        ensures attempts { self.new.machine.held.attempts ≤ self.old.machine.held.attempts + 1 }
     {
         let _ = &self.limit;
         match step {
@@ -252,11 +258,11 @@ impl<D: BlockDisk> Engine<D> {
 
     /// What the engine tells of itself.
     pub fn status(&self) -> Status
-        ensures state { result.state ≡ state_of self.now }
-        ensures end { result.end.0 ≡ end_of self.now.held.log }
-        ensures partial { result.partial ≡ length self.now.partial }
-        ensures acknowledged { result.acknowledged.0 ≡ acknowledged self.now.held }
-        ensures pending { result.pending ≡ pending_of self.now.held }
+        ensures state { result.state ≡ state_of self.now.machine }
+        ensures end { result.end.0 ≡ end_of self.now.machine.held.log }
+        ensures partial { result.partial ≡ length self.now.machine.partial }
+        ensures acknowledged { result.acknowledged.0 ≡ acknowledged self.now.machine.held }
+        ensures pending { result.pending ≡ pending_of self.now.machine.held }
         ensures leases { result.leases ≡ 0 }
     {
         let end = self.store.end();
@@ -272,29 +278,30 @@ impl<D: BlockDisk> Engine<D> {
 
     /// The transaction table of the held log, in rising TransID.
     pub fn table(&self) -> &[OpenTransaction]
-        ensures { rows_of result.now ≡ table_of self.now.held.log }
+        ensures { rows_of result.now ≡ table_of self.now.machine.held.log }
     {
         self.store.table()
     }
 
     /// The database's page count.
     pub fn pages(&self) -> u32
-        ensures { result ≡ self.now.held.pages }
+        ensures { result ≡ self.now.machine.held.pages }
     {
         self.store.pages()
     }
 
     /// The page as it is now: `None` where there is no such page.
     pub fn page_now(&self, page: u32) -> Option<&Page>
-        ensures { ShowsPage self.now.held page (option_copied result) }
+        ensures { ShowsPage self.now.machine.held page (option_copied result) }
     {
         self.store.page_now(page)
     }
 
-    /// The held record at an LSN, read from the log device where it is no longer in memory. Device: a read failed. Memory: a
-    /// growth was refused. A failed read is counted; else nothing changes.
+    /// The held record at an LSN, read from the log device where it is no longer in memory. Device: a read failed. Memory:
+    /// there was none for the rows of the end_chkpt that stands there; no other record takes any. A failed read is counted;
+    /// else nothing changes.
     pub fn record_at(&mut self, lsn: Lsn) -> Result<Option<Record>, Fault>
-        ensures { Reads self.old lsn result self.new }
+        ensures { Reads self.old.machine lsn result self.new.machine }
     {
         let found = self.store.record_at(lsn)?;
         Ok(found)
@@ -302,7 +309,7 @@ impl<D: BlockDisk> Engine<D> {
 
     /// The first page from there on with pending changes.
     pub fn next_pending(&self, from: u32) -> Option<u32>
-        ensures { WaitsFrom self.now.held from result }
+        ensures { WaitsFrom self.now.machine.held from result }
     {
         self.store.next_pending(from)
     }

@@ -1,4 +1,7 @@
 ghost use Rattle.std.specs.Prelude.{◌≡◌, ◌≤◌, ◌++◌, length, OnOk, IfOk, IfErr, MatchBool};
+ghost use Rattle.std.specs.Result.{IsErrOf};
+ghost use Rattle.als_engine.specs.declared.fault.Fault.TheVariants as fault;
+ghost use Rattle.als_engine.specs.Serving.{HasRoomForBytes};
 ghost use Rattle.als_engine.specs.Feeds.{IsCause};
 ghost use Rattle.als_engine.specs.TakingIn.{Meets, Rests, TakesOne, TakesAll, TakesFront};
 
@@ -19,7 +22,11 @@ pub(crate) fn take_piece<D: BlockDisk>(
     requires { Rests held.old.stored receiver.old }
     ensures ok { OnOk result (TakesAll held.old.stored (receiver.old.kept ++ piece.now) held.new.stored receiver.new) }
     ensures err { IfErr result (TakesFront held.old.stored (receiver.old.kept ++ piece.now) held.new.stored) }
+    ensures reserved { length piece.now ≤ 65536 → length piece.now ≤ receiver.old.room → HasRoomForBytes held.old.stored held.old.spare (receiver.old.kept ++ piece.now) → IsErrOf result fault.Memory → ⊥ }
 {
+    if piece.len() <= CHUNK {
+        return take_chunk(held, receiver, piece);
+    }
     let mut rest = piece;
     while !rest.is_empty() {
         let (chunk, after) = rest.split_at(rest.len().min(CHUNK));
@@ -39,6 +46,7 @@ fn take_chunk<D: BlockDisk>(
     requires few { length chunk.now ≤ 65536 }
     ensures ok { OnOk result (TakesAll held.old.stored (receiver.old.kept ++ chunk.now) held.new.stored receiver.new) }
     ensures err { IfErr result (TakesFront held.old.stored (receiver.old.kept ++ chunk.now) held.new.stored) }
+    ensures reserved { length chunk.now ≤ receiver.old.room → HasRoomForBytes held.old.stored held.old.spare (receiver.old.kept ++ chunk.now) → IsErrOf result fault.Memory → ⊥ }
 {
     let _ = held.end();
     receiver.push(chunk)?;
@@ -50,6 +58,7 @@ fn take_records<D: BlockDisk>(held: &mut Store<D>, receiver: &mut Receiver) -> R
     requires { Meets held.old.stored receiver.old }
     ensures ok { OnOk result (TakesAll held.old.stored receiver.old.kept held.new.stored receiver.new) }
     ensures err { IfErr result (TakesFront held.old.stored receiver.old.kept held.new.stored) }
+    ensures reserved { HasRoomForBytes held.old.stored held.old.spare receiver.old.kept → IsErrOf result fault.Memory → ⊥ }
 {
     while take_record(held, receiver)? {}
     Ok(())
@@ -60,10 +69,12 @@ fn take_record<D: BlockDisk>(held: &mut Store<D>, receiver: &mut Receiver) -> Re
     requires { Meets held.old.stored receiver.old }
     ensures ok { IfOk result (λ more. MatchBool more (TakesOne held.old.stored receiver.old held.new.stored receiver.new) ((held.new.stored ≡ held.old.stored) × (receiver.new ≡ receiver.old) × Rests held.old.stored receiver.old)) }
     ensures err { IfErr result (λ fault. (held.new.stored ≡ held.old.stored) × IsCause held.old.stored receiver.old.kept fault) }
+    ensures reserved { HasRoomForBytes held.old.stored held.old.spare receiver.old.kept → IsErrOf result fault.Memory → ⊥ }
 {
-    match receiver.next() {
-        Ok(Some(logged)) => {
-            held.admit(&logged)?;
+    match receiver.peek() {
+        Ok(Some((logged, len))) => {
+            held.admit(&logged, receiver.front(len))?;
+            receiver.advance(len);
             Ok(true)
         }
         Ok(None) => Ok(false),

@@ -151,6 +151,34 @@ fn a_log_in_pieces_makes_warm_pages(rt: HostRuntime) {
     assert!(rt; takes_pieces(&rt, rt.alloc()) || takes_pieces(&rt, rt.alloc()));
 }
 
+/// Bytes that are no record, in the room of a partial record that was dropped: their refusal takes no memory.
+fn refuses_with_no_memory(rt: &impl Abort, alloc: Global) -> bool {
+    let Some((mut engine, _)) = standby(alloc, 8) else {
+        return false;
+    };
+    let partial = [
+        0, 0, 0, 36, 1, 0, 0, 0, 0, 0, 0, 0, 0, 0, 0, 16, 0, 0, 0, 0, 0, 0, 0, 0, 0, 0, 0, 1, 0, 0,
+    ];
+    if engine.feed(&partial).is_err() {
+        assert!(rt; engine.feed(&partial).is_ok());
+    }
+    assert!(rt; engine.resync().is_ok());
+    match engine.feed(&[0; 28]) {
+        Ok(_) => panic!(rt; "bytes that are no record were taken"),
+        Err(refusal) => assert_eq!(rt; refusal.fault, Fault::BadLength),
+    }
+    match engine.feed(&partial) {
+        Ok(_) => panic!(rt; "an engine that refuses has taken bytes"),
+        Err(refusal) => assert_eq!(rt; refusal.fault, Fault::BadLength),
+    }
+    true
+}
+
+#[test]
+fn a_refusal_takes_no_memory(rt: HostRuntime) {
+    assert!(rt; refuses_with_no_memory(&rt, rt.alloc()) || refuses_with_no_memory(&rt, rt.alloc()));
+}
+
 /// The log is written and synced, then marked and acknowledged, each where there is something to do.
 fn acknowledges(rt: &impl Abort, alloc: Global) -> bool {
     let Some((engine, _)) = standby(alloc, 8) else {

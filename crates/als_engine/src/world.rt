@@ -22,20 +22,20 @@ impl<D: BlockDisk> Model for World<D> {
 
     ghost Value = { Machine };
 
-    ghost view = { λ w. w.engine };
+    ghost view = { λ w. w.engine.machine };
 }
 
 impl<D: BlockDisk> World<D> {
     /// A world with this engine.
     pub fn new(engine: Engine<D>) -> World<D>
-        ensures { result ≡ engine }
+        ensures { result ≡ engine.machine }
     {
         World { engine }
     }
 
     /// The engine, to ask it.
     pub fn engine(&self) -> &Engine<D>
-        ensures { result.now ≡ self.now }
+        ensures { result.now.machine ≡ self.now }
     {
         &self.engine
     }
@@ -49,7 +49,7 @@ impl<D: BlockDisk> World<D> {
 
     /// The engine.
     pub fn into_engine(self) -> Engine<D>
-        ensures { result ≡ self }
+        ensures { result.machine ≡ self }
     {
         self.engine
     }

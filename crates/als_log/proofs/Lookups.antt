@@ -1,7 +1,7 @@
 -- Which record stands at an offset, and the bytes of it in the text.
-use Rattle.std.proofs.Common.{◌≡◌, ℕ, ◌+◌, ◌<◌, ◌≤◌, eqb, List, [], ◌∷◌, ◌++◌, length, drop, take, Option, Some, None, Result, Ok, refl, sym, ap, subst, ◌∙◌, append_assoc, arith}
+use Rattle.std.proofs.Common.{◌≡◌, ℕ, ◌+◌, ◌<◌, ◌≤◌, eqb, List, [], ◌∷◌, ◌++◌, length, drop, take, Option, Some, None, Result, Ok, Err, refl, sym, ap, subst, ◌∙◌, append_assoc, arith}
 use Rattle.std.specs.List.{AllByRecursion}
-use Rattle.std.specs.Prelude.{IsTrue}
+use Rattle.std.specs.Prelude.{IsTrue, IsSomeAnd}
 use Rattle.std.specs.Int.{w32, from_be_bytes}
 use Rattle.std.proofs.lemmas.Bool.{cond-true, cond-false, ne_eqb, eq-eqb, and_parts}
 use Rattle.std.proofs.lemmas.List.{append-nil, length-append, take-take, take_at}
@@ -9,11 +9,13 @@ use Rattle.als_record.specs.declared.fault.Fault.{Fault as RecordFault}
 use Rattle.als_record.specs.declared.record.Record.{Record}
 use Rattle.als_record.specs.Spelling.{record_len, spelling, IsRecord}
 use Rattle.als_record.specs.LogText.{spellings, log_text, end_of, follow_from, IsLog}
-use Rattle.als_record.specs.Reading.{word_at}
+use Rattle.als_record.specs.declared.fault.Fault.TheVariants.{BadHeader, BadLength, BadType, BadReserved, WrongLsn, BadKey, BadValue, Memory}
+use Rattle.als_record.specs.Reading.{word_at, read_record, Fails, HasRows, TakesMemory}
 use Rattle.als_record.proofs.LogLaws.{spellings-cons, end_of_is, end_of_push, follow-cons, follow-append}
+use Rattle.als_record.proofs.ReadingLaws.{record_again}
 use Rattle.als_record.proofs.RecordLaws.{length-spelling, record_len-low, record_len-high}
 use Rattle.als_log.specs.Local.{IsFrontEnd}
-use Rattle.als_log.specs.Reading.{record_at}
+use Rattle.als_log.specs.Reading.{record_at, HasRowsAt}
 use Rattle.als_log.proofs.Walks.{all-behind, text-behind, len_field, end_of-parts}
 
 -- ---- lookups
@@ -152,3 +154,30 @@ pub found-none : (x : Record × ℕ) (o : Option (Record × ℕ)) → ◌≡◌ 
 found-none x o read is =
     let both : ◌≡◌ {A = Read} (Ok (Some x)) (Ok None) = read ∙ ap (λ (x : Option (Record × ℕ)). let y : Read = Ok x in y) is in
     cc both
+
+abbrev found : Record × ℕ → Read
+found x = Ok (Some x)
+
+abbrev refused : RecordFault → Read
+refused e = Err e
+
+found-refused : (x : Record × ℕ) (e : RecordFault) → found x ≡ refused e → ⊥
+found-refused x e read = cc read
+
+-- where a record is spelled, it is not found for want of memory alone, for its rows
+no_memory : (x : Record × ℕ) (e : RecordFault) (read : Read) → Fails e (found x) → read ≡ found x → (refused e ≡ refused Memory → TakesMemory read) → HasRows x.0.body
+no_memory x Memory read fails is takes = subst TakesMemory is (takes refl)
+no_memory x BadHeader read fails is takes = absurd (found-refused x BadHeader fails)
+no_memory x BadLength read fails is takes = absurd (found-refused x BadLength fails)
+no_memory x BadType read fails is takes = absurd (found-refused x BadType fails)
+no_memory x BadReserved read fails is takes = absurd (found-refused x BadReserved fails)
+no_memory x WrongLsn read fails is takes = absurd (found-refused x WrongLsn fails)
+no_memory x BadKey read fails is takes = absurd (found-refused x BadKey fails)
+no_memory x BadValue read fails is takes = absurd (found-refused x BadValue fails)
+
+pub wants_rows : {pages : ℕ} {log : List Record} {at : ℕ} (p : Placed pages log at) (e : RecordFault) (bytes : List ℕ) → bytes ≡ spelling p.r ++ [] → Fails e (found (p.r, record_len p.r))
+    → (refused e ≡ refused Memory → TakesMemory (read_record pages at bytes)) → HasRowsAt log at
+wants_rows {pages} {log} {at} p e bytes is fails takes =
+    let read : read_record pages at bytes ≡ found (p.r, record_len p.r)
+    = ap (λ (n : ℕ). read_record pages n bytes) (sym p.lsn) ∙ ap (read_record pages p.r.lsn.0) is ∙ record_again pages p.r [] p.fits in
+    subst (λ (o : Option Record). IsSomeAnd o (λ r. HasRows r.body)) (sym (record_at-placed p)) (no_memory (p.r, record_len p.r) e (read_record pages at bytes) fails read takes)

@@ -4,6 +4,7 @@ use Rattle.als_record.specs.LogText.{end_of}
 use Rattle.als_log.specs.declared.fault.Fault.{Fault}
 use Rattle.als_log.specs.declared.fault.Fault.TheVariants.{NothingToDo, LogFull, Device, Memory}
 use Rattle.als_log.specs.Local.{Local, HasRoomFor}
+use Rattle.als_log.specs.Reading.{HasRowsAt}
 
 -- a read of the device has failed, and nothing else has changed
 pub record ReadFails (old new : Local) : Type 0 where
@@ -43,9 +44,9 @@ RefusesSync NothingToDo old new = ⊥
 RefusesSync LogFull old new = ⊥
 RefusesSync Memory old new = ⊥
 
--- no record could be read: the device failed, or there was no memory
-abbrev pub RefusesReading : Fault → Local → Local → Type 0
-RefusesReading Device old new = ReadFails old new
-RefusesReading Memory old new = new ≡ old
-RefusesReading NothingToDo old new = ⊥
-RefusesReading LogFull old new = ⊥
+-- no record could be read at an offset: the device failed, or there was no memory for the rows of an end_chkpt there
+abbrev pub RefusesReading : ℕ → Fault → Local → Local → Type 0
+RefusesReading at Device old new = ReadFails old new
+RefusesReading at Memory old new = HasRowsAt old.log at × (new ≡ old)
+RefusesReading at NothingToDo old new = ⊥
+RefusesReading at LogFull old new = ⊥

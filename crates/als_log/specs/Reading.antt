@@ -1,7 +1,8 @@
 -- Records read back, and where the bytes for it come from.
-use Rattle.std.specs.Prelude.{◌≡◌, ℕ, ◌<◌, ◌≤◌, ◌*◌, ◌/◌, ◌==◌, List, length, drop, Option, find}
+use Rattle.std.specs.Prelude.{◌≡◌, ℕ, ◌<◌, ◌≤◌, ◌*◌, ◌/◌, ◌==◌, List, length, drop, Option, IsSomeAnd, find}
 use Rattle.als_record.specs.declared.record.Record.{Record}
 use Rattle.als_record.specs.LogText.{log_text, end_of, IsLog}
+use Rattle.als_record.specs.Reading.{HasRows}
 use Rattle.als_disk.specs.Slot.{Slot}
 use Rattle.als_log.specs.declared.fault.Fault.{Fault}
 use Rattle.als_log.specs.declared.fault.Fault.TheVariants.{NothingToDo, LogFull, Device, Memory}
@@ -10,6 +11,10 @@ use Rattle.als_log.specs.Texts.{AllHaveText}
 -- the record of a log that stands at an offset
 abbrev pub record_at : List Record → ℕ → Option Record
 record_at log at = find (λ r. r.lsn.0 == at) log
+
+-- an end_chkpt stands at an offset of a log: the one record that takes memory to be read, for its rows
+abbrev pub HasRowsAt : List Record → ℕ → Type 0
+HasRowsAt log at = IsSomeAnd (record_at log at) (λ r. HasRows r.body)
 
 -- The bytes of a text: below a base whatever a read of the device gives has them, and memory has the others.
 pub record IsSource (slots : ℕ → Slot) (bytes text : List ℕ) (base : ℕ) : Type 0 where
@@ -25,9 +30,9 @@ pub record IsReadable (pages : ℕ) (log : List Record) (slots : ℕ → Slot) (
   pub fits : end_of log ≤ 512 * blocks
   pub few : blocks ≤ 4194304
 
--- bytes could not be read: the device has failed, or there was no memory for them
-abbrev pub FailsToRead : Fault → ℕ → ℕ → Type 0
-FailsToRead Device before now = before < now
-FailsToRead Memory before now = now ≡ before
-FailsToRead NothingToDo before now = ⊥
-FailsToRead LogFull before now = ⊥
+-- the record at an offset could not be read: the device has failed, or there was no memory for the rows of an end_chkpt there
+abbrev pub FailsToRead : List Record → ℕ → Fault → ℕ → ℕ → Type 0
+FailsToRead log at Device before now = before < now
+FailsToRead log at Memory before now = HasRowsAt log at × (now ≡ before)
+FailsToRead log at NothingToDo before now = ⊥
+FailsToRead log at LogFull before now = ⊥

@@ -46,7 +46,7 @@ pub(crate) fn write<D: BlockDisk>(
 /// Makes what is written of a text certain to survive a crash.
 pub(crate) fn sync<D: BlockDisk>(disk: &mut D) -> Result<(), DeviceError>
     ensures ok { OnOk result ((text : List ℕ) (front synced whole : ℕ) → whole ≤ front → IsStored (D.slot disk.old) text front synced → IsStored (D.slot disk.new) text front whole) }
-    ensures err { OnErr result ((text : List ℕ) (front synced : ℕ) → IsStored (D.slot disk.old) text front synced → IsStored (D.slot disk.new) text front synced) }
+    ensures err { OnErr result ((text : List ℕ) (front synced : ℕ) → synced ≤ front → IsStored (D.slot disk.old) text front synced → IsStored (D.slot disk.new) text front synced) }
     ensures count { D.block_count disk.new ≡ D.block_count disk.old }
     ensures failures { CountsFailure result (D.failures disk.old) (D.failures disk.new) }
     ensures attempts { D.attempts disk.new ≡ D.attempts disk.old + 1 }
@@ -56,15 +56,15 @@ pub(crate) fn sync<D: BlockDisk>(disk: &mut D) -> Result<(), DeviceError>
 }
 
 /// Writes the first bytes of a text into block 0, with zeros behind them, and syncs.
-pub(crate) fn lay_out<D: BlockDisk>(disk: &mut D, front: &[u8; 16]) -> Result<(), DeviceError>
-    requires { 1 ≤ D.block_count disk.old }
-    ensures ok { OnOk result (IsStored (D.slot disk.new) front.now 16 16) }
-    ensures count { D.block_count disk.new ≡ D.block_count disk.old }
-    ensures failures { CountsFailure result (D.failures disk.old) (D.failures disk.new) }
-    ensures attempts { OnOk result (D.attempts disk.new ≡ D.attempts disk.old + 2) }
+pub(crate) fn lay_out<D: BlockDisk>(device: &mut D, front: &[u8; 16]) -> Result<(), DeviceError>
+    requires { 1 ≤ D.block_count device.old }
+    ensures ok { OnOk result (IsStored (D.slot device.new) front.now 16 16) }
+    ensures count { D.block_count device.new ≡ D.block_count device.old }
+    ensures failures { CountsFailure result (D.failures device.old) (D.failures device.new) }
+    ensures attempts { OnOk result (D.attempts device.new ≡ D.attempts device.old + 2) }
 {
     let block = block_at(front.as_slice(), 0);
-    disk.write(0, &block)?;
-    disk.sync()?;
+    device.write(0, &block)?;
+    device.sync()?;
     Ok(())
 }

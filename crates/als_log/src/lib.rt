@@ -12,6 +12,8 @@ mod tail;
 mod blocks;
 // What a reading is made from.
 mod source;
+// The bytes that it reads.
+mod part;
 // The text read back.
 mod reading;
 // A device that could not be laid out.

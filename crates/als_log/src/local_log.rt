@@ -1,6 +1,6 @@
-ghost use Rattle.std.specs.Prelude.{◌≡◌, ◌<◌, ◌≤◌, ◌+◌, ◌*◌, [], ◌∷◌, ◌++◌, IsTrue, ◌↔◌, IsOk, IfOk, IfErr, OnOk, OnErr};
+ghost use Rattle.std.specs.Prelude.{◌≡◌, ◌<◌, ◌≤◌, ◌+◌, ◌*◌, [], ◌∷◌, ◌++◌, IsTrue, ◌↔◌, IsOk, IfOk, IfErr, OnOk, OnErr, vec_len, vec_capacity};
 ghost use Rattle.std.specs.Result.{IsErrOf};
-ghost use Rattle.als_record.specs.Spelling.{record_len, IsRecord};
+ghost use Rattle.als_record.specs.Spelling.{spelling, record_len, IsRecord};
 ghost use Rattle.als_record.specs.LogText.{end_of, log_text};
 ghost use Rattle.als_log.specs.declared.fault.Fault.TheVariants.{LogFull, Memory as OutOfMemory};
 ghost use Rattle.als_log.specs.Local.{Local, IsLocal, HasRoomFor, next_written, whole_end};
@@ -10,6 +10,7 @@ ghost use Rattle.als_log.specs.Texts.{AllHaveText};
 
 use crate::fault::Fault;
 use crate::history::History;
+use crate::part::Part;
 use crate::source::Source;
 use crate::unformatted::Unformatted;
 use crate::{blocks, reading, tail};
@@ -38,7 +39,7 @@ pub struct LocalLog<D: BlockDisk> {
     // The end of some records, where the next reading may begin.
     cursor: u64,
     // The bytes that were read last.
-    part: Vec<u8>,
+    part: Part,
     history: History,
 }
 
@@ -55,19 +56,44 @@ impl<D: BlockDisk> Model for LocalLog<D> {
     ghost invariant = { λ l. IsHeld l.pages (records_in l.history) l.base l.written l.synced l.cursor (D.block_count l.disk) l.tail.items (D.slot l.disk) };
 }
 
-/// The header of a log, in memory.
-fn header_of(alloc: Global, front: &[u8; 16]) -> Result<Vec<u8>, AllocError>
-    ensures { IfOk result (λ bytes. bytes.items ≡ front.now) }
+/// What a new log has in memory: its header, and the room for a record that is read.
+fn in_memory(alloc: Global, front: &[u8; 16]) -> Result<(Vec<u8>, Part), AllocError>
+    ensures { IfOk result (λ x. x.0.items ≡ front.now) }
 {
+    let part = Part::new(alloc)?;
     let mut bytes = Vec::new(alloc);
     bytes.extend_from_slice(front.as_slice())?;
-    Ok(bytes)
+    Ok((bytes, part))
+}
+
+/// The length of a record, of which these are the bytes.
+#[inline(always)]
+fn spelled_len(_logged: &Record, bytes: &[u8]) -> usize
+    requires { bytes.now ≡ spelling _logged.now }
+    ensures { result ≡ record_len _logged.now }
+{
+    bytes.len()
+}
+
+/// Appends a record by its bytes, as `encode` does without them.
+#[inline(always)]
+fn copy_in(_logged: &Record, bytes: &[u8], out: &mut Vec<u8>) -> Result<(), AllocError>
+    requires { bytes.now ≡ spelling _logged.now }
+    ensures ok { OnOk result (out.new.items ≡ out.old.items ++ spelling _logged.now) }
+    ensures err { OnErr result (out.new.items ≡ out.old.items) }
+    ensures full { OnErr result (vec_capacity out.old < vec_len out.old + record_len _logged.now) }
+{
+    match out.extend_from_slice(bytes) {
+        Ok(()) => Ok(()),
+        Err(refused) => Err(refused),
+    }
 }
 
 impl<D: BlockDisk> LocalLog<D> {
     /// Lays out a device as an empty log of a database of `pages` pages: writes the header and syncs.
     ///
-    /// `Device`: the device failed. `Memory`: there was none for the header, and the device is not touched.
+    /// `Device`: the device failed. `Memory`: there was none for the header and for the longest record, and the
+    /// device is not touched.
     pub fn format(alloc: Global, disk: D, pages: u32) -> Result<LocalLog<D>, Unformatted<D>>
         requires pages { 1 ≤ pages × (pages ≤ 4096) }
         requires blocks { (1 ≤ D.block_count disk) × (D.block_count disk ≤ 4194304) }
@@ -77,8 +103,8 @@ impl<D: BlockDisk> LocalLog<D> {
     {
         let mut disk = disk;
         let front = LogHeader { pages }.encode();
-        let tail = match header_of(alloc, &front) {
-            Ok(tail) => tail,
+        let (tail, part) = match in_memory(alloc, &front) {
+            Ok(parts) => parts,
             Err(_) => {
                 let fault = Fault::Memory;
                 return Err(Unformatted { disk, fault });
@@ -100,7 +126,7 @@ impl<D: BlockDisk> LocalLog<D> {
             written: 16,
             synced: 16,
             cursor: 16,
-            part: Vec::new(alloc),
+            part,
             history: History::new(),
         })
     }
@@ -188,6 +214,36 @@ impl<D: BlockDisk> LocalLog<D> {
         }
     }
 
+    /// The same of a record whose bytes are there already: they are copied, which is faster than to spell it.
+    #[inline(always)]
+    pub fn append_spelled(
+        &mut self,
+        logged: &Record,
+        bytes: &[u8],
+        reserve_after: u64,
+    ) -> Result<(), Fault>
+        requires fits { IsRecord self.old.pages logged.now }
+        requires place { logged.now.lsn.0 ≡ end_of self.old.log }
+        requires spelled { bytes.now ≡ spelling logged.now }
+        ensures ok { OnOk result (self.new ≡ record self.old { log = self.old.log ++ logged.now ∷ []; room = self.new.room }) }
+        ensures room { OnOk result (HasRoomFor self.old (record_len logged.now) reserve_after) }
+        ensures err { OnErr result (self.new ≡ record self.old { room = self.new.room }) }
+        ensures cause { IfErr result (λ e. RefusesRecord e self.old (record_len logged.now) reserve_after) }
+        ensures full { 512 * self.old.blocks < end_of self.old.log + record_len logged.now + reserve_after → IsErrOf result LogFull }
+        ensures reserved { HasRoomFor self.old (record_len logged.now) reserve_after → record_len logged.now ≤ self.old.room → IsOk result }
+    {
+        if !self.fits(spelled_len(logged, bytes) as u64, reserve_after) {
+            return Err(Fault::LogFull);
+        }
+        match copy_in(logged, bytes, &mut self.tail) {
+            Ok(()) => {
+                self.history.push(logged);
+                Ok(())
+            }
+            Err(_) => Err(Fault::Memory),
+        }
+    }
+
     /// Writes the first block with unwritten bytes, with zeros behind the log's end: one write of the device. It takes no
     /// memory.
     ///
@@ -234,11 +290,12 @@ impl<D: BlockDisk> LocalLog<D> {
     /// The record that stands at an LSN, or `None` where none does. Records that are read in rising order are found by
     /// one step each; any other is searched for from the first record on.
     ///
-    /// `Device`: the device failed. `Memory`: there was none for the record or its bytes.
+    /// `Device`: the device failed. `Memory`: there was none for the rows of the end_chkpt that stands there; no other record
+    /// takes any.
     pub fn read_at(&mut self, lsn: Lsn) -> Result<Option<Record>, Fault>
         ensures ok { IfOk result (λ found. found ≡ record_at self.old.log lsn.0) }
         ensures same { OnOk result (self.new ≡ self.old) }
-        ensures err { IfErr result (λ e. RefusesReading e self.old self.new) }
+        ensures err { IfErr result (λ e. RefusesReading lsn.0 e self.old self.new) }
     {
         let source = Source {
             history: &self.history,

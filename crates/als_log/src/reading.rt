@@ -1,5 +1,5 @@
 // A text read back: its front from the device, and the rest from memory.
-ghost use Rattle.std.specs.Prelude.{◌≡◌, ◌⊎◌, ℕ, ◌<◌, ◌≤◌, ◌+◌, ◌-◌, ◌*◌, ◌/◌, List, length, take, drop, slice_index, vec_len, Some, None, IfOk, IfErr, OnOk};
+ghost use Rattle.std.specs.Prelude.{◌≡◌, ◌⊎◌, ℕ, ◌<◌, ◌≤◌, ◌+◌, ◌-◌, ◌*◌, ◌/◌, List, length, take, drop, slice_index, Some, None, IfOk, IfErr, OnOk};
 ghost use Rattle.als_record.specs.LogText.{end_of};
 ghost use Rattle.als_disk.specs.Failures.{CountsFailure};
 ghost use Rattle.als_disk.specs.Slot.{SameBlocks};
@@ -10,11 +10,12 @@ ghost use Rattle.als_log.specs.Reading.{record_at, IsSource, IsReadable, FailsTo
 use crate::blocks::block_at;
 use crate::fault::Fault;
 use crate::history::History;
+use crate::part::Part;
 use crate::source::Source;
 use crate::tail::word;
 use als_disk::{BlockDisk, DeviceError};
 use als_record::{Lsn, Record, decode};
-use std::alloc::{AllocError, Global};
+use std::alloc::Global;
 
 /// Reads a block of the text. Behind its last byte memory gives zeros.
 fn read_block<D: BlockDisk>(
@@ -42,53 +43,47 @@ fn read_block<D: BlockDisk>(
 }
 
 /// Appends the bytes of a block from a place on, until there are `most`.
-fn push_part(
-    out: &mut Vec<u8>,
-    block: &[u8; 512],
-    low: usize,
-    most: usize,
-) -> Result<(), AllocError>
+fn push_part(out: &mut Part, block: &[u8; 512], low: usize, most: usize)
     requires low { low < 512 }
-    requires more { vec_len out.old < most }
-    ensures more { OnOk result ((vec_len out.old < vec_len out.new) × (vec_len out.new ≤ most)) }
-    ensures within { OnOk result (low + (vec_len out.new - vec_len out.old) ≤ 512) }
-    ensures kept { OnOk result ((k : ℕ) → k < vec_len out.old → slice_index out.new.items k ≡ slice_index out.old.items k) }
-    ensures part { OnOk result ((k : ℕ) → k < vec_len out.new - vec_len out.old → slice_index out.new.items (vec_len out.old + k) ≡ slice_index block.now (low + k)) }
+    requires more { length out.old < most }
+    requires most { most ≤ 54560 }
+    ensures more { (length out.old < length out.new) × (length out.new ≤ most) }
+    ensures within { low + (length out.new - length out.old) ≤ 512 }
+    ensures kept { (k : ℕ) → k < length out.old → slice_index out.new k ≡ slice_index out.old k }
+    ensures part { (k : ℕ) → k < length out.new - length out.old → slice_index out.new (length out.old + k) ≡ slice_index block.now (low + k) }
 {
     let size = (512 - low).min(most - out.len());
     let (_, rest) = block.as_slice().split_at(low);
     let (part, _) = rest.split_at(size);
-    out.extend_from_slice(part)?;
-    Ok(())
+    out.push(part);
 }
 
-/// Reads bytes of the text.
+/// Reads bytes of the text, no more than the longest record has.
 fn read_text<D: BlockDisk>(
     disk: &mut D,
     source: Source<'_>,
     at: u64,
     count: usize,
-    out: &mut Vec<u8>,
-) -> Result<(), Fault>
+    out: &mut Part,
+) -> Result<(), DeviceError>
     requires few { D.block_count disk.old ≤ 4194304 }
     requires whole { 512 * (source.base / 512) ≡ source.base }
     requires within { at + count ≤ source.base + length source.bytes.now }
     requires fits { source.base + length source.bytes.now ≤ 512 * D.block_count disk.old }
-    ensures ok { OnOk result ((text : List ℕ) → IsSource (D.slot disk.old) source.entry.bytes.now text source.entry.base → out.new.items ≡ take count (drop at text)) }
-    ensures len { OnOk result (vec_len out.new ≡ count) }
+    requires room { count ≤ 54560 }
+    ensures ok { OnOk result ((text : List ℕ) → IsSource (D.slot disk.old) source.entry.bytes.now text source.entry.base → out.new ≡ take count (drop at text)) }
+    ensures len { OnOk result (length out.new ≡ count) }
     ensures same { SameBlocks (D.slot disk.old) (D.slot disk.new) }
     ensures count { D.block_count disk.new ≡ D.block_count disk.old }
     ensures attempts { D.attempts disk.new ≡ D.attempts disk.old }
-    ensures done { OnOk result (D.failures disk.new ≡ D.failures disk.old) }
-    ensures err { IfErr result (λ e. FailsToRead e (D.failures disk.old) (D.failures disk.new)) }
+    ensures failures { CountsFailure result (D.failures disk.old) (D.failures disk.new) }
 {
     out.clear();
-    out.reserve(count)?;
     let mut block = [0; 512];
     while out.len() < count {
         let from = at + out.len() as u64;
         read_block(disk, source, from / 512, &mut block)?;
-        push_part(out, &block, (from % 512) as usize, count)?;
+        push_part(out, &block, (from % 512) as usize, count);
     }
     Ok(())
 }
@@ -100,8 +95,8 @@ fn walk<D: BlockDisk>(
     disk: &mut D,
     from: u64,
     to: u64,
-    part: &mut Vec<u8>,
-) -> Result<u64, Fault>
+    part: &mut Part,
+) -> Result<u64, DeviceError>
     requires readable { IsReadable source.pages (records_in source.history.now) (D.slot disk.old) (D.block_count disk.old) source.bytes.now source.base }
     requires from { IsFrontEnd (records_in source.history.now) from }
     requires order { from ≤ to }
@@ -111,8 +106,7 @@ fn walk<D: BlockDisk>(
     ensures same { SameBlocks (D.slot disk.old) (D.slot disk.new) }
     ensures count { D.block_count disk.new ≡ D.block_count disk.old }
     ensures attempts { D.attempts disk.new ≡ D.attempts disk.old }
-    ensures done { OnOk result (D.failures disk.new ≡ D.failures disk.old) }
-    ensures err { IfErr result (λ e. FailsToRead e (D.failures disk.old) (D.failures disk.new)) }
+    ensures failures { CountsFailure result (D.failures disk.old) (D.failures disk.new) }
 {
     let mut at = from;
     while at < to {
@@ -128,7 +122,7 @@ fn read_record<D: BlockDisk>(
     alloc: Global,
     disk: &mut D,
     at: u64,
-    part: &mut Vec<u8>,
+    part: &mut Part,
 ) -> Result<Record, Fault>
     requires readable { IsReadable source.pages (records_in source.history.now) (D.slot disk.old) (D.block_count disk.old) source.bytes.now source.base }
     requires front { IsFrontEnd (records_in source.history.now) at }
@@ -138,7 +132,7 @@ fn read_record<D: BlockDisk>(
     ensures count { D.block_count disk.new ≡ D.block_count disk.old }
     ensures attempts { D.attempts disk.new ≡ D.attempts disk.old }
     ensures done { OnOk result (D.failures disk.new ≡ D.failures disk.old) }
-    ensures err { IfErr result (λ e. FailsToRead e (D.failures disk.old) (D.failures disk.new)) }
+    ensures err { IfErr result (λ e. FailsToRead (records_in source.entry.history.now) at e (D.failures disk.old) (D.failures disk.new)) }
 {
     read_text(disk, source, at, 4, part)?;
     let size = word(part.as_slice(), 0) as usize;
@@ -146,7 +140,7 @@ fn read_record<D: BlockDisk>(
     match decode(alloc, part.as_slice(), Lsn(at), source.pages) {
         Ok(Some((found, _))) => Ok(found),
         Ok(None) => unreachable!(),
-        // Only want of memory is left.
+        // Only want of memory is left, for the rows of an end_chkpt.
         Err(_) => Err(Fault::Memory),
     }
 }
@@ -169,7 +163,7 @@ pub(crate) fn find<D: BlockDisk>(
     disk: &mut D,
     cursor: u64,
     to: u64,
-    part: &mut Vec<u8>,
+    part: &mut Part,
 ) -> Result<(u64, Option<Record>), Fault>
     requires readable { IsReadable source.pages (records_in source.history.now) (D.slot disk.old) (D.block_count disk.old) source.bytes.now source.base }
     requires cursor { IsFrontEnd (records_in source.history.now) cursor }
@@ -179,7 +173,7 @@ pub(crate) fn find<D: BlockDisk>(
     ensures count { D.block_count disk.new ≡ D.block_count disk.old }
     ensures attempts { D.attempts disk.new ≡ D.attempts disk.old }
     ensures done { OnOk result (D.failures disk.new ≡ D.failures disk.old) }
-    ensures err { IfErr result (λ e. FailsToRead e (D.failures disk.old) (D.failures disk.new)) }
+    ensures err { IfErr result (λ e. FailsToRead (records_in source.entry.history.now) to e (D.failures disk.old) (D.failures disk.new)) }
 {
     let end = source.base + source.bytes.len() as u64;
     if to < 16 {

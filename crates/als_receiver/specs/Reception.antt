@@ -1,5 +1,5 @@
 -- What callers see of a receiver, and what its calls do.
-use Rattle.std.specs.Prelude.{◌≡◌, ℕ, ◌+◌, ◌<◌, Bool, true, false, MatchBool, List, [], ◌++◌, length, Option, Some, None, MatchOption, Result, Ok, Err}
+use Rattle.std.specs.Prelude.{◌≡◌, ℕ, ◌+◌, ◌<◌, ◌≤◌, Bool, true, false, MatchBool, List, [], ◌++◌, length, take, drop, Option, Some, None, MatchOption, Result, Ok, Err}
 use Rattle.als_record.specs.declared.fault.Fault.{Fault}
 use Rattle.als_record.specs.declared.fault.Fault.TheVariants.{BadHeader, BadLength, BadType, BadReserved, WrongLsn, BadKey, BadValue, Memory}
 use Rattle.als_record.specs.declared.record.Record.{Record}
@@ -75,6 +75,38 @@ Refuses old refusal new =
     MatchOption old.refusal
     ((refusal.lsn.0 ≡ old.wanted) × MatchBool (is_memory refusal.fault) (WantsMemory old new) (RefusesBytes old refusal new))
     (λ before. (refusal ≡ before) × (new ≡ old))
+
+-- the record at the front of the bytes kept, of so many bytes, is handed out, and the next one is wanted behind it
+abbrev pub behind : Reception → ℕ → Reception
+behind old len = record { pages = old.pages; wanted = old.wanted + len; kept = drop len old.kept; room = old.room; refusal = None }
+
+-- the bytes kept begin with a record of so many bytes
+pub record IsShown (old : Reception) (len : ℕ) : Type 0 where
+  pub shown : Record
+  pub unrefused : old.refusal ≡ None
+  pub reading : read_record old.pages old.wanted old.kept ≡ Ok (Some (shown, len))
+  pub inside : len ≤ length old.kept
+
+-- a record that the next call would hand out, with so many bytes
+pub record CanHandOut (old : Reception) (r : Record) (len : ℕ) : Type 0 where
+  pub out : HandsOut old r (behind old len)
+  pub size : len ≡ record_len r
+  pub bytes : take len old.kept ≡ spelling r
+  pub inside : len ≤ length old.kept
+  pub shown : IsShown old len
+
+-- a refusal that the next call would give: the one that stays, else want of memory, or the first of the bytes
+abbrev pub WouldRefuse : Reception → Refusal → Type 0
+WouldRefuse old refusal =
+    MatchOption old.refusal
+    ((refusal.lsn.0 ≡ old.wanted) × MatchBool (is_memory refusal.fault) (TakesMemory (read_record old.pages old.wanted old.kept)) (read_record old.pages old.wanted old.kept ≡ Err refusal.fault))
+    (λ before. refusal ≡ before)
+
+-- what a look at the next record answers
+abbrev pub Shows : Reception → Result (Option (Record × ℕ)) Refusal → Type 0
+Shows old (Ok (Some x)) = CanHandOut old x.0 x.1
+Shows old (Ok None) = Waits old old
+Shows old (Err refusal) = WouldRefuse old refusal
 
 -- what a call for the next record answers, and what it leaves
 abbrev pub Answers : Reception → Result (Option Record) Refusal → Reception → Type 0

@@ -1,4 +1,4 @@
-ghost use Rattle.std.specs.Prelude.{◌≡◌, ◌+◌, ◌<◌, ◌≤◌, ◌^◌, [], ◌++◌, length, MatchBool, IsOk, OnOk, OnErr};
+ghost use Rattle.std.specs.Prelude.{◌≡◌, ◌+◌, ◌<◌, ◌≤◌, ◌^◌, [], ◌++◌, length, take, MatchBool, IsOk, OnOk, OnErr};
 
 use crate::refusal::Refusal;
 use als_record::{Fault, Lsn, Record, decode};
@@ -28,7 +28,7 @@ impl Model for Receiver {
 }
 
 impl Receiver {
-    ghost use Rattle.als_receiver.specs.Reception.{fresh, with_kept, with_room, with_refusal, is_memory, Answers};
+    ghost use Rattle.als_receiver.specs.Reception.{fresh, with_kept, with_room, with_refusal, behind, is_memory, IsShown, Shows, Answers};
 
     /// A receiver for a database of `pages` pages that wants the record at `at` first. It takes no memory.
     pub fn new(alloc: Global, at: Lsn, pages: u32) -> Receiver
@@ -67,12 +67,12 @@ impl Receiver {
         self.kept.reserve(len)
     }
 
-    /// The next record, `None` where more bytes are needed. A refusal says where the record should stand and which of
-    /// the shape faults it has, and every later call gives it again; but want of memory, which only the rows of an
-    /// end_chkpt meet, is not kept: the call may be made again.
+    /// The next record and how many bytes it has, `None` where more bytes are needed: `next` would hand it out, and nothing
+    /// changes. A refusal is the one that `next` would give.
+    // Inlined, as `decode` is, so that a record is not moved from answer to answer.
     #[inline(always)]
-    pub fn next(&mut self) -> Result<Option<Record>, Refusal>
-        ensures { Answers self.old result self.new }
+    pub fn peek(&self) -> Result<Option<(Record, usize)>, Refusal>
+        ensures { Shows self.now result }
     {
         if let Some(refusal) = self.refusal {
             return Err(refusal);
@@ -84,29 +84,61 @@ impl Receiver {
             self.pages,
         ) {
             Ok(None) => Ok(None),
+            Ok(Some((record, len))) => Ok(Some((record, len))),
+            Err(fault) => Err(Refusal {
+                lsn: self.wanted,
+                fault,
+            }),
+        }
+    }
+
+    /// The first of the bytes kept.
+    #[inline(always)]
+    pub fn front(&self, len: usize) -> &[u8]
+        requires { len ≤ length self.now.kept }
+        ensures { result.now ≡ take len self.now.kept }
+    {
+        let (front, _) = self.kept.as_slice().split_at(len);
+        front
+    }
+
+    /// Hands out the record that `peek` has shown, of so many bytes: the next one is wanted behind it. It takes no memory.
+    #[inline(always)]
+    pub fn advance(&mut self, len: usize)
+        requires { IsShown self.old len }
+        ensures { self.new ≡ behind self.old len }
+    {
+        self.kept.advance(len);
+        self.wanted = Lsn(self.wanted.0 + len as u64);
+    }
+
+    /// The next record, `None` where more bytes are needed. A refusal says where the record should stand and which of
+    /// the shape faults it has, and every later call gives it again; but want of memory, which only the rows of an
+    /// end_chkpt meet, is not kept: the call may be made again.
+    #[inline(always)]
+    pub fn next(&mut self) -> Result<Option<Record>, Refusal>
+        ensures { Answers self.old result self.new }
+    {
+        match self.peek() {
+            Ok(None) => Ok(None),
             Ok(Some((record, len))) => {
-                self.kept.advance(len);
-                self.wanted = Lsn(self.wanted.0 + len as u64);
+                self.advance(len);
                 Ok(Some(record))
             }
-            Err(fault) => Err(self.refused(fault)),
+            Err(refusal) => {
+                self.keep(refusal);
+                Err(refusal)
+            }
         }
     }
 
     // The refusal of the bytes kept, which stays unless memory is wanted.
-    fn refused(&mut self, fault: Fault) -> Refusal
-        ensures place { result.lsn.0 ≡ self.old.wanted }
-        ensures fault { result.fault ≡ fault }
-        ensures kept { MatchBool (is_memory fault) (self.new ≡ self.old) (self.new ≡ with_refusal self.old result) }
+    fn keep(&mut self, refusal: Refusal)
+        ensures { MatchBool (is_memory refusal.fault) (self.new ≡ self.old) (self.new ≡ with_refusal self.old refusal) }
     {
-        let refusal = Refusal {
-            lsn: self.wanted,
-            fault,
-        };
-        if fault != Fault::Memory {
+        if refusal.fault != Fault::Memory {
             self.refusal = Some(refusal);
         }
-        refusal
     }
 
     /// How many bytes are kept: fewer than the longest record's 54,560 once `next` has answered `None`.

@@ -1,5 +1,6 @@
 -- The numbers and names of this crate's faults, as programs print them.
-use Rattle.std.specs.Prelude.{ℕ, List, codes}
+use Rattle.std.specs.Prelude.{ℕ, List, ◌++◌, codes}
+use Rattle.std.specs.Fmt.{decimal}
 use Rattle.als_record.specs.CauseNames.{number_of_cause, name_of_cause}
 use Rattle.als_store.specs.declared.fault.Fault.{Fault}
 use Rattle.als_store.specs.declared.fault.Fault.TheVariants.{Invalid, NothingToDo, LogFull, Device, Memory}
@@ -17,3 +18,7 @@ name_of NothingToDo = codes "NothingToDo"
 name_of LogFull = codes "LogFull"
 name_of Device = codes "Device"
 name_of Memory = codes "Memory"
+
+-- what is printed of a fault: its number and its name
+abbrev pub text_of : Fault → List ℕ
+text_of fault = decimal (number_of fault) ++ codes " " ++ name_of fault

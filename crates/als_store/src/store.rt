@@ -2,7 +2,7 @@ ghost use Rattle.std.specs.Prelude.{◌≡◌, ℕ, ◌<◌, ◌≤◌, ◌+◌,
 ghost use Rattle.std.specs.Result.{IsErrOf};
 ghost use Rattle.std.specs.Option.{option_copied};
 ghost use Rattle.als_record.specs.declared.record.Record.{Record as AnyRecord};
-ghost use Rattle.als_record.specs.Spelling.{record_len, IsRecord};
+ghost use Rattle.als_record.specs.Spelling.{spelling, record_len, IsRecord};
 ghost use Rattle.als_record.specs.LogText.{end_of};
 ghost use Rattle.als_record.specs.Validity.{first_bad, IsValidLog};
 ghost use Rattle.als_record.specs.Table.{table_of};
@@ -18,7 +18,7 @@ ghost use Rattle.als_store.specs.Stored.{Stored, formatted, acknowledged, with_l
 ghost use Rattle.als_store.specs.Events.{Breaks, FailsToRead, HasUnwritten, WritesLog, SyncsLog, HasUnmarked, WritesMark, BreaksMark, SyncsControl};
 ghost use Rattle.als_store.specs.Devices.{AreKept};
 ghost use Rattle.als_log.specs.Local.{HasRoomFor, next_written, whole_end};
-ghost use Rattle.als_log.specs.Reading.{record_at};
+ghost use Rattle.als_log.specs.Reading.{record_at, HasRowsAt};
 ghost use Rattle.als_log.specs.Outcomes.{ReadFails, AttemptFails, RefusesFormat};
 
 use crate::disks::Disks;
@@ -30,7 +30,7 @@ use als_ckpt::{Control, clear};
 use als_disk::BlockDisk;
 use als_log::{Fault as LogFault, LocalLog};
 use als_page::Page;
-use als_record::{Lsn, Record, encoded_len};
+use als_record::{Body, Lsn, Record, encoded_len};
 use als_validator::{Fault as Refusal, Validator};
 use std::alloc::{AllocError, Global};
 use std::marker::Model;
@@ -38,7 +38,6 @@ use std::marker::Model;
 /// The log and the control block on their devices, the pages, and the transaction table.
 ///
 /// It is broken once a write or a sync has failed: then no event writes or syncs any more.
-#[derive(Drop)]
 pub struct Store<D: BlockDisk> {
     pages: u32,
     log: LocalLog<D>,
@@ -62,6 +61,27 @@ impl<D: BlockDisk> Model for Store<D> {
     ghost invariant = { λ s. IsStored s.pages s.log s.count s.control s.warm s.validator s.broken };
 }
 
+// Written out: a derived drop is proved part by part wherever a store is let go of, this one only here.
+impl<D: BlockDisk + Drop> Drop for Store<D> {
+    fn drop(self) {
+        let Store {
+            pages: _,
+            log,
+            count: _,
+            control,
+            page_disk,
+            warm,
+            validator,
+            broken: _,
+        } = self;
+        drop(log);
+        drop(control);
+        drop(page_disk);
+        drop(warm);
+        drop(validator);
+    }
+}
+
 /// Room for what a record changes, if anything, behind what its page waits for. An `Err` changes nothing.
 fn reserve_change(warm: &mut WarmPages, logged: &Record) -> Result<(), Fault>
     requires { IfSome (change_of logged.now) (λ c. c.key.page < length warm.old) }
@@ -69,12 +89,12 @@ fn reserve_change(warm: &mut WarmPages, logged: &Record) -> Result<(), Fault>
     ensures err { IfErr result (λ f. (f ≡ fault.Memory) × (warm.new ≡ warm.old)) }
     ensures reserved { IfSome (change_of logged.now) (λ c. HasPlace warm.old c.key.page) → IsOk result }
 {
-    match logged.change() {
-        None => Ok(()),
-        Some(change) => match warm.reserve(change.key.page) {
+    match &logged.body {
+        Body::Update { key, .. } | Body::Compensation { key, .. } => match warm.reserve(key.page) {
             Ok(()) => Ok(()),
             Err(_) => Err(Fault::Memory),
         },
+        _ => Ok(()),
     }
 }
 
@@ -193,8 +213,10 @@ fn make_room<D: BlockDisk>(
     validator: &mut Validator,
     warm: &mut WarmPages,
     logged: &Record,
+    len: usize,
 ) -> Result<(), Fault>
-    requires { IfSome (change_of logged.now) (λ c. c.key.page < length warm.old) }
+    requires inside { IfSome (change_of logged.now) (λ c. c.key.page < length warm.old) }
+    requires len { len ≡ record_len logged.now }
     ensures log { log.new ≡ record log.old { room = log.new.room } }
     ensures validator { (pages : ℕ) (log : List AnyRecord) → IsValidatorOf pages validator.old log → IsValidatorOf pages validator.new log }
     ensures pages { OnOk result (MakesPlaces warm.old (change_of logged.now) warm.new) }
@@ -202,21 +224,32 @@ fn make_room<D: BlockDisk>(
     ensures err { IfErr result (λ f. (f ≡ fault.Memory) × (warm.new ≡ warm.old)) }
     ensures reserved { HasSpare (spare_of log.old validator.old warm.old) logged.now → IsOk result }
 {
-    reserve_bytes(log, encoded_len(logged))?;
+    reserve_bytes(log, len)?;
     reserve_judgement(validator)?;
     reserve_change(warm, logged)?;
     Ok(())
 }
 
+/// The length of a record, of which these are the bytes.
+#[inline(always)]
+fn len_of(_logged: &Record, bytes: &[u8]) -> usize
+    requires { bytes.now ≡ spelling _logged.now }
+    ensures { result ≡ record_len _logged.now }
+{
+    bytes.len()
+}
+
 /// Appends a record for which there is room on the device and in memory.
-fn append<D: BlockDisk>(log: &mut LocalLog<D>, logged: &Record, reserve_after: u64)
+#[inline(always)]
+fn append<D: BlockDisk>(log: &mut LocalLog<D>, logged: &Record, bytes: &[u8], reserve_after: u64)
     requires fits { IsRecord log.old.pages logged.now }
     requires place { logged.now.lsn.0 ≡ end_of log.old.log }
+    requires spelled { bytes.now ≡ spelling logged.now }
     requires device { HasRoomFor log.old (record_len logged.now) reserve_after }
     requires memory { record_len logged.now ≤ log.old.room }
     ensures { log.new ≡ record log.old { log = log.old.log ++ logged.now ∷ []; room = log.new.room } }
 {
-    match log.append(logged, reserve_after) {
+    match log.append_spelled(logged, bytes, reserve_after) {
         Ok(()) => {}
         Err(_) => unreachable!(),
     }
@@ -248,7 +281,7 @@ fn sync_log<D: BlockDisk>(log: &mut LocalLog<D>) -> Result<(), Fault>
 /// The record of the log at an LSN.
 fn read_log<D: BlockDisk>(log: &mut LocalLog<D>, lsn: Lsn) -> Result<Option<Record>, Fault>
     ensures ok { IfOk result (λ found. (found ≡ record_at log.old.log lsn.0) × (log.new ≡ log.old)) }
-    ensures err { IfErr result (λ f. ((f ≡ fault.Memory) × (log.new ≡ log.old)) ⊎ ((f ≡ fault.Device) × ReadFails log.old log.new)) }
+    ensures err { IfErr result (λ f. ((f ≡ fault.Memory) × HasRowsAt log.old.log lsn.0 × (log.new ≡ log.old)) ⊎ ((f ≡ fault.Device) × ReadFails log.old log.new)) }
 {
     match log.read_at(lsn) {
         Ok(found) => Ok(found),
@@ -314,11 +347,17 @@ impl<D: BlockDisk> Store<D> {
         ensures attempts { D.attempts result.log + D.attempts result.control + D.attempts result.pages ≡ self.stored.attempts }
     {
         let Store {
+            pages: _,
             log,
+            count: _,
             control,
             page_disk,
-            ..
+            warm,
+            validator,
+            broken: _,
         } = self;
+        drop(warm);
+        drop(validator);
         Disks {
             log: log.into_disk(),
             control: control.into_disk(),
@@ -382,33 +421,50 @@ impl<D: BlockDisk> Store<D> {
         ensures err { IfErr result (λ f. f ≡ fault.Memory) }
         ensures reserved { HasSpare self.old.spare logged.now → IsOk result }
     {
-        make_room(&mut self.log, &mut self.validator, &mut self.warm, logged)?;
+        let len = encoded_len(logged);
+        make_room(
+            &mut self.log,
+            &mut self.validator,
+            &mut self.warm,
+            logged,
+            len,
+        )?;
         Ok(())
     }
 
-    /// Holds a record that stands at the log's end. It is refused for the first cause why it may not follow the log, else by
-    /// LogFull where the log device has no room for it and for the tail that a takeover would then append, and by Memory where
-    /// a growth is refused. An `Err` changes nothing.
-    pub fn admit(&mut self, logged: &Record) -> Result<(), Fault>
+    /// Holds a record that stands at the log's end, of which these are the bytes. It is refused for the first cause why it may
+    /// not follow the log, else by LogFull where the log device has no room for it and for the tail that a takeover would then
+    /// append, and by Memory where a growth is refused. An `Err` changes nothing.
+    #[inline(always)]
+    pub fn admit(&mut self, logged: &Record, bytes: &[u8]) -> Result<(), Fault>
         requires fits { IsRecord self.old.stored.pages logged.now }
         requires at { logged.now.lsn.0 ≡ end_of self.old.stored.log }
+        requires spelled { bytes.now ≡ spelling logged.now }
         ensures ok { OnOk result ((first_bad self.old.stored.log logged.now ≡ None) × (self.new.stored ≡ with_log self.old.stored (self.old.stored.log ++ logged.now ∷ []))) }
         ensures err { OnErr result (self.new.stored ≡ self.old.stored) }
         ensures cause { IfErr result (IsRefused self.old.stored logged.now) }
         ensures full { first_bad self.old.stored.log logged.now ≡ None → IsTooLong self.old.stored logged.now → result ≡ Err fault.LogFull }
-        // Memory is wanted only where a part has no room for the record yet.
+        // Memory is wanted only for a record that may follow, and only where a part has no room for it yet.
         ensures reserved { HasSpare self.old.spare logged.now → IsErrOf result fault.Memory → ⊥ }
+        ensures wanted { IsErrOf result fault.Memory → first_bad self.old.stored.log logged.now ≡ None }
     {
         judge(&self.validator, logged)?;
         let _ = self.log.end();
         let reserve_after = self.validator.reserve_after(logged);
-        if !self.log.fits(encoded_len(logged) as u64, reserve_after) {
+        let len = len_of(logged, bytes);
+        if !self.log.fits(len as u64, reserve_after) {
             return Err(Fault::LogFull);
         }
-        make_room(&mut self.log, &mut self.validator, &mut self.warm, logged)?;
+        make_room(
+            &mut self.log,
+            &mut self.validator,
+            &mut self.warm,
+            logged,
+            len,
+        )?;
         self.validator.admit(logged);
         route_change(&mut self.warm, logged);
-        append(&mut self.log, logged, reserve_after);
+        append(&mut self.log, logged, bytes, reserve_after);
         self.count += 1;
         Ok(())
     }
@@ -517,11 +573,12 @@ impl<D: BlockDisk> Store<D> {
         }
     }
 
-    /// The record that stands at an LSN, read from the log device where it is no longer in memory. Device and Memory change
-    /// nothing, but that the failure is counted.
+    /// The record that stands at an LSN, read from the log device where it is no longer in memory. Memory: there was none for
+    /// the rows of the end_chkpt that stands there; no other record takes any. Device and Memory change nothing, but that the
+    /// failure is counted.
     pub fn record_at(&mut self, lsn: Lsn) -> Result<Option<Record>, Fault>
         ensures ok { IfOk result (λ r. StandsAt self.old.stored.log lsn r × (self.new.stored ≡ self.old.stored)) }
-        ensures err { IfErr result (λ f. ((f ≡ fault.Memory) × (self.new.stored ≡ self.old.stored)) ⊎ ((f ≡ fault.Device) × FailsToRead self.old.stored self.new.stored)) }
+        ensures err { IfErr result (λ f. ((f ≡ fault.Memory) × HasRowsAt self.old.stored.log lsn.0 × (self.new.stored ≡ self.old.stored)) ⊎ ((f ≡ fault.Device) × FailsToRead self.old.stored self.new.stored)) }
     {
         let found = read_log(&mut self.log, lsn)?;
         Ok(found)

@@ -1,6 +1,6 @@
-ghost use Rattle.std.specs.Prelude.{◌≡◌};
+ghost use Rattle.std.specs.Prelude.{◌≡◌, Some};
 ghost use Rattle.als_validator.specs.declared.fault.Fault.TheVariants.{Memory};
-ghost use Rattle.als_validator.specs.FaultNames.{number_of, name_of};
+ghost use Rattle.als_validator.specs.FaultNames.{number_of, name_of, text_of};
 
 use als_record::Cause;
 use std::alloc::{AllocError, AllocFailed};
@@ -38,6 +38,8 @@ impl Fault {
 }
 
 impl fmt::Display for Fault {
+    ghost output = { λ fault. Some (text_of fault) };
+
     fn fmt<W: fmt::Write>(&self, f: &mut fmt::Formatter<W>) -> fmt::Result {
         let number = self.number();
         let name = self.name();

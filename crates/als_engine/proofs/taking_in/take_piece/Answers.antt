@@ -1,4 +1,4 @@
-use Rattle.std.proofs.Common.{◌≡◌, ◌++◌, ◌∙◌, List, ℕ, take, ap, refl, subst, append_assoc, take-append-drop}
+use Rattle.std.proofs.Common.{◌++◌, ◌∙◌, List, ℕ, ap, refl, subst, append_assoc}
 use Rattle.std.proofs.lemmas.Result.{err_from_is_err_and}
 use Rattle.als_engine.specs.TakingIn.{TakesFront}
 use Rattle.als_engine.proofs.TakingLaws.{all_start, all_then_all, all_then_front, chunk_parts}
@@ -16,7 +16,7 @@ loop-rest-preserved g c =
     record {
       done = so_far.done ++ chunk;
       whole = append_assoc so_far.done chunk after ∙ ap (λ (m : List ℕ). so_far.done ++ m) parts ∙ so_far.whole;
-      takes = all_then_all c.args.held.now.stored c.loop-rest.held.stored c.take_chunk.new.held.stored so_far.done chunk c.loop-rest.receiver c.take_chunk.new.receiver so_far.takes c.in_ok-take_chunk.ensures.ok;
+      takes = all_then_all c.args.held.now.stored c.loop-rest.held.stored c.take_chunk-in-loop-rest.new.held.stored so_far.done chunk c.loop-rest.receiver c.take_chunk-in-loop-rest.new.receiver so_far.takes c.in_ok-take_chunk.ensures.ok;
     }
 
 pub returns-in_err-take_chunk-clause-err : goal.returns-in_err-take_chunk-clause-err
@@ -27,5 +27,5 @@ returns-in_err-take_chunk-clause-err g c =
     let after = c.split_at.result.1.now in
     let fault = c.in_err-take_chunk.field-0.0 in
     let parts = chunk_parts c.min.result c.loop-rest.rest.now chunk after c.split_at.ensures.front c.split_at.ensures.back in
-    let front = all_then_front c.args.held.now.stored c.loop-rest.held.stored c.take_chunk.new.held.stored so_far.done chunk after c.loop-rest.receiver fault so_far.takes c.in_err-take_chunk.ensures.err in
-    rw (p.1, p.2) (subst (λ (bytes : List ℕ). TakesFront c.args.held.now.stored bytes c.take_chunk.new.held.stored fault) (ap (λ (m : List ℕ). so_far.done ++ m) parts ∙ so_far.whole) front)
+    let front = all_then_front c.args.held.now.stored c.loop-rest.held.stored c.take_chunk-in-loop-rest.new.held.stored so_far.done chunk after c.loop-rest.receiver fault so_far.takes c.in_err-take_chunk.ensures.err in
+    rw (p.1, p.2) (subst (λ (bytes : List ℕ). TakesFront c.args.held.now.stored bytes c.take_chunk-in-loop-rest.new.held.stored fault) (ap (λ (m : List ℕ). so_far.done ++ m) parts ∙ so_far.whole) front)

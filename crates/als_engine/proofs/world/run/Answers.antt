@@ -1,4 +1,4 @@
-use Rattle.std.proofs.Common.{◌≡◌, ◌<◌, List, length, take, subst, arith}
+use Rattle.std.proofs.Common.{List, subst, arith}
 use Rattle.std.proofs.lemmas.List.{take_all}
 use Rattle.als_engine.specs.declared.step.Step.{Step}
 use Rattle.als_engine.specs.Runs.{Run}
@@ -14,8 +14,8 @@ push_reserved-requires g c = omega (arith, c.loop-step.invariant.len_is, c.loop-
 
 pub loop-step-preserved : goal.loop-step-preserved
 loop-step-preserved g c = record {
-  run = rw c.push_reserved.ensures.items (run_next c.args.world c.loop-step.world-inside.engine c.step-reply.new.self c.args.steps.now c.loop-step.step-index _ c.step-reply.result c.loop-step.replies.items c.loop-step-test.true c.loop-step.invariant.run c.step-reply.ensures.steps);
-  keeps = keeps_both c.args.world c.loop-step.world-inside.engine c.step-reply.new.self c.loop-step.invariant.keeps c.step-reply.ensures.keeps;
+  run = rw c.push_reserved.ensures.items (run_next c.args.world c.loop-step.world-inside.engine.machine c.step-reply.new.self.machine c.args.steps.now c.loop-step.step-index _ c.step-reply.result c.loop-step.replies.items c.loop-step-test.true c.loop-step.invariant.run c.step-reply.ensures.steps);
+  keeps = keeps_both c.args.world c.loop-step.world-inside.engine.machine c.step-reply.new.self.machine c.loop-step.invariant.keeps c.step-reply.ensures.keeps;
   attempts = omega (arith, c.loop-step.invariant.attempts, c.step-reply.ensures.attempts);
   within = omega (arith, c.loop-step-test.true);
   len_is = omega (arith, c.push_reserved.ensures.len, c.loop-step.invariant.len_is);
@@ -23,7 +23,7 @@ loop-step-preserved g c = record {
 }
 
 pub returns-clause-run : goal.returns-clause-run
-returns-clause-run g c = subst (λ (steps : List Step). Run c.args.world steps c.loop-step.replies.items c.loop-step.world-inside.engine) (take_all c.loop-step.step-index c.args.steps.now c.loop-step-test.false) c.loop-step.invariant.run
+returns-clause-run g c = subst (λ (steps : List Step). Run c.args.world steps c.loop-step.replies.items c.loop-step.world-inside.engine.machine) (take_all c.loop-step.step-index c.args.steps.now c.loop-step-test.false) c.loop-step.invariant.run
 
 pub returns-clause-attempts : goal.returns-clause-attempts
 returns-clause-attempts g c = omega (arith, c.loop-step.invariant.attempts, c.loop-step.invariant.within)

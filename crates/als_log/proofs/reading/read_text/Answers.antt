@@ -1,4 +1,4 @@
-use Rattle.std.proofs.Common.{◌≡◌, ◌+◌, ◌-◌, length, ap, ◌∙◌, arith, vec_len}
+use Rattle.std.proofs.Common.{◌≡◌, ◌+◌, ◌-◌, length, ap, ◌∙◌, arith}
 use Rattle.std.proofs.lemmas.List.{length-drop}
 use Rattle.als_log.proofs.Pieces.{source-same, read_more, part_is}
 use Rattle.als_log.proofs.reading.read_text.Goals as goal
@@ -6,12 +6,12 @@ use Rattle.als_log.proofs.reading.read_text.Goals as goal
 pub loop-block-preserved : goal.loop-block-preserved
 loop-block-preserved g c =
     let i = c.loop-block.invariant in
-    let from : c.args.at + c.len-in-loop-block.result ≡ c.args.at + vec_len c.loop-block.out = ap (λ n. c.args.at + n) c.len-in-loop-block.ensures in
+    let from : c.args.at + c.len-in-loop-block.result ≡ c.args.at + length c.loop-block.out = ap (λ n. c.args.at + n) c.len-in-loop-block.ensures in
     record {
-      most = c.in_ok-push_part.ensures.more.1;
+      most = c.push_part.ensures.more.1;
       read = λ text source.
-          read_more text c.loop-block.out.items c.push_part.new.out.items c.read_block.new.into c.args.at (c.args.at + c.len-in-loop-block.result) (vec_len c.loop-block.out) (vec_len c.push_part.new.out) from
-          c.in_ok-push_part.ensures.kept c.in_ok-push_part.ensures.part c.in_ok-push_part.ensures.within
+          read_more text c.loop-block.out c.push_part.new.out c.read_block.new.into c.args.at (c.args.at + c.len-in-loop-block.result) (length c.loop-block.out) (length c.push_part.new.out) from
+          c.push_part.ensures.kept c.push_part.ensures.part c.push_part.ensures.within
           (c.in_ok-read_block.ensures.ok text (source-same (g.D.BlockDisk.slot c.args.disk.now) (g.D.BlockDisk.slot c.loop-block.disk) c.args.source.bytes.now text c.args.source.base i.same source))
           (i.read text source);
       same = λ k. c.in_ok-read_block.ensures.same k ∙ i.same k;
@@ -23,7 +23,6 @@ loop-block-preserved g c =
 pub returns-clause-ok : goal.returns-clause-ok
 returns-clause-ok g c text source =
     let i = c.loop-block.invariant in
-    let all : vec_len c.loop-block.out ≡ c.args.count = omega (arith, i.most, c.loop-block-test.false, c.len.ensures) in
+    let all : length c.loop-block.out ≡ c.args.count = omega (arith, i.most, c.loop-block-test.false, c.len.ensures) in
     let bytes : length c.args.source.bytes.now ≡ length text - c.args.source.base = ap length source.held ∙ length-drop c.args.source.base text in
-    let len : length c.loop-block.out.items ≡ c.args.count = omega (arith, all) in
-    part_is text c.loop-block.out.items c.args.at c.args.count len (omega (arith, c.requires.within, bytes, source.reach)) (λ k lt. i.read text source k (omega (arith, lt, all)))
+    part_is text c.loop-block.out c.args.at c.args.count all (omega (arith, c.requires.within, bytes, source.reach)) (λ k lt. i.read text source k (omega (arith, lt, all)))

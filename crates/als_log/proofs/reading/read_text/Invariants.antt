@@ -1,4 +1,4 @@
-use Rattle.std.proofs.Common.{◌≡◌, ℕ, ◌+◌, ◌-◌, ◌<◌, ◌≤◌, List, vec_len}
+use Rattle.std.proofs.Common.{◌≡◌, ℕ, ◌+◌, ◌-◌, ◌<◌, ◌≤◌, List, length}
 use Rattle.std.specs.Prelude.{slice_index}
 use Rattle.als_disk.specs.Slot.{SameBlocks}
 use Rattle.als_log.specs.Reading.{IsSource}
@@ -6,8 +6,8 @@ use Rattle.als_log.proofs.reading.read_text.Given as goal
 
 abbrev pub invariant-loop-block : goal.invariant-loop-block
 invariant-loop-block g l = record {
-  most : vec_len l.out ≤ l.count;
-  read : (text : List ℕ) → IsSource (g.D.BlockDisk.slot l.initial.disk) l.source.bytes.now text l.source.base → (k : ℕ) → k < vec_len l.out → slice_index l.out.items k ≡ slice_index text (l.at + k);
+  most : length l.out ≤ l.count;
+  read : (text : List ℕ) → IsSource (g.D.BlockDisk.slot l.initial.disk) l.source.bytes.now text l.source.base → (k : ℕ) → k < length l.out → slice_index l.out k ≡ slice_index text (l.at + k);
   same : SameBlocks (g.D.BlockDisk.slot l.initial.disk) (g.D.BlockDisk.slot l.disk);
   count : g.D.BlockDisk.block_count l.disk ≡ g.D.BlockDisk.block_count l.initial.disk;
   failures : g.D.BlockDisk.failures l.disk ≡ g.D.BlockDisk.failures l.initial.disk;
@@ -15,4 +15,4 @@ invariant-loop-block g l = record {
 }
 
 abbrev pub decreases-loop-block : goal.decreases-loop-block
-decreases-loop-block g l = l.count - vec_len l.out
+decreases-loop-block g l = l.count - length l.out

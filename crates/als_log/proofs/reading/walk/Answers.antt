@@ -36,7 +36,7 @@ loop-at-smaller g c =
     let p : Placed pages log c.loop-at.at = placed pages log c.loop-at.at r.is_log c.loop-at.invariant.front (omega (arith, c.loop-at-test.true, c.requires.within)) in
     let source = source-same (g.D.BlockDisk.slot c.args.disk.now) (g.D.BlockDisk.slot c.loop-at.disk) c.args.source.bytes.now (log_text pages log) c.args.source.base c.loop-at.invariant.same r.source in
     let size : c.from-at.result ≡ record_len p.r
-    = c.from-at.ensures ∙ c.word.ensures ∙ field p c.as_slice.result.now (c.as_slice.ensures.value ∙ c.in_ok-read_text.ensures.ok (log_text pages log) source) in
+    = c.from-at.ensures ∙ c.word.ensures ∙ field p c.as_slice.result.now (c.as_slice.ensures ∙ c.in_ok-read_text.ensures.ok (log_text pages log) source) in
     omega (arith, size, p.low, c.loop-at-test.true)
 
 pub loop-at-preserved : goal.loop-at-preserved
@@ -47,7 +47,7 @@ loop-at-preserved g c =
     let p : Placed pages log c.loop-at.at = placed pages log c.loop-at.at r.is_log c.loop-at.invariant.front (omega (arith, c.loop-at-test.true, c.requires.within)) in
     let source = source-same (g.D.BlockDisk.slot c.args.disk.now) (g.D.BlockDisk.slot c.loop-at.disk) c.args.source.bytes.now (log_text pages log) c.args.source.base c.loop-at.invariant.same r.source in
     let size : c.from-at.result ≡ record_len p.r
-    = c.from-at.ensures ∙ c.word.ensures ∙ field p c.as_slice.result.now (c.as_slice.ensures.value ∙ c.in_ok-read_text.ensures.ok (log_text pages log) source) in
+    = c.from-at.ensures ∙ c.word.ensures ∙ field p c.as_slice.result.now (c.as_slice.ensures ∙ c.in_ok-read_text.ensures.ok (log_text pages log) source) in
     let past : (c.loop-at.at + record_len p.r ≤ c.args.to) ⊎ (record_at log c.args.to ≡ None) = elim (cases_lt c.args.to (c.loop-at.at + record_len p.r)) [
       | inl lt ↦ inr (record_at-inside p c.args.to c.loop-at-test.true lt)
       | inr le ↦ inl le
@@ -57,6 +57,6 @@ loop-at-preserved g c =
       past = subst (λ n. (c.loop-at.at + n ≤ c.args.to) ⊎ (record_at log c.args.to ≡ None)) (sym size) past;
       same = λ k. c.in_ok-read_text.ensures.same k ∙ c.loop-at.invariant.same k;
       count = c.in_ok-read_text.ensures.count ∙ c.loop-at.invariant.count;
-      failures = c.in_ok-read_text.ensures.done ∙ c.loop-at.invariant.failures;
+      failures = c.in_ok-read_text.ensures.failures ∙ c.loop-at.invariant.failures;
       attempts = c.in_ok-read_text.ensures.attempts ∙ c.loop-at.invariant.attempts;
     }

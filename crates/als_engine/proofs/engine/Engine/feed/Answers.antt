@@ -12,22 +12,23 @@ overflow_sub-held_bytes g c =
 pub invariant_of-self : goal.invariant_of-self
 invariant_of-self g c =
     let all = c.in-Ok.ensures.ok in
-    ready_grown c.self.inside.store.stored c.take_piece.new.held.stored c.self.inside.receiver c.take_piece.new.receiver all.records c.self.invariant all.after all.rests
+    ready_grown c.self.inside.store.stored c.take_piece.new.held.stored c.self.inside.receiver c.take_piece.new.receiver c.self.inside.refused all.records c.self.invariant all.after all.rests
 
 pub invariant_of-self-in-Err : goal.invariant_of-self-in-Err
 invariant_of-self-in-Err g c =
     let front = c.in-Err.ensures.err in
-    ready_again c.self.inside.store.stored c.take_piece.new.held.stored c.self.inside.receiver c.new.result front.records c.end-in-Err.result.0 c.pages.result c.self.invariant front.after c.new.ensures c.end-in-Err.ensures.end c.pages.ensures
+    rw c.kept-self-inside.ensures
+    (ready_again c.self.inside.store.stored c.take_piece.new.held.stored c.self.inside.receiver c.new.result c.self.inside.refused c.in-Err.fault front.records c.end-in-Err.result.0 c.pages.result c.self.invariant front.after c.new.ensures c.end-in-Err.ensures.end c.pages.ensures)
 
-pub returns-in-Ok : goal.returns-in-Ok
-returns-in-Ok g c =
+pub returns-in-Ok-clause-feeds : goal.returns-in-Ok-clause-feeds
+returns-in-Ok-clause-feeds g c =
     rw (← c.self.view_is)
     (feeds_all c.self.inside.store.stored c.take_piece.new.held.stored c.self.inside.limit c.self.inside.receiver.kept c.args.piece.now c.self.inside.refused c.take_piece.new.receiver _ _
     (record { running = sym c.is_broken-stopped.ensures ∙ c.if-stopped.false; following = c.in_default.is; room = omega (arith, c.pending.ensures, c.if-pending-self.false) })
     c.in-Ok.ensures.ok c.len.ensures.log refl (omega (arith, c.len.ensures.count, c.len-records.ensures.count)))
 
-pub returns-in-Err : goal.returns-in-Err
-returns-in-Err g c =
+pub returns-in-Err-clause-feeds : goal.returns-in-Err-clause-feeds
+returns-in-Err-clause-feeds g c =
     rw (← c.self.view_is)
     (rw (c.new.ensures, c.kept-self-inside.ensures)
     (inr (feeds_front c.self.inside.store.stored c.take_piece.new.held.stored c.self.inside.limit c.self.inside.receiver.kept c.args.piece.now c.self.inside.refused c.in-Err.fault _ _ (c.end.result.0 - c.end-end.result.0)

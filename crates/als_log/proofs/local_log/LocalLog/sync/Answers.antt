@@ -9,7 +9,7 @@ invariant_of-self g c =
     let h = c.self.invariant in
     let log = records_in c.self.inside.history in
     rw c.sync.ensures.count (held-write h c.self.inside.written (g.D.BlockDisk.slot c.sync.new.disk) h.order.order h.order.within
-    (c.in_err-sync.ensures.err (log_text c.self.inside.pages log) c.self.inside.written c.self.inside.synced h.stored))
+    (c.in_err-sync.ensures.err (log_text c.self.inside.pages log) c.self.inside.written c.self.inside.synced h.order.order h.stored))
 
 pub drop_front-requires : goal.drop_front-requires
 drop_front-requires g c =

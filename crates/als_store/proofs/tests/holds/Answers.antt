@@ -1,4 +1,4 @@
-use Rattle.als_store.proofs.tests.a_record_is_held_in_the_room_that_was_made.Goals as goal
+use Rattle.als_store.proofs.tests.holds.Goals as goal
 
 pub reserve-requires-clause-fits : goal.reserve-requires-clause-fits
 reserve-requires-clause-fits g c = c.commit_at-logged.ensures.fits c.in-Ok.store.stored.pages

@@ -3,7 +3,7 @@ use Rattle.als_record.specs.declared.fault.Fault.{Fault}
 use Rattle.als_record.specs.declared.record.Record.{Record}
 use Rattle.als_record.specs.Reading.{read_record}
 use Rattle.als_receiver.proofs.ReadingLaws.{read_record-short}
-use Rattle.als_receiver.proofs.receiver.Receiver.next.Goals as goal
+use Rattle.als_receiver.proofs.receiver.Receiver.peek.Goals as goal
 
 pub returns-in-Ok-None : goal.returns-in-Ok-None
 returns-in-Ok-None c =

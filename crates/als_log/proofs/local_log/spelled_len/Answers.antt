@@ -1,0 +1,6 @@
+use Rattle.std.proofs.Common.{length, ap, ◌∙◌}
+use Rattle.als_record.proofs.RecordLaws.{length-spelling}
+use Rattle.als_log.proofs.local_log.spelled_len.Goals as goal
+
+pub returns : goal.returns
+returns c = ap length c.requires ∙ length-spelling c.args._logged.now
