@@ -1,7 +1,7 @@
 use crate::fed::feed_all;
 use crate::forced::force_all;
 use crate::primary::Primary;
-use crate::reading::{decode_all, judge_all, receive_all};
+use crate::reading::{decode_all, judge_all, judge_pieces, receive_all};
 use std::fs::File;
 use std::io;
 use std::rt::{Clock, Files};
@@ -43,6 +43,13 @@ fn measure_log<R: Print + Clock + AllocGlobal>(rt: &R, text: &[u8]) -> io::Resul
         None,
         text,
         || judge_all(rt.alloc(), text),
+    )?;
+    measure(
+        rt,
+        "decode and judge",
+        Some(65_536),
+        text,
+        || judge_pieces(rt.alloc(), text, 65_536),
     )?;
     for piece in [100, 65_536, 1_000_000] {
         measure(

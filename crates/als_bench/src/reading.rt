@@ -90,3 +90,41 @@ pub fn receive_all(alloc: Global, text: &[u8], piece: usize) -> u64 {
     }
     records
 }
+
+/// Lets the validator judge and take each record that is whole, and answers how many there were.
+fn judge_whole(receiver: &mut Receiver, validator: &mut Validator) -> u64 {
+    let mut records = 0u64;
+    for _ in 0..u64::MAX {
+        let Ok(Some(logged)) = receiver.next() else {
+            break;
+        };
+        if validator.check(&logged).is_err() {
+            break;
+        }
+        match validator.reserve() {
+            Ok(()) => validator.admit(&logged),
+            Err(_) => break,
+        }
+        records = records.saturating_add(1);
+    }
+    records
+}
+
+/// Takes a log in pieces of so many bytes, and lets the validator judge and take its records.
+pub fn judge_pieces(alloc: Global, text: &[u8], piece: usize) -> u64 {
+    let Ok(mut validator) = Validator::new(alloc, PAGES) else {
+        return 0;
+    };
+    let mut receiver = Receiver::new(alloc, Lsn(FIRST as u64), PAGES);
+    let mut records = 0u64;
+    for bytes in text.get(FIRST..).unwrap_or(&[]).chunks(piece.max(1)) {
+        if bytes.len() as u64 >= u64::MAX - receiver.position() {
+            break;
+        }
+        if receiver.push(bytes).is_err() {
+            break;
+        }
+        records = records.saturating_add(judge_whole(&mut receiver, &mut validator));
+    }
+    records
+}

@@ -1,3 +1,5 @@
+// A growth is refused once at most: a test that meets one is run once more.
+
 // A row of a table, and how it is run.
 mod row;
 // `als make`.
@@ -14,3 +16,5 @@ mod asking;
 mod streams;
 // Records that may not follow, and the transaction table.
 mod judging;
+// Requests that want memory.
+mod memory;

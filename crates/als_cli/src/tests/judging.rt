@@ -1,5 +1,5 @@
 use super::row::{Row, WORLD, run_row, run_scripts};
-use std::test::Fail;
+use std::process::Abort;
 
 /// A log of 32 blocks, for the longer texts.
 const WIDE: (&str, &str) = ("world pages=4 log=32 frames=4 workers=2 pending=1000\n", "");
@@ -58,20 +58,25 @@ const HELD: [(&str, &str); 5] = [
 ];
 
 #[test]
-fn records_are_judged(rt: HostRuntime) -> Result<(), Fail> {
-    run_scripts(&rt, WIDE, &REFUSED)?;
-    run_scripts(&rt, (WORLD, ""), &HELD)
+fn records_are_judged(rt: HostRuntime) {
+    run_scripts(&rt, WIDE, &REFUSED);
+    run_scripts(&rt, (WORLD, ""), &HELD);
 }
 
 /// More than 256 transactions at once.
-#[test]
-fn transactions_have_a_limit(rt: HostRuntime) -> Result<(), Fail> {
+fn limits_transactions<R: Abort + AllocGlobal>(rt: &R) -> Option<()> {
     let (world, _) = WIDE;
-    let mut script = String::from_str(rt.alloc(), world)?;
+    let mut script = String::from_str(rt.alloc(), world).ok()?;
     for trans in 1..258 {
-        writeln!(script, "rollback {trans}")?;
+        writeln!(script, "rollback {trans}").ok()?;
     }
-    script.push_str("feed 16 7212\n")?;
+    script.push_str("feed 16 7212\n").ok()?;
     let output = "refused 15 TooManyTransactions taken=7168 records=256 end=7184\n";
-    run_row(&rt, Row::sim(script.as_str(), output))
+    run_row(rt, Row::sim(script.as_str(), output));
+    Some(())
+}
+
+#[test]
+fn transactions_have_a_limit(rt: HostRuntime) {
+    assert!(rt; limits_transactions(&rt).is_some() || limits_transactions(&rt).is_some());
 }

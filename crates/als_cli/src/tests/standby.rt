@@ -1,5 +1,5 @@
 use super::row::{Row, WORLD, run_row, run_scripts};
-use std::test::Fail;
+use std::process::Abort;
 
 /// Whole scripts, and what they print.
 const SCRIPTS: [(&str, &str); 5] = [
@@ -145,14 +145,13 @@ none
 ];
 
 #[test]
-fn scripts_are_run(rt: HostRuntime) -> Result<(), Fail> {
-    run_scripts(&rt, ("", ""), &SCRIPTS)
+fn scripts_are_run(rt: HostRuntime) {
+    run_scripts(&rt, ("", ""), &SCRIPTS);
 }
 
 /// A record is held as soon as its last byte has come, whatever the pieces.
-#[test]
-fn feed_byte_by_byte(rt: HostRuntime) -> Result<(), Fail> {
-    let mut script = format!(in rt.alloc(); "{WORLD}u 1 0 0 - aa\ncommit 1\nend 1\n")?;
+fn feeds_byte_by_byte<R: Abort + AllocGlobal>(rt: &R) -> Option<()> {
+    let mut script = format!(in rt.alloc(); "{WORLD}u 1 0 0 - aa\ncommit 1\nend 1\n").ok()?;
     let mut output = String::new(rt.alloc());
     let mut end = 16;
     for at in 16..108 {
@@ -164,21 +163,28 @@ fn feed_byte_by_byte(rt: HostRuntime) -> Result<(), Fail> {
         if records == 1 {
             end = next;
         }
-        writeln!(script, "feed {at} {next}")?;
-        writeln!(output, "ok taken=1 records={records} end={end}")?;
+        writeln!(script, "feed {at} {next}").ok()?;
+        writeln!(output, "ok taken=1 records={records} end={end}").ok()?;
     }
-    run_row(&rt, Row::sim(script.as_str(), output.as_str()))
+    run_row(rt, Row::sim(script.as_str(), output.as_str()));
+    Some(())
+}
+
+#[test]
+fn feed_byte_by_byte(rt: HostRuntime) {
+    assert!(rt; feeds_byte_by_byte(&rt).is_some() || feeds_byte_by_byte(&rt).is_some());
 }
 
 /// More changes of a page than one redo takes, and a page that has none.
-#[test]
-fn drain_goes_round(rt: HostRuntime) -> Result<(), Fail> {
+fn goes_round<R: Abort + AllocGlobal>(rt: &R) -> Option<()> {
     let world = "world pages=4 log=32 frames=4 workers=2 pending=1000\n";
-    let mut script = format!(in rt.alloc(); "{world}u 1 2 0 - 00\nu 1 1 0 - 00\n")?;
+    let mut script = format!(in rt.alloc(); "{world}u 1 2 0 - 00\nu 1 1 0 - 00\n").ok()?;
     for _ in 0..130 {
-        script.push_str("u 1 2 0 00 00\n")?;
+        script.push_str("u 1 2 0 00 00\n").ok()?;
     }
-    script.push_str("feed 16 4898\nshow status\ndrain\nshow status\nshow db\ndrain\n")?;
+    script
+        .push_str("feed 16 4898\nshow status\ndrain\nshow status\nshow db\ndrain\n")
+        .ok()?;
     let output = "ok taken=4882 records=132 end=4898
 state=Following end=4898 ack=16 pending=132 leases=0
 ok
@@ -187,5 +193,11 @@ state=Following end=4898 ack=16 pending=0 leases=0
 2/0 00
 ok
 ";
-    run_row(&rt, Row::sim(script.as_str(), output))
+    run_row(rt, Row::sim(script.as_str(), output));
+    Some(())
+}
+
+#[test]
+fn drain_goes_round(rt: HostRuntime) {
+    assert!(rt; goes_round(&rt).is_some() || goes_round(&rt).is_some());
 }
