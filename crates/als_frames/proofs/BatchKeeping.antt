@@ -1,11 +1,11 @@
 -- What the redo of several changes leaves of all pages, for a log.
-use Rattle.std.proofs.Common.{◌≡◌, ℕ, ◌<◌, ◌+◌, Bool, List, [], ◌∷◌, ◌++◌, Option, Some, None, fold, inl, inr, refl, sym, ap, subst, ◌∙◌, arith}
+use Rattle.std.proofs.Common.{◌≡◌, ℕ, ◌<◌, Bool, List, [], ◌∷◌, ◌++◌, Option, Some, fold, inl, inr, sym, ap, subst, ◌∙◌, arith}
 use Rattle.std.proofs.lemmas.Bool.Decides.{eqb_tells}
 use Rattle.als_record.specs.declared.change.Change.{Change}
 use Rattle.als_record.specs.declared.lsn.Lsn.{Lsn}
 use Rattle.als_record.specs.declared.record.Record.{Record}
 use Rattle.als_record.specs.LogText.{IsLog}
-use Rattle.als_record.specs.Pages.{PageState, redone, changes_above}
+use Rattle.als_record.specs.Pages.{redone, changes_above}
 use Rattle.als_record.proofs.PageLaws.{changes_above-cons}
 use Rattle.als_disk.specs.Slot.{Slot}
 use Rattle.als_frames.specs.Frames.{Framed, Paged, frame_of, slot_of}
@@ -48,7 +48,7 @@ keeps_batch log synced below old new page waits left lsn done next h = record { 
         let waited : changes_above log page done.f.content.lsn ≡ front ++ left = sym (next done.f done.resident) ∙ r.waited in
         let after : IsFramedAt log page below (synced page) old.sure (slot_of old page) done.f'
         = subst (λ (f : Framed). IsFramedAt log page below (synced page) old.sure (slot_of old page) f) (sym r.after)
-          (batch_page log page below old.pages (synced page) old.sure (slot_of old page) done.f front left h.is_log waited before) in
+        (batch_page log page below old.pages (synced page) old.sure (slot_of old page) done.f front left h.is_log waited before) in
         now page (Some done.f') done.sets.frame after
 
     each : (p : ℕ) → p < new.pages → IsPageAt log p below (synced p) new.sure (slot_of new p) (frame_of new p)

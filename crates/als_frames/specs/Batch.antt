@@ -3,7 +3,7 @@ use Rattle.std.specs.Prelude.{◌≡◌, ◌⊎◌, ℕ, ◌<◌, ◌≤◌, Lis
 use Rattle.std.specs.List.{fold}
 use Rattle.als_record.specs.declared.change.Change.{Change}
 use Rattle.als_record.specs.declared.lsn.Lsn.{Lsn}
-use Rattle.als_record.specs.Pages.{PageState, redone}
+use Rattle.als_record.specs.Pages.{redone}
 use Rattle.als_frames.specs.Frames.{Framed, Paged, frame_of}
 use Rattle.als_frames.specs.Outcomes.{SetsFrame}
 

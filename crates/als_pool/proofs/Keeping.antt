@@ -1,5 +1,5 @@
 -- Each call keeps the pool that of a log, by its answer.
-use Rattle.std.proofs.Common.{◌≡◌, ◌≢◌, ◌⊎◌, ℕ, ◌+◌, ◌<◌, ◌≤◌, Bool, IsTrue, List, [], ◌∷◌, ◌++◌, length, map, Option, Some, None, fold, inl, inr, refl, sym, ap, subst, ◌∙◌, arith}
+use Rattle.std.proofs.Common.{◌≡◌, ℕ, ◌<◌, ◌≤◌, IsTrue, List, [], ◌∷◌, ◌++◌, length, Option, Some, None, refl, sym, ap, subst, ◌∙◌, arith}
 use Rattle.std.specs.Prelude.{Contains, slice_set, MatchOption, Result, Ok, Err, IfOk, IfErr, OnOk, OnErr}
 use Rattle.std.specs.Result.{IsErrOf}
 use Rattle.std.proofs.lemmas.Option.{same_Some}
@@ -7,15 +7,15 @@ use Rattle.als_record.specs.declared.lsn.Lsn.{Lsn}
 use Rattle.als_record.specs.declared.change.Change.{Change}
 use Rattle.als_record.specs.declared.record.Record.{Record}
 use Rattle.als_record.specs.LogText.{end_of, IsLog}
-use Rattle.als_record.specs.Pages.{PageState, page_at, change_of, changes_above, lsn_after}
+use Rattle.als_record.specs.Pages.{PageState, page_at, change_of, changes_above}
 use Rattle.als_record.proofs.PageLaws.{IsPageState-page_at, changes_above-head, lsn-fold, lsn_after-last}
-use Rattle.als_disk.specs.Slot.{Slot, only}
+use Rattle.als_disk.specs.Slot.{Slot}
 use Rattle.als_disk.specs.SlotLaws.{Contains-one}
 use Rattle.als_frames.specs.declared.fault.Fault.{Fault as FramesFault}
 use Rattle.als_frames.specs.declared.fault.Fault.TheVariants.{PoolFull as FullFrames, NothingToDo as NoFrame, Device as DiskFailed, Memory as NoRoom, BadPage as NoPage}
 use Rattle.als_frames.specs.Frames.{Framed, Paged, frame_of, slot_of}
-use Rattle.als_frames.specs.Images.{image_of, IsStoredAt, IsPageAt, AreFramesOf}
-use Rattle.als_frames.specs.Outcomes.{IsFound, IsBad, Loads, RefusesLoad, Writes, WriteFails}
+use Rattle.als_frames.specs.Images.{image_of, IsStoredAt, IsPageAt}
+use Rattle.als_frames.specs.Outcomes.{IsFound, IsBad, Loads, RefusesLoad}
 use Rattle.als_frames.proofs.Keeping.{reads, never_bad as bad_frame, keeps_load, keeps_refused_load, keeps_write, keeps_failed_write, keeps_sync, keeps_failed_sync, keeps_record, keeps_mark}
 use Rattle.als_frames.proofs.BatchKeeping.{keeps_batch}
 use Rattle.als_dirty.specs.declared.dirty_page.DirtyPage.{DirtyPage}
@@ -26,9 +26,9 @@ use Rattle.als_pool.specs.declared.fault.Fault.{Fault}
 use Rattle.als_pool.specs.declared.fault.Fault.TheVariants.{LogBehind, PoolFull, NothingToDo, Device, Memory, BadPage}
 use Rattle.als_pool.specs.Queues.{pending_of}
 use Rattle.als_pool.specs.Pooled.{Pooled, lsn_or, lsn_now}
-use Rattle.als_pool.specs.Outcomes.{with_change, MakesResident, Redoes, Applies, LoadFails, RefusesApply, IsDueAt, StoresPage, Flushes, FlushFails, RefusesFlush, SyncsPages, SyncPagesFails, IsPageNow, ReadRefused, RefusesPage}
+use Rattle.als_pool.specs.Outcomes.{with_change, Redoes, Applies, LoadFails, RefusesApply, IsDueAt, StoresPage, Flushes, FlushFails, RefusesFlush, SyncsPages, SyncPagesFails, IsPageNow, ReadRefused, RefusesPage}
 use Rattle.als_pool.specs.Images.{synced_of, IsPoolOf}
-use Rattle.als_pool.proofs.QueueLists.{waits_inside, some_inside}
+use Rattle.als_pool.proofs.QueueLists.{waits_inside}
 use Rattle.als_pool.proofs.PoolSteps.{framed, pool-frames, pool-loads, pool-redoes}
 use Rattle.als_pool.proofs.RowSteps.{next_image, pool-stores, pool-syncs, pool-other, pool-change, pool-raised}
 

@@ -1,14 +1,14 @@
 -- Which pages' page_LSNs a call leaves as they were.
-use Rattle.std.proofs.Common.{◌≡◌, ◌≢◌, ◌⊎◌, ℕ, ◌<◌, ◌≤◌, List, length, map, Option, Some, None, inl, inr, refl, sym, ap, subst, ◌∙◌, arith}
-use Rattle.std.specs.Prelude.{slice_set, MatchOption, Result, Ok, Err, IfOk, IfErr, OnOk, OnErr}
+use Rattle.std.proofs.Common.{◌≡◌, ◌⊎◌, ℕ, ◌<◌, List, length, map, Option, Some, None, inl, inr, refl, sym, ap, subst, ◌∙◌, arith}
+use Rattle.std.specs.Prelude.{MatchOption, Result, Ok, Err, IfOk, IfErr, OnOk, OnErr}
 use Rattle.std.specs.Option.{option_map}
 use Rattle.std.proofs.lemmas.Bool.{cases_eq}
-use Rattle.std.proofs.lemmas.List.{get_or-set_same, get_or-set_other, get_or-map}
+use Rattle.std.proofs.lemmas.List.{get_or-map}
 use Rattle.als_record.specs.declared.lsn.Lsn.{Lsn}
 use Rattle.als_record.specs.declared.change.Change.{Change}
 use Rattle.als_record.specs.declared.record.Record.{Record}
 use Rattle.als_frames.specs.declared.fault.Fault.{Fault as FramesFault}
-use Rattle.als_frames.specs.declared.fault.Fault.TheVariants.{PoolFull as FullFrames, NothingToDo as NoFrame, Device as DiskFailed, Memory as NoRoom, BadPage as NoPage}
+use Rattle.als_frames.specs.declared.fault.Fault.TheVariants.{PoolFull as FullFrames, Device as DiskFailed, Memory as NoRoom, BadPage as NoPage}
 use Rattle.als_frames.specs.Frames.{Framed, Paged, frame_of}
 use Rattle.als_frames.specs.Outcomes.{IsReplaced, Loads, synced_frame}
 use Rattle.als_dirty.specs.declared.stored_image.StoredImage.{StoredImage}
@@ -19,7 +19,7 @@ use Rattle.als_pool.specs.declared.fault.Fault.{Fault}
 use Rattle.als_pool.specs.declared.fault.Fault.TheVariants.{LogBehind, PoolFull, NothingToDo, Device, Memory, BadPage}
 use Rattle.als_pool.specs.Queues.{pending_of}
 use Rattle.als_pool.specs.Pooled.{Pooled, lsn_or, lsn_now, SameLsns, SameLsnsBut}
-use Rattle.als_pool.specs.Outcomes.{with_change, Applies, LoadFails, RefusesApply, StoresPage, Flushes, FlushFails, RefusesFlush, SyncsPages, SyncPagesFails}
+use Rattle.als_pool.specs.Outcomes.{with_change, Applies, LoadFails, RefusesApply, StoresPage, Flushes, RefusesFlush, SyncsPages, SyncPagesFails}
 use Rattle.als_pool.specs.Images.{synced_of, IsTabled, IsPoolOf}
 use Rattle.als_pool.proofs.PoolSteps.{framed}
 use Rattle.als_pool.proofs.RowSteps.{synced-set}

@@ -1,5 +1,5 @@
 -- What waits for a page can be redone, as pages are read in, changes are redone, and more changes come.
-use Rattle.std.proofs.Common.{◌≡◌, ◌≢◌, ◌⊎◌, ℕ, zero, suc, ◌+◌, ◌-◌, ◌<◌, ◌≤◌, List, [], ◌∷◌, ◌++◌, length, Option, Some, None, fold, refl, sym, ap, subst, ◌∙◌, inl, inr, length-append, length-set, arith}
+use Rattle.std.proofs.Common.{◌≡◌, ◌≢◌, ◌⊎◌, ℕ, ◌+◌, ◌-◌, ◌<◌, ◌≤◌, List, [], ◌∷◌, ◌++◌, length, Option, Some, None, refl, sym, ap, subst, ◌∙◌, inl, inr, length-append, length-set, arith}
 use Rattle.std.specs.Prelude.{slice_set, IsSome}
 use Rattle.std.specs.Option.{option_map}
 use Rattle.std.proofs.lemmas.Option.{same_Some}
@@ -7,10 +7,10 @@ use Rattle.std.proofs.lemmas.Bool.{cases_eq}
 use Rattle.std.proofs.lemmas.List.{get_or-set_same, get_or-set_other}
 use Rattle.als_record.specs.declared.lsn.Lsn.{Lsn}
 use Rattle.als_record.specs.declared.change.Change.{Change}
-use Rattle.als_record.specs.Pages.{PageState, redone, lsn_after}
+use Rattle.als_record.specs.Pages.{lsn_after}
 use Rattle.als_record.proofs.PageLaws.{lsn-fold}
-use Rattle.als_frames.specs.Frames.{Framed, Paged, frame_of, clean_frame}
-use Rattle.als_frames.specs.Outcomes.{Loads, IsReplaced, SetsFrame, Writes}
+use Rattle.als_frames.specs.Frames.{Framed, Paged, frame_of}
+use Rattle.als_frames.specs.Outcomes.{Loads, IsReplaced, Writes}
 use Rattle.als_frames.specs.Batch.{AreNext, RedoesFirst, RedoesBatch}
 use Rattle.als_dirty.specs.declared.dirty_page.DirtyPage.{DirtyPage}
 use Rattle.als_dirty.specs.Images.{first_lsn}

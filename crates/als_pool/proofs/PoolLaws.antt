@@ -1,18 +1,17 @@
 -- What holds of a pool for every log.
-use Rattle.std.proofs.Common.{◌≡◌, ◌⊎◌, ℕ, ◌+◌, ◌<◌, ◌≤◌, ◌^◌, List, [], ◌∷◌, ◌++◌, length, Option, Some, None, inl, inr, refl, sym, ap, subst, ◌∙◌, IsTrue, arith}
+use Rattle.std.proofs.Common.{◌≡◌, ℕ, ◌+◌, ◌<◌, ◌≤◌, ◌^◌, List, [], ◌∷◌, ◌++◌, length, Option, Some, None, refl, sym, ap, subst, ◌∙◌, IsTrue, arith}
 use Rattle.std.specs.Prelude.{Contains}
 use Rattle.std.specs.List.{AllByRecursion}
 use Rattle.als_record.specs.declared.lsn.Lsn.{Lsn}
 use Rattle.als_record.specs.declared.change.Change.{Change}
 use Rattle.als_record.specs.declared.record.Record.{Record}
 use Rattle.als_record.specs.LogText.{end_of, follow_from, IsLog}
-use Rattle.als_record.specs.Pages.{change_of, changes_on, changes_above, IsChangeAbove, IsFittingChange}
+use Rattle.als_record.specs.Pages.{change_of, changes_above, IsChangeAbove, IsFittingChange}
 use Rattle.als_record.proofs.PageLaws.{changes_on-same, changes_above-push, changes_above-fit, changes_above-cons, changes_above-head}
 use Rattle.als_frames.specs.Frames.{Framed, frame_of, slot_of}
 use Rattle.als_frames.specs.Images.{IsImageOf}
 use Rattle.als_frames.specs.Batch.{AreNext}
 use Rattle.als_frames.proofs.Keeping.{each_image}
-use Rattle.als_dirty.specs.declared.dirty_page.DirtyPage.{DirtyPage}
 use Rattle.als_dirty.specs.Rows.{rec_lsn_of}
 use Rattle.als_dirty.specs.Images.{first_lsn}
 use Rattle.als_dirty.proofs.ImageSteps.{nothing_later, first_later}
@@ -21,7 +20,7 @@ use Rattle.als_pool.specs.Pooled.{Pooled, lsn_or, lsn_now}
 use Rattle.als_pool.specs.Outcomes.{CanRoute}
 use Rattle.als_pool.specs.Images.{synced_of, IsPoolOf, IsCovered, IsRowSound}
 use Rattle.als_pool.proofs.Ordering.{next_lower}
-use Rattle.als_pool.proofs.RowSteps.{lsn_now-reached, more_waits}
+use Rattle.als_pool.proofs.RowSteps.{more_waits}
 
 -- ---- rows
 

@@ -1,27 +1,23 @@
 -- What each call leaves of the pool, for a log.
-use Rattle.std.proofs.Common.{◌≡◌, ◌≢◌, ◌⊎◌, ℕ, ◌+◌, ◌<◌, ◌≤◌, Bool, true, false, IsTrue, List, [], ◌∷◌, ◌++◌, length, replicate, map, Option, Some, None, fold, inl, inr, refl, sym, ap, ap₂, subst, ◌∙◌, length-set, append-nil, arith}
-use Rattle.std.specs.Prelude.{slice_set, unwrap_or, MatchOption}
-use Rattle.std.specs.Option.{option_map}
+use Rattle.std.proofs.Common.{◌≡◌, ◌⊎◌, ℕ, ◌<◌, true, List, [], ◌∷◌, ◌++◌, length, Option, Some, None, inl, inr, sym, ap, ap₂, subst, ◌∙◌, length-set, arith}
+use Rattle.std.specs.Prelude.{slice_set}
 use Rattle.std.proofs.lemmas.Bool.{cases_eq}
-use Rattle.std.proofs.lemmas.List.{get_or-set_same, get_or-set_other, get_or-map, get_or-replicate, length-map, length-replicate}
+use Rattle.std.proofs.lemmas.List.{get_or-set_same, get_or-set_other}
 use Rattle.als_record.specs.declared.lsn.Lsn.{Lsn}
 use Rattle.als_record.specs.declared.change.Change.{Change}
 use Rattle.als_record.specs.declared.record.Record.{Record}
-use Rattle.als_record.specs.LogText.{end_of, IsLog}
-use Rattle.als_record.specs.Pages.{PageState, redone, change_of, changes_on, changes_above, lsn_after}
-use Rattle.als_record.proofs.PageLaws.{changes_on-none, changes_on-same, changes_on-other, changes_above-push, changes_above-front, lsn-fold, end_of-push}
-use Rattle.als_disk.specs.Slot.{Slot}
+use Rattle.als_record.specs.Pages.{changes_above, lsn_after}
+use Rattle.als_record.proofs.PageLaws.{changes_above-front, lsn-fold}
 use Rattle.als_frames.specs.Frames.{Framed, Paged, IsClean, clean_frame, frame_of, slot_of}
-use Rattle.als_frames.specs.Images.{IsStoredAt, IsFramedAt, IsPageAt, AreFramesOf, synced_after}
-use Rattle.als_frames.specs.Outcomes.{Loads, IsReplaced, Writes, Syncs, synced_frame}
-use Rattle.als_frames.specs.Batch.{RedoesBatch}
+use Rattle.als_frames.specs.Images.{IsFramedAt, IsPageAt, AreFramesOf}
+use Rattle.als_frames.specs.Outcomes.{Loads, IsReplaced}
 use Rattle.als_dirty.specs.declared.stored_image.StoredImage.{StoredImage}
 use Rattle.als_dirty.specs.declared.dirty_page.DirtyPage.{DirtyPage}
-use Rattle.als_dirty.specs.Entries.{untouched_page, entry_of, after_record, after_write, after_sync}
-use Rattle.als_dirty.specs.Images.{first_lsn, IsImageOf, IsDirtyPageOf, AreDirtyPagesOf, IsNextImage}
+use Rattle.als_dirty.specs.Entries.{entry_of}
+use Rattle.als_dirty.specs.Images.{first_lsn, IsImageOf, IsDirtyPageOf}
 use Rattle.als_pool.specs.Queues.{Queue, empty_queue, queue_of, pending_of}
-use Rattle.als_pool.specs.Pooled.{Pooled, lsn_or, lsn_now}
-use Rattle.als_pool.specs.Outcomes.{with_place, with_change, Redoes, MakesResident, StoresPage, SyncsPages, IsDueAt}
+use Rattle.als_pool.specs.Pooled.{Pooled, lsn_or}
+use Rattle.als_pool.specs.Outcomes.{with_place, Redoes}
 use Rattle.als_pool.specs.Images.{synced_of, IsTabled, IsPoolOf}
 
 -- the same pages, by another function of the page_LSNs last synced

@@ -1,13 +1,12 @@
 -- Lists of queues: one of them changed, and how many changes wait over all.
-use Rattle.std.proofs.Common.{◌≡◌, ℕ, zero, suc, ◌+◌, ◌<◌, ◌≤◌, false, List, [], ◌∷◌, ◌++◌, length, get_or, replicate, Option, Some, None, refl, sym, ap, subst, ◌∙◌, length-append, arith, inl, inr}
-use Rattle.std.specs.Prelude.{slice_get, slice_set}
+use Rattle.std.proofs.Common.{◌≡◌, ℕ, zero, suc, ◌+◌, ◌<◌, ◌≤◌, List, [], ◌∷◌, length, get_or, replicate, Some, None, refl, ap, subst, arith, inl, inr}
+use Rattle.std.specs.Prelude.{slice_set}
 use Rattle.std.proofs.lemmas.Bool.{cases_lt}
-use Rattle.std.proofs.lemmas.Option.{same_Some, slice_get_within, slice_get_read, get_or_from_slice_get}
+use Rattle.std.proofs.lemmas.Option.{slice_get_read, get_or_from_slice_get}
 use Rattle.std.proofs.lemmas.List.Sums.{sum_by-set}
 use Rattle.als_record.specs.declared.lsn.Lsn.{Lsn}
-use Rattle.als_record.specs.declared.change.Change.{Change}
 use Rattle.als_dirty.specs.Images.{first_lsn}
-use Rattle.als_pool.specs.Queues.{Queue, empty_queue, queue_of, pending_of, total_waiting, WaitsFirst}
+use Rattle.als_pool.specs.Queues.{Queue, empty_queue, queue_of, pending_of, total_waiting}
 
 -- the queue that an index gave
 pub queue_at : (queues : List Queue) (page : ℕ) (q : Queue) → page < length queues → q ≡ get_or queues page q → queue_of queues page ≡ q

@@ -1,5 +1,5 @@
 -- What a write, a sync and more of the log leave of the pool.
-use Rattle.std.proofs.Common.{◌≡◌, ◌≢◌, ◌⊎◌, ℕ, ◌+◌, ◌<◌, ◌≤◌, Bool, true, false, IsTrue, List, [], ◌∷◌, ◌++◌, length, replicate, map, Option, Some, None, inl, inr, refl, sym, ap, subst, ◌∙◌, length-set, append-nil, arith}
+use Rattle.std.proofs.Common.{◌≡◌, ℕ, ◌<◌, false, List, [], ◌∷◌, ◌++◌, length, replicate, map, Option, Some, None, inl, inr, refl, sym, ap, subst, ◌∙◌, length-set, append-nil, arith}
 use Rattle.std.specs.Prelude.{slice_set, unwrap_or, nat_eq}
 use Rattle.std.specs.Map.{lookup}
 use Rattle.std.specs.Option.{option_map}
@@ -8,16 +8,16 @@ use Rattle.std.proofs.lemmas.List.{get_or-set_same, get_or-set_other, get_or-map
 use Rattle.als_record.specs.declared.lsn.Lsn.{Lsn}
 use Rattle.als_record.specs.declared.change.Change.{Change}
 use Rattle.als_record.specs.declared.record.Record.{Record}
-use Rattle.als_record.specs.LogText.{end_of, IsLog}
+use Rattle.als_record.specs.LogText.{end_of}
 use Rattle.als_record.specs.Pages.{change_of, changes_on, changes_above}
 use Rattle.als_record.proofs.PageLaws.{changes_on-none, changes_on-same, changes_on-other, changes_above-push, changes_above-nil}
 use Rattle.als_frames.specs.Frames.{Framed, Paged, frame_of, slot_of}
 use Rattle.als_frames.specs.Images.{IsStoredAt, IsFramedAt, IsPageAt, AreFramesOf, synced_after}
-use Rattle.als_frames.specs.Outcomes.{Writes, Syncs, synced_frame}
+use Rattle.als_frames.specs.Outcomes.{synced_frame}
 use Rattle.als_dirty.specs.declared.stored_image.StoredImage.{StoredImage}
 use Rattle.als_dirty.specs.declared.dirty_page.DirtyPage.{DirtyPage}
 use Rattle.als_dirty.specs.Entries.{untouched_page, entry_of, with_record, after_record, after_write, after_sync}
-use Rattle.als_dirty.specs.Images.{first_lsn, IsDirtyPageOf, AreDirtyPagesOf, IsNextImage}
+use Rattle.als_dirty.specs.Images.{first_lsn, AreDirtyPagesOf, IsNextImage}
 use Rattle.als_pool.specs.Queues.{Queue, empty_queue, queue_of, pending_of}
 use Rattle.als_pool.specs.Pooled.{Pooled, lsn_or, lsn_now}
 use Rattle.als_pool.specs.Outcomes.{with_change, StoresPage, SyncsPages, IsDueAt}

@@ -1,19 +1,18 @@
 -- What each call does, and when it is refused.
-use Rattle.std.specs.Prelude.{◌≡◌, ◌≢◌, ◌⊎◌, ℕ, ◌<◌, ◌≤◌, ◌+◌, ◌^◌, true, false, List, [], ◌∷◌, ◌++◌, length, Option, Some, None, MatchOption, map, slice_set}
+use Rattle.std.specs.Prelude.{◌≡◌, ℕ, ◌<◌, ◌≤◌, ◌+◌, ◌^◌, true, false, List, [], ◌∷◌, ◌++◌, length, Some, None, MatchOption, map, slice_set}
 use Rattle.als_record.specs.declared.change.Change.{Change}
 use Rattle.als_record.specs.declared.lsn.Lsn.{Lsn}
 use Rattle.als_record.specs.Pages.{PageState}
-use Rattle.als_frames.specs.Frames.{Framed, Paged, frame_of, slot_of}
-use Rattle.als_frames.specs.Outcomes.{Loads, RefusesLoad, IsFound, RefusesReading, IsDue, NothingIsDue, Writes, WriteFails, Syncs, SyncFails, ReadFails}
+use Rattle.als_frames.specs.Frames.{Framed, frame_of, slot_of}
+use Rattle.als_frames.specs.Outcomes.{Loads, RefusesLoad, IsFound, RefusesReading, IsDue, NothingIsDue, Writes, WriteFails, Syncs, SyncFails}
 use Rattle.als_frames.specs.Batch.{RedoesBatch}
 use Rattle.als_frames.specs.declared.fault.Fault.{Fault as FramesFault}
 use Rattle.als_frames.specs.declared.fault.Fault.TheVariants.{PoolFull as FullFrames, Device as DiskFailed, Memory as NoRoom, BadPage as NoPage}
-use Rattle.als_dirty.specs.declared.dirty_page.DirtyPage.{DirtyPage}
 use Rattle.als_dirty.specs.Entries.{entry_of, after_record, after_write, after_sync}
 use Rattle.als_dirty.specs.Images.{first_lsn}
 use Rattle.als_pool.specs.declared.fault.Fault.{Fault}
 use Rattle.als_pool.specs.declared.fault.Fault.TheVariants.{LogBehind, PoolFull, NothingToDo, Device, Memory, BadPage}
-use Rattle.als_pool.specs.Queues.{Queue, queue_of, pending_of, total_waiting}
+use Rattle.als_pool.specs.Queues.{queue_of, pending_of, total_waiting}
 use Rattle.als_pool.specs.Pooled.{Pooled, WaitsInOrder}
 
 -- ---- a record more

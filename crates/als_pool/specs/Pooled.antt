@@ -1,12 +1,11 @@
 -- The pages of a database: on their device and in frames, with what the log has for them.
-use Rattle.std.specs.Prelude.{◌≡◌, ◌≢◌, ℕ, ◌<◌, ◌≤◌, ◌+◌, true, List, [], ◌∷◌, ◌++◌, length, replicate, Option, Some, None}
+use Rattle.std.specs.Prelude.{◌≡◌, ◌≢◌, ℕ, ◌<◌, ◌≤◌, List, length, replicate, Option, Some, None}
 use Rattle.als_record.specs.declared.change.Change.{Change}
-use Rattle.als_record.specs.declared.lsn.Lsn.{Lsn}
 use Rattle.als_frames.specs.Frames.{Framed, Paged, frame_of}
 use Rattle.als_frames.specs.Batch.{AreNext}
 use Rattle.als_dirty.specs.declared.dirty_page.DirtyPage.{DirtyPage}
 use Rattle.als_dirty.specs.Entries.{untouched_page, entry_of}
-use Rattle.als_pool.specs.Queues.{Queue, empty_queue, queue_of, pending_of, total_waiting}
+use Rattle.als_pool.specs.Queues.{Queue, empty_queue, pending_of, total_waiting}
 
 -- the pages in frames and on their device, the dirty page table, and what waits for each page
 pub record Pooled : Type 0 where

@@ -1,8 +1,7 @@
 -- The changes that wait for pages.
-use Rattle.std.specs.Prelude.{◌≡◌, ℕ, ◌<◌, ◌≤◌, Bool, true, false, List, [], ◌∷◌, ◌++◌, length, replicate, slice_index_or, slice_set, Option, Some, None}
+use Rattle.std.specs.Prelude.{◌≡◌, ℕ, ◌<◌, ◌≤◌, Bool, false, List, [], length, slice_index_or, Option, Some, None}
 use Rattle.std.specs.List.{sum_by}
 use Rattle.als_record.specs.declared.change.Change.{Change}
-use Rattle.als_record.specs.declared.lsn.Lsn.{Lsn}
 
 -- the changes of a page that are not redone yet, in order, and whether there is room for one more
 pub record Queue : Type 0 where

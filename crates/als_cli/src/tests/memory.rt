@@ -1,5 +1,4 @@
 use super::row::run_scripts;
-use std::test::Fail;
 
 /// Every request once, over a log that a takeover would have to undo. No clause can say that a growth succeeds, so a program
 /// that always wants memory is proved too: it is these lines that it does not print.
@@ -62,6 +61,6 @@ ok
 ];
 
 #[test]
-fn ample_memory_meets_no_refusal(rt: HostRuntime) -> Result<(), Fail> {
-    run_scripts(&rt, ("", ""), &REQUESTS)
+fn ample_memory_meets_no_refusal(rt: HostRuntime) {
+    run_scripts(&rt, ("", ""), &REQUESTS);
 }

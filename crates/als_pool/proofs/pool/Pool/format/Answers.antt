@@ -1,4 +1,4 @@
-use Rattle.std.proofs.Common.{◌≡◌, ap}
+use Rattle.std.proofs.Common.{ap}
 use Rattle.als_frames.specs.Frames.{Paged}
 use Rattle.als_pool.proofs.RowSteps.{pool_of_empty}
 use Rattle.als_pool.proofs.pool.Pool.format.Goals as goal

@@ -1,4 +1,4 @@
-use Rattle.std.proofs.Common.{◌≡◌, ◌<◌, length, sym, subst, refl}
+use Rattle.std.proofs.Common.{◌<◌, length, sym, subst}
 use Rattle.als_frames.specs.Batch.{CanRedoFirst}
 use Rattle.als_pool.specs.Queues.{pending_of}
 use Rattle.als_pool.specs.Pooled.{Pooled}
