@@ -3,7 +3,8 @@ ghost use Rattle.std.specs.Prelude.{◌≡◌};
 use crate::stored_image::StoredImage;
 use als_record::Lsn;
 
-/// What the table keeps of a page: two images that its device has of it. A crash may leave either.
+/// What the table keeps of a page: the image of the last sync and that of the last write. A crash may leave either, or one
+/// written between them.
 #[derive(Clone, Copy, Debug, PartialEq, Eq)]
 pub struct DirtyPage {
     /// The one of the last sync.

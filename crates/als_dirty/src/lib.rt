@@ -1,5 +1,5 @@
-//! The dirty page table of ARIES: of each page the images that its device may have, and the first record of the log that
-//! the synced one lacks.
+//! The dirty page table of ARIES: of each page the images last synced and last written, and the first record of the log
+//! that each lacks.
 #![tactic(auto)]
 
 // A page as its device has it.

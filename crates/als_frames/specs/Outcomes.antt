@@ -67,12 +67,12 @@ pub record Loads (old new : Paged) (page end : ℕ) : Type 0 where
   pub used : length new.frames ≡ min (length old.frames + 1) old.most
   pub same : new ≡ record old { frames = new.frames; room = new.room }
 
--- a page was not made resident: there is no frame for it, it could not be read, or there is no memory
+-- a page was not made resident: there is no frame for it, or it could not be read, or else there is no memory for its frame
 abbrev pub RefusesLoad : Fault → Paged → Paged → ℕ → ℕ → Type 0
 RefusesLoad PoolFull old new page end = IsFull old page × (new ≡ old)
 RefusesLoad Device old new page end = (frame_of old page ≡ None) × (IsFull old page → ⊥) × ReadFails old new
 RefusesLoad (BadPage p) old new page end = (frame_of old page ≡ None) × (IsFull old page → ⊥) × (p ≡ page) × IsBad (slot_of old page) page end × (new ≡ old)
-RefusesLoad Memory old new page end = (frame_of old page ≡ None) × (IsFull old page → ⊥) × (old.room ≡ 0) × (new ≡ record old { room = new.room })
+RefusesLoad Memory old new page end = (frame_of old page ≡ None) × (IsFull old page → ⊥) × (old.room ≡ 0) × (new ≡ record old { room = new.room }) × (content : PageState) × IsFound (slot_of old page) page end content
 RefusesLoad NothingToDo old new page end = ⊥
 
 -- ---- changing a resident page

@@ -140,7 +140,8 @@ impl<D: BlockDisk> Frames<D> {
         self.pages
     }
 
-    /// Makes room for one more frame: the next page is then made resident without memory. An `Err` (Memory) changes nothing.
+    /// Makes room for one more frame: the next page is then made resident without memory. An `Err` (Memory) changes nothing
+    /// but the room.
     pub fn reserve(&mut self) -> Result<(), Fault>
         ensures ok { OnOk result ((self.new ≡ record self.old { room = self.new.room }) × (0 < self.new.room)) }
         ensures err { OnErr result (self.new ≡ record self.old { room = self.new.room }) }

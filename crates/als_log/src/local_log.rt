@@ -99,6 +99,7 @@ impl<D: BlockDisk> LocalLog<D> {
         requires blocks { (1 ≤ D.block_count disk) × (D.block_count disk ≤ 4194304) }
         ensures ok { IfOk result (λ l. l ≡ record { pages = pages; log = []; written = 16; synced = 16; blocks = D.block_count disk; failures = D.failures disk; attempts = D.attempts disk + 2; room = l.room }) }
         ensures err { IfErr result (λ u. RefusesFormat u.fault (D.failures disk) (D.failures u.disk)) }
+        ensures untouched { IfErr result (λ u. u.fault ≡ OutOfMemory → u.disk ≡ disk) }
         ensures blocks { IfErr result (λ u. D.block_count u.disk ≡ D.block_count disk) }
     {
         let mut disk = disk;

@@ -23,7 +23,7 @@ pub enum Fault {
     /// A growth was refused.
     #[error("32 Memory")]
     Memory,
-    /// The block of this page holds no image of it that the log can have.
+    /// The block of this page holds no image of it that the call can take.
     #[error("33 BadPage {page}")]
     BadPage { page: u32 },
 }

@@ -65,6 +65,7 @@ impl<D: BlockDisk> Pool<D> {
         ensures ok { IfOk result (λ p. p ≡ new_pool (record (without_frames pages frames (λ _. only zeros) (D.block_count disk) (D.failures disk) (D.attempts disk + pages + 1)) { room = p.frames.room }) pages) }
         ensures keeps { IfOk result (λ p. (below : ℕ) → IsPoolOf [] below p) }
         ensures err { IfErr result (λ u. RefusesFormat u.fault (D.failures disk) (D.failures u.disk)) }
+        ensures untouched { IfErr result (λ u. u.fault ≡ Fault.Memory → u.disk ≡ disk) }
         ensures blocks { IfErr result (λ u. D.block_count u.disk ≡ D.block_count disk) }
     {
         let Ok(dirty) = DirtyTable::new(alloc, pages) else {
@@ -134,7 +135,8 @@ impl<D: BlockDisk> Pool<D> {
     ///
     /// `NothingToDo`: there is no such page, or nothing waits for it. `PoolFull`: the page has no frame, all frames are used
     /// and none is clean. `Device`: it could not be read. `BadPage`: its block has no image of it that is older than the first
-    /// change that waits. `Memory`: a growth was refused. An `Err` changes nothing, but that a failure is counted.
+    /// change that waits. `Memory`: a growth was refused. An `Err` changes no page, no row and nothing that waits; a
+    /// failed read is counted.
     pub fn apply(&mut self, page: u32) -> Result<Lsn, Fault>
         ensures ok { IfOk result (λ lsn. Applies self.old self.new page lsn) }
         ensures lsn { IfOk result (λ lsn. lsn.0 ≡ lsn_now self.new page) }

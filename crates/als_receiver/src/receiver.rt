@@ -92,7 +92,7 @@ impl Receiver {
         }
     }
 
-    /// The first of the bytes kept.
+    /// The first of the bytes kept, so many.
     #[inline(always)]
     pub fn front(&self, len: usize) -> &[u8]
         requires { len ≤ length self.now.kept }

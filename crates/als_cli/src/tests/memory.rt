@@ -1,7 +1,7 @@
 use super::row::run_scripts;
 
-/// Every request once, over a log that a takeover would have to undo. No clause can say that a growth succeeds, so a program
-/// that always wants memory is proved too: it is these lines that it does not print.
+/// Every step, drain, force and every query, the second script over a log that a takeover would have to undo. No clause can say
+/// that a growth succeeds, so a program that always wants memory is proved too: it is these lines that it does not print.
 const REQUESTS: [(&str, &str); 2] = [
     (
         "world pages=4 log=8 frames=4 workers=2 pending=1000
@@ -31,6 +31,7 @@ log-write
 log-sync
 mark-write
 ctl-sync
+force
 apply 0
 show page 0
 show log 16
@@ -44,6 +45,7 @@ state=Following end=213 ack=16 pending=3 leases=0
 ok
 ok
 ok
+ok ack=213
 ok ack=213
 ok lsn=116
 page 0 lsn=116

@@ -201,3 +201,26 @@ ok
 fn drain_goes_round(rt: HostRuntime) {
     assert!(rt; goes_round(&rt).is_some() || goes_round(&rt).is_some());
 }
+
+/// A piece that is longer than what the engine gives to the receiver at once.
+fn takes_a_long_piece<R: Abort + AllocGlobal>(rt: &R) -> Option<()> {
+    let world = "world pages=4 log=400 frames=4 workers=2 pending=5000\n";
+    let mut script = format!(in rt.alloc(); "{world}u 1 0 0 - 00\n").ok()?;
+    for _ in 0..1900 {
+        script.push_str("u 1 0 0 00 00\n").ok()?;
+    }
+    script
+        .push_str("feed 16 70352\nshow status\nshow log 70315\n")
+        .ok()?;
+    let output = "ok taken=70336 records=1901 end=70352
+state=Following end=70352 ack=16 pending=1901 leases=0
+70315 update trans=1 0/0 00 00 prev=70278
+";
+    run_row(rt, Row::sim(script.as_str(), output));
+    Some(())
+}
+
+#[test]
+fn a_long_piece_is_taken(rt: HostRuntime) {
+    assert!(rt; takes_a_long_piece(&rt).is_some() || takes_a_long_piece(&rt).is_some());
+}

@@ -37,12 +37,16 @@ returns-in_err-reserve-clause-err g c =
     let disk = c.read_page.new.disk in
     let old : Paged = paged f.pages f.most f.frames.entries (slots_from 0 f.pages slot) (g.D.BlockDisk.block_count f.disk) (g.D.BlockDisk.failures f.disk) (g.D.BlockDisk.attempts f.disk) f.sure (spare f.frames) in
     let absent = subst (λ (v : Paged). frame_of v c.args.page ≡ None) (sym c.self.view_is) c.requires.absent in
+    let lt : c.args.page < f.pages = subst (λ (v : Paged). c.args.page < v.pages) (sym c.self.view_is) c.requires.in_range in
+    let here = slot_at f.pages c.args.page slot lt in
     rw (p.1, p.2, ← c.self.view_is, c.in_err-reserve.ensures.entries) (
       absent,
       not_full old c.args.page c.in_ok-place.place c.in_ok-place.ensures.ok,
       none_left (spare f.frames) (λ has. true≢false (sym (c.in_err-reserve.ensures.succeeds has))),
       same_device old f.frames.entries (slots_from 0 f.pages (g.D.BlockDisk.slot disk)) (g.D.BlockDisk.block_count disk) (g.D.BlockDisk.failures disk) (g.D.BlockDisk.attempts disk) (spare c.reserve.new.self)
           (slots_from-all f.pages slot (g.D.BlockDisk.slot disk) c.read_page.ensures.same) c.read_page.ensures.count c.in_ok-found.ensures.done c.read_page.ensures.attempts,
+      state_of c.in_ok-found.found,
+      subst (λ (s : Slot). IsFound s c.args.page c.args.end.0 (state_of c.in_ok-found.found)) (sym here) c.in_ok-found.ensures.ok,
     )
 
 pub overflow_add-self : goal.overflow_add-self
