@@ -13,7 +13,7 @@ use Rattle.als_record.specs.declared.transaction_state.TransactionState.TheVaria
 use Rattle.als_record.specs.declared.transaction_row.TransactionRow.{TransactionRow}
 use Rattle.als_record.specs.Spelling.{image_len, body_len, record_len}
 use Rattle.als_record.specs.Images.{image_before}
-use Rattle.als_record.specs.Transactions.{is_update, is_among, is_some_left, is_committed, has_rollback, is_unended, is_loser, to_undo, surviving, transactions, unended, all_surviving}
+use Rattle.als_record.specs.Transactions.{is_update, is_among, is_some_left, is_committed, has_rollback, is_unended, is_open, is_loser, to_undo, surviving, transactions, unended, all_surviving}
 use Rattle.als_record.specs.Table.{state_of, row_of, table_of}
 use Rattle.als_record.specs.Tail.{TailStep, Ends, Undoes, is_finished, ends, undoes, losing, tail_steps, undone, record_for, numbered, tail_of, tail_len}
 use Rattle.als_record.proofs.Numbers.{Apart, eqb-refl, eqb-sym}
@@ -175,7 +175,7 @@ undo_owed-open s false left e = ap (λ s. undo_owed s left) e
 
 module _ (log : List Record) (t : ℕ) (u : is_unended log t ≡ true) where
   owed-one : cond (is_finished log t) 28 0 + weight (filter (is_by t) (losing log)) ≡ 28 + undo_owed (state_of log t) (surviving log t)
-  unfolding is_finished losing state_of is_loser surviving
+  unfolding is_finished losing state_of is_open surviving
   owed-one = elim (cases_Bool (is_committed log t)) [
     | inl c ↦
         let none : filter (is_by t) (filter (λ v. is_loser log v.trans.0) (all_surviving log)) ≡ [] = filter-none (is_loser log) t (rw (u, c) refl) (all_surviving log) in
@@ -193,7 +193,7 @@ module _ (log : List Record) (t : ℕ) (u : is_unended log t ≡ true) where
 -- ---- all of them
 
 losing-undoes : (log : List Record) → AllByRecursion (IsUndoOf (unended log)) (losing log)
-unfolding losing is_loser
+unfolding losing is_open
 losing-undoes log = kept (all_surviving log) (All-is_update log)
   where
     kept : (vs : List Record) → AllByRecursion (λ v. is_update v.body ≡ true) vs → AllByRecursion (IsUndoOf (unended log)) (filter (λ v. is_loser log v.trans.0) vs)

@@ -10,16 +10,16 @@ use Rattle.als_record.specs.declared.transaction_row.TransactionRow.{Transaction
 use Rattle.als_record.specs.declared.cause.Cause.TheVariants.{BadPrev, OldTransaction, WrongState, WrongUndoNext, WrongCompensation, RecordHeld, BeforeImage, TooManyTransactions, BadCheckpoint}
 use Rattle.als_record.specs.Spelling.{Image, record_len}
 use Rattle.als_record.specs.LogText.{end_of}
-use Rattle.als_record.specs.Transactions.{records_of, to_undo, surviving, has_begun, is_committed, has_rollback, has_ended, is_unended, is_loser, last_lsn, undo_next_of, transactions, unended, losers, greatest_trans, all_surviving}
+use Rattle.als_record.specs.Transactions.{records_of, to_undo, surviving, has_begun, is_committed, has_rollback, has_ended, is_unended, is_open, is_loser, last_lsn, undo_next_of, transactions, unended, losers, greatest_trans, all_surviving}
 use Rattle.als_record.specs.Table.{state_of, row_of, table_of}
 use Rattle.als_record.specs.Images.{image_now, won}
 use Rattle.als_record.specs.Validity.{prev_of, bad_prev, old_transaction, wrong_state, wrong_undo_next, wrong_compensation, held_by, before_image, too_many, open_checkpoint, bad_checkpoint, first_bad, may_follow, may_follow_all, is_valid}
-use Rattle.als_record.specs.Tail.{is_finished, undoes, losing, tail_steps, numbered, tail_of, tail_len}
+use Rattle.als_record.specs.Tail.{is_finished, undoes, losing, tail_steps, numbered, tail_of, tail_len, reserve_of}
 use Rattle.als_record.specs.Commits.{writes_of, commits_of}
 
 -- opens all definitions
 definitions : Unit {0}
-unfolding record_len end_of records_of to_undo surviving has_begun is_committed has_rollback has_ended is_unended is_loser last_lsn undo_next_of transactions unended losers greatest_trans all_surviving state_of row_of table_of image_now won prev_of bad_prev old_transaction wrong_state wrong_undo_next wrong_compensation held_by before_image too_many open_checkpoint bad_checkpoint first_bad may_follow may_follow_all is_valid is_finished undoes losing tail_steps numbered tail_of tail_len writes_of commits_of
+unfolding record_len end_of records_of to_undo surviving has_begun is_committed has_rollback has_ended is_unended is_open last_lsn undo_next_of transactions unended losers greatest_trans all_surviving state_of row_of table_of image_now won prev_of bad_prev old_transaction wrong_state wrong_undo_next wrong_compensation held_by before_image too_many open_checkpoint bad_checkpoint first_bad may_follow may_follow_all is_valid is_finished undoes losing tail_steps numbered tail_of tail_len writes_of commits_of
 definitions = tt
 
 -- ---- how the logs are written here: a record by its LSN, PrevLSN and TransID
@@ -274,10 +274,10 @@ six bytes =
     ∷ at 196 160 1 (Update (key 0 5) None (Some (record { items = replicate bytes 1 }))) ∷ []
 
 -- with one byte in the sixth value the log and its tail fill it, with two they do not fit
-six-fits : end_of (six 1) + tail_len (six 1) ≡ 512
+six-fits : end_of (six 1) + reserve_of (six 1) ≡ 512
 unfolding definitions
 six-fits = refl
 
-six-too_long : end_of (six 2) + tail_len (six 2) ≡ 513
+six-too_long : end_of (six 2) + reserve_of (six 2) ≡ 513
 unfolding definitions
 six-too_long = refl
