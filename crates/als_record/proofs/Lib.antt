@@ -5,7 +5,10 @@ pub mod BodyLaws
 pub mod RowLaws
 pub mod RecordLaws
 pub mod ReadingLaws
+mod Worked
 mod WorkedLogs
+mod WorkedCauses
+mod WorkedTails
 pub mod Records
 pub mod Survivors
 pub mod Numbers
