@@ -19,7 +19,7 @@ use Rattle.als_record.specs.Tail.{TailStep, Ends, Undoes, is_finished, ends, und
 use Rattle.als_record.proofs.Numbers.{Apart, eqb-refl, eqb-sym}
 use Rattle.als_record.proofs.Survivors.{is_by, all_surviving-by, All-is_update}
 use Rattle.als_record.proofs.Unended.{Apart-unended, is_among-unended}
-use Rattle.als_record.proofs.TailSteps.{is_some_left-filter, filter-by}
+use Rattle.als_record.proofs.TailSteps.{filter-none, is_some_left-filter, filter-by}
 use Rattle.als_analysis.specs.Open.{Open, undo_len, undo_owed, owed, rows_of, left_of}
 
 -- ---- sums over numbers
@@ -158,16 +158,6 @@ undoes-len ts a (u ∷ rest) h =
         ∙ ap (λ b. weight (filter (is_by u.trans.0) rest) + (undo_len u + cond b 0 28)) (is_some_left-filter (is_by u.trans.0) rest)
 
 -- ---- one transaction
-
-filter-none : (p : ℕ → Bool) (t : ℕ) → p t ≡ false → (us : List Record) → filter (is_by t) (filter (λ v. p v.trans.0) us) ≡ []
-filter-none p t n [] = refl
-filter-none p t n (v ∷ us) = elim (cases_Bool (p v.trans.0)) [
-  | inl z ↦ elim (cases_Bool (v.trans.0 == t)) [
-    | inl w ↦ absurd (false≢true (sym n ∙ ap p (sym (eqb-true v.trans.0 t w)) ∙ z))
-    | inr w ↦ simp (z, w) (filter-none p t n us)
-  ]
-  | inr z ↦ simp z (filter-none p t n us)
-]
 
 undo_owed-open : (s : TransactionState) (h : Bool) (left : List Record) → s ≡ cond h RollingBack Active → undo_owed s left ≡ sum_by undo_len left
 undo_owed-open s true left e = ap (λ s. undo_owed s left) e

@@ -28,6 +28,7 @@ pub mod Places
 pub mod Held
 pub mod HeldCounts
 pub mod Falling
+pub mod Sweep
 pub mod CommitSteps
 pub mod Chain
 pub mod ChainReads

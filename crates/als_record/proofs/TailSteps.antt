@@ -51,6 +51,17 @@ filter-by p t y (v ∷ us) = elim (cases_Bool (v.trans.0 == t)) [
   ]
 ]
 
+-- and of one that the test leaves out there is none
+pub filter-none : (p : ℕ → Bool) (t : ℕ) → p t ≡ false → (us : List Record) → filter (is_by t) (filter (λ v. p v.trans.0) us) ≡ []
+filter-none p t n [] = refl
+filter-none p t n (v ∷ us) = elim (cases_Bool (p v.trans.0)) [
+  | inl z ↦ elim (cases_Bool (v.trans.0 == t)) [
+    | inl w ↦ absurd (false≢true (sym n ∙ ap p (sym (eqb-true v.trans.0 t w)) ∙ z))
+    | inr w ↦ simp (z, w) (filter-none p t n us)
+  ]
+  | inr z ↦ simp z (filter-none p t n us)
+]
+
 pub is_some_left-filter : (p : Record → Bool) (us : List Record) → is_some_left (filter p us) ≡ list_any p us
 is_some_left-filter p [] = refl
 is_some_left-filter p (u ∷ rest) = elim (cases_Bool (p u)) [
