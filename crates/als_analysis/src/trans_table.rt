@@ -4,7 +4,7 @@ ghost use Rattle.als_record.specs.declared.record.Record.{Record};
 ghost use Rattle.als_record.specs.declared.transaction_row.TransactionRow.{TransactionRow};
 ghost use Rattle.als_record.specs.Transactions.{is_transactional, is_end, is_among, is_unended, surviving, undo_next_of};
 ghost use Rattle.als_record.specs.Table.{table_of, row_after, fresh_row};
-ghost use Rattle.als_record.specs.Tail.{tail_len};
+ghost use Rattle.als_record.specs.Tail.{reserve_of};
 ghost use Rattle.als_record.specs.Validity.{may_follow};
 ghost use Rattle.als_analysis.specs.Open.{left_after, rows_of, left_of};
 ghost use Rattle.als_analysis.specs.Kept.{IsRising, IsPlace, MakesRoom, numbers};
@@ -408,7 +408,7 @@ impl TransTable {
 
     /// The bytes that a takeover would append: a kept sum.
     pub fn reserve_bytes(&self) -> u64
-        ensures { (log : List Record) → IsTableOf self.now log → result ≡ tail_len log }
+        ensures { (log : List Record) → IsTableOf self.now log → result ≡ reserve_of log }
     {
         self.reserve
     }
@@ -418,7 +418,7 @@ impl TransTable {
         requires within { at < length self.now.rows }
         requires here { (d : TransactionRow) → (slice_index_or self.now.rows at d).trans.0 ≡ logged.now.trans.0 }
         requires kind { is_transactional logged.now.body ≡ true }
-        ensures { (log : List Record) → IsTableOf self.now log → IsTrue (may_follow log logged.now) → result ≡ tail_len (log ++ logged.now ∷ []) }
+        ensures { (log : List Record) → IsTableOf self.now log → IsTrue (may_follow log logged.now) → result ≡ reserve_of (log ++ logged.now ∷ []) }
     {
         let entry = &self.entries[at];
         let others = self.reserve - entry.owed();
@@ -432,7 +432,7 @@ impl TransTable {
     fn reserve_after_new(&self, logged: &Record) -> u64
         requires absent { is_among (numbers self.now.rows) logged.now.trans.0 ≡ false }
         requires kind { is_transactional logged.now.body ≡ true }
-        ensures { (log : List Record) → IsTableOf self.now log → IsTrue (may_follow log logged.now) → result ≡ tail_len (log ++ logged.now ∷ []) }
+        ensures { (log : List Record) → IsTableOf self.now log → IsTrue (may_follow log logged.now) → result ≡ reserve_of (log ++ logged.now ∷ []) }
     {
         if is_end_record(&logged.body) {
             return self.reserve;
@@ -443,7 +443,7 @@ impl TransTable {
     /// The bytes that a takeover would append after one more record, before that is noted. It takes no memory, and the cost
     /// does not depend on how long the log is.
     pub fn reserve_after(&self, logged: &Record) -> u64
-        ensures { (log : List Record) → IsTableOf self.now log → IsTrue (may_follow log logged.now) → result ≡ tail_len (log ++ logged.now ∷ []) }
+        ensures { (log : List Record) → IsTableOf self.now log → IsTrue (may_follow log logged.now) → result ≡ reserve_of (log ++ logged.now ∷ []) }
     {
         if !is_transaction_record(&logged.body) {
             return self.reserve;
