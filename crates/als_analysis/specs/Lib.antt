@@ -1,3 +1,4 @@
+pub mod FaultNames
 pub mod Open
 pub mod Noted
 pub mod Kept

@@ -1,36 +1,54 @@
-ghost use Rattle.std.specs.Prelude.{◌≡◌, codes};
+ghost use Rattle.std.specs.Prelude.{◌≡◌, Some};
+ghost use Rattle.als_fault.specs.Kinds.{number_of, name_of, text_of};
+ghost use Rattle.als_analysis.specs.FaultNames.{kind_of};
 ghost use Rattle.als_analysis.specs.declared.fault.Fault.TheVariants.{Memory};
 
+use als_fault::FaultKind;
 use std::alloc::{AllocError, AllocFailed};
-use thiserror::Error;
+use std::fmt;
 
 /// Why a record could not be noted. The numbers are common to all crates.
-#[derive(Clone, Copy, Debug, PartialEq, Eq, Error)]
+#[derive(Clone, Copy, Debug, PartialEq, Eq)]
 pub enum Fault {
     /// A growth was refused.
-    #[error("32 Memory")]
     Memory,
 }
 
 impl Fault {
-    /// The fault's number.
-    pub fn number(self) -> u32
-        ensures { result ≡ 32 }
+    /// Which of the faults of all crates it is.
+    pub fn kind(self) -> FaultKind
+        ensures { result ≡ kind_of self }
     {
         match self {
-            Fault::Memory => 32,
+            Fault::Memory => FaultKind::Memory,
         }
+    }
+
+    /// The fault's number.
+    pub fn number(self) -> u32
+        ensures { result ≡ number_of (kind_of self) }
+    {
+        self.kind().number()
     }
 
     /// The fault's name, as programs print it.
     pub fn name(self) -> &'static str
-        ensures { result.now ≡ codes "Memory" }
+        ensures { result.now ≡ name_of (kind_of self) }
     {
-        match self {
-            Fault::Memory => "Memory",
-        }
+        self.kind().name()
     }
 }
+
+impl fmt::Display for Fault {
+    ghost output = { λ fault. Some (text_of (kind_of fault)) };
+
+    fn fmt<W: fmt::Write>(&self, f: &mut fmt::Formatter<W>) -> fmt::Result {
+        let kind = self.kind();
+        write!(f, "{kind}")
+    }
+}
+
+impl std::error::Error for Fault {}
 
 impl From<AllocError> for Fault {
     ghost from_gives = { λ _ e. e ≡ Memory };

@@ -1,14 +1,9 @@
--- What each fault is called.
-use Rattle.std.specs.Prelude.{ℕ, List, codes}
+-- Which of the faults of all crates each fault of this one is.
+use Rattle.als_fault.specs.declared.fault_kind.FaultKind.{FaultKind}
+use Rattle.als_fault.specs.declared.fault_kind.FaultKind.TheVariants as kind
 use Rattle.als_ckpt.specs.declared.fault.Fault.{Fault}
-use Rattle.als_ckpt.specs.declared.fault.Fault.TheVariants.{Device, BadControl}
+use Rattle.als_ckpt.specs.declared.fault.Fault.TheVariants as fault
 
--- its number
-abbrev pub number_of : Fault → ℕ
-number_of Device = 30
-number_of BadControl = 34
-
--- its name
-abbrev pub name_of : Fault → List ℕ
-name_of Device = codes "Device"
-name_of BadControl = codes "BadControl"
+abbrev pub kind_of : Fault → FaultKind
+kind_of fault.Device = kind.Device
+kind_of fault.BadControl = kind.BadControl

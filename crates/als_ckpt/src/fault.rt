@@ -1,42 +1,57 @@
-ghost use Rattle.std.specs.Prelude.{◌≡◌};
+ghost use Rattle.std.specs.Prelude.{◌≡◌, Some};
+ghost use Rattle.als_fault.specs.Kinds.{number_of, name_of, text_of};
 ghost use Rattle.als_ckpt.specs.declared.fault.Fault.TheVariants.{Device};
-ghost use Rattle.als_ckpt.specs.FaultNames.{number_of, name_of};
+ghost use Rattle.als_ckpt.specs.FaultNames.{kind_of};
 
+use als_fault::FaultKind;
 use als_disk::DeviceError;
-use thiserror::Error;
+use std::fmt;
 
 /// Why there is no control block. The numbers are common to all crates.
-#[derive(Clone, Copy, Debug, PartialEq, Eq, Error)]
+#[derive(Clone, Copy, Debug, PartialEq, Eq)]
 pub enum Fault {
     /// The device failed.
-    #[error("30 Device")]
     Device,
     /// The block is no control block of a database with this many pages over a log device of this size.
-    #[error("34 BadControl")]
     BadControl,
 }
 
 impl Fault {
-    /// The fault's number.
-    pub fn number(self) -> u32
-        ensures { result ≡ number_of self }
+    /// Which of the faults of all crates it is.
+    pub fn kind(self) -> FaultKind
+        ensures { result ≡ kind_of self }
     {
         match self {
-            Fault::Device => 30,
-            Fault::BadControl => 34,
+            Fault::Device => FaultKind::Device,
+            Fault::BadControl => FaultKind::BadControl,
         }
+    }
+
+    /// The fault's number.
+    pub fn number(self) -> u32
+        ensures { result ≡ number_of (kind_of self) }
+    {
+        self.kind().number()
     }
 
     /// The fault's name, as programs print it.
     pub fn name(self) -> &'static str
-        ensures { result.now ≡ name_of self }
+        ensures { result.now ≡ name_of (kind_of self) }
     {
-        match self {
-            Fault::Device => "Device",
-            Fault::BadControl => "BadControl",
-        }
+        self.kind().name()
     }
 }
+
+impl fmt::Display for Fault {
+    ghost output = { λ fault. Some (text_of (kind_of fault)) };
+
+    fn fmt<W: fmt::Write>(&self, f: &mut fmt::Formatter<W>) -> fmt::Result {
+        let kind = self.kind();
+        write!(f, "{kind}")
+    }
+}
+
+impl std::error::Error for Fault {}
 
 impl From<DeviceError> for Fault {
     ghost from_gives = { λ _ e. e ≡ Device };

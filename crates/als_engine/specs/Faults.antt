@@ -1,5 +1,6 @@
--- The numbers and names of faults, as programs print them.
-use Rattle.std.specs.Prelude.{ℕ, List, codes}
+-- Which of the faults of all crates each fault of the engine is, and which of its own each fault of a lower crate becomes.
+use Rattle.als_fault.specs.declared.fault_kind.FaultKind.{FaultKind}
+use Rattle.als_fault.specs.declared.fault_kind.FaultKind.TheVariants as kind
 use Rattle.als_record.specs.declared.fault.Fault.{Fault as RecordFault}
 use Rattle.als_record.specs.declared.fault.Fault.TheVariants as record_fault
 use Rattle.als_record.specs.declared.cause.Cause.{Cause}
@@ -9,55 +10,30 @@ use Rattle.als_store.specs.declared.fault.Fault.TheVariants as store_fault
 use Rattle.als_engine.specs.declared.fault.Fault.{Fault}
 use Rattle.als_engine.specs.declared.fault.Fault.TheVariants.{BadHeader, BadLength, BadType, BadReserved, WrongLsn, BadKey, BadValue, BadPrev, OldTransaction, WrongState, WrongUndoNext, WrongCompensation, RecordHeld, BeforeImage, TooManyTransactions, BadCheckpoint, NothingToDo, LogFull, Device, Stopped, Memory, Backlog, BadConfig}
 
-abbrev pub number_of : Fault → ℕ
-number_of BadHeader = 1
-number_of BadLength = 2
-number_of BadType = 3
-number_of BadReserved = 4
-number_of WrongLsn = 5
-number_of BadKey = 6
-number_of BadValue = 7
-number_of BadPrev = 8
-number_of OldTransaction = 9
-number_of WrongState = 10
-number_of WrongUndoNext = 11
-number_of WrongCompensation = 12
-number_of (RecordHeld by) = 13
-number_of BeforeImage = 14
-number_of TooManyTransactions = 15
-number_of BadCheckpoint = 16
-number_of NothingToDo = 27
-number_of LogFull = 29
-number_of Device = 30
-number_of Stopped = 31
-number_of Memory = 32
-number_of Backlog = 36
-number_of BadConfig = 37
-
-abbrev pub name_of : Fault → List ℕ
-name_of BadHeader = codes "BadHeader"
-name_of BadLength = codes "BadLength"
-name_of BadType = codes "BadType"
-name_of BadReserved = codes "BadReserved"
-name_of WrongLsn = codes "WrongLsn"
-name_of BadKey = codes "BadKey"
-name_of BadValue = codes "BadValue"
-name_of BadPrev = codes "BadPrev"
-name_of OldTransaction = codes "OldTransaction"
-name_of WrongState = codes "WrongState"
-name_of WrongUndoNext = codes "WrongUndoNext"
-name_of WrongCompensation = codes "WrongCompensation"
-name_of (RecordHeld by) = codes "RecordHeld"
-name_of BeforeImage = codes "BeforeImage"
-name_of TooManyTransactions = codes "TooManyTransactions"
-name_of BadCheckpoint = codes "BadCheckpoint"
-name_of NothingToDo = codes "NothingToDo"
-name_of LogFull = codes "LogFull"
-name_of Device = codes "Device"
-name_of Stopped = codes "Stopped"
-name_of Memory = codes "Memory"
-name_of Backlog = codes "Backlog"
-name_of BadConfig = codes "BadConfig"
+abbrev pub kind_of : Fault → FaultKind
+kind_of BadHeader = kind.BadHeader
+kind_of BadLength = kind.BadLength
+kind_of BadType = kind.BadType
+kind_of BadReserved = kind.BadReserved
+kind_of WrongLsn = kind.WrongLsn
+kind_of BadKey = kind.BadKey
+kind_of BadValue = kind.BadValue
+kind_of BadPrev = kind.BadPrev
+kind_of OldTransaction = kind.OldTransaction
+kind_of WrongState = kind.WrongState
+kind_of WrongUndoNext = kind.WrongUndoNext
+kind_of WrongCompensation = kind.WrongCompensation
+kind_of (RecordHeld by) = kind.RecordHeld by.0
+kind_of BeforeImage = kind.BeforeImage
+kind_of TooManyTransactions = kind.TooManyTransactions
+kind_of BadCheckpoint = kind.BadCheckpoint
+kind_of NothingToDo = kind.NothingToDo
+kind_of LogFull = kind.LogFull
+kind_of Device = kind.Device
+kind_of Stopped = kind.Stopped
+kind_of Memory = kind.Memory
+kind_of Backlog = kind.Backlog
+kind_of BadConfig = kind.BadConfig
 
 -- the same fault, as the engine answers it
 abbrev pub from_record : RecordFault → Fault

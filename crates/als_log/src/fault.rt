@@ -1,53 +1,64 @@
-ghost use Rattle.std.specs.Prelude.{◌≡◌};
+ghost use Rattle.std.specs.Prelude.{◌≡◌, Some};
+ghost use Rattle.als_fault.specs.Kinds.{number_of, name_of, text_of};
 ghost use Rattle.als_log.specs.declared.fault.Fault.TheVariants.{Device as DeviceFailed, Memory as OutOfMemory};
-ghost use Rattle.als_log.specs.FaultNames.{number_of, name_of};
+ghost use Rattle.als_log.specs.FaultNames.{kind_of};
 
+use als_fault::FaultKind;
 use als_disk::DeviceError;
 use std::alloc::{AllocError, AllocFailed};
-use thiserror::Error;
+use std::fmt;
 
 /// Why a call is refused. The numbers are common to all crates.
-#[derive(Clone, Copy, Debug, PartialEq, Eq, Error)]
+#[derive(Clone, Copy, Debug, PartialEq, Eq)]
 pub enum Fault {
     /// No byte is unwritten.
-    #[error("27 NothingToDo")]
     NothingToDo,
     /// The device has no room for the record.
-    #[error("29 LogFull")]
     LogFull,
     /// The device failed.
-    #[error("30 Device")]
     Device,
     /// A growth was refused.
-    #[error("32 Memory")]
     Memory,
 }
 
 impl Fault {
-    /// The fault's number.
-    pub fn number(self) -> u32
-        ensures { result ≡ number_of self }
+    /// Which of the faults of all crates it is.
+    pub fn kind(self) -> FaultKind
+        ensures { result ≡ kind_of self }
     {
         match self {
-            Fault::NothingToDo => 27,
-            Fault::LogFull => 29,
-            Fault::Device => 30,
-            Fault::Memory => 32,
+            Fault::NothingToDo => FaultKind::NothingToDo,
+            Fault::LogFull => FaultKind::LogFull,
+            Fault::Device => FaultKind::Device,
+            Fault::Memory => FaultKind::Memory,
         }
+    }
+
+    /// The fault's number.
+    pub fn number(self) -> u32
+        ensures { result ≡ number_of (kind_of self) }
+    {
+        self.kind().number()
     }
 
     /// The fault's name, as programs print it.
     pub fn name(self) -> &'static str
-        ensures { result.now ≡ name_of self }
+        ensures { result.now ≡ name_of (kind_of self) }
     {
-        match self {
-            Fault::NothingToDo => "NothingToDo",
-            Fault::LogFull => "LogFull",
-            Fault::Device => "Device",
-            Fault::Memory => "Memory",
-        }
+        self.kind().name()
     }
 }
+
+impl fmt::Display for Fault {
+    ghost output = { λ fault. Some (text_of (kind_of fault)) };
+
+    fn fmt<W: fmt::Write>(&self, f: &mut fmt::Formatter<W>) -> fmt::Result {
+        let kind = self.kind();
+        write!(f, "{kind}")
+    }
+}
+
+impl std::error::Error for Fault {}
 
 impl From<DeviceError> for Fault {
     ghost from_gives = { λ _ e. e ≡ DeviceFailed };

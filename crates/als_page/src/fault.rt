@@ -1,31 +1,50 @@
-ghost use Rattle.std.specs.Prelude.{◌≡◌, codes};
+ghost use Rattle.std.specs.Prelude.{◌≡◌, Some};
+ghost use Rattle.als_fault.specs.Kinds.{number_of, name_of, text_of};
+ghost use Rattle.als_page.specs.FaultNames.{kind_of};
 
-use thiserror::Error;
+
+use als_fault::FaultKind;
+use std::fmt;
 
 /// Why bytes are no page. The numbers are common to all crates.
-#[derive(Clone, Copy, Debug, PartialEq, Eq, Error)]
+#[derive(Clone, Copy, Debug, PartialEq, Eq)]
 pub enum Fault {
     /// The block of this page holds no page with its number.
-    #[error("33 BadPage {page}")]
     BadPage { page: u32 },
 }
 
 impl Fault {
-    /// The fault's number.
-    pub fn number(self) -> u32
-        ensures { result ≡ 33 }
+    /// Which of the faults of all crates it is.
+    pub fn kind(self) -> FaultKind
+        ensures { result ≡ kind_of self }
     {
         match self {
-            Fault::BadPage { page: _ } => 33,
+            Fault::BadPage { page } => FaultKind::BadPage { page },
         }
+    }
+
+    /// The fault's number.
+    pub fn number(self) -> u32
+        ensures { result ≡ number_of (kind_of self) }
+    {
+        self.kind().number()
     }
 
     /// The fault's name, as programs print it.
     pub fn name(self) -> &'static str
-        ensures { result.now ≡ codes "BadPage" }
+        ensures { result.now ≡ name_of (kind_of self) }
     {
-        match self {
-            Fault::BadPage { page: _ } => "BadPage",
-        }
+        self.kind().name()
     }
 }
+
+impl fmt::Display for Fault {
+    ghost output = { λ fault. Some (text_of (kind_of fault)) };
+
+    fn fmt<W: fmt::Write>(&self, f: &mut fmt::Formatter<W>) -> fmt::Result {
+        let kind = self.kind();
+        write!(f, "{kind}")
+    }
+}
+
+impl std::error::Error for Fault {}

@@ -1,26 +1,16 @@
--- The numbers and names of the causes for which a record is not admitted, as programs print them.
-use Rattle.std.specs.Prelude.{ℕ, List, codes}
+-- Which of the faults of all crates each fault of this one is.
+use Rattle.als_fault.specs.declared.fault_kind.FaultKind.{FaultKind}
+use Rattle.als_fault.specs.declared.fault_kind.FaultKind.TheVariants as kind
 use Rattle.als_record.specs.declared.cause.Cause.{Cause}
-use Rattle.als_record.specs.declared.cause.Cause.TheVariants.{BadPrev, OldTransaction, WrongState, WrongUndoNext, WrongCompensation, RecordHeld, BeforeImage, TooManyTransactions, BadCheckpoint}
+use Rattle.als_record.specs.declared.cause.Cause.TheVariants as cause
 
-abbrev pub number_of_cause : Cause → ℕ
-number_of_cause BadPrev = 8
-number_of_cause OldTransaction = 9
-number_of_cause WrongState = 10
-number_of_cause WrongUndoNext = 11
-number_of_cause WrongCompensation = 12
-number_of_cause (RecordHeld by) = 13
-number_of_cause BeforeImage = 14
-number_of_cause TooManyTransactions = 15
-number_of_cause BadCheckpoint = 16
-
-abbrev pub name_of_cause : Cause → List ℕ
-name_of_cause BadPrev = codes "BadPrev"
-name_of_cause OldTransaction = codes "OldTransaction"
-name_of_cause WrongState = codes "WrongState"
-name_of_cause WrongUndoNext = codes "WrongUndoNext"
-name_of_cause WrongCompensation = codes "WrongCompensation"
-name_of_cause (RecordHeld by) = codes "RecordHeld"
-name_of_cause BeforeImage = codes "BeforeImage"
-name_of_cause TooManyTransactions = codes "TooManyTransactions"
-name_of_cause BadCheckpoint = codes "BadCheckpoint"
+abbrev pub kind_of_cause : Cause → FaultKind
+kind_of_cause cause.BadPrev = kind.BadPrev
+kind_of_cause cause.OldTransaction = kind.OldTransaction
+kind_of_cause cause.WrongState = kind.WrongState
+kind_of_cause cause.WrongUndoNext = kind.WrongUndoNext
+kind_of_cause cause.WrongCompensation = kind.WrongCompensation
+kind_of_cause (cause.RecordHeld by) = kind.RecordHeld by.0
+kind_of_cause cause.BeforeImage = kind.BeforeImage
+kind_of_cause cause.TooManyTransactions = kind.TooManyTransactions
+kind_of_cause cause.BadCheckpoint = kind.BadCheckpoint

@@ -1,24 +1,15 @@
--- The numbers and names of faults, as programs print them.
-use Rattle.std.specs.Prelude.{ℕ, List, codes}
+-- Which of the faults of all crates each fault of this one is.
+use Rattle.als_fault.specs.declared.fault_kind.FaultKind.{FaultKind}
+use Rattle.als_fault.specs.declared.fault_kind.FaultKind.TheVariants as kind
 use Rattle.als_record.specs.declared.fault.Fault.{Fault}
-use Rattle.als_record.specs.declared.fault.Fault.TheVariants.{BadHeader, BadLength, BadType, BadReserved, WrongLsn, BadKey, BadValue, Memory}
+use Rattle.als_record.specs.declared.fault.Fault.TheVariants as fault
 
-abbrev pub number_of : Fault → ℕ
-number_of BadHeader = 1
-number_of BadLength = 2
-number_of BadType = 3
-number_of BadReserved = 4
-number_of WrongLsn = 5
-number_of BadKey = 6
-number_of BadValue = 7
-number_of Memory = 32
-
-abbrev pub name_of : Fault → List ℕ
-name_of BadHeader = codes "BadHeader"
-name_of BadLength = codes "BadLength"
-name_of BadType = codes "BadType"
-name_of BadReserved = codes "BadReserved"
-name_of WrongLsn = codes "WrongLsn"
-name_of BadKey = codes "BadKey"
-name_of BadValue = codes "BadValue"
-name_of Memory = codes "Memory"
+abbrev pub kind_of : Fault → FaultKind
+kind_of fault.BadHeader = kind.BadHeader
+kind_of fault.BadLength = kind.BadLength
+kind_of fault.BadType = kind.BadType
+kind_of fault.BadReserved = kind.BadReserved
+kind_of fault.WrongLsn = kind.WrongLsn
+kind_of fault.BadKey = kind.BadKey
+kind_of fault.BadValue = kind.BadValue
+kind_of fault.Memory = kind.Memory

@@ -1,7 +1,10 @@
-ghost use Rattle.std.specs.Prelude.{◌≡◌, codes};
-ghost use Rattle.als_record.specs.CauseNames.{number_of_cause, name_of_cause};
+ghost use Rattle.std.specs.Prelude.{◌≡◌, Some};
+ghost use Rattle.als_fault.specs.Kinds.{number_of, name_of, text_of};
+ghost use Rattle.als_record.specs.CauseNames.{kind_of_cause};
 
+use als_fault::FaultKind;
 use crate::trans_id::TransId;
+use std::fmt;
 
 /// Why a record may not follow a valid log. Where several causes stand the least number is the one given.
 #[derive(Clone, Copy, Debug, PartialEq, Eq)]
@@ -31,37 +34,43 @@ pub enum Cause {
 }
 
 impl Cause {
-    /// The fault's number. Numbers are common to all crates.
-    pub fn number(self) -> u32
-        ensures { result ≡ number_of_cause self }
+    /// Which of the faults of all crates it is.
+    pub fn kind(self) -> FaultKind
+        ensures { result ≡ kind_of_cause self }
     {
         match self {
-            Cause::BadPrev => 8,
-            Cause::OldTransaction => 9,
-            Cause::WrongState => 10,
-            Cause::WrongUndoNext => 11,
-            Cause::WrongCompensation => 12,
-            Cause::RecordHeld { by: _ } => 13,
-            Cause::BeforeImage => 14,
-            Cause::TooManyTransactions => 15,
-            Cause::BadCheckpoint => 16,
+            Cause::BadPrev => FaultKind::BadPrev,
+            Cause::OldTransaction => FaultKind::OldTransaction,
+            Cause::WrongState => FaultKind::WrongState,
+            Cause::WrongUndoNext => FaultKind::WrongUndoNext,
+            Cause::WrongCompensation => FaultKind::WrongCompensation,
+            Cause::RecordHeld { by } => FaultKind::RecordHeld { by: by.0 },
+            Cause::BeforeImage => FaultKind::BeforeImage,
+            Cause::TooManyTransactions => FaultKind::TooManyTransactions,
+            Cause::BadCheckpoint => FaultKind::BadCheckpoint,
         }
+    }
+
+    /// The fault's number.
+    pub fn number(self) -> u32
+        ensures { result ≡ number_of (kind_of_cause self) }
+    {
+        self.kind().number()
     }
 
     /// The fault's name, as programs print it.
     pub fn name(self) -> &'static str
-        ensures { result.now ≡ name_of_cause self }
+        ensures { result.now ≡ name_of (kind_of_cause self) }
     {
-        match self {
-            Cause::BadPrev => "BadPrev",
-            Cause::OldTransaction => "OldTransaction",
-            Cause::WrongState => "WrongState",
-            Cause::WrongUndoNext => "WrongUndoNext",
-            Cause::WrongCompensation => "WrongCompensation",
-            Cause::RecordHeld { by: _ } => "RecordHeld",
-            Cause::BeforeImage => "BeforeImage",
-            Cause::TooManyTransactions => "TooManyTransactions",
-            Cause::BadCheckpoint => "BadCheckpoint",
-        }
+        self.kind().name()
+    }
+}
+
+impl fmt::Display for Cause {
+    ghost output = { λ fault. Some (text_of (kind_of_cause fault)) };
+
+    fn fmt<W: fmt::Write>(&self, f: &mut fmt::Formatter<W>) -> fmt::Result {
+        let kind = self.kind();
+        write!(f, "{kind}")
     }
 }

@@ -1,72 +1,75 @@
-ghost use Rattle.std.specs.Prelude.{◌≡◌, codes};
+ghost use Rattle.std.specs.Prelude.{◌≡◌, Some};
+ghost use Rattle.als_fault.specs.Kinds.{number_of, name_of, text_of};
 ghost use Rattle.als_record.specs.declared.fault.Fault.TheVariants.{Memory};
-ghost use Rattle.als_record.specs.FaultNames.{number_of, name_of};
+ghost use Rattle.als_record.specs.FaultNames.{kind_of};
 
+use als_fault::FaultKind;
 use std::alloc::{AllocError, AllocFailed};
-use thiserror::Error;
+use std::fmt;
 
 /// Why bytes are no log header or no record, or why there is none yet. The numbers are common to all crates.
-#[derive(Clone, Copy, Debug, PartialEq, Eq, Error)]
+#[derive(Clone, Copy, Debug, PartialEq, Eq)]
 pub enum Fault {
     /// The log's header has another text, a page count out of 1 to 4,096, or a byte that must be zero.
-    #[error("1 BadHeader")]
     BadHeader,
     /// A record's length is out of its type's range, or not what its fields make it.
-    #[error("2 BadLength")]
     BadLength,
     /// There is no such type of record.
-    #[error("3 BadType")]
     BadType,
     /// A byte that must be zero is not.
-    #[error("4 BadReserved")]
     BadReserved,
     /// A record names another LSN than that of the place where it stands.
-    #[error("5 WrongLsn")]
     WrongLsn,
     /// A page at or past the database's page count, or a slot above 14.
-    #[error("6 BadKey")]
     BadKey,
     /// A value of more than 31 bytes.
-    #[error("7 BadValue")]
     BadValue,
     /// A growth was refused.
-    #[error("32 Memory")]
     Memory,
 }
 
 impl Fault {
-    /// The fault's number.
-    pub fn number(self) -> u32
-        ensures { result ≡ number_of self }
+    /// Which of the faults of all crates it is.
+    pub fn kind(self) -> FaultKind
+        ensures { result ≡ kind_of self }
     {
         match self {
-            Fault::BadHeader => 1,
-            Fault::BadLength => 2,
-            Fault::BadType => 3,
-            Fault::BadReserved => 4,
-            Fault::WrongLsn => 5,
-            Fault::BadKey => 6,
-            Fault::BadValue => 7,
-            Fault::Memory => 32,
+            Fault::BadHeader => FaultKind::BadHeader,
+            Fault::BadLength => FaultKind::BadLength,
+            Fault::BadType => FaultKind::BadType,
+            Fault::BadReserved => FaultKind::BadReserved,
+            Fault::WrongLsn => FaultKind::WrongLsn,
+            Fault::BadKey => FaultKind::BadKey,
+            Fault::BadValue => FaultKind::BadValue,
+            Fault::Memory => FaultKind::Memory,
         }
+    }
+
+    /// The fault's number.
+    pub fn number(self) -> u32
+        ensures { result ≡ number_of (kind_of self) }
+    {
+        self.kind().number()
     }
 
     /// The fault's name, as programs print it.
     pub fn name(self) -> &'static str
-        ensures { result.now ≡ name_of self }
+        ensures { result.now ≡ name_of (kind_of self) }
     {
-        match self {
-            Fault::BadHeader => "BadHeader",
-            Fault::BadLength => "BadLength",
-            Fault::BadType => "BadType",
-            Fault::BadReserved => "BadReserved",
-            Fault::WrongLsn => "WrongLsn",
-            Fault::BadKey => "BadKey",
-            Fault::BadValue => "BadValue",
-            Fault::Memory => "Memory",
-        }
+        self.kind().name()
     }
 }
+
+impl fmt::Display for Fault {
+    ghost output = { λ fault. Some (text_of (kind_of fault)) };
+
+    fn fmt<W: fmt::Write>(&self, f: &mut fmt::Formatter<W>) -> fmt::Result {
+        let kind = self.kind();
+        write!(f, "{kind}")
+    }
+}
+
+impl std::error::Error for Fault {}
 
 impl From<AllocError> for Fault {
     ghost from_gives = { λ _ e. e ≡ Memory };

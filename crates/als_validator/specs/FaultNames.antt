@@ -1,24 +1,17 @@
--- The numbers and names of this crate's faults, as programs print them.
-use Rattle.std.specs.Prelude.{ℕ, List, ◌++◌, codes, Option, Some, None, Result, Ok, Err}
-use Rattle.std.specs.Fmt.{decimal}
+-- Which of the faults of all crates each fault of this one is.
+use Rattle.std.specs.Prelude.{Option, Some, None, Result, Ok, Err}
 use Rattle.als_record.specs.declared.cause.Cause.{Cause}
-use Rattle.als_record.specs.CauseNames.{number_of_cause, name_of_cause}
+use Rattle.als_fault.specs.declared.fault_kind.FaultKind.{FaultKind}
+use Rattle.als_fault.specs.declared.fault_kind.FaultKind.TheVariants as kind
+use Rattle.als_record.specs.CauseNames.{kind_of_cause}
 use Rattle.als_validator.specs.declared.fault.Fault.{Fault}
-use Rattle.als_validator.specs.declared.fault.Fault.TheVariants.{Invalid, Memory}
+use Rattle.als_validator.specs.declared.fault.Fault.TheVariants as fault
 
-abbrev pub number_of : Fault → ℕ
-number_of (Invalid cause) = number_of_cause cause
-number_of Memory = 32
-
-abbrev pub name_of : Fault → List ℕ
-name_of (Invalid cause) = name_of_cause cause
-name_of Memory = codes "Memory"
-
--- what is printed of a fault: its number and its name
-abbrev pub text_of : Fault → List ℕ
-text_of fault = decimal (number_of fault) ++ codes " " ++ name_of fault
+abbrev pub kind_of : Fault → FaultKind
+kind_of (fault.Invalid cause) = kind_of_cause cause
+kind_of fault.Memory = kind.Memory
 
 -- what is answered of a record: that it may follow, or the first cause why not
 abbrev pub answer_of : Option Cause → Result (Unit {0}) Fault
 answer_of None = Ok tt
-answer_of (Some cause) = Err (Invalid cause)
+answer_of (Some cause) = Err (fault.Invalid cause)

@@ -1,7 +1,9 @@
 ghost use Rattle.std.specs.Prelude.{◌≡◌, Some};
+ghost use Rattle.als_fault.specs.Kinds.{number_of, name_of, text_of};
 ghost use Rattle.als_validator.specs.declared.fault.Fault.TheVariants.{Memory};
-ghost use Rattle.als_validator.specs.FaultNames.{number_of, name_of, text_of};
+ghost use Rattle.als_validator.specs.FaultNames.{kind_of};
 
+use als_fault::FaultKind;
 use als_record::Cause;
 use std::alloc::{AllocError, AllocFailed};
 use std::fmt;
@@ -16,34 +18,37 @@ pub enum Fault {
 }
 
 impl Fault {
-    /// The fault's number.
-    pub fn number(self) -> u32
-        ensures { result ≡ number_of self }
+    /// Which of the faults of all crates it is.
+    pub fn kind(self) -> FaultKind
+        ensures { result ≡ kind_of self }
     {
         match self {
-            Fault::Invalid(cause) => cause.number(),
-            Fault::Memory => 32,
+            Fault::Invalid(cause) => cause.kind(),
+            Fault::Memory => FaultKind::Memory,
         }
+    }
+
+    /// The fault's number.
+    pub fn number(self) -> u32
+        ensures { result ≡ number_of (kind_of self) }
+    {
+        self.kind().number()
     }
 
     /// The fault's name, as programs print it.
     pub fn name(self) -> &'static str
-        ensures { result.now ≡ name_of self }
+        ensures { result.now ≡ name_of (kind_of self) }
     {
-        match self {
-            Fault::Invalid(cause) => cause.name(),
-            Fault::Memory => "Memory",
-        }
+        self.kind().name()
     }
 }
 
 impl fmt::Display for Fault {
-    ghost output = { λ fault. Some (text_of fault) };
+    ghost output = { λ fault. Some (text_of (kind_of fault)) };
 
     fn fmt<W: fmt::Write>(&self, f: &mut fmt::Formatter<W>) -> fmt::Result {
-        let number = self.number();
-        let name = self.name();
-        write!(f, "{number} {name}")
+        let kind = self.kind();
+        write!(f, "{kind}")
     }
 }
 
