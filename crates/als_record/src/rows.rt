@@ -68,6 +68,14 @@ impl TransactionRows {
         Ok(())
     }
 
+    /// The same rows again.
+    pub(crate) fn copy(&self, alloc: Global) -> Result<Self, AllocError>
+        ensures { IfOk result (λ rows. rows ≡ self.now) }
+    {
+        let rows = Vec::from_slice(alloc, self.rows.as_slice())?;
+        Ok(TransactionRows { rows })
+    }
+
     /// The rows in order.
     pub fn as_slice(&self) -> &[LoggedTransaction]
         ensures value { result.now ≡ self.now }
@@ -122,6 +130,14 @@ impl PageRows {
     {
         self.rows.push(row)?;
         Ok(())
+    }
+
+    /// The same rows again.
+    pub(crate) fn copy(&self, alloc: Global) -> Result<Self, AllocError>
+        ensures { IfOk result (λ rows. rows ≡ self.now) }
+    {
+        let rows = Vec::from_slice(alloc, self.rows.as_slice())?;
+        Ok(PageRows { rows })
     }
 
     /// The rows in order.
