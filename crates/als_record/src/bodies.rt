@@ -7,6 +7,7 @@ use crate::fault::Fault;
 use crate::fields::{half, is_length, key, long, value_len};
 use crate::image_view::ImageView;
 use crate::key::Key;
+use crate::limits::SLOT_COUNT;
 use crate::lsn::Lsn;
 use crate::record_view::BodyView;
 use crate::rows::{PageRows, TransactionRows};
@@ -17,7 +18,7 @@ use crate::rows_view::{RowsView, SpelledRows};
 fn is_in_range(pages: u32, key: Key) -> bool
     ensures { result ≡ is_key pages key }
 {
-    key.page < pages && key.slot <= 14
+    key.page < pages && (key.slot as usize) < SLOT_COUNT
 }
 
 /// The image of a length byte and the value's bytes.

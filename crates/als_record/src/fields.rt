@@ -2,6 +2,7 @@ ghost use Rattle.std.specs.Prelude.{◌≡◌, ◌+◌, ◌≤◌, length, take,
 ghost use Rattle.als_record.specs.Reading.{half_at, word_at, long_at, key_at, is_length_byte, len_of_byte};
 
 use crate::key::Key;
+use crate::limits::VALUE_LIMIT;
 
 /// The number in two bytes at a place.
 #[inline]
@@ -55,7 +56,7 @@ pub(crate) fn key(bytes: &[u8], at: usize) -> Key
 pub(crate) fn is_length(byte: u8) -> bool
     ensures { result ≡ is_length_byte byte }
 {
-    byte <= 31 || byte == 255
+    byte as usize <= VALUE_LIMIT || byte == 255
 }
 
 /// How many bytes follow for a length byte.

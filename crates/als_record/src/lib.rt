@@ -3,6 +3,8 @@
 
 // Where a record stands in the log.
 mod lsn;
+// The numbers that bound a log.
+mod limits;
 // Who wrote a record.
 mod trans_id;
 // What a record writes to.
@@ -67,6 +69,9 @@ pub use image_view::ImageView;
 pub use key::Key;
 pub use laws::{one_log, one_spelling};
 pub use lengths::encoded_len;
+pub use limits::{
+    FIRST_LSN, HEAD_LEN, PAGE_LIMIT, RECORD_LIMIT, SLOT_COUNT, TRANSACTION_LIMIT, VALUE_LIMIT,
+};
 pub use lsn::Lsn;
 pub use record::{Body, Record};
 pub use record_view::{BodyView, RecordView};

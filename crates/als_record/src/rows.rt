@@ -1,5 +1,6 @@
 ghost use Rattle.std.specs.Prelude.{◌≡◌, ◌<◌, ◌≤◌, ◌^◌, [], ◌∷◌, ◌++◌, length, OnOk, OnErr, IfOk};
 
+use crate::limits::{PAGE_LIMIT, TRANSACTION_LIMIT};
 use crate::lsn::Lsn;
 use crate::trans_id::TransId;
 use std::alloc::{AllocError, Global};
@@ -39,7 +40,7 @@ impl Model for TransactionRows {
 }
 
 impl TransactionRows {
-    pub const LIMIT: usize = 256;
+    pub const LIMIT: usize = TRANSACTION_LIMIT;
 
     /// No rows.
     pub fn new(alloc: Global) -> Self
@@ -103,7 +104,7 @@ impl Model for PageRows {
 }
 
 impl PageRows {
-    pub const LIMIT: usize = 4096;
+    pub const LIMIT: usize = PAGE_LIMIT;
 
     /// No rows.
     pub fn new(alloc: Global) -> Self

@@ -8,6 +8,7 @@ ghost use Rattle.als_record.specs.Shown.{shown, shown_body, shown_found};
 use crate::bodies::{checkpoint, compensation, update};
 use crate::fault::Fault;
 use crate::fields::{long, word};
+use crate::limits::{HEAD_LEN, RECORD_LIMIT};
 use crate::lsn::Lsn;
 use crate::record_view::{BodyView, RecordView};
 use crate::trans_id::TransId;
@@ -20,9 +21,9 @@ fn may_be(kind: u8, size: usize) -> bool
     match kind {
         1 => 35 <= size && size <= 97,
         2 => 42 <= size && size <= 73,
-        7 => 32 <= size && size <= 54560,
-        3..=6 => size == 28,
-        _ => 28 <= size && size <= 54560,
+        7 => 32 <= size && size <= RECORD_LIMIT,
+        3..=6 => size == HEAD_LEN,
+        _ => HEAD_LEN <= size && size <= RECORD_LIMIT,
     }
 }
 
@@ -63,7 +64,7 @@ fn whole<'a>(
     ensures no_memory { IfErr result (λ e. e ≢ Memory) }
 {
     let (front, _) = bytes.split_at(size);
-    let (_, body) = front.split_at(28);
+    let (_, body) = front.split_at(HEAD_LEN);
     match bytes[4] {
         1 => found(bytes, at, size, update(pages, body)?),
         2 => found(bytes, at, size, compensation(pages, body)?),
@@ -82,7 +83,7 @@ fn read<'a>(bytes: &'a [u8], at: Lsn, pages: u32) -> Result<Option<(RecordView<'
     ensures exact { Gives shown_found result (read_record pages at.0 bytes.now) }
     ensures no_memory { IfErr result (λ e. e ≢ Memory) }
 {
-    if bytes.len() < 28 {
+    if bytes.len() < HEAD_LEN {
         return Ok(None);
     }
     let size = word(bytes, 0) as usize;
