@@ -13,13 +13,13 @@ use Rattle.als_record.specs.declared.transaction_state.TransactionState.TheVaria
 use Rattle.als_record.specs.declared.transaction_row.TransactionRow.{TransactionRow}
 use Rattle.als_record.specs.Spelling.{image_len, body_len, record_len}
 use Rattle.als_record.specs.Images.{image_before}
-use Rattle.als_record.specs.Transactions.{is_update, is_among, is_some_left, is_committed, has_rollback, is_unended, is_loser, to_undo, surviving, transactions, unended, all_surviving}
+use Rattle.als_record.specs.Transactions.{is_update, is_among, is_some_left, is_committed, has_rollback, is_unended, is_open, is_loser, to_undo, surviving, transactions, unended, all_surviving}
 use Rattle.als_record.specs.Table.{state_of, row_of, table_of}
 use Rattle.als_record.specs.Tail.{TailStep, Ends, Undoes, is_finished, ends, undoes, losing, tail_steps, undone, record_for, numbered, tail_of, tail_len}
 use Rattle.als_record.proofs.Numbers.{Apart, eqb-refl, eqb-sym}
 use Rattle.als_record.proofs.Survivors.{is_by, all_surviving-by, All-is_update}
 use Rattle.als_record.proofs.Unended.{Apart-unended, is_among-unended}
-use Rattle.als_record.proofs.TailSteps.{is_some_left-filter, filter-by}
+use Rattle.als_record.proofs.TailSteps.{filter-none, is_some_left-filter, filter-by}
 use Rattle.als_analysis.specs.Open.{Open, undo_len, undo_owed, owed, rows_of, left_of}
 
 -- ---- sums over numbers
@@ -159,23 +159,13 @@ undoes-len ts a (u ∷ rest) h =
 
 -- ---- one transaction
 
-filter-none : (p : ℕ → Bool) (t : ℕ) → p t ≡ false → (us : List Record) → filter (is_by t) (filter (λ v. p v.trans.0) us) ≡ []
-filter-none p t n [] = refl
-filter-none p t n (v ∷ us) = elim (cases_Bool (p v.trans.0)) [
-  | inl z ↦ elim (cases_Bool (v.trans.0 == t)) [
-    | inl w ↦ absurd (false≢true (sym n ∙ ap p (sym (eqb-true v.trans.0 t w)) ∙ z))
-    | inr w ↦ simp (z, w) (filter-none p t n us)
-  ]
-  | inr z ↦ simp z (filter-none p t n us)
-]
-
 undo_owed-open : (s : TransactionState) (h : Bool) (left : List Record) → s ≡ cond h RollingBack Active → undo_owed s left ≡ sum_by undo_len left
 undo_owed-open s true left e = ap (λ s. undo_owed s left) e
 undo_owed-open s false left e = ap (λ s. undo_owed s left) e
 
 module _ (log : List Record) (t : ℕ) (u : is_unended log t ≡ true) where
   owed-one : cond (is_finished log t) 28 0 + weight (filter (is_by t) (losing log)) ≡ 28 + undo_owed (state_of log t) (surviving log t)
-  unfolding is_finished losing state_of is_loser surviving
+  unfolding is_finished losing state_of is_open surviving
   owed-one = elim (cases_Bool (is_committed log t)) [
     | inl c ↦
         let none : filter (is_by t) (filter (λ v. is_loser log v.trans.0) (all_surviving log)) ≡ [] = filter-none (is_loser log) t (rw (u, c) refl) (all_surviving log) in
@@ -193,7 +183,7 @@ module _ (log : List Record) (t : ℕ) (u : is_unended log t ≡ true) where
 -- ---- all of them
 
 losing-undoes : (log : List Record) → AllByRecursion (IsUndoOf (unended log)) (losing log)
-unfolding losing is_loser
+unfolding losing is_open
 losing-undoes log = kept (all_surviving log) (All-is_update log)
   where
     kept : (vs : List Record) → AllByRecursion (λ v. is_update v.body ≡ true) vs → AllByRecursion (IsUndoOf (unended log)) (filter (λ v. is_loser log v.trans.0) vs)

@@ -1,21 +1,19 @@
-ghost use Rattle.std.specs.Prelude.{◌≡◌, ◌↔◌, IsTrue, ℕ, ◌<◌, ◌≤◌, ◌+◌, [], IfOk, OnOk, OnErr};
+ghost use Rattle.std.specs.Prelude.{◌≡◌, ◌↔◌, IsTrue, ℕ, ◌<◌, ◌≤◌, ◌+◌, ◌%◌, ◌^◌, [], IfOk, OnOk, OnErr};
 ghost use Rattle.std.specs.List.{sum_by};
 ghost use Rattle.als_record.specs.declared.transaction_state.TransactionState.TheVariants.{Active};
 ghost use Rattle.als_record.specs.Spelling.{image_len};
 ghost use Rattle.als_record.specs.Images.{image_before};
 ghost use Rattle.als_record.specs.Table.{row_after, state_after, state_after_rollback, fresh_row};
 ghost use Rattle.als_record.specs.Transactions.{undo_next_after};
-ghost use Rattle.als_analysis.specs.Open.{left_after, undo_len, undo_limit, undo_owed, owed, owed_after, owed_limit};
+ghost use Rattle.als_analysis.specs.Open.{left_after, undo_len, undo_owed, owed, owed_after};
 
 use crate::fault::Fault;
 use als_record::{Body, Image, Key, Lsn, Record, TransId, TransactionRow, TransactionState, Value};
 use std::alloc::Global;
 use std::marker::Model;
 
-/// The updates that one transaction may have kept: more than any memory holds, so that a growth is refused long before.
-const LEFT_LIMIT: usize = 1 << 48;
-
-/// One transaction that has not ended: its row of the transaction table, and its surviving updates in order.
+/// One transaction that has not ended: its row of the transaction table, and its surviving updates in order. The bytes of
+/// its compensations are counted modulo 2^64, so that any record may be noted.
 #[derive(Drop)]
 pub struct OpenTransaction {
     row: TransactionRow,
@@ -24,12 +22,12 @@ pub struct OpenTransaction {
 }
 
 impl Model for OpenTransaction {
-    ghost use Rattle.std.specs.Prelude.{vec_len, vec_capacity, min, ◌-◌};
-    ghost use Rattle.als_analysis.specs.Open.{Open, IsCounted, left_limit};
+    ghost use Rattle.std.specs.Prelude.{vec_len, vec_capacity, ◌-◌};
+    ghost use Rattle.als_analysis.specs.Open.{Open, IsCounted};
 
     ghost Value = { Open };
 
-    ghost view = { λ o. record { row = o.row; left = o.left.items; room = min (vec_capacity o.left) left_limit - vec_len o.left } };
+    ghost view = { λ o. record { row = o.row; left = o.left.items; room = vec_capacity o.left - vec_len o.left } };
 
     ghost invariant = { λ o. IsCounted o.left.items o.undo_bytes };
 }
@@ -50,8 +48,7 @@ fn undo_len_of(update: &Record) -> u64
 
 /// The bytes that a takeover appends for a transaction of which this is the first record, and not its end.
 pub(crate) fn owed_anew(logged: &Record) -> u64
-    ensures owed { result ≡ owed_after Active [] logged.now }
-    ensures limit { result ≤ owed_limit }
+    ensures { result ≡ owed_after Active [] logged.now }
 {
     match &logged.body {
         Body::Update { .. } => 28 + undo_len_of(logged),
@@ -121,41 +118,39 @@ impl OpenTransaction {
         self.left.as_slice()
     }
 
-    /// The bytes that a takeover appends for it.
+    /// The bytes that a takeover appends for it, modulo 2^64.
     pub(crate) fn owed(&self) -> u64
-        ensures owed { result ≡ owed self.now }
-        ensures limit { result ≤ owed_limit }
+        ensures { result ≡ owed self.now % 2 ^ 64 }
     {
-        28 + match self.row.state {
+        let undo_bytes = match self.row.state {
             TransactionState::Committed => 0,
             TransactionState::Active | TransactionState::RollingBack => self.undo_bytes,
-        }
+        };
+        undo_bytes.wrapping_add(28)
     }
 
-    /// The bytes of its compensations after one more record of the transaction, if it is to be undone.
+    /// The bytes of its compensations after one more record of the transaction, if it is to be undone, modulo 2^64.
     fn undo_bytes_after(&self, logged: &Record) -> u64
-        ensures sum { result ≡ sum_by undo_len (left_after self.now.left logged.now logged.now.body) }
-        ensures limit { result ≤ undo_limit + 73 }
+        ensures { result ≡ sum_by undo_len (left_after self.now.left logged.now logged.now.body) % 2 ^ 64 }
     {
         match &logged.body {
-            Body::Update { .. } => self.undo_bytes + undo_len_of(logged),
+            Body::Update { .. } => self.undo_bytes.wrapping_add(undo_len_of(logged)),
             Body::Compensation { .. } => match self.left.last() {
-                Some(undone) => self.undo_bytes - undo_len_of(undone),
+                Some(undone) => self.undo_bytes.wrapping_sub(undo_len_of(undone)),
                 None => self.undo_bytes,
             },
             _ => self.undo_bytes,
         }
     }
 
-    /// The bytes that a takeover appends for it after one more record of the transaction, which is not its end.
+    /// The bytes that a takeover appends for it after one more record of the transaction, which is not its end, modulo 2^64.
     pub(crate) fn owed_after(&self, logged: &Record) -> u64
-        ensures owed { result ≡ owed_after self.now.row.state self.now.left logged.now }
-        ensures limit { result ≤ owed_limit + 73 }
+        ensures { result ≡ owed_after self.now.row.state self.now.left logged.now % 2 ^ 64 }
     {
         match next_state(self.row.state, &logged.body) {
             TransactionState::Committed => 28,
             TransactionState::Active | TransactionState::RollingBack => {
-                28 + self.undo_bytes_after(logged)
+                self.undo_bytes_after(logged).wrapping_add(28)
             }
         }
     }
@@ -164,7 +159,7 @@ impl OpenTransaction {
     pub(crate) fn has_room(&self) -> bool
         ensures { IsTrue result ↔ (0 < self.now.room) }
     {
-        self.left.len() < LEFT_LIMIT && self.left.len() < self.left.capacity()
+        self.left.len() < self.left.capacity()
     }
 
     /// Makes room for one more update. An `Err` changes nothing.
@@ -174,9 +169,6 @@ impl OpenTransaction {
         ensures ok { OnOk result (0 < self.new.room) }
         ensures err { OnErr result (self.new ≡ self.old) }
     {
-        if self.left.len() >= LEFT_LIMIT {
-            return Err(Fault::Memory);
-        }
         self.left.reserve(1)?;
         Ok(())
     }
@@ -207,13 +199,13 @@ impl OpenTransaction {
         };
         match &logged.body {
             Body::Update { key, before, after } => {
-                self.undo_bytes += undo_len_of(logged);
+                self.undo_bytes = self.undo_bytes.wrapping_add(undo_len_of(logged));
                 self.left
                     .push_reserved(copy_of_update(logged, key, before, after));
             }
             Body::Compensation { .. } => {
                 if let Some(undone) = self.left.pop() {
-                    self.undo_bytes -= undo_len_of(&undone);
+                    self.undo_bytes = self.undo_bytes.wrapping_sub(undo_len_of(&undone));
                 }
             }
             _ => {}

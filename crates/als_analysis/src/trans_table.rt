@@ -1,10 +1,11 @@
-ghost use Rattle.std.specs.Prelude.{◌≡◌, ◌≢◌, ℕ, ◌<◌, ◌≤◌, ◌+◌, true, false, IsTrue, List, [], ◌∷◌, ◌++◌, length, vec_len, vec_capacity, slice_index_or, slice_set, IfSome, IfNone, OnOk, OnErr, IsOk, ◌↔◌, MatchOption, if◌then◌else◌};
+ghost use Rattle.std.specs.Prelude.{◌≡◌, ◌≢◌, ℕ, ◌<◌, ◌≤◌, ◌+◌, ◌%◌, ◌^◌, true, false, IsTrue, List, [], ◌∷◌, ◌++◌, length, vec_len, vec_capacity, slice_index_or, slice_set, IfSome, IfNone, OnOk, OnErr, IsOk, ◌↔◌, MatchOption, if◌then◌else◌};
 ghost use Rattle.std.specs.List.{remove, All};
 ghost use Rattle.als_record.specs.declared.record.Record.{Record};
 ghost use Rattle.als_record.specs.declared.transaction_row.TransactionRow.{TransactionRow};
 ghost use Rattle.als_record.specs.Transactions.{is_transactional, is_end, is_among, is_unended, surviving, undo_next_of};
 ghost use Rattle.als_record.specs.Table.{table_of, row_after, fresh_row};
-ghost use Rattle.als_record.specs.Tail.{tail_len};
+ghost use Rattle.als_record.specs.LogText.{end_of};
+ghost use Rattle.als_record.specs.Tail.{reserve_of};
 ghost use Rattle.als_record.specs.Validity.{may_follow};
 ghost use Rattle.als_analysis.specs.Open.{left_after, rows_of, left_of};
 ghost use Rattle.als_analysis.specs.Kept.{IsRising, IsPlace, MakesRoom, numbers};
@@ -32,6 +33,7 @@ pub struct TransTable {
     alloc: Global,
     entries: Vec<OpenTransaction>,
     spares: Vec<OpenTransaction>,
+    // Modulo 2^64, which is exact for the log of a device.
     reserve: u64,
     // The one transaction that may be without room.
     tight: usize,
@@ -228,7 +230,7 @@ impl TransTable {
         let before = entry.owed();
         entry.extend(logged);
         let after = entry.owed();
-        self.reserve = self.reserve - before + after;
+        self.reserve = self.reserve.wrapping_sub(before).wrapping_add(after);
         self.tight = at;
         self.has_room = false;
     }
@@ -241,7 +243,7 @@ impl TransTable {
         ensures left { self.new.left ≡ remove self.old.left at }
     {
         let ended = self.entries.remove(at);
-        self.reserve -= ended.owed();
+        self.reserve = self.reserve.wrapping_sub(ended.owed());
         self.has_room = false;
         close_up(&mut self.places, self.entries.as_slice(), at);
         keep_spare(&mut self.spares, ended);
@@ -259,7 +261,7 @@ impl TransTable {
             Some(mut fresh) => {
                 fresh.renew(logged.trans);
                 fresh.extend(logged);
-                self.reserve += fresh.owed();
+                self.reserve = self.reserve.wrapping_add(fresh.owed());
                 self.tight = self.entries.len();
                 self.entries.push_reserved(fresh);
                 self.has_room = false;
@@ -406,44 +408,44 @@ impl TransTable {
         }
     }
 
-    /// The bytes that a takeover would append: a kept sum.
+    /// The bytes that a takeover would append: a kept sum, exact for a log of less than 2^62 bytes.
     pub fn reserve_bytes(&self) -> u64
-        ensures { (log : List Record) → IsTableOf self.now log → result ≡ tail_len log }
+        ensures { (log : List Record) → IsTableOf self.now log → end_of log < 2 ^ 62 → result ≡ reserve_of log }
     {
         self.reserve
     }
 
-    /// What a takeover would append after another record of the transaction at this place.
+    /// What a takeover would append after another record of the transaction at this place, modulo 2^64.
     fn reserve_after_known(&self, at: usize, logged: &Record) -> u64
         requires within { at < length self.now.rows }
         requires here { (d : TransactionRow) → (slice_index_or self.now.rows at d).trans.0 ≡ logged.now.trans.0 }
         requires kind { is_transactional logged.now.body ≡ true }
-        ensures { (log : List Record) → IsTableOf self.now log → IsTrue (may_follow log logged.now) → result ≡ tail_len (log ++ logged.now ∷ []) }
+        ensures { (log : List Record) → IsTableOf self.now log → IsTrue (may_follow log logged.now) → result ≡ reserve_of (log ++ logged.now ∷ []) % 2 ^ 64 }
     {
         let entry = &self.entries[at];
-        let others = self.reserve - entry.owed();
+        let others = self.reserve.wrapping_sub(entry.owed());
         if is_end_record(&logged.body) {
             return others;
         }
-        others + entry.owed_after(logged)
+        others.wrapping_add(entry.owed_after(logged))
     }
 
-    /// What a takeover would append after a record of a transaction without a row.
+    /// What a takeover would append after a record of a transaction without a row, modulo 2^64.
     fn reserve_after_new(&self, logged: &Record) -> u64
         requires absent { is_among (numbers self.now.rows) logged.now.trans.0 ≡ false }
         requires kind { is_transactional logged.now.body ≡ true }
-        ensures { (log : List Record) → IsTableOf self.now log → IsTrue (may_follow log logged.now) → result ≡ tail_len (log ++ logged.now ∷ []) }
+        ensures { (log : List Record) → IsTableOf self.now log → IsTrue (may_follow log logged.now) → result ≡ reserve_of (log ++ logged.now ∷ []) % 2 ^ 64 }
     {
         if is_end_record(&logged.body) {
             return self.reserve;
         }
-        self.reserve + owed_anew(logged)
+        self.reserve.wrapping_add(owed_anew(logged))
     }
 
-    /// The bytes that a takeover would append after one more record, before that is noted. It takes no memory, and the cost
-    /// does not depend on how long the log is.
+    /// The bytes that a takeover would append after one more record, before that is noted, exact for a log of less than 2^62
+    /// bytes. It takes no memory, and the cost does not depend on how long the log is.
     pub fn reserve_after(&self, logged: &Record) -> u64
-        ensures { (log : List Record) → IsTableOf self.now log → IsTrue (may_follow log logged.now) → result ≡ tail_len (log ++ logged.now ∷ []) }
+        ensures { (log : List Record) → IsTableOf self.now log → IsTrue (may_follow log logged.now) → end_of (log ++ logged.now ∷ []) < 2 ^ 62 → result ≡ reserve_of (log ++ logged.now ∷ []) }
     {
         if !is_transaction_record(&logged.body) {
             return self.reserve;

@@ -8,13 +8,13 @@ use Rattle.als_record.specs.declared.record.Body.{Body}
 use Rattle.als_record.specs.declared.record.Body.TheVariants.{Update, Compensation, Commit, Rollback, End, BeginCheckpoint, EndCheckpoint}
 use Rattle.als_record.specs.declared.record.Record.{Record}
 use Rattle.als_record.specs.Spelling.{Image}
-use Rattle.als_record.specs.Transactions.{is_update, to_undo, is_loser, all_surviving}
+use Rattle.als_record.specs.Transactions.{is_update, to_undo, is_open, all_surviving}
 use Rattle.als_record.specs.Images.{is_update_at}
 use Rattle.als_record.specs.Validity.{holder, held_by, is_valid}
 use Rattle.als_record.proofs.Numbers.{eqb-refl}
 use Rattle.als_record.proofs.Survivors.{is_by, all_surviving-by}
 use Rattle.als_record.proofs.Standing.{Covers}
-use Rattle.als_record.proofs.Sound.{Sound-valid, is_closed, is_closed-loser}
+use Rattle.als_record.proofs.Sound.{Sound-valid, is_closed, is_closed-open}
 
 -- whether a transaction has a surviving update of a key
 abbrev pub holds : List Record → ℕ → Key → Bool
@@ -94,18 +94,18 @@ nobody loses k s (u ∷ us) n = elim (cases_Bool (is_update_at k u.body && not (
 -- ---- the law
 
 -- a key held by a loser is held by that one
-pub held_by-loser : (log : List Record) (r : Record) (key : Key) (before after : Image) → is_valid log ≡ true → r.body ≡ Update key before after → (t : ℕ) → is_loser log t ≡ true → (t == r.trans.0) ≡ false → holds log t key ≡ true → held_by log r ≡ Some (record { 0 = t })
+pub held_by-open : (log : List Record) (r : Record) (key : Key) (before after : Image) → is_valid log ≡ true → r.body ≡ Update key before after → (t : ℕ) → is_open log t ≡ true → (t == r.trans.0) ≡ false → holds log t key ≡ true → held_by log r ≡ Some (record { 0 = t })
 unfolding held_by
-held_by-loser log r key before after v b t l d h =
+held_by-open log r key before after v b t l d h =
     ap (λ x. option_map (λ u. u.trans) (holder log r.trans.0 x)) b
-    ∙ found (is_closed log) (is_loser log) (is_closed-loser log) key r.trans.0 (all_surviving log) (Sound-valid log v).covers t l d (ap (list_any (λ u. is_update_at key u.body)) (all_surviving-by t log) ∙ h)
+    ∙ found (is_closed log) (is_open log) (is_closed-open log) key r.trans.0 (all_surviving log) (Sound-valid log v).covers t l d (ap (list_any (λ u. is_update_at key u.body)) (all_surviving-by t log) ∙ h)
 
 -- a key held by none is held by none
-pub held_by-nobody : (log : List Record) (r : Record) (key : Key) (before after : Image) → r.body ≡ Update key before after → ((t : ℕ) → is_loser log t ≡ true → (t == r.trans.0) ≡ false → holds log t key ≡ false) → held_by log r ≡ None
+pub held_by-nobody : (log : List Record) (r : Record) (key : Key) (before after : Image) → r.body ≡ Update key before after → ((t : ℕ) → is_open log t ≡ true → (t == r.trans.0) ≡ false → holds log t key ≡ false) → held_by log r ≡ None
 unfolding held_by
 held_by-nobody log r key before after b n =
     ap (λ x. option_map (λ u. u.trans) (holder log r.trans.0 x)) b
-    ∙ ap (option_map (λ u. u.trans)) (nobody (is_loser log) key r.trans.0 (all_surviving log) (λ t l d. ap (list_any (λ u. is_update_at key u.body)) (all_surviving-by t log) ∙ n t l d))
+    ∙ ap (option_map (λ u. u.trans)) (nobody (is_open log) key r.trans.0 (all_surviving log) (λ t l d. ap (list_any (λ u. is_update_at key u.body)) (all_surviving-by t log) ∙ n t l d))
 
 -- a record of another kind finds no key held
 pub held_by-other : (log : List Record) (r : Record) → is_update r.body ≡ false → held_by log r ≡ None
@@ -122,7 +122,7 @@ held_by-other log r u = go r.body u
     go (EndCheckpoint transactions pages) e = refl
 
 -- two losers never hold the same key
-pub holds-one : (log : List Record) → is_valid log ≡ true → (k : Key) (s t : ℕ) → is_loser log s ≡ true → is_loser log t ≡ true → holds log s k ≡ true → holds log t k ≡ true → s ≡ t
+pub holds-one : (log : List Record) → is_valid log ≡ true → (k : Key) (s t : ℕ) → is_open log s ≡ true → is_open log t ≡ true → holds log s k ≡ true → holds log t k ≡ true → s ≡ t
 holds-one log v k s t ls lt hs ht = one (sym (at s (omega arith) ls hs) ∙ at t (omega arith) lt ht)
   where
     one : ◌≡◌ {A = Option TransId} (Some (record { 0 = s })) (Some (record { 0 = t })) → s ≡ t
@@ -132,5 +132,5 @@ holds-one log v k s t ls lt hs ht = one (sym (at s (omega arith) ls hs) ∙ at t
         number None = 0
         number (Some x) = x.0
 
-    at : (x : ℕ) → (x ≡ s + t + 1 → ⊥) → is_loser log x ≡ true → holds log x k ≡ true → option_map (λ u. u.trans) (find (λ u. is_update_at k u.body && not (u.trans.0 == s + t + 1) && is_loser log u.trans.0) (all_surviving log)) ≡ Some (record { 0 = x })
-    at x d l h = found (is_closed log) (is_loser log) (is_closed-loser log) k (s + t + 1) (all_surviving log) (Sound-valid log v).covers x l (ne_eqb x (s + t + 1) d) (ap (list_any (λ u. is_update_at k u.body)) (all_surviving-by x log) ∙ h)
+    at : (x : ℕ) → (x ≡ s + t + 1 → ⊥) → is_open log x ≡ true → holds log x k ≡ true → option_map (λ u. u.trans) (find (λ u. is_update_at k u.body && not (u.trans.0 == s + t + 1) && is_open log u.trans.0) (all_surviving log)) ≡ Some (record { 0 = x })
+    at x d l h = found (is_closed log) (is_open log) (is_closed-open log) k (s + t + 1) (all_surviving log) (Sound-valid log v).covers x l (ne_eqb x (s + t + 1) d) (ap (list_any (λ u. is_update_at k u.body)) (all_surviving-by x log) ∙ h)

@@ -5,7 +5,10 @@ pub mod BodyLaws
 pub mod RowLaws
 pub mod RecordLaws
 pub mod ReadingLaws
+mod Worked
 mod WorkedLogs
+mod WorkedCauses
+mod WorkedTails
 pub mod Records
 pub mod Survivors
 pub mod Numbers
@@ -21,10 +24,12 @@ pub mod Standing
 pub mod Sound
 pub mod Takeover
 pub mod TailLength
+pub mod TailBound
 pub mod Places
 pub mod Held
 pub mod HeldCounts
 pub mod Falling
+pub mod Sweep
 pub mod CommitSteps
 pub mod Chain
 pub mod ChainReads

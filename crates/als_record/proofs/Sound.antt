@@ -9,7 +9,7 @@ use Rattle.als_record.specs.declared.record.Body.TheVariants.{Update, Compensati
 use Rattle.als_record.specs.declared.record.Record.{Record}
 use Rattle.als_record.specs.Spelling.{Image}
 use Rattle.als_record.specs.Pages.{change_in}
-use Rattle.als_record.specs.Transactions.{is_transactional, is_update, is_compensation, is_end, is_of, records_of, to_undo_after, to_undo, is_some_left, is_committed, has_rollback, has_begun, has_ended, is_unended, is_loser, without_newest, survivors_after, all_surviving, greatest_trans}
+use Rattle.als_record.specs.Transactions.{is_transactional, is_update, is_compensation, is_end, is_of, records_of, to_undo_after, to_undo, is_some_left, is_committed, has_rollback, has_begun, has_ended, is_unended, is_open, without_newest, survivors_after, all_surviving, greatest_trans}
 use Rattle.als_record.specs.Images.{same_key, same_image, image_now, is_update_at, image_before, image_written, image_of_found}
 use Rattle.als_record.specs.Validity.{old_transaction, wrong_state, is_forward, undoes_newest, wrong_compensation, holder, held_by, saw_now, before_image, is_valid}
 use Rattle.als_record.proofs.Records.{to_undo-own, to_undo-other, has_begun-other, has_ended-own, has_ended-other, is_committed-grows, has_ended-grows, has_ended-unended, has_begun-ended}
@@ -39,18 +39,18 @@ is_closed-grows log r t e = elim (or_cases (is_committed log t) (has_ended log t
 ]
 
 -- a transaction that has begun is a loser or closed
-pub is_closed-not_loser : (log : List Record) (t : ℕ) → has_begun log t ≡ true → is_loser log t ≡ false → is_closed log t ≡ true
-unfolding is_closed is_loser is_unended
-is_closed-not_loser log t b l = go (is_committed log t) (has_ended log t) (rw b at l)
+pub is_closed-not_open : (log : List Record) (t : ℕ) → has_begun log t ≡ true → is_open log t ≡ false → is_closed log t ≡ true
+unfolding is_closed is_open is_unended
+is_closed-not_open log t b l = go (is_committed log t) (has_ended log t) (rw b at l)
   where
     go : (c h : Bool) → (not h && not c) ≡ false → (c || h) ≡ true
     go true h e = refl
     go false true e = refl
     go false false e = absurd (false≢true (sym e))
 
-pub is_closed-loser : (log : List Record) (t : ℕ) → is_loser log t ≡ true → is_closed log t ≡ false
-unfolding is_closed is_loser is_unended
-is_closed-loser log t l =
+pub is_closed-open : (log : List Record) (t : ℕ) → is_open log t ≡ true → is_closed log t ≡ false
+unfolding is_closed is_open is_unended
+is_closed-open log t l =
     let p : ((has_begun log t && not (has_ended log t)) ≡ true) × (not (is_committed log t) ≡ true) = and_parts _ _ l in
     let q : (has_begun log t ≡ true) × (not (has_ended log t) ≡ true) = and_parts _ _ p.0 in
     rw (not-true (is_committed log t) p.1, not-true (has_ended log t) q.1) refl
@@ -167,20 +167,20 @@ module _ (log : List Record) (r : Record) (s : Sound log) (a : Admitted log r) w
     update-transactional = rw b refl
 
     -- another transaction's update of this key is closed
-    update-covers : (us : List Record) → AllByRecursion (λ u. has_begun log u.trans.0 ≡ true) us → find (λ u. is_update_at key u.body && not (u.trans.0 == r.trans.0) && is_loser log u.trans.0) us ≡ None → (k : Key) → is_update_at k r.body ≡ true → AllByRecursion (λ u. is_update_at k u.body ≡ true → (u.trans.0 == r.trans.0) ≡ false → is_closed log u.trans.0 ≡ true) us
+    update-covers : (us : List Record) → AllByRecursion (λ u. has_begun log u.trans.0 ≡ true) us → find (λ u. is_update_at key u.body && not (u.trans.0 == r.trans.0) && is_open log u.trans.0) us ≡ None → (k : Key) → is_update_at k r.body ≡ true → AllByRecursion (λ u. is_update_at k u.body ≡ true → (u.trans.0 == r.trans.0) ≡ false → is_closed log u.trans.0 ≡ true) us
     update-covers [] g n k w = tt
-    update-covers (u ∷ rest) g n k w = (here, update-covers rest g.1 (find-none (λ u. is_update_at key u.body && not (u.trans.0 == r.trans.0) && is_loser log u.trans.0) u rest n).1 k w)
+    update-covers (u ∷ rest) g n k w = (here, update-covers rest g.1 (find-none (λ u. is_update_at key u.body && not (u.trans.0 == r.trans.0) && is_open log u.trans.0) u rest n).1 k w)
       where
         same : key ≡ k
         same = same_key-true key k (ap (is_update_at k) (sym b) ∙ w)
 
-        fails : (is_update_at key u.body && not (u.trans.0 == r.trans.0) && is_loser log u.trans.0) ≡ false
-        fails = (find-none (λ u. is_update_at key u.body && not (u.trans.0 == r.trans.0) && is_loser log u.trans.0) u rest n).0
+        fails : (is_update_at key u.body && not (u.trans.0 == r.trans.0) && is_open log u.trans.0) ≡ false
+        fails = (find-none (λ u. is_update_at key u.body && not (u.trans.0 == r.trans.0) && is_open log u.trans.0) u rest n).0
 
         here : is_update_at k u.body ≡ true → (u.trans.0 == r.trans.0) ≡ false → is_closed log u.trans.0 ≡ true
-        here x y = is_closed-not_loser log u.trans.0 g.0 (let z : is_update_at key u.body ≡ true = ap (λ l. is_update_at l u.body) same ∙ x in (rw (z, y) at fails))
+        here x y = is_closed-not_open log u.trans.0 g.0 (let z : is_update_at key u.body ≡ true = ap (λ l. is_update_at l u.body) same ∙ x in (rw (z, y) at fails))
 
-    nobody : find (λ u. is_update_at key u.body && not (u.trans.0 == r.trans.0) && is_loser log u.trans.0) (all_surviving log) ≡ None
+    nobody : find (λ u. is_update_at key u.body && not (u.trans.0 == r.trans.0) && is_open log u.trans.0) (all_surviving log) ≡ None
     unfolding held_by
     nobody = unmapped (holder log r.trans.0 (Update key before after)) (ap (λ x. option_map (λ u. u.trans) (holder log r.trans.0 x)) (sym b) ∙ a.held)
       where
@@ -225,8 +225,8 @@ module _ (log : List Record) (r : Record) (s : Sound log) (a : Admitted log r) w
     compensation-unended : is_unended log r.trans.0 ≡ true
     compensation-unended = goes_on (rw b refl) (has_begun-survivor log r.trans.0 (ap is_some_left undone_one.2))
 
-    compensation-loser : is_loser log r.trans.0 ≡ true
-    unfolding is_loser
+    compensation-loser : is_open log r.trans.0 ≡ true
+    unfolding is_open
     compensation-loser = rw (compensation-unended, only_ends (rw b refl)) refl
 
     first_by : filter (is_by r.trans.0) (all_surviving log) ≡ undone_one.0 ∷ undone_one.1
@@ -236,7 +236,7 @@ module _ (log : List Record) (r : Record) (s : Sound log) (a : Admitted log r) w
     compensation-surviving = all_surviving-push log r ∙ ap (survivors_after (all_surviving log) r) b
 
     open_one : is_closed log r.trans.0 ≡ false
-    open_one = is_closed-loser log r.trans.0 compensation-loser
+    open_one = is_closed-open log r.trans.0 compensation-loser
 
     compensation-sound : Sound (log ++ r ∷ [])
     compensation-sound = record {

@@ -9,7 +9,7 @@ use Rattle.als_record.specs.declared.record.Body.TheVariants.{Update, Compensati
 use Rattle.als_record.specs.declared.record.Record.{Record}
 use Rattle.als_record.specs.Spelling.{record_len, IsBody, IsRecord}
 use Rattle.als_record.specs.LogText.{end_of, follow_from, IsLog}
-use Rattle.als_record.specs.Transactions.{is_transactional, is_update, is_among, transactions, unended, is_unended, is_committed, is_loser, survivors_after, all_surviving, last_lsn}
+use Rattle.als_record.specs.Transactions.{is_transactional, is_update, is_among, transactions, unended, is_unended, is_committed, is_open, is_loser, survivors_after, all_surviving, last_lsn}
 use Rattle.als_record.specs.Images.{won}
 use Rattle.als_record.specs.Validity.{may_follow, is_valid, IsValidLog}
 use Rattle.als_record.specs.Tail.{TailStep, Ends, Undoes, is_finished, ends, undoes, losing, tail_steps, undone, record_for, numbered, tail_of, tail_len}
@@ -41,7 +41,7 @@ tail_of-undoes log u us e q = (
 
 -- none, where nothing is unended
 pub tail_of-none : (log : List Record) → unended log ≡ [] → tail_of log ≡ []
-unfolding tail_of numbered tail_steps undoes is_loser
+unfolding tail_of numbered tail_steps undoes is_open
 tail_of-none log e = ap (λ xs. numbered log (ends (filter (is_finished log) xs) ++ undoes (losing log))) e ∙ ap (λ us. numbered log (undoes us)) (losing-none log (λ t l. absurd (false≢true (ap (λ xs. is_among xs t) (sym e) ∙ is_among-unended log t ∙ (and_parts (is_unended log t) (not (is_committed log t)) l).0))))
 
 pub unended-tail_of : (log : List Record) → tail_of log ≡ [] → unended log ≡ []

@@ -7,7 +7,7 @@ use Rattle.als_record.specs.declared.record.Body.{Body}
 use Rattle.als_record.specs.declared.record.Body.TheVariants.{Update, Compensation, Commit, Rollback, End, BeginCheckpoint, EndCheckpoint}
 use Rattle.als_record.specs.declared.record.Record.{Record}
 use Rattle.als_record.specs.Spelling.{Image}
-use Rattle.als_record.specs.Transactions.{is_update, is_compensation, is_among, to_undo, is_some_left, is_committed, has_rollback, has_begun, has_ended, is_unended, is_loser, last_lsn, transactions, unended, without_newest, all_surviving}
+use Rattle.als_record.specs.Transactions.{is_update, is_compensation, is_among, to_undo, is_some_left, is_committed, has_rollback, has_begun, has_ended, is_unended, is_open, is_loser, last_lsn, transactions, unended, without_newest, all_surviving}
 use Rattle.als_record.specs.Images.{same_image, image_now, is_update_at, image_before, image_of_found, won}
 use Rattle.als_record.specs.Validity.{prev_of, bad_prev, old_transaction, wrong_state, goes_on_after, wrong_undo_next, undoes_newest, wrong_compensation, held_by, before_image, too_many, bad_checkpoint, may_follow, is_valid}
 use Rattle.als_record.specs.Tail.{TailStep, Ends, Undoes, is_finished, ends, undoes, losing, tail_steps, undone, record_for, numbered, tail_of}
@@ -81,7 +81,7 @@ module _ (log : List Record) (v : is_valid log ≡ true) where
     loser = losing-is_loser log u rest e
 
     parts : (is_unended log u.trans.0 ≡ true) × (not (is_committed log u.trans.0) ≡ true)
-    unfolding is_loser
+    unfolding is_open
     parts = and_parts (is_unended log u.trans.0) (not (is_committed log u.trans.0)) loser
 
     comp : is_compensation (record_for log (Undoes u)).body ≡ true
@@ -191,7 +191,7 @@ tail_steps-first log step rest v e = go (filter (is_finished log) (unended log))
 
 -- a log without a tail has no unended transaction
 pub unended-without_tail : (log : List Record) → tail_steps log ≡ [] → unended log ≡ []
-unfolding tail_steps undoes losing is_finished is_loser
+unfolding tail_steps undoes losing is_finished is_open
 unended-without_tail log e = nobody (unended log) refl
   where
     empty : (ts : List ℕ) (us : List Record) → ends ts ++ undoes us ≡ [] → (ts ≡ []) × (us ≡ [])

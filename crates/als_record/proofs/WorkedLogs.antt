@@ -1,44 +1,16 @@
 -- Worked logs: what the definitions of transactions, tables, causes, tails and commits compute for them.
 use Rattle.std.proofs.Common.{◌≡◌, ℕ, zero, suc, ◌+◌, ◌-◌, ◌*◌, true, List, [], ◌∷◌, Some, None, replicate, refl}
-use Rattle.als_record.specs.declared.key.Key.{Key}
-use Rattle.als_record.specs.declared.record.Body.{Body}
-use Rattle.als_record.specs.declared.record.Body.TheVariants.{Update, Compensation, Commit, Rollback, End, BeginCheckpoint, EndCheckpoint}
+use Rattle.als_record.specs.declared.record.Body.TheVariants.{Update, Commit, Rollback, End, BeginCheckpoint, EndCheckpoint}
 use Rattle.als_record.specs.declared.record.Record.{Record}
-use Rattle.als_record.specs.declared.transaction_state.TransactionState.{TransactionState}
 use Rattle.als_record.specs.declared.transaction_state.TransactionState.TheVariants.{Active, Committed}
-use Rattle.als_record.specs.declared.transaction_row.TransactionRow.{TransactionRow}
 use Rattle.als_record.specs.declared.cause.Cause.TheVariants.{BadPrev, OldTransaction, WrongState, WrongUndoNext, WrongCompensation, RecordHeld, BeforeImage, TooManyTransactions, BadCheckpoint}
-use Rattle.als_record.specs.Spelling.{Image, record_len}
 use Rattle.als_record.specs.LogText.{end_of}
-use Rattle.als_record.specs.Transactions.{records_of, to_undo, surviving, has_begun, is_committed, has_rollback, has_ended, is_unended, is_loser, last_lsn, undo_next_of, transactions, unended, losers, greatest_trans, all_surviving}
-use Rattle.als_record.specs.Table.{state_of, row_of, table_of}
+use Rattle.als_record.specs.Table.{table_of}
 use Rattle.als_record.specs.Images.{image_now, won}
-use Rattle.als_record.specs.Validity.{prev_of, bad_prev, old_transaction, wrong_state, wrong_undo_next, wrong_compensation, held_by, before_image, too_many, open_checkpoint, bad_checkpoint, first_bad, may_follow, may_follow_all, is_valid}
-use Rattle.als_record.specs.Tail.{is_finished, undoes, losing, tail_steps, numbered, tail_of, tail_len}
-use Rattle.als_record.specs.Commits.{writes_of, commits_of}
-
--- opens all definitions
-definitions : Unit {0}
-unfolding record_len end_of records_of to_undo surviving has_begun is_committed has_rollback has_ended is_unended is_loser last_lsn undo_next_of transactions unended losers greatest_trans all_surviving state_of row_of table_of image_now won prev_of bad_prev old_transaction wrong_state wrong_undo_next wrong_compensation held_by before_image too_many open_checkpoint bad_checkpoint first_bad may_follow may_follow_all is_valid is_finished undoes losing tail_steps numbered tail_of tail_len writes_of commits_of
-definitions = tt
-
--- ---- how the logs are written here: a record by its LSN, PrevLSN and TransID
-
-abbrev at : ℕ → ℕ → ℕ → Body → Record
-at lsn prev trans body = record { lsn = record { 0 = lsn }; prev = record { 0 = prev }; trans = record { 0 = trans }; body = body }
-
-abbrev key : ℕ → ℕ → Key
-key page slot = record { page = page; slot = slot }
-
--- an image of one byte
-abbrev one : ℕ → Image
-one byte = Some (record { items = byte ∷ [] })
-
-abbrev clr : ℕ → ℕ → ℕ → Key → Image → ℕ → Record
-clr lsn prev trans k after next = at lsn prev trans (Compensation (record { 0 = next }) k after)
-
-abbrev row : ℕ → TransactionState → ℕ → ℕ → TransactionRow
-row trans state last undo = record { trans = record { 0 = trans }; state = state; last = record { 0 = last }; undo_next = record { 0 = undo } }
+use Rattle.als_record.specs.Validity.{first_bad, is_valid}
+use Rattle.als_record.specs.Tail.{tail_of, tail_len, reserve_of}
+use Rattle.als_record.specs.Commits.{commits_of}
+use Rattle.als_record.proofs.Worked.{definitions, at, key, one, clr, row}
 
 -- ---- a transaction that did not commit
 
@@ -274,10 +246,10 @@ six bytes =
     ∷ at 196 160 1 (Update (key 0 5) None (Some (record { items = replicate bytes 1 }))) ∷ []
 
 -- with one byte in the sixth value the log and its tail fill it, with two they do not fit
-six-fits : end_of (six 1) + tail_len (six 1) ≡ 512
+six-fits : end_of (six 1) + reserve_of (six 1) ≡ 512
 unfolding definitions
 six-fits = refl
 
-six-too_long : end_of (six 2) + tail_len (six 2) ≡ 513
+six-too_long : end_of (six 2) + reserve_of (six 2) ≡ 513
 unfolding definitions
 six-too_long = refl

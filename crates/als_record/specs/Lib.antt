@@ -12,6 +12,7 @@ pub mod Table
 pub mod Images
 pub mod Validity
 pub mod Tail
+pub mod Sweep
 pub mod Commits
 pub mod Orders
 pub mod UndoChain

@@ -60,6 +60,10 @@ tail_of log = numbered log (tail_steps log)
 unfoldable pub tail_len : List Record → ℕ
 tail_len log = sum_by record_len (tail_of log)
 
+-- What must stay free on the log device behind a log: room for its tail, so that a takeover never meets a full device.
+abbrev pub reserve_of : List Record → ℕ
+reserve_of log = tail_len log
+
 -- the length of the compensation that undoes an update
 abbrev pub undo_len : Record → ℕ
 undo_len u = 42 + image_len (image_before u.body)

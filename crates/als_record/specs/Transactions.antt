@@ -84,9 +84,14 @@ has_ended log t = list_any (λ r. is_end r.body) (records_of log t)
 unfoldable pub is_unended : List Record → ℕ → Bool
 is_unended log t = has_begun log t && not (has_ended log t)
 
--- what a takeover has to undo: unended and not committed
-unfoldable pub is_loser : List Record → ℕ → Bool
-is_loser log t = is_unended log t && not (is_committed log t)
+-- unended and not committed: it holds the keys of its surviving updates
+unfoldable pub is_open : List Record → ℕ → Bool
+is_open log t = is_unended log t && not (is_committed log t)
+
+-- What a takeover has to undo: each open transaction. Holding keys is said by the word above, so that a transaction which
+-- waits for a decision could hold its keys and yet not be undone.
+abbrev pub is_loser : List Record → ℕ → Bool
+is_loser log = is_open log
 
 -- LastLSN: the LSN of the transaction's last record, 0 without one
 unfoldable pub last_lsn : List Record → ℕ → ℕ

@@ -7,7 +7,7 @@ use Rattle.als_record.specs.declared.record.Record.{Record}
 use Rattle.als_record.specs.declared.cause.Cause.{Cause}
 use Rattle.als_record.specs.declared.cause.Cause.TheVariants.{BadPrev, OldTransaction, WrongState, WrongUndoNext, WrongCompensation, RecordHeld, BeforeImage, TooManyTransactions, BadCheckpoint}
 use Rattle.als_record.specs.LogText.{end_of, IsLog}
-use Rattle.als_record.specs.Transactions.{is_transactional, is_end, is_some_left, to_undo, is_committed, has_rollback, is_unended, is_loser, last_lsn, unended, greatest_trans, all_surviving}
+use Rattle.als_record.specs.Transactions.{is_transactional, is_end, is_some_left, to_undo, is_committed, has_rollback, is_unended, is_open, last_lsn, unended, greatest_trans, all_surviving}
 use Rattle.als_record.specs.Images.{same_image, image_now, is_update_at, image_before}
 
 -- the PrevLSN that the next record of a transaction carries
@@ -56,10 +56,10 @@ undoes_newest _ _ = true
 unfoldable pub wrong_compensation : List Record → Record → Bool
 wrong_compensation log r = not (undoes_newest (to_undo log r.trans.0) r.body)
 
--- The transaction that holds an update's key: another loser, with a surviving update of that key. In a valid log there is
--- at most one, since each update was admitted only where no other loser had one.
+-- The transaction that holds an update's key: another open transaction, with a surviving update of that key. In a
+-- valid log there is at most one, since each update was admitted only where no other open one had one.
 abbrev pub holder : List Record → ℕ → Body → Option Record
-holder log t (Update key before after) = find (λ u. is_update_at key u.body && not (u.trans.0 == t) && is_loser log u.trans.0) (all_surviving log)
+holder log t (Update key before after) = find (λ u. is_update_at key u.body && not (u.trans.0 == t) && is_open log u.trans.0) (all_surviving log)
 holder log t _ = None
 
 -- 13: an update of a key that is held

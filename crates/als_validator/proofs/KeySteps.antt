@@ -12,7 +12,7 @@ use Rattle.als_record.specs.declared.record.Record.{Record}
 use Rattle.als_record.specs.Spelling.{Image, IsKey, IsBody}
 use Rattle.als_record.specs.LogText.{end_of}
 use Rattle.als_record.specs.Pages.{change_in}
-use Rattle.als_record.specs.Transactions.{is_transactional, is_update, is_compensation, is_of, records_of, to_undo_after, to_undo, is_some_left, has_ended, is_committed, is_unended, is_loser}
+use Rattle.als_record.specs.Transactions.{is_transactional, is_update, is_compensation, is_of, records_of, to_undo_after, to_undo, is_some_left, has_ended, is_committed, is_unended, is_open}
 use Rattle.als_record.specs.Images.{same_key, same_image, image_now, is_update_at, image_before}
 use Rattle.als_record.specs.Validity.{is_valid, undoes_newest, wrong_compensation, held_by}
 use Rattle.als_record.proofs.Numbers.{eqb-sym}
@@ -21,7 +21,7 @@ use Rattle.als_record.proofs.Survivors.{has_begun-survivor}
 use Rattle.als_record.proofs.Images.{image_with, image_now-push}
 use Rattle.als_record.proofs.Standing.{same_key-true, same_key-refl, is_update_at-same}
 use Rattle.als_record.proofs.Validity.{Admitted}
-use Rattle.als_record.proofs.Held.{holds, held_by-loser}
+use Rattle.als_record.proofs.Held.{holds, held_by-open}
 use Rattle.als_validator.specs.declared.key_state.KeyState.{KeyState}
 use Rattle.als_validator.specs.Keys.{updates_at, IsKeyOf, AreKeysOf, place_of}
 use Rattle.als_validator.proofs.Bounds.{Follows, updates_at-below}
@@ -41,10 +41,10 @@ some_left-any : (p : Record → Bool) (us : List Record) → list_any p us ≡ t
 some_left-any p [] e = e
 some_left-any p (u ∷ us) e = refl
 
--- an open transaction with updates left is a loser
-loses : (log : List Record) (t : ℕ) → is_some_left (to_undo log t) ≡ true → is_committed log t ≡ false → has_ended log t ≡ false → is_loser log t ≡ true
-unfolding is_loser is_unended
-loses log t s c h = rw (has_begun-survivor log t s, h, c) refl
+-- a transaction with updates left that has neither committed nor ended is open
+holds_on : (log : List Record) (t : ℕ) → is_some_left (to_undo log t) ≡ true → is_committed log t ≡ false → has_ended log t ≡ false → is_open log t ≡ true
+unfolding is_open is_unended
+holds_on log t s c h = rw (has_begun-survivor log t s, h, c) refl
 
 -- ---- one key
 
@@ -119,8 +119,8 @@ module _ (log : List Record) (r : Record) (k : Key) (old : KeyState) (kept : IsK
         free t o c h = elim (cases_Bool (holds log t k)) [
           | inr e ↦ count-none k (to_undo log t) e
           | inl e ↦
-              let l : is_loser log t ≡ true = loses log t (some_left-any (λ u. is_update_at k u.body) (to_undo log t) e) c h in
-              let f : held_by log r ≡ Some (record { 0 = t }) = held_by-loser log r k fore after valid b t l (other_trans t w o) e in
+              let l : is_open log t ≡ true = holds_on log t (some_left-any (λ u. is_update_at k u.body) (to_undo log t) e) c h in
+              let f : held_by log r ≡ Some (record { 0 = t }) = held_by-open log r k fore after valid b t l (other_trans t w o) e in
               let g : ◌≡◌ {A = Option TransId} None (Some (record { 0 = t })) = sym a.held ∙ f in
               absurd (cc g)
         ]

@@ -11,7 +11,7 @@ use Rattle.als_record.specs.declared.record.Body.TheVariants.{Update, Compensati
 use Rattle.als_record.specs.declared.record.Record.{Record}
 use Rattle.als_record.specs.declared.transaction_state.TransactionState.TheVariants.{Active, Committed, RollingBack}
 use Rattle.als_record.specs.declared.transaction_row.TransactionRow.{TransactionRow}
-use Rattle.als_record.specs.Transactions.{records_of, is_transactional, is_commit, is_end, is_of, is_some_left, to_undo, is_committed, has_rollback, has_begun, is_unended, is_loser, last_lsn, unended, greatest_trans}
+use Rattle.als_record.specs.Transactions.{records_of, is_transactional, is_commit, is_end, is_of, is_some_left, to_undo, is_committed, has_rollback, has_begun, is_unended, is_open, last_lsn, unended, greatest_trans}
 use Rattle.als_record.specs.Table.{state_of, row_of}
 use Rattle.als_record.specs.Validity.{prev_of, old_transaction, is_forward, wrong_state, goes_on_after, wrong_undo_next, undoes_newest, wrong_compensation, too_many, is_valid}
 use Rattle.als_record.proofs.Records.{is_unended-none, is_committed-own, is_committed-other, is_committed-none, has_rollback-none, to_undo-none}
@@ -223,20 +223,20 @@ too_many-begins log r v o =
     same : (n : ℕ) → nat_lt 256 (n + 1) ≡ nat_le 256 n
     same n = grind (arith, nat_tests)
 
--- ---- losers
+-- ---- open transactions
 
-pub goes_on-loser : (log : List Record) (t : ℕ) → is_unended log t ≡ true → goes_on (row_of log t).state ≡ is_loser log t
-unfolding row_of state_of is_loser
-goes_on-loser log t u = rw u (go (is_committed log t) (has_rollback log t))
+pub goes_on-open : (log : List Record) (t : ℕ) → is_unended log t ≡ true → goes_on (row_of log t).state ≡ is_open log t
+unfolding row_of state_of is_open
+goes_on-open log t u = rw u (go (is_committed log t) (has_rollback log t))
   where
     go : (c h : Bool) → goes_on (cond c Committed (cond h RollingBack Active)) ≡ not c
     go true h = refl
     go false true = refl
     go false false = refl
 
-pub is_loser-ended : (log : List Record) (t : ℕ) → is_unended log t ≡ false → is_loser log t ≡ false
-unfolding is_loser
-is_loser-ended log t u = rw u refl
+pub is_open-ended : (log : List Record) (t : ℕ) → is_unended log t ≡ false → is_open log t ≡ false
+unfolding is_open
+is_open-ended log t u = rw u refl
 
 pub is_some-copied : (n : Option (Bor Record)) → is_some n ≡ is_some (option_copied n)
 is_some-copied None = refl

@@ -3,7 +3,7 @@ ghost use Rattle.std.specs.List.{list_any};
 ghost use Rattle.als_record.specs.declared.record.Record.{Record};
 ghost use Rattle.als_record.specs.declared.trans_id.TransId.{TransId};
 ghost use Rattle.als_record.specs.Spelling.{IsRecord, IsKey};
-ghost use Rattle.als_record.specs.Transactions.{is_transactional, is_end, is_loser, unended, greatest_trans};
+ghost use Rattle.als_record.specs.Transactions.{is_transactional, is_end, is_open, unended, greatest_trans};
 ghost use Rattle.als_record.specs.Images.{same_image, is_update_at, image_before};
 ghost use Rattle.als_record.specs.Validity.{bad_prev, old_transaction, wrong_state, wrong_undo_next, wrong_compensation, held_by, before_image, too_many, fits_checkpoints, bad_checkpoint, open_checkpoint, is_valid};
 ghost use Rattle.als_analysis.specs.Noted.{IsTableOf};
@@ -142,8 +142,8 @@ fn does_fit(begun: Lsn, logged: &Record) -> bool
     }
 }
 
-/// Whether a transaction that is unended is a loser.
-fn is_open(state: TransactionState) -> bool
+/// Whether a transaction that is unended is open.
+fn does_go_on(state: TransactionState) -> bool
     ensures { result ≡ goes_on state }
 {
     match state {
@@ -209,11 +209,11 @@ fn kept_of(keys: &[KeyState], key: Key) -> Option<&KeyState>
 }
 
 /// Whether a transaction is unended and has not committed.
-fn is_losing(table: &TransTable, trans: TransId) -> bool
-    ensures { (log : List Record) → IsTableOf table.now log → result ≡ is_loser log trans.0 }
+fn is_still_open(table: &TransTable, trans: TransId) -> bool
+    ensures { (log : List Record) → IsTableOf table.now log → result ≡ is_open log trans.0 }
 {
     match table.open_of(trans) {
-        Some(kept) => is_open(kept.row().state),
+        Some(kept) => does_go_on(kept.row().state),
         None => false,
     }
 }
@@ -234,7 +234,7 @@ pub(crate) fn holder_of(keys: &[KeyState], table: &TransTable, logged: &Record) 
 
 /// The transaction that holds a key against another one.
 fn holder_in(kept: &KeyState, table: &TransTable, trans: TransId) -> Option<TransId>
-    ensures { (log : List Record) → IsTableOf table.now log → result ≡ (if not (kept.now.count == 0) && not (kept.now.holder.0 == trans.0) && is_loser log kept.now.holder.0 then Some kept.now.holder else None) }
+    ensures { (log : List Record) → IsTableOf table.now log → result ≡ (if not (kept.now.count == 0) && not (kept.now.holder.0 == trans.0) && is_open log kept.now.holder.0 then Some kept.now.holder else None) }
 {
     if kept.count == 0 {
         return None;
@@ -242,7 +242,7 @@ fn holder_in(kept: &KeyState, table: &TransTable, trans: TransId) -> Option<Tran
     if kept.holder.0 == trans.0 {
         return None;
     }
-    if is_losing(table, kept.holder) {
+    if is_still_open(table, kept.holder) {
         return Some(kept.holder);
     }
     None

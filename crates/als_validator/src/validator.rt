@@ -1,8 +1,8 @@
-ghost use Rattle.std.specs.Prelude.{◌≡◌, ◌≢◌, ◌<◌, vec_len, vec_capacity, ℕ, ◌+◌, List, [], ◌∷◌, ◌++◌, max, map, None, Ok, Err, IsOk, OnOk, OnErr, IfOk, IfErr, slice_index_or};
+ghost use Rattle.std.specs.Prelude.{◌≡◌, ◌≢◌, ◌<◌, vec_len, vec_capacity, ℕ, ◌+◌, ◌^◌, List, [], ◌∷◌, ◌++◌, max, map, None, Ok, Err, IsOk, OnOk, OnErr, IfOk, IfErr, slice_index_or};
 ghost use Rattle.als_record.specs.declared.record.Record.{Record};
 ghost use Rattle.als_record.specs.Spelling.{IsRecord};
 ghost use Rattle.als_record.specs.LogText.{end_of};
-ghost use Rattle.als_record.specs.Tail.{tail_len};
+ghost use Rattle.als_record.specs.Tail.{reserve_of};
 ghost use Rattle.als_record.specs.Transactions.{unended, surviving};
 ghost use Rattle.als_record.specs.Table.{table_of};
 ghost use Rattle.als_record.specs.Validity.{first_bad, checkpoint_after, IsValidLog};
@@ -193,17 +193,17 @@ impl Validator {
         self.table.rows()
     }
 
-    /// The bytes that a takeover would append.
+    /// The bytes that a takeover would append, exact for a log of less than 2^62 bytes.
     pub fn reserve_bytes(&self) -> u64
-        ensures { (pages : ℕ) (log : List Record) → IsValidatorOf pages self.now log → result ≡ tail_len log }
+        ensures { (pages : ℕ) (log : List Record) → IsValidatorOf pages self.now log → end_of log < 2 ^ 62 → result ≡ reserve_of log }
     {
         self.table.reserve_bytes()
     }
 
-    /// The bytes that a takeover would append after one more record that may follow the log, before that is taken. It takes no
-    /// memory, and the cost does not depend on how much is kept.
+    /// The bytes that a takeover would append after one more record that may follow the log, before that is taken, exact for a
+    /// log of less than 2^62 bytes. It takes no memory, and the cost does not depend on how much is kept.
     pub fn reserve_after(&self, logged: &Record) -> u64
-        ensures { (pages : ℕ) (log : List Record) → IsValidatorOf pages self.now log → logged.now.lsn.0 ≡ end_of log → first_bad log logged.now ≡ None → result ≡ tail_len (log ++ logged.now ∷ []) }
+        ensures { (pages : ℕ) (log : List Record) → IsValidatorOf pages self.now log → logged.now.lsn.0 ≡ end_of log → first_bad log logged.now ≡ None → end_of (log ++ logged.now ∷ []) < 2 ^ 62 → result ≡ reserve_of (log ++ logged.now ∷ []) }
     {
         self.table.reserve_after(logged)
     }
