@@ -12,9 +12,10 @@ pub struct ImageView<'a> {
 }
 
 impl<'a> ImageView<'a> {
-    ghost use Rattle.std.specs.Prelude.{◌≡◌};
+    ghost use Rattle.std.specs.Prelude.{◌≡◌, ◌≤◌};
     ghost use Rattle.als_record.specs.Images.{same_image};
     ghost use Rattle.als_record.specs.Shown.{shown_image};
+    ghost use Rattle.als_record.specs.Spelling.{image_len};
 
     /// A view of an image.
     #[inline]
@@ -40,6 +41,18 @@ impl<'a> ImageView<'a> {
                 Ok(value) => Some(value),
                 Err(_) => unreachable!(),
             },
+        }
+    }
+
+    /// The bytes of its value, 0 without one.
+    #[inline]
+    pub fn len(&self) -> usize
+        ensures len { result ≡ image_len (shown_image self.now) }
+        ensures limit { result ≤ 31 }
+    {
+        match self.bytes {
+            None => 0,
+            Some(bytes) => bytes.len(),
         }
     }
 

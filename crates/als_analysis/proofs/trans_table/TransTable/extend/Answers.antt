@@ -1,6 +1,7 @@
 use Rattle.std.proofs.Common.{◌≡◌, ◌%◌, ◌^◌, ◌<◌, true, length, get_or, set, sym, ap, ◌∙◌, subst, arith}
 use Rattle.std.specs.List.{sum_by}
 use Rattle.std.proofs.lemmas.List.{length-map, get_or-map, map-set}
+use Rattle.als_record.specs.Shown.{shown}
 use Rattle.als_record.specs.declared.transaction_row.TransactionRow.{TransactionRow}
 use Rattle.als_record.specs.Table.{row_after}
 use Rattle.als_analysis.specs.Open.{Open, owed, rows_of, left_of, left_after}
@@ -32,8 +33,8 @@ returns-clause-rows c d =
     let m : length (rows_of xs) ≡ length c.args.self.now.rows = ap (λ (t : Table). length t.rows) c.self.view_is in
     let lt : c.args.at < length xs = omega (arith, c.requires.within) in
     map-set (λ (o : Open). o.row) xs c.args.at c.extend.new.self
-    ∙ ap (λ row. set (rows_of xs) c.args.at row) (c.extend.ensures.row ∙ ap (λ row. row_after row c.args.logged.now) (ap (λ (p : Open). p.row) c.index_mut-entry.ensures.value ∙ sym (get_or-map (λ (o : Open). o.row) xs c.args.at e d lt)))
-    ∙ ap (λ (t : Table). set t.rows c.args.at (row_after (get_or t.rows c.args.at d) c.args.logged.now)) c.self.view_is
+    ∙ ap (λ row. set (rows_of xs) c.args.at row) (c.extend.ensures.row ∙ ap (λ row. row_after row (shown c.args.logged.now)) (ap (λ (p : Open). p.row) c.index_mut-entry.ensures.value ∙ sym (get_or-map (λ (o : Open). o.row) xs c.args.at e d lt)))
+    ∙ ap (λ (t : Table). set t.rows c.args.at (row_after (get_or t.rows c.args.at d) (shown c.args.logged.now))) c.self.view_is
 
 pub returns-clause-left : goal.returns-clause-left
 returns-clause-left c d =
@@ -43,5 +44,5 @@ returns-clause-left c d =
     let m : length (rows_of xs) ≡ length c.args.self.now.rows = ap (λ (t : Table). length t.rows) c.self.view_is in
     let lt : c.args.at < length xs = omega (arith, c.requires.within) in
     map-set (λ (o : Open). o.left) xs c.args.at c.extend.new.self
-    ∙ ap (λ left. set (left_of xs) c.args.at left) (c.extend.ensures.left ∙ ap (λ left. left_after left c.args.logged.now c.args.logged.now.body) (ap (λ (p : Open). p.left) c.index_mut-entry.ensures.value ∙ sym (get_or-map (λ (o : Open). o.left) xs c.args.at e d lt)))
-    ∙ ap (λ (t : Table). set t.left c.args.at (left_after (get_or t.left c.args.at d) c.args.logged.now c.args.logged.now.body)) c.self.view_is
+    ∙ ap (λ left. set (left_of xs) c.args.at left) (c.extend.ensures.left ∙ ap (λ left. left_after left (shown c.args.logged.now) (shown c.args.logged.now).body) (ap (λ (p : Open). p.left) c.index_mut-entry.ensures.value ∙ sym (get_or-map (λ (o : Open). o.left) xs c.args.at e d lt)))
+    ∙ ap (λ (t : Table). set t.left c.args.at (left_after (get_or t.left c.args.at d) (shown c.args.logged.now) (shown c.args.logged.now).body)) c.self.view_is

@@ -1,6 +1,7 @@
 use Rattle.std.proofs.Common.{◌≡◌, ◌+◌, ◌-◌, ◌%◌, ◌^◌, ◌≤◌, [], ◌∷◌, ◌++◌, get_or, sym, ap, ◌∙◌, arith}
 use Rattle.std.specs.List.{sum_by}
 use Rattle.std.proofs.lemmas.List.Sums.{get_or-le-sum_by}
+use Rattle.als_record.specs.Shown.{shown}
 use Rattle.als_record.specs.Table.{fresh_row}
 use Rattle.als_record.specs.Tail.{tail_len}
 use Rattle.als_analysis.specs.Open.{owed, owed_after}
@@ -13,7 +14,7 @@ pub returns-then-is_end_record : goal.returns-then-is_end_record
 returns-then-is_end_record c log h m =
     let xs = c.self.inside.entries.items in
     let e = c.index-entry.result.now in
-    let r = c.args.logged.now in
+    let r = shown c.args.logged.now in
     let was : c.owed.result ≡ owed (get_or xs c.args.at e) % 2 ^ 64 = c.owed.ensures ∙ ap (λ o. owed o % 2 ^ 64) c.index-entry.ensures in
     let is : sum_by owed xs ≡ tail_len (log ++ r ∷ []) + owed (get_or xs c.args.at e) =
     after-end log r c.args.self.now xs h (ap (λ (t : Table). t.rows) c.self.view_is) (ap (λ (t : Table). t.left) c.self.view_is) c.requires.kind c.args.at (fresh_row 0) e c.requires.within (c.requires.here (fresh_row 0)) (sym c.if-is_end_record.ensures) in
@@ -23,7 +24,7 @@ pub returns : goal.returns
 returns c log h m =
     let xs = c.self.inside.entries.items in
     let e = c.index-entry.result.now in
-    let r = c.args.logged.now in
+    let r = shown c.args.logged.now in
     let was : c.owed.result ≡ owed (get_or xs c.args.at e) % 2 ^ 64 = c.owed.ensures ∙ ap (λ o. owed o % 2 ^ 64) c.index-entry.ensures in
     let next : c.owed_after.result ≡ owed_after (get_or xs c.args.at e).row.state (get_or xs c.args.at e).left r % 2 ^ 64 = c.owed_after.ensures ∙ ap (λ o. owed_after o.row.state o.left r % 2 ^ 64) c.index-entry.ensures in
     let is : sum_by owed xs + owed_after (get_or xs c.args.at e).row.state (get_or xs c.args.at e).left r ≡ tail_len (log ++ r ∷ []) + owed (get_or xs c.args.at e) =
