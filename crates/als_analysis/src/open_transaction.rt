@@ -10,7 +10,8 @@ ghost use Rattle.als_analysis.specs.Open.{left_after, undo_len, undo_owed, owed,
 
 use crate::fault::Fault;
 use als_record::{
-    Body, BodyView, ImageView, Key, Lsn, Record, RecordView, TransId, TransactionRow, TransactionState,
+    Body, BodyView, ImageView, Key, Lsn, Record, RecordView, TransId, TransactionRow,
+    TransactionState,
 };
 use std::alloc::Global;
 use std::marker::Model;

@@ -64,7 +64,10 @@ fn is_end_record(body: &BodyView<'_>) -> bool
 fn is_transaction_record(body: &BodyView<'_>) -> bool
     ensures { result ≡ is_transactional (shown_body body.now) }
 {
-    !matches!(body, BodyView::BeginCheckpoint | BodyView::EndCheckpoint { .. })
+    !matches!(
+        body,
+        BodyView::BeginCheckpoint | BodyView::EndCheckpoint { .. }
+    )
 }
 
 /// Whether there are transactions, none of them below this one.
