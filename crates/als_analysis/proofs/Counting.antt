@@ -1,29 +1,39 @@
--- The bytes of the compensations to come, as an update comes or goes.
-use Rattle.std.proofs.Common.{◌≡◌, ℕ, ◌+◌, ◌-◌, ◌*◌, ◌≤◌, ◌<◌, ◌^◌, List, [], ◌∷◌, ◌++◌, length, sym, ap, ◌∙◌, arith}
+-- Sums modulo 2^64, and the bytes of the compensations to come as an update comes or goes.
+use Rattle.std.proofs.Common.{◌≡◌, ℕ, ◌+◌, ◌-◌, ◌<◌, ◌%◌, ◌^◌, List, [], ◌∷◌, ◌++◌, sym, ap, ◌∙◌, arith}
 use Rattle.std.specs.List.{sum_by}
-use Rattle.std.proofs.lemmas.List.{length_push}
-use Rattle.std.proofs.lemmas.List.Sums.{sum_by_push, sum_by-le}
-use Rattle.std.proofs.lemmas.List.Elements.{All-push, All-pop}
-use Rattle.std.specs.Prelude.{Some}
+use Rattle.std.proofs.Math.Nat.{mod-add-mod, add-mod-mod, add-mod_right, mod-lt}
+use Rattle.std.proofs.lemmas.List.Sums.{sum_by_push}
 use Rattle.als_record.specs.declared.record.Record.{Record}
-use Rattle.als_analysis.specs.Open.{undo_len, left_limit, IsCounted}
+use Rattle.als_analysis.specs.Open.{undo_len, IsCounted}
 
-pub counted-push : (left : List Record) (u : Record) (bytes : ℕ) → IsCounted left bytes → undo_len u ≤ 73 → length left < left_limit → IsCounted (left ++ u ∷ []) (bytes + undo_len u)
-counted-push left u bytes c s l = record {
-  counted = ap (λ n. n + undo_len u) c.counted ∙ sym (sum_by_push undo_len left u);
-  short = All-push (λ u. undo_len u ≤ 73) left u c.short s;
-  limit = let e : length (left ++ u ∷ []) ≡ length left + 1 = length_push left u in omega arith;
-}
+-- ---- sums modulo 2^64
 
-pub counted-pop : (old new : List Record) (u : Record) (bytes : ℕ) → old ≡ new ++ u ∷ [] → IsCounted old bytes → IsCounted new (bytes - undo_len u)
-counted-pop old new u bytes e c = record {
-  counted = let h : sum_by undo_len old ≡ sum_by undo_len new + undo_len u = ap (sum_by undo_len) e ∙ sum_by_push undo_len new u in let k : bytes ≡ sum_by undo_len old = c.counted in omega arith;
-  short = (All-pop (λ u. undo_len u ≤ 73) old new (Some u) e c.short).0;
-  limit = let h : length old ≡ length new + 1 = ap length e ∙ length_push new u in let k : length old ≤ left_limit = c.limit in omega arith;
-}
+pub wrapped-add : (a b : ℕ) → (a % 2 ^ 64 + b % 2 ^ 64) % 2 ^ 64 ≡ (a + b) % 2 ^ 64
+wrapped-add a b = mod-add-mod a (2 ^ 64) (b % 2 ^ 64) ∙ add-mod-mod a b (2 ^ 64)
 
-pub counted-limit : (left : List Record) (bytes : ℕ) → IsCounted left bytes → bytes ≤ 73 * 2 ^ 48
-counted-limit left bytes c =
-    let h : sum_by undo_len left ≤ length left * 73 = sum_by-le undo_len 73 left c.short in
-    let k : bytes ≡ sum_by undo_len left = c.counted in
-    let l : length left ≤ 2 ^ 48 = c.limit in omega arith
+taken : (a b : ℕ) → b < 2 ^ 64 → ((a + b) % 2 ^ 64 + (2 ^ 64 - b)) % 2 ^ 64 ≡ a % 2 ^ 64
+taken a b lt =
+    let back : a + b + (2 ^ 64 - b) ≡ a + 2 ^ 64 = omega arith in
+    mod-add-mod (a + b) (2 ^ 64) (2 ^ 64 - b) ∙ ap (λ n. n % 2 ^ 64) back ∙ add-mod_right a (2 ^ 64)
+
+pub wrapped-sub : (a b : ℕ) → ((a + b) % 2 ^ 64 + (2 ^ 64 - b % 2 ^ 64)) % 2 ^ 64 ≡ a % 2 ^ 64
+wrapped-sub a b = ap (λ n. (n + (2 ^ 64 - b % 2 ^ 64)) % 2 ^ 64) (sym (add-mod-mod a b (2 ^ 64))) ∙ taken a (b % 2 ^ 64) (mod-lt b (omega arith))
+
+-- a part of a sum replaced by another one, modulo 2^64
+pub replaced : (others sum new before after reserve : ℕ) → sum ≡ others + before → new ≡ others + after → reserve ≡ sum % 2 ^ 64 → ((reserve + (2 ^ 64 - before % 2 ^ 64)) % 2 ^ 64 + after % 2 ^ 64) % 2 ^ 64 ≡ new % 2 ^ 64
+replaced others sum new before after reserve s n r =
+    ap (λ m. ((m + (2 ^ 64 - before % 2 ^ 64)) % 2 ^ 64 + after % 2 ^ 64) % 2 ^ 64) (r ∙ ap (λ m. m % 2 ^ 64) s)
+    ∙ ap (λ m. (m + after % 2 ^ 64) % 2 ^ 64) (wrapped-sub others before)
+    ∙ wrapped-add others after
+    ∙ ap (λ m. m % 2 ^ 64) (sym n)
+
+-- ---- the bytes of the compensations
+
+pub counted-push : (left : List Record) (u : Record) (bytes : ℕ) → IsCounted left bytes → IsCounted (left ++ u ∷ []) ((bytes + undo_len u) % 2 ^ 64)
+counted-push left u bytes c =
+    ap (λ n. (n + undo_len u) % 2 ^ 64) c ∙ mod-add-mod (sum_by undo_len left) (2 ^ 64) (undo_len u) ∙ ap (λ n. n % 2 ^ 64) (sym (sum_by_push undo_len left u))
+
+pub counted-pop : (old new : List Record) (u : Record) (bytes : ℕ) → old ≡ new ++ u ∷ [] → IsCounted old bytes → undo_len u < 2 ^ 64 → IsCounted new ((bytes + (2 ^ 64 - undo_len u)) % 2 ^ 64)
+counted-pop old new u bytes e c lt =
+    ap (λ n. (n + (2 ^ 64 - undo_len u)) % 2 ^ 64) (c ∙ ap (λ n. n % 2 ^ 64) (ap (sum_by undo_len) e ∙ sum_by_push undo_len new u))
+    ∙ taken (sum_by undo_len new) (undo_len u) lt

@@ -1,17 +1,17 @@
 -- The table as it is kept, through one more record: an entry replaced, added or taken away.
-use Rattle.std.proofs.Common.{◌≡◌, ℕ, ◌+◌, ◌-◌, ◌*◌, ◌≤◌, ◌<◌, Bool, true, false, List, [], ◌∷◌, ◌++◌, length, get_or, set, map, inl, inr, refl, sym, ap, ◌∙◌, subst, arith, zero, suc, take, le_of_suc-le-suc, not-suc-le-zero}
+use Rattle.std.proofs.Common.{◌≡◌, ℕ, ◌+◌, ◌-◌, ◌%◌, ◌^◌, ◌≤◌, ◌<◌, Bool, true, false, List, [], ◌∷◌, ◌++◌, length, get_or, set, map, inl, inr, refl, sym, ap, ◌∙◌, subst, arith, zero, suc, take, le_of_suc-le-suc, not-suc-le-zero}
 use Rattle.std.specs.List.{All, sum_by, remove}
 use Rattle.std.proofs.lemmas.Bool.{cases_eq, cases_lt, ne_eqb, false≢true}
 use Rattle.std.proofs.lemmas.List.{length-map, length-set, length_push, get_or-set_same, get_or-set_other, get_or_default, get_or_append_left, get_or-map, set_past, map-set, set-get_or}
-use Rattle.std.proofs.lemmas.List.Sums.{sum_by_push, sum_by-le, sum_by-set, sum_by-remove, get_or-le-sum_by}
-use Rattle.std.proofs.lemmas.List.Elements.{All-push, All-set}
+use Rattle.std.proofs.lemmas.List.Sums.{sum_by_push, sum_by-set, sum_by-remove, get_or-le-sum_by}
 use Rattle.std.proofs.lemmas.List.Quantifiers.{all_pairs_push, all_pairs_remove}
 use Rattle.std.proofs.lemmas.List.Edits.{length-remove, get_or-remove_below, get_or-remove_above}
 use Rattle.std.specs.List.Sorted.{IsNonDecreasingBy}
 use Rattle.als_record.specs.declared.transaction_row.TransactionRow.{TransactionRow}
 use Rattle.als_record.specs.Transactions.{is_among}
 use Rattle.als_record.specs.Table.{fresh_row}
-use Rattle.als_analysis.specs.Open.{Open, owed, owed_limit, rows_of}
+use Rattle.als_analysis.specs.Open.{Open, owed, rows_of}
+use Rattle.als_analysis.proofs.Counting.{wrapped-add, wrapped-sub, replaced}
 use Rattle.als_analysis.specs.Kept.{IsRising, IsPlace, numbers, HasRoom, IsKept, MakesRoom}
 
 pub rising-sorted : (xs : List Open) → IsRising xs → IsNonDecreasingBy (λ o. o.row.trans.0) xs
@@ -56,10 +56,6 @@ All-remove {X} P xs i lt a k d l =
       | inr b ↦ subst P (sym (get_or-remove_above xs i d k b lt)) (a (k + 1) d (omega arith))
     ]
 
--- all that is owed is far below 2^64
-pub owed-bound : (xs : List Open) → length xs ≤ 256 → All (λ o. owed o ≤ owed_limit) xs → sum_by owed xs ≤ 256 * owed_limit
-owed-bound xs few limit = let h : sum_by owed xs ≤ length xs * owed_limit = sum_by-le owed owed_limit xs limit in omega arith
-
 module _ (xs ys : List Open) (reserve tight capacity : ℕ) (k : IsKept xs ys reserve tight true capacity) where
   here : HasRoom xs ys capacity
   here = k.room refl
@@ -71,34 +67,34 @@ module _ (xs ys : List Open) (reserve tight capacity : ℕ) (k : IsKept xs ys re
       | inr n ↦ ap (λ (p : Open). p.row.trans.0) (get_or-set_other xs i x o e n)
     ]
 
-    pub kept-set : owed o ≤ owed_limit → IsKept (set xs i o) ys (reserve - owed (get_or xs i d) + owed o) i false capacity
-    kept-set small = record {
+    pub kept-set : IsKept (set xs i o) ys (((reserve + (2 ^ 64 - owed (get_or xs i d) % 2 ^ 64)) % 2 ^ 64 + owed o % 2 ^ 64) % 2 ^ 64) i false capacity
+    kept-set = record {
       rising = λ a b e l m. let n : length (set xs i o) ≡ length xs = length-set xs i o in let h : (get_or xs a e).row.trans.0 < (get_or xs b e).row.trans.0 = k.rising a b e l (omega arith) in let p : (get_or (set xs i o) a e).row.trans.0 ≡ (get_or xs a e).row.trans.0 = trans-set a e in let q : (get_or (set xs i o) b e).row.trans.0 ≡ (get_or xs b e).row.trans.0 = trans-set b e in omega arith;
       few = let n : length (set xs i o) ≡ length xs = length-set xs i o in omega (arith, k.few);
-      limit = All-set (λ o. owed o ≤ owed_limit) xs i o small k.limit;
-      counted = let s : sum_by owed (set xs i o) + owed (get_or xs i d) ≡ sum_by owed xs + owed o = sum_by-set owed xs i o d lt in let m : owed (get_or xs i d) ≤ sum_by owed xs = get_or-le-sum_by owed xs i d lt in let r : reserve ≡ sum_by owed xs = k.counted in omega arith;
+      counted =
+          let s : sum_by owed (set xs i o) + owed (get_or xs i d) ≡ sum_by owed xs + owed o = sum_by-set owed xs i o d lt in
+          let m : owed (get_or xs i d) ≤ sum_by owed xs = get_or-le-sum_by owed xs i d lt in
+          replaced (sum_by owed xs - owed (get_or xs i d)) (sum_by owed xs) (sum_by owed (set xs i o)) (owed (get_or xs i d)) (owed o) reserve (omega arith) (omega arith) k.counted;
       spared = k.spared;
       but_one = λ x e l n. let m : length (set xs i o) ≡ length xs = length-set xs i o in rw (get_or-set_other xs i x o e n) (here.each x e (omega arith));
       room = λ f. absurd (false≢true f);
     }
 
-  pub kept-push : (ys' : List Open) (o : Open) → All (λ x. x.row.trans.0 < o.row.trans.0) xs → length xs < 256 → owed o ≤ owed_limit → All (λ o. 0 < o.room) ys' → IsKept (xs ++ o ∷ []) ys' (reserve + owed o) (length xs) false capacity
-  kept-push ys' o above few small spared = record {
+  pub kept-push : (ys' : List Open) (o : Open) → All (λ x. x.row.trans.0 < o.row.trans.0) xs → length xs < 256 → All (λ o. 0 < o.room) ys' → IsKept (xs ++ o ∷ []) ys' ((reserve + owed o % 2 ^ 64) % 2 ^ 64) (length xs) false capacity
+  kept-push ys' o above few spared = record {
     rising = all_pairs_push (λ a b. a.row.trans.0 < b.row.trans.0) xs o k.rising above;
     few = let n : length (xs ++ o ∷ []) ≡ length xs + 1 = length_push xs o in omega arith;
-    limit = All-push (λ o. owed o ≤ owed_limit) xs o k.limit small;
-    counted = let s : sum_by owed (xs ++ o ∷ []) ≡ sum_by owed xs + owed o = sum_by_push owed xs o in let r : reserve ≡ sum_by owed xs = k.counted in omega arith;
+    counted = ap (λ n. (n + owed o % 2 ^ 64) % 2 ^ 64) k.counted ∙ wrapped-add (sum_by owed xs) (owed o) ∙ ap (λ n. n % 2 ^ 64) (sym (sum_by_push owed xs o));
     spared = spared;
     but_one = λ x e l n. let m : length (xs ++ o ∷ []) ≡ length xs + 1 = length_push xs o in let b : x < length xs = omega arith in rw (get_or_append_left xs (o ∷ []) e x b) (here.each x e b);
     room = λ f. absurd (false≢true f);
   }
 
-  pub kept-remove : (ys' : List Open) (i : ℕ) (d : Open) → i < length xs → All (λ o. 0 < o.room) ys' → IsKept (remove xs i) ys' (reserve - owed (get_or xs i d)) tight false capacity
+  pub kept-remove : (ys' : List Open) (i : ℕ) (d : Open) → i < length xs → All (λ o. 0 < o.room) ys' → IsKept (remove xs i) ys' ((reserve + (2 ^ 64 - owed (get_or xs i d) % 2 ^ 64)) % 2 ^ 64) tight false capacity
   kept-remove ys' i d lt spared = record {
     rising = all_pairs_remove (λ a b. a.row.trans.0 < b.row.trans.0) xs i lt k.rising;
     few = let n : length (remove xs i) + 1 ≡ length xs = length-remove xs i lt in omega (arith, k.few);
-    limit = All-remove (λ o. owed o ≤ owed_limit) xs i lt k.limit;
-    counted = let s : sum_by owed (remove xs i) + owed (get_or xs i d) ≡ sum_by owed xs = sum_by-remove owed xs i d lt in let r : reserve ≡ sum_by owed xs = k.counted in omega arith;
+    counted = ap (λ n. (n + (2 ^ 64 - owed (get_or xs i d) % 2 ^ 64)) % 2 ^ 64) (k.counted ∙ ap (λ n. n % 2 ^ 64) (sym (sum_by-remove owed xs i d lt))) ∙ wrapped-sub (sum_by owed (remove xs i)) (owed (get_or xs i d));
     spared = spared;
     but_one = λ x e l n. All-remove (λ o. 0 < o.room) xs i lt here.each x e l;
     room = λ f. absurd (false≢true f);
@@ -110,7 +106,6 @@ module _ (xs ys : List Open) (reserve tight capacity : ℕ) (has_room : Bool) (k
   kept-unready ys' capacity' spared = record {
     rising = k.rising;
     few = k.few;
-    limit = k.limit;
     counted = k.counted;
     spared = spared;
     but_one = k.but_one;
@@ -122,7 +117,6 @@ module _ (xs ys : List Open) (reserve tight capacity : ℕ) (has_room : Bool) (k
   kept-ready ys' capacity' spared place spare past = record {
     rising = k.rising;
     few = k.few;
-    limit = k.limit;
     counted = k.counted;
     spared = spared;
     but_one = k.but_one;
@@ -136,8 +130,7 @@ module _ (xs ys : List Open) (reserve tight capacity : ℕ) (has_room : Bool) (k
       record {
         rising = λ a b e l m. let h : (get_or xs a e).row.trans.0 < (get_or xs b e).row.trans.0 = k.rising a b e l (omega arith) in let p : (get_or (set xs tight o) a e).row.trans.0 ≡ (get_or xs a e).row.trans.0 = trans a e in let q : (get_or (set xs tight o) b e).row.trans.0 ≡ (get_or xs b e).row.trans.0 = trans b e in omega arith;
         few = omega (arith, k.few);
-        limit = All-set (λ o. owed o ≤ owed_limit) xs tight o (subst (λ m. m ≤ owed_limit) (sym same) (k.limit tight d lt)) k.limit;
-        counted = let s : sum_by owed (set xs tight o) + owed (get_or xs tight d) ≡ sum_by owed xs + owed o = sum_by-set owed xs tight o d lt in let r : reserve ≡ sum_by owed xs = k.counted in omega arith;
+        counted = let s : sum_by owed (set xs tight o) + owed (get_or xs tight d) ≡ sum_by owed xs + owed o = sum_by-set owed xs tight o d lt in k.counted ∙ ap (λ n. n % 2 ^ 64) (omega arith);
         spared = spared;
         but_one = λ x e l ne. rooms x e (subst (λ m. x < m) n l);
         room = λ _. record { each = λ x e l. rooms x e (subst (λ m. x < m) n l); place = subst (λ m. m < capacity') (sym n) place; spare = spare };

@@ -1,8 +1,8 @@
 -- How the table is kept: in order, counted, and with room but at one place.
-use Rattle.std.specs.Prelude.{◌≡◌, ℕ, ◌≤◌, ◌<◌, Bool, true, List, length, slice_index_or, slice_set, map}
+use Rattle.std.specs.Prelude.{◌≡◌, ℕ, ◌%◌, ◌^◌, ◌≤◌, ◌<◌, Bool, true, List, length, slice_index_or, slice_set, map}
 use Rattle.std.specs.List.{All, AllPairs, sum_by}
 use Rattle.als_record.specs.declared.transaction_row.TransactionRow.{TransactionRow}
-use Rattle.als_analysis.specs.Open.{Open, owed, owed_limit}
+use Rattle.als_analysis.specs.Open.{Open, owed}
 
 -- the TransIDs of rows
 abbrev pub numbers : List TransactionRow → List ℕ
@@ -24,12 +24,11 @@ pub record HasRoom (entries spares : List Open) (capacity : ℕ) : Type 0 where
   pub place : length entries < capacity
   pub spare : 0 < length spares
 
--- What the table keeps of itself: `tight` is the one transaction that may be without room.
+-- What the table keeps of itself. The sum is kept modulo 2^64, which is exact for a log that a device holds. `tight` is the one transaction that may be without room.
 pub record IsKept (entries spares : List Open) (reserve tight : ℕ) (has_room : Bool) (capacity : ℕ) : Type 0 where
   pub rising : IsRising entries
   pub few : length entries ≤ 256
-  pub limit : All (λ o. owed o ≤ owed_limit) entries
-  pub counted : reserve ≡ sum_by owed entries
+  pub counted : reserve ≡ sum_by owed entries % 2 ^ 64
   pub spared : All (λ o. 0 < o.room) spares
   pub but_one : (k : ℕ) (d : Open) → k < length entries → (k ≡ tight → ⊥) → 0 < (slice_index_or entries k d).room
   pub room : has_room ≡ true → HasRoom entries spares capacity

@@ -1,6 +1,6 @@
 -- What is kept of a transaction that has not ended.
-use Rattle.std.specs.Prelude.{◌≡◌, ℕ, ◌+◌, ◌-◌, ◌*◌, ◌≤◌, ◌^◌, List, [], ◌∷◌, ◌++◌, length, take, map}
-use Rattle.std.specs.List.{sum_by, All}
+use Rattle.std.specs.Prelude.{◌≡◌, ℕ, ◌+◌, ◌-◌, ◌%◌, ◌^◌, List, [], ◌∷◌, ◌++◌, length, take, map}
+use Rattle.std.specs.List.{sum_by}
 use Rattle.als_record.specs.declared.record.Body.{Body}
 use Rattle.als_record.specs.declared.record.Body.TheVariants.{Update, Compensation}
 use Rattle.als_record.specs.declared.record.Record.{Record}
@@ -40,23 +40,9 @@ owed o = 28 + undo_owed o.row.state o.left
 abbrev pub owed_after : TransactionState → List Record → Record → ℕ
 owed_after state left r = 28 + undo_owed (state_after state r.body) (left_after left r r.body)
 
--- The updates that one transaction may have kept: more than any memory holds.
-abbrev pub left_limit : ℕ
-left_limit = 2 ^ 48
-
--- what its compensations take at most
-abbrev pub undo_limit : ℕ
-undo_limit = 73 * 2 ^ 48
-
--- what one transaction owes at most
-abbrev pub owed_limit : ℕ
-owed_limit = 28 + 73 * 2 ^ 48
-
--- the bytes of the compensations are counted
-pub record IsCounted (left : List Record) (bytes : ℕ) : Type 0 where
-  pub counted : bytes ≡ sum_by undo_len left
-  pub short : All (λ u. undo_len u ≤ 73) left
-  pub limit : length left ≤ left_limit
+-- the bytes of the compensations are counted, modulo 2^64
+abbrev pub IsCounted : List Record → ℕ → Type 0
+IsCounted left bytes = bytes ≡ sum_by undo_len left % 2 ^ 64
 
 -- the rows of transactions
 abbrev pub rows_of : List Open → List TransactionRow

@@ -1,21 +1,23 @@
-ghost use Rattle.std.specs.Prelude.{◌≡◌, ◌↔◌, IsTrue, ℕ, ◌<◌, ◌≤◌, ◌+◌, [], IfOk, OnOk, OnErr};
+ghost use Rattle.std.specs.Prelude.{◌≡◌, ◌↔◌, IsTrue, ℕ, ◌<◌, ◌≤◌, ◌+◌, ◌%◌, ◌^◌, [], IfOk, OnOk, OnErr};
 ghost use Rattle.std.specs.List.{sum_by};
 ghost use Rattle.als_record.specs.declared.transaction_state.TransactionState.TheVariants.{Active};
 ghost use Rattle.als_record.specs.Spelling.{image_len};
 ghost use Rattle.als_record.specs.Images.{image_before};
+ghost use Rattle.als_record.specs.Shown.{shown, shown_body, shown_image};
 ghost use Rattle.als_record.specs.Table.{row_after, state_after, state_after_rollback, fresh_row};
 ghost use Rattle.als_record.specs.Transactions.{undo_next_after};
-ghost use Rattle.als_analysis.specs.Open.{left_after, undo_len, undo_limit, undo_owed, owed, owed_after, owed_limit};
+ghost use Rattle.als_analysis.specs.Open.{left_after, undo_len, undo_owed, owed, owed_after};
 
 use crate::fault::Fault;
-use als_record::{Body, Image, Key, Lsn, Record, TransId, TransactionRow, TransactionState, Value};
+use als_record::{
+    Body, BodyView, ImageView, Key, Lsn, Record, RecordView, TransId, TransactionRow,
+    TransactionState,
+};
 use std::alloc::Global;
 use std::marker::Model;
 
-/// The updates that one transaction may have kept: more than any memory holds, so that a growth is refused long before.
-const LEFT_LIMIT: usize = 1 << 48;
-
-/// One transaction that has not ended: its row of the transaction table, and its surviving updates in order.
+/// One transaction that has not ended: its row of the transaction table, and its surviving updates in order. The bytes of
+/// its compensations are counted modulo 2^64, so that any record may be noted.
 #[derive(Drop)]
 pub struct OpenTransaction {
     row: TransactionRow,
@@ -24,48 +26,44 @@ pub struct OpenTransaction {
 }
 
 impl Model for OpenTransaction {
-    ghost use Rattle.std.specs.Prelude.{vec_len, vec_capacity, min, ◌-◌};
-    ghost use Rattle.als_analysis.specs.Open.{Open, IsCounted, left_limit};
+    ghost use Rattle.std.specs.Prelude.{vec_len, vec_capacity, ◌-◌};
+    ghost use Rattle.als_analysis.specs.Open.{Open, IsCounted};
 
     ghost Value = { Open };
 
-    ghost view = { λ o. record { row = o.row; left = o.left.items; room = min (vec_capacity o.left) left_limit - vec_len o.left } };
+    ghost view = { λ o. record { row = o.row; left = o.left.items; room = vec_capacity o.left - vec_len o.left } };
 
     ghost invariant = { λ o. IsCounted o.left.items o.undo_bytes };
 }
 
 /// The length of the compensation that undoes an update, in bytes.
-fn undo_len_of(update: &Record) -> u64
-    ensures len { result ≡ undo_len update.now }
+fn undo_len_of(update: &RecordView<'_>) -> u64
+    ensures len { result ≡ undo_len (shown update.now) }
     ensures limit { result ≤ 73 }
 {
     match &update.body {
-        Body::Update {
-            before: Some(value),
-            ..
-        } => 42 + value.len() as u64,
+        BodyView::Update { before, .. } => 42 + before.len() as u64,
         _ => 42,
     }
 }
 
 /// The bytes that a takeover appends for a transaction of which this is the first record, and not its end.
-pub(crate) fn owed_anew(logged: &Record) -> u64
-    ensures owed { result ≡ owed_after Active [] logged.now }
-    ensures limit { result ≤ owed_limit }
+pub(crate) fn owed_anew(logged: &RecordView<'_>) -> u64
+    ensures { result ≡ owed_after Active [] (shown logged.now) }
 {
     match &logged.body {
-        Body::Update { .. } => 28 + undo_len_of(logged),
+        BodyView::Update { .. } => 28 + undo_len_of(logged),
         _ => 28,
     }
 }
 
 /// The state after one more record of the transaction.
-fn next_state(state: TransactionState, body: &Body) -> TransactionState
-    ensures { result ≡ state_after state body.now }
+fn next_state(state: TransactionState, body: &BodyView<'_>) -> TransactionState
+    ensures { result ≡ state_after state (shown_body body.now) }
 {
     match (body, state) {
-        (Body::Commit, _) => TransactionState::Committed,
-        (Body::Rollback, TransactionState::Active | TransactionState::RollingBack) => {
+        (BodyView::Commit, _) => TransactionState::Committed,
+        (BodyView::Rollback, TransactionState::Active | TransactionState::RollingBack) => {
             TransactionState::RollingBack
         }
         _ => state,
@@ -73,12 +71,12 @@ fn next_state(state: TransactionState, body: &Body) -> TransactionState
 }
 
 /// UndoNxtLSN after one more record of the transaction.
-fn next_undo(undo_next: Lsn, logged: &Record) -> Lsn
-    ensures { result.0 ≡ undo_next_after undo_next.0 logged.now.lsn.0 logged.now.body }
+fn next_undo(undo_next: Lsn, logged: &RecordView<'_>) -> Lsn
+    ensures { result.0 ≡ undo_next_after undo_next.0 logged.now.lsn.0 (shown_body logged.now.body) }
 {
     match &logged.body {
-        Body::Update { .. } => logged.lsn,
-        Body::Compensation { undo_next, .. } => *undo_next,
+        BodyView::Update { .. } => logged.lsn,
+        BodyView::Compensation { undo_next, .. } => *undo_next,
         _ => undo_next,
     }
 }
@@ -121,41 +119,39 @@ impl OpenTransaction {
         self.left.as_slice()
     }
 
-    /// The bytes that a takeover appends for it.
+    /// The bytes that a takeover appends for it, modulo 2^64.
     pub(crate) fn owed(&self) -> u64
-        ensures owed { result ≡ owed self.now }
-        ensures limit { result ≤ owed_limit }
+        ensures { result ≡ owed self.now % 2 ^ 64 }
     {
-        28 + match self.row.state {
+        let undo_bytes = match self.row.state {
             TransactionState::Committed => 0,
             TransactionState::Active | TransactionState::RollingBack => self.undo_bytes,
-        }
+        };
+        undo_bytes.wrapping_add(28)
     }
 
-    /// The bytes of its compensations after one more record of the transaction, if it is to be undone.
-    fn undo_bytes_after(&self, logged: &Record) -> u64
-        ensures sum { result ≡ sum_by undo_len (left_after self.now.left logged.now logged.now.body) }
-        ensures limit { result ≤ undo_limit + 73 }
+    /// The bytes of its compensations after one more record of the transaction, if it is to be undone, modulo 2^64.
+    fn undo_bytes_after(&self, logged: &RecordView<'_>) -> u64
+        ensures { result ≡ sum_by undo_len (left_after self.now.left (shown logged.now) (shown_body logged.now.body)) % 2 ^ 64 }
     {
         match &logged.body {
-            Body::Update { .. } => self.undo_bytes + undo_len_of(logged),
-            Body::Compensation { .. } => match self.left.last() {
-                Some(undone) => self.undo_bytes - undo_len_of(undone),
+            BodyView::Update { .. } => self.undo_bytes.wrapping_add(undo_len_of(logged)),
+            BodyView::Compensation { .. } => match self.left.last() {
+                Some(undone) => self.undo_bytes.wrapping_sub(undo_len_of(&undone.view())),
                 None => self.undo_bytes,
             },
             _ => self.undo_bytes,
         }
     }
 
-    /// The bytes that a takeover appends for it after one more record of the transaction, which is not its end.
-    pub(crate) fn owed_after(&self, logged: &Record) -> u64
-        ensures owed { result ≡ owed_after self.now.row.state self.now.left logged.now }
-        ensures limit { result ≤ owed_limit + 73 }
+    /// The bytes that a takeover appends for it after one more record of the transaction, which is not its end, modulo 2^64.
+    pub(crate) fn owed_after(&self, logged: &RecordView<'_>) -> u64
+        ensures { result ≡ owed_after self.now.row.state self.now.left (shown logged.now) % 2 ^ 64 }
     {
         match next_state(self.row.state, &logged.body) {
             TransactionState::Committed => 28,
             TransactionState::Active | TransactionState::RollingBack => {
-                28 + self.undo_bytes_after(logged)
+                self.undo_bytes_after(logged).wrapping_add(28)
             }
         }
     }
@@ -164,7 +160,7 @@ impl OpenTransaction {
     pub(crate) fn has_room(&self) -> bool
         ensures { IsTrue result ↔ (0 < self.now.room) }
     {
-        self.left.len() < LEFT_LIMIT && self.left.len() < self.left.capacity()
+        self.left.len() < self.left.capacity()
     }
 
     /// Makes room for one more update. An `Err` changes nothing.
@@ -174,9 +170,6 @@ impl OpenTransaction {
         ensures ok { OnOk result (0 < self.new.room) }
         ensures err { OnErr result (self.new ≡ self.old) }
     {
-        if self.left.len() >= LEFT_LIMIT {
-            return Err(Fault::Memory);
-        }
         self.left.reserve(1)?;
         Ok(())
     }
@@ -194,10 +187,10 @@ impl OpenTransaction {
 
     /// Notes one more record of the transaction.
     #[inline(always)]
-    pub(crate) fn extend(&mut self, logged: &Record)
+    pub(crate) fn extend(&mut self, logged: &RecordView<'_>)
         requires room { 0 < self.old.room }
-        ensures row { self.new.row ≡ row_after self.old.row logged.now }
-        ensures left { self.new.left ≡ left_after self.old.left logged.now logged.now.body }
+        ensures row { self.new.row ≡ row_after self.old.row (shown logged.now) }
+        ensures left { self.new.left ≡ left_after self.old.left (shown logged.now) (shown_body logged.now.body) }
     {
         self.row = TransactionRow {
             trans: self.row.trans,
@@ -206,14 +199,14 @@ impl OpenTransaction {
             undo_next: next_undo(self.row.undo_next, logged),
         };
         match &logged.body {
-            Body::Update { key, before, after } => {
-                self.undo_bytes += undo_len_of(logged);
+            BodyView::Update { key, before, after } => {
+                self.undo_bytes = self.undo_bytes.wrapping_add(undo_len_of(logged));
                 self.left
                     .push_reserved(copy_of_update(logged, key, before, after));
             }
-            Body::Compensation { .. } => {
+            BodyView::Compensation { .. } => {
                 if let Some(undone) = self.left.pop() {
-                    self.undo_bytes -= undo_len_of(&undone);
+                    self.undo_bytes = self.undo_bytes.wrapping_sub(undo_len_of(&undone.view()));
                 }
             }
             _ => {}
@@ -221,25 +214,16 @@ impl OpenTransaction {
     }
 }
 
-/// The same image. It takes no memory.
+/// The update that is shown. It takes no memory.
 #[inline(always)]
-fn copy_of(image: &Image) -> Image
-    ensures { result ≡ image.now }
-{
-    match image {
-        None => None,
-        Some(value) => match Value::try_from(value.as_slice()) {
-            Ok(copy) => Some(copy),
-            Err(_) => unreachable!(),
-        },
-    }
-}
-
-/// The same update. It takes no memory.
-#[inline(always)]
-fn copy_of_update(logged: &Record, key: &Key, before: &Image, after: &Image) -> Record
-    requires { logged.now.body ≡ Body.Update key.now before.now after.now }
-    ensures { result ≡ logged.now }
+fn copy_of_update(
+    logged: &RecordView<'_>,
+    key: &Key,
+    before: &ImageView<'_>,
+    after: &ImageView<'_>,
+) -> Record
+    requires { shown_body logged.now.body ≡ Body.Update key.now (shown_image before.now) (shown_image after.now) }
+    ensures { result ≡ shown logged.now }
 {
     Record {
         lsn: logged.lsn,
@@ -247,8 +231,8 @@ fn copy_of_update(logged: &Record, key: &Key, before: &Image, after: &Image) -> 
         trans: logged.trans,
         body: Body::Update {
             key: *key,
-            before: copy_of(before),
-            after: copy_of(after),
+            before: before.to_image(),
+            after: after.to_image(),
         },
     }
 }

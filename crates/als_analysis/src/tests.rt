@@ -56,14 +56,14 @@ fn row(trans: u32, state: TransactionState, last: u64, undo_next: u64) -> Transa
 fn note(rt: &impl Abort, table: &mut TransTable, logged: &Record) {
     let open = table.rows().len();
     let reserve = table.reserve_bytes();
-    let after = table.reserve_after(logged);
-    if let Err(fault) = table.note(logged) {
+    let after = table.reserve_after(&logged.view());
+    if let Err(fault) = table.note(&logged.view()) {
         assert_eq!(rt; fault, Fault::Memory);
         assert_eq!(rt; fault.number(), 32);
         assert_eq!(rt; fault.name(), "Memory");
         assert_eq!(rt; table.rows().len(), open);
         assert_eq!(rt; table.reserve_bytes(), reserve);
-        assert!(rt; table.note(logged).is_ok());
+        assert!(rt; table.note(&logged.view()).is_ok());
     }
     assert_eq!(rt; table.reserve_bytes(), after);
 }
@@ -93,7 +93,7 @@ fn a_committed_and_an_active_transaction(rt: HostRuntime) {
     note(&rt, &mut table, &update(16, 0, 1, 0, None));
     assert_eq!(rt; table.reserve_bytes(), 70);
     let commit = record(52, 16, 1, Body::Commit);
-    assert_eq!(rt; table.reserve_after(&commit), 28);
+    assert_eq!(rt; table.reserve_after(&commit.view()), 28);
     note(&rt, &mut table, &commit);
     assert_eq!(rt; table.reserve_bytes(), 28);
     note(&rt, &mut table, &update(80, 0, 2, 1, None));
@@ -153,7 +153,7 @@ fn room_once_made_is_enough(rt: HostRuntime) {
             assert!(rt; table.reserve().is_ok());
         }
         let logged = update(16, 0, 1 + k % 4, 0, None);
-        assert!(rt; table.note(&logged).is_ok());
+        assert!(rt; table.note(&logged.view()).is_ok());
     }
     assert_eq!(rt; table.rows().len(), 4);
     assert_eq!(rt; table.reserve_bytes(), 4 * 28 + 40 * 42);

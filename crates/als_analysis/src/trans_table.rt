@@ -1,9 +1,11 @@
-ghost use Rattle.std.specs.Prelude.{◌≡◌, ◌≢◌, ℕ, ◌<◌, ◌≤◌, ◌+◌, true, false, IsTrue, List, [], ◌∷◌, ◌++◌, length, vec_len, vec_capacity, slice_index_or, slice_set, IfSome, IfNone, OnOk, OnErr, IsOk, ◌↔◌, MatchOption, if◌then◌else◌};
+ghost use Rattle.std.specs.Prelude.{◌≡◌, ◌≢◌, ℕ, ◌<◌, ◌≤◌, ◌+◌, ◌%◌, ◌^◌, true, false, IsTrue, List, [], ◌∷◌, ◌++◌, length, vec_len, vec_capacity, slice_index_or, slice_set, IfSome, IfNone, OnOk, OnErr, IsOk, ◌↔◌, MatchOption, if◌then◌else◌};
 ghost use Rattle.std.specs.List.{remove, All};
 ghost use Rattle.als_record.specs.declared.record.Record.{Record};
 ghost use Rattle.als_record.specs.declared.transaction_row.TransactionRow.{TransactionRow};
 ghost use Rattle.als_record.specs.Transactions.{is_transactional, is_end, is_among, is_unended, surviving, undo_next_of};
+ghost use Rattle.als_record.specs.Shown.{shown, shown_body};
 ghost use Rattle.als_record.specs.Table.{table_of, row_after, fresh_row};
+ghost use Rattle.als_record.specs.LogText.{end_of};
 ghost use Rattle.als_record.specs.Tail.{reserve_of};
 ghost use Rattle.als_record.specs.Validity.{may_follow};
 ghost use Rattle.als_analysis.specs.Open.{left_after, rows_of, left_of};
@@ -12,12 +14,9 @@ ghost use Rattle.als_analysis.specs.Noted.{IsTableOf, IsOpenOf};
 
 use crate::fault::Fault;
 use crate::open_transaction::{OpenTransaction, owed_anew};
-use als_record::{Body, Lsn, Record, TransId};
+use als_record::{BodyView, Lsn, Record, RecordView, TRANSACTION_LIMIT, TransId};
 use std::alloc::Global;
 use std::marker::Model;
-
-/// How many transactions of a valid log are unended at most.
-const TRANSACTION_LIMIT: usize = 256;
 
 /// How many places are remembered, by the low bits of TransIDs.
 const PLACE_COUNT: usize = 1024;
@@ -32,6 +31,7 @@ pub struct TransTable {
     alloc: Global,
     entries: Vec<OpenTransaction>,
     spares: Vec<OpenTransaction>,
+    // Modulo 2^64, which is exact for the log of a device.
     reserve: u64,
     // The one transaction that may be without room.
     tight: usize,
@@ -54,17 +54,20 @@ impl Model for TransTable {
 }
 
 /// Whether a record ends its transaction.
-fn is_end_record(body: &Body) -> bool
-    ensures { result ≡ is_end body.now }
+fn is_end_record(body: &BodyView<'_>) -> bool
+    ensures { result ≡ is_end (shown_body body.now) }
 {
-    matches!(body, Body::End)
+    matches!(body, BodyView::End)
 }
 
 /// Whether a record belongs to a transaction: all but those of checkpoints.
-fn is_transaction_record(body: &Body) -> bool
-    ensures { result ≡ is_transactional body.now }
+fn is_transaction_record(body: &BodyView<'_>) -> bool
+    ensures { result ≡ is_transactional (shown_body body.now) }
 {
-    !matches!(body, Body::BeginCheckpoint | Body::EndCheckpoint { .. })
+    !matches!(
+        body,
+        BodyView::BeginCheckpoint | BodyView::EndCheckpoint { .. }
+    )
 }
 
 /// Whether there are transactions, none of them below this one.
@@ -218,17 +221,17 @@ impl TransTable {
     }
 
     /// Another record of the transaction at this place.
-    fn extend(&mut self, at: usize, logged: &Record)
+    fn extend(&mut self, at: usize, logged: &RecordView<'_>)
         requires room { self.old.has_room ≡ true }
         requires within { at < length self.old.rows }
-        ensures rows { (d : TransactionRow) → self.new.rows ≡ slice_set self.old.rows at (row_after (slice_index_or self.old.rows at d) logged.now) }
-        ensures left { (d : List Record) → self.new.left ≡ slice_set self.old.left at (left_after (slice_index_or self.old.left at d) logged.now logged.now.body) }
+        ensures rows { (d : TransactionRow) → self.new.rows ≡ slice_set self.old.rows at (row_after (slice_index_or self.old.rows at d) (shown logged.now)) }
+        ensures left { (d : List Record) → self.new.left ≡ slice_set self.old.left at (left_after (slice_index_or self.old.left at d) (shown logged.now) (shown_body logged.now.body)) }
     {
         let entry = &mut self.entries[at];
         let before = entry.owed();
         entry.extend(logged);
         let after = entry.owed();
-        self.reserve = self.reserve - before + after;
+        self.reserve = self.reserve.wrapping_sub(before).wrapping_add(after);
         self.tight = at;
         self.has_room = false;
     }
@@ -241,25 +244,25 @@ impl TransTable {
         ensures left { self.new.left ≡ remove self.old.left at }
     {
         let ended = self.entries.remove(at);
-        self.reserve -= ended.owed();
+        self.reserve = self.reserve.wrapping_sub(ended.owed());
         self.has_room = false;
         close_up(&mut self.places, self.entries.as_slice(), at);
         keep_spare(&mut self.spares, ended);
     }
 
     /// The first record of a transaction.
-    fn begin(&mut self, logged: &Record)
+    fn begin(&mut self, logged: &RecordView<'_>)
         requires room { self.old.has_room ≡ true }
         requires few { length self.old.rows < 256 }
         requires rising { All (λ row. row.trans.0 < logged.now.trans.0) self.old.rows }
-        ensures rows { self.new.rows ≡ self.old.rows ++ row_after (fresh_row logged.now.trans.0) logged.now ∷ [] }
-        ensures left { self.new.left ≡ self.old.left ++ left_after [] logged.now logged.now.body ∷ [] }
+        ensures rows { self.new.rows ≡ self.old.rows ++ row_after (fresh_row logged.now.trans.0) (shown logged.now) ∷ [] }
+        ensures left { self.new.left ≡ self.old.left ++ left_after [] (shown logged.now) (shown_body logged.now.body) ∷ [] }
     {
         match self.spares.pop() {
             Some(mut fresh) => {
                 fresh.renew(logged.trans);
                 fresh.extend(logged);
-                self.reserve += fresh.owed();
+                self.reserve = self.reserve.wrapping_add(fresh.owed());
                 self.tight = self.entries.len();
                 self.entries.push_reserved(fresh);
                 self.has_room = false;
@@ -319,12 +322,12 @@ impl TransTable {
     }
 
     /// A record of a transaction with a row.
-    fn note_known(&mut self, at: usize, logged: &Record)
+    fn note_known(&mut self, at: usize, logged: &RecordView<'_>)
         requires room { self.old.has_room ≡ true }
         requires within { at < length self.old.rows }
         requires here { (d : TransactionRow) → (slice_index_or self.old.rows at d).trans.0 ≡ logged.now.trans.0 }
-        requires kind { is_transactional logged.now.body ≡ true }
-        ensures { (log : List Record) → IsTableOf self.old log → IsTrue (may_follow log logged.now) → IsTableOf self.new (log ++ logged.now ∷ []) }
+        requires kind { is_transactional (shown_body logged.now.body) ≡ true }
+        ensures { (log : List Record) → IsTableOf self.old log → IsTrue (may_follow log (shown logged.now)) → IsTableOf self.new (log ++ (shown logged.now) ∷ []) }
     {
         if is_end_record(&logged.body) {
             self.close(at);
@@ -334,11 +337,11 @@ impl TransTable {
     }
 
     /// A record of a transaction without a row. One that can't follow a valid log may be passed over.
-    fn note_new(&mut self, logged: &Record)
+    fn note_new(&mut self, logged: &RecordView<'_>)
         requires room { self.old.has_room ≡ true }
         requires absent { is_among (numbers self.old.rows) logged.now.trans.0 ≡ false }
-        requires kind { is_transactional logged.now.body ≡ true }
-        ensures { (log : List Record) → IsTableOf self.old log → IsTrue (may_follow log logged.now) → IsTableOf self.new (log ++ logged.now ∷ []) }
+        requires kind { is_transactional (shown_body logged.now.body) ≡ true }
+        ensures { (log : List Record) → IsTableOf self.old log → IsTrue (may_follow log (shown logged.now)) → IsTableOf self.new (log ++ (shown logged.now) ∷ []) }
     {
         if is_end_record(&logged.body) {
             return;
@@ -350,9 +353,9 @@ impl TransTable {
     }
 
     /// A record for which there is room.
-    fn put(&mut self, logged: &Record)
+    fn put(&mut self, logged: &RecordView<'_>)
         requires room { self.old.has_room ≡ true }
-        ensures { (log : List Record) → IsTableOf self.old log → IsTrue (may_follow log logged.now) → IsTableOf self.new (log ++ logged.now ∷ []) }
+        ensures { (log : List Record) → IsTableOf self.old log → IsTrue (may_follow log (shown logged.now)) → IsTableOf self.new (log ++ (shown logged.now) ∷ []) }
     {
         if !is_transaction_record(&logged.body) {
             return;
@@ -366,8 +369,8 @@ impl TransTable {
     /// Notes a record: of the table of a log it makes the table of the log with that record, where the record may follow.
     /// Of any other record it is only said that nothing breaks. An `Err` (Memory) changes nothing, and does not come right
     /// after `reserve`. The cost does not depend on how long the log is, nor on how many updates of a transaction survive.
-    pub fn note(&mut self, logged: &Record) -> Result<(), Fault>
-        ensures ok { OnOk result ((log : List Record) → IsTableOf self.old log → IsTrue (may_follow log logged.now) → IsTableOf self.new (log ++ logged.now ∷ [])) }
+    pub fn note(&mut self, logged: &RecordView<'_>) -> Result<(), Fault>
+        ensures ok { OnOk result ((log : List Record) → IsTableOf self.old log → IsTrue (may_follow log (shown logged.now)) → IsTableOf self.new (log ++ (shown logged.now) ∷ [])) }
         ensures err { OnErr result (self.new ≡ self.old) }
         ensures reserved { self.old.has_room ≡ true → IsOk result }
     {
@@ -406,44 +409,44 @@ impl TransTable {
         }
     }
 
-    /// The bytes that a takeover would append: a kept sum.
+    /// The bytes that a takeover would append: a kept sum, exact for a log of less than 2^62 bytes.
     pub fn reserve_bytes(&self) -> u64
-        ensures { (log : List Record) → IsTableOf self.now log → result ≡ reserve_of log }
+        ensures { (log : List Record) → IsTableOf self.now log → end_of log < 2 ^ 62 → result ≡ reserve_of log }
     {
         self.reserve
     }
 
-    /// What a takeover would append after another record of the transaction at this place.
-    fn reserve_after_known(&self, at: usize, logged: &Record) -> u64
+    /// What a takeover would append after another record of the transaction at this place, modulo 2^64.
+    fn reserve_after_known(&self, at: usize, logged: &RecordView<'_>) -> u64
         requires within { at < length self.now.rows }
         requires here { (d : TransactionRow) → (slice_index_or self.now.rows at d).trans.0 ≡ logged.now.trans.0 }
-        requires kind { is_transactional logged.now.body ≡ true }
-        ensures { (log : List Record) → IsTableOf self.now log → IsTrue (may_follow log logged.now) → result ≡ reserve_of (log ++ logged.now ∷ []) }
+        requires kind { is_transactional (shown_body logged.now.body) ≡ true }
+        ensures { (log : List Record) → IsTableOf self.now log → IsTrue (may_follow log (shown logged.now)) → result ≡ reserve_of (log ++ (shown logged.now) ∷ []) % 2 ^ 64 }
     {
         let entry = &self.entries[at];
-        let others = self.reserve - entry.owed();
+        let others = self.reserve.wrapping_sub(entry.owed());
         if is_end_record(&logged.body) {
             return others;
         }
-        others + entry.owed_after(logged)
+        others.wrapping_add(entry.owed_after(logged))
     }
 
-    /// What a takeover would append after a record of a transaction without a row.
-    fn reserve_after_new(&self, logged: &Record) -> u64
+    /// What a takeover would append after a record of a transaction without a row, modulo 2^64.
+    fn reserve_after_new(&self, logged: &RecordView<'_>) -> u64
         requires absent { is_among (numbers self.now.rows) logged.now.trans.0 ≡ false }
-        requires kind { is_transactional logged.now.body ≡ true }
-        ensures { (log : List Record) → IsTableOf self.now log → IsTrue (may_follow log logged.now) → result ≡ reserve_of (log ++ logged.now ∷ []) }
+        requires kind { is_transactional (shown_body logged.now.body) ≡ true }
+        ensures { (log : List Record) → IsTableOf self.now log → IsTrue (may_follow log (shown logged.now)) → result ≡ reserve_of (log ++ (shown logged.now) ∷ []) % 2 ^ 64 }
     {
         if is_end_record(&logged.body) {
             return self.reserve;
         }
-        self.reserve + owed_anew(logged)
+        self.reserve.wrapping_add(owed_anew(logged))
     }
 
-    /// The bytes that a takeover would append after one more record, before that is noted. It takes no memory, and the cost
-    /// does not depend on how long the log is.
-    pub fn reserve_after(&self, logged: &Record) -> u64
-        ensures { (log : List Record) → IsTableOf self.now log → IsTrue (may_follow log logged.now) → result ≡ reserve_of (log ++ logged.now ∷ []) }
+    /// The bytes that a takeover would append after one more record, before that is noted, exact for a log of less than 2^62
+    /// bytes. It takes no memory, and the cost does not depend on how long the log is.
+    pub fn reserve_after(&self, logged: &RecordView<'_>) -> u64
+        ensures { (log : List Record) → IsTableOf self.now log → IsTrue (may_follow log (shown logged.now)) → end_of (log ++ (shown logged.now) ∷ []) < 2 ^ 62 → result ≡ reserve_of (log ++ (shown logged.now) ∷ []) }
     {
         if !is_transaction_record(&logged.body) {
             return self.reserve;

@@ -1,12 +1,16 @@
 -- Laws of how bytes are read as a record: where more are needed, and that more change nothing that was read.
-use Rattle.std.proofs.Common.{◌≡◌, ℕ, ◌+◌, ◌<◌, ◌≤◌, Bool, true, false, not, ◌&&◌, if◌then◌else◌, List, ◌++◌, length, slice_index, take, drop, Option, Some, None, Result, Ok, Err, nat_lt, nat_le, ◌==◌, refl, ap, ap₂, sym, ◌∙◌, arith, inl, inr, length-append, le-ltb, lt-ltb, leb-true, eqb-true}
+use Rattle.std.proofs.Common.{◌≡◌, ℕ, ◌+◌, ◌<◌, ◌≤◌, Bool, true, false, not, ◌&&◌, if◌then◌else◌, List, ◌++◌, length, slice_index, take, drop, Option, Some, None, IfSome, Result, Ok, Err, nat_lt, nat_le, ◌==◌, refl, ap, ap₂, sym, ◌∙◌, arith, inl, inr, length-append, le-ltb, lt-ltb, leb-true, eqb-true}
 use Rattle.std.proofs.lemmas.Bool.{cases_lt, cases_cond, cond-true, cond-false, and_parts}
-use Rattle.std.proofs.lemmas.List.{take-append-le, drop-append-le, length-drop, get_or_append_left}
+use Rattle.std.proofs.lemmas.List.{take-append-drop, take-append-le, drop-append-le, length-drop, get_or_append_left}
 use Rattle.std.specs.Int.{w32, w64, from_be_bytes}
 use Rattle.als_record.specs.declared.fault.Fault.{Fault}
 use Rattle.als_record.specs.declared.fault.Fault.TheVariants.{BadLength, BadType, BadReserved, WrongLsn}
 use Rattle.als_record.specs.declared.record.Body.{Body}
 use Rattle.als_record.specs.declared.record.Record.{Record}
+use Rattle.als_record.specs.declared.record_view.RecordView.{RecordView}
+use Rattle.als_record.specs.Shown.{shown, shown_found}
+use Rattle.als_record.specs.Spelling.{spelling, record_len, IsRecord}
+use Rattle.als_receiver.specs.Reception.{Reception, behind, Looks}
 use Rattle.als_record.specs.Reading.{◌>>=◌, is_within, is_size, is_type, is_reserved_zero, size_at, type_at, word_at, long_at, read_body, read_record}
 
 abbrev Read : Type 0
@@ -158,3 +162,31 @@ read_record-short pages at bytes none =
                 (sym (cond-false (nat_lt (length bytes) size) (Ok None) (whole pages at size kind (long_at 16 bytes) (word_at 24 bytes) body) (le-ltb (length bytes) size le)) ∙ rest))
           ]
     ]
+
+-- ---- what a look shows
+
+-- what is read of the bytes kept is what a look answers
+pub looks_found : (old : Reception) (found : Option (RecordView × ℕ)) → old.refusal ≡ None → read_record old.pages old.wanted old.kept ≡ Ok (shown_found found)
+    → IfSome found (λ x. (take x.1 old.kept ≡ spelling (shown x.0)) × (x.1 ≡ record_len (shown x.0)) × (x.1 ≤ length old.kept) × (x.0.lsn.0 ≡ old.wanted) × IsRecord old.pages (shown x.0))
+    → Looks old (Ok (shown_found found))
+looks_found old None unrefused read h = record { unrefused = unrefused; reading = read; short = read_record-short old.pages old.wanted old.kept read; same = refl }
+looks_found old (Some x) unrefused read h =
+    let (bytes, size, inside, place, fits) = h in
+    let sized : read_record old.pages old.wanted old.kept ≡ Ok (Some (shown x.0, record_len (shown x.0))) = read ∙ ap (λ (n : ℕ). found_ok (Some (shown x.0, n))) size in
+    record {
+      out = record {
+        unrefused = unrefused;
+        reading = sized;
+        place = place;
+        fits = fits;
+        bytes = sym (take-append-drop x.1 old.kept) ∙ ap (λ (xs : List ℕ). xs ++ drop x.1 old.kept) bytes;
+        after = ap (λ (n : ℕ). behind old n) size ∙ ap (λ (n : ℕ). record { pages = old.pages; wanted = old.wanted + record_len (shown x.0); kept = drop n old.kept; room = old.room; refusal = None }) (sym size);
+      };
+      size = size;
+      bytes = bytes;
+      inside = inside;
+      shown = record { shown = shown x.0; unrefused = unrefused; reading = read; inside = inside };
+    }
+  where
+    found_ok : Option (Record × ℕ) → Read
+    found_ok o = Ok o

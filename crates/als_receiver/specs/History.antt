@@ -7,12 +7,14 @@ use Rattle.als_record.specs.Spelling.{record_len, IsRecord}
 use Rattle.als_record.specs.LogText.{spellings, follow_from}
 use Rattle.als_record.specs.Reading.{read_record}
 use Rattle.als_receiver.specs.declared.refusal.Refusal.{Refusal}
-use Rattle.als_receiver.specs.Reception.{Reception, with_kept, with_room, Answers}
+use Rattle.als_receiver.specs.Reception.{Reception, with_kept, with_room, behind, CanHandOut, Looks, IsRefusal, Answers}
 
--- a call: a piece pushed, an answer to the question for the next record, the bytes that were dropped, or room asked for, with
--- a piece that found none too
+-- a call: a piece pushed, a look at the next record and what it answered, a record taken that a look showed with so many
+-- bytes, a copy of the next record asked for, the bytes that were dropped, or room asked for, with a piece that found none too
 pub data Call : Type 0 where
   Push : (piece : List ℕ) → Call
+  Look : (answer : Result (Option (Record × ℕ)) Refusal) → Call
+  Take : (shown : Record) → (len : ℕ) → Call
   Next : (answer : Result (Option Record) Refusal) → Call
   Drop : (bytes : List ℕ) → Call
   Room : Call
@@ -20,6 +22,8 @@ pub data Call : Type 0 where
 -- what a call does
 abbrev pub Does : Reception → Call → Reception → Type 0
 Does old (Push piece) new = new ≡ with_kept old (old.kept ++ piece) new.room
+Does old (Look answer) new = Looks old answer × (new ≡ old)
+Does old (Take shown len) new = CanHandOut old shown len × (new ≡ behind old len)
 Does old (Next answer) new = Answers old answer new
 Does old (Drop bytes) new = (bytes ≡ old.kept) × (new ≡ with_kept old [] new.room)
 Does old Room new = new ≡ with_room old new.room
@@ -39,6 +43,8 @@ handed_by (Err refusal) = []
 abbrev pub handed : List Call → List Record
 handed [] = []
 handed (Push piece ∷ calls) = handed calls
+handed (Look answer ∷ calls) = handed calls
+handed (Take shown len ∷ calls) = shown ∷ handed calls
 handed (Next answer ∷ calls) = handed_by answer ++ handed calls
 handed (Drop bytes ∷ calls) = handed calls
 handed (Room ∷ calls) = handed calls
@@ -47,6 +53,8 @@ handed (Room ∷ calls) = handed calls
 abbrev pub bytes_after : List ℕ → List Call → List ℕ
 bytes_after before [] = before
 bytes_after before (Push piece ∷ calls) = bytes_after (before ++ piece) calls
+bytes_after before (Look answer ∷ calls) = bytes_after before calls
+bytes_after before (Take shown len ∷ calls) = bytes_after before calls
 bytes_after before (Next answer ∷ calls) = bytes_after before calls
 bytes_after before (Drop bytes ∷ calls) = bytes_after (take (length before - length bytes) before) calls
 bytes_after before (Room ∷ calls) = bytes_after before calls
@@ -55,6 +63,8 @@ bytes_after before (Room ∷ calls) = bytes_after before calls
 abbrev pub KeepsAll : List Call → Type 0
 KeepsAll [] = Unit {0}
 KeepsAll (Push piece ∷ calls) = KeepsAll calls
+KeepsAll (Look answer ∷ calls) = KeepsAll calls
+KeepsAll (Take shown len ∷ calls) = KeepsAll calls
 KeepsAll (Next answer ∷ calls) = KeepsAll calls
 KeepsAll (Drop bytes ∷ calls) = ⊥
 KeepsAll (Room ∷ calls) = KeepsAll calls
@@ -80,4 +90,9 @@ pub record EndAlike (first second : List Call) (s t : Reception) : Type 0 where
   pub records : handed first ≡ handed second
   pub kept : s.kept ≡ t.kept
   pub wanted : s.wanted ≡ t.wanted
-  pub refusal : (e f : Refusal) → s.refusal ≡ Some e → t.refusal ≡ Some f → e ≡ f
+  pub refusal : (e : Refusal) → IsRefusal s e → IsRefusal t e
+
+-- What is so behind a refusal: it is still the one, and no record was handed out.
+pub record Stays (e : Refusal) (calls : List Call) (t : Reception) : Type 0 where
+  pub refusal : IsRefusal t e
+  pub nothing : handed calls ≡ []

@@ -3,6 +3,8 @@ use Rattle.std.specs.Prelude.{◌≡◌, ℕ, ◌+◌, ◌<◌, ◌≤◌, Bool,
 use Rattle.als_record.specs.declared.fault.Fault.{Fault}
 use Rattle.als_record.specs.declared.fault.Fault.TheVariants.{BadHeader, BadLength, BadType, BadReserved, WrongLsn, BadKey, BadValue, Memory}
 use Rattle.als_record.specs.declared.record.Record.{Record}
+use Rattle.als_record.specs.declared.record_view.RecordView.{RecordView}
+use Rattle.als_record.specs.Shown.{shown_found}
 use Rattle.als_record.specs.Spelling.{record_len, spelling, IsRecord}
 use Rattle.als_record.specs.Reading.{read_record, TakesMemory}
 use Rattle.als_receiver.specs.declared.refusal.Refusal.{Refusal}
@@ -95,18 +97,31 @@ pub record CanHandOut (old : Reception) (r : Record) (len : ℕ) : Type 0 where
   pub inside : len ≤ length old.kept
   pub shown : IsShown old len
 
--- a refusal that the next call would give: the one that stays, else want of memory, or the first of the bytes
-abbrev pub WouldRefuse : Reception → Refusal → Type 0
-WouldRefuse old refusal =
+-- a refusal of the bytes kept: the one that stays, else the fault of what they begin with, where the record should stand
+abbrev pub IsRefusal : Reception → Refusal → Type 0
+IsRefusal old refusal =
     MatchOption old.refusal
-    ((refusal.lsn.0 ≡ old.wanted) × MatchBool (is_memory refusal.fault) (TakesMemory (read_record old.pages old.wanted old.kept)) (read_record old.pages old.wanted old.kept ≡ Err refusal.fault))
+    ((refusal.lsn.0 ≡ old.wanted) × (read_record old.pages old.wanted old.kept ≡ Err refusal.fault))
     (λ before. refusal ≡ before)
 
--- what a look at the next record answers
-abbrev pub Shows : Reception → Result (Option (Record × ℕ)) Refusal → Type 0
-Shows old (Ok (Some x)) = CanHandOut old x.0 x.1
-Shows old (Ok None) = Waits old old
-Shows old (Err refusal) = WouldRefuse old refusal
+-- what a look at the next record answers: the record and its length, that more bytes are needed, or a refusal
+abbrev pub Looks : Reception → Result (Option (Record × ℕ)) Refusal → Type 0
+Looks old (Ok (Some x)) = CanHandOut old x.0 x.1
+Looks old (Ok None) = Waits old old
+Looks old (Err refusal) = IsRefusal old refusal
+
+-- a look whose record is a view's
+abbrev pub Shows : Reception → Result (Option (RecordView × ℕ)) Refusal → Type 0
+Shows old (Ok found) = Looks old (Ok (shown_found found))
+Shows old (Err refusal) = Looks old (Err refusal)
+
+-- the record that a look shows is copied, or memory is wanted for its rows
+abbrev pub Copies : Reception → Result (Option (Record × ℕ)) Refusal → Type 0
+Copies old (Ok found) = Looks old (Ok found)
+Copies old (Err refusal) =
+    MatchBool (is_memory refusal.fault)
+    ((old.refusal ≡ None) × (refusal.lsn.0 ≡ old.wanted) × TakesMemory (read_record old.pages old.wanted old.kept))
+    (IsRefusal old refusal)
 
 -- what a call for the next record answers, and what it leaves
 abbrev pub Answers : Reception → Result (Option Record) Refusal → Reception → Type 0

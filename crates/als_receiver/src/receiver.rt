@@ -1,7 +1,8 @@
-ghost use Rattle.std.specs.Prelude.{◌≡◌, ◌+◌, ◌<◌, ◌≤◌, ◌^◌, [], ◌++◌, length, take, MatchBool, IsOk, OnOk, OnErr};
+ghost use Rattle.std.specs.Prelude.{◌≡◌, ◌≢◌, ◌+◌, ◌<◌, ◌≤◌, ◌^◌, [], ◌++◌, length, take, MatchBool, IfErr, IsOk, OnOk, OnErr};
+ghost use Rattle.als_record.specs.declared.fault.Fault.TheVariants.{Memory};
 
 use crate::refusal::Refusal;
-use als_record::{Fault, Lsn, Record, decode};
+use als_record::{Fault, Lsn, Record, RecordView, view_record};
 use bytes::BytesMut;
 use std::alloc::{AllocError, Global};
 use std::marker::Model;
@@ -17,18 +18,19 @@ pub struct Receiver {
 }
 
 impl Model for Receiver {
-    ghost use Rattle.std.specs.Prelude.{◌+◌, ◌<◌, ◌^◌, length};
+    ghost use Rattle.std.specs.Prelude.{◌≢◌, ◌+◌, ◌<◌, ◌^◌, length, IfSome};
+    ghost use Rattle.als_record.specs.declared.fault.Fault.TheVariants.{Memory};
     ghost use Rattle.als_receiver.specs.Reception.{Reception};
 
     ghost Value = { Reception };
 
     ghost view = { λ r. record { pages = r.pages; wanted = r.wanted.0; kept = r.kept.items; room = r.kept.spare; refusal = r.refusal } };
 
-    ghost invariant = { λ r. r.wanted.0 + length r.kept.items < 2 ^ 64 };
+    ghost invariant = { λ r. (r.wanted.0 + length r.kept.items < 2 ^ 64) × IfSome r.refusal (λ refusal. refusal.fault ≢ Memory) };
 }
 
 impl Receiver {
-    ghost use Rattle.als_receiver.specs.Reception.{fresh, with_kept, with_room, with_refusal, behind, is_memory, IsShown, Shows, Answers};
+    ghost use Rattle.als_receiver.specs.Reception.{fresh, with_kept, with_room, with_refusal, behind, is_memory, IsShown, Shows, Copies, Answers};
 
     /// A receiver for a database of `pages` pages that wants the record at `at` first. It takes no memory.
     pub fn new(alloc: Global, at: Lsn, pages: u32) -> Receiver
@@ -67,24 +69,20 @@ impl Receiver {
         self.kept.reserve(len)
     }
 
-    /// The next record and how many bytes it has, `None` where more bytes are needed: `next` would hand it out, and nothing
-    /// changes. A refusal is the one that `next` would give.
-    // Inlined, as `decode` is, so that a record is not moved from answer to answer.
+    /// The next record as it lies in the bytes kept, and how many of them it has; `None` where more bytes are needed. A
+    /// refusal says where the record should stand and which of the shape faults it has. It takes no memory, and nothing
+    /// changes.
+    // Inlined, as `view_record` is, so that a view is not moved from answer to answer.
     #[inline(always)]
-    pub fn peek(&self) -> Result<Option<(Record, usize)>, Refusal>
-        ensures { Shows self.now result }
+    pub fn peek(&self) -> Result<Option<(RecordView<'_>, usize)>, Refusal>
+        ensures shows { Shows self.now result }
+        ensures no_memory { IfErr result (λ refusal. refusal.fault ≢ Memory) }
     {
         if let Some(refusal) = self.refusal {
             return Err(refusal);
         }
-        match decode(
-            *self.kept.allocator(),
-            self.kept.as_slice(),
-            self.wanted,
-            self.pages,
-        ) {
-            Ok(None) => Ok(None),
-            Ok(Some((record, len))) => Ok(Some((record, len))),
+        match view_record(self.kept.as_slice(), self.wanted, self.pages) {
+            Ok(found) => Ok(found),
             Err(fault) => Err(Refusal {
                 lsn: self.wanted,
                 fault,
@@ -92,7 +90,24 @@ impl Receiver {
         }
     }
 
-    /// The first of the bytes kept, so many.
+    /// A copy of the record that `peek` shows.
+    #[inline(always)]
+    fn copied(&self) -> Result<Option<(Record, usize)>, Refusal>
+        ensures { Copies self.now result }
+    {
+        match self.peek()? {
+            None => Ok(None),
+            Some((view, len)) => match view.to_record(*self.kept.allocator()) {
+                Ok(record) => Ok(Some((record, len))),
+                Err(_) => Err(Refusal {
+                    lsn: self.wanted,
+                    fault: Fault::Memory,
+                }),
+            },
+        }
+    }
+
+    /// The first of the bytes kept, so many: those of the record that `peek` has shown.
     #[inline(always)]
     pub fn front(&self, len: usize) -> &[u8]
         requires { len ≤ length self.now.kept }
@@ -112,14 +127,14 @@ impl Receiver {
         self.wanted = Lsn(self.wanted.0 + len as u64);
     }
 
-    /// The next record, `None` where more bytes are needed. A refusal says where the record should stand and which of
-    /// the shape faults it has, and every later call gives it again; but want of memory, which only the rows of an
+    /// A copy of the record that `peek` shows, which is handed out; `None` where more bytes are needed. A refusal is that of
+    /// `peek`, and every later call gives it again; but want of memory, which only the rows of an
     /// end_chkpt meet, is not kept: the call may be made again.
     #[inline(always)]
     pub fn next(&mut self) -> Result<Option<Record>, Refusal>
         ensures { Answers self.old result self.new }
     {
-        match self.peek() {
+        match self.copied() {
             Ok(None) => Ok(None),
             Ok(Some((record, len))) => {
                 self.advance(len);

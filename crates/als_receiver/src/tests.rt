@@ -147,3 +147,29 @@ fn room_that_was_made_takes_the_pieces(rt: HostRuntime) {
     assert!(rt; receiver.push(&LOG[40..]).is_ok());
     assert_eq!(rt; receiver.position(), 108);
 }
+
+#[test]
+fn what_is_shown_is_taken(rt: HostRuntime) {
+    let mut receiver = Receiver::new(rt.alloc(), Lsn(16), 4);
+    push(&rt, &mut receiver, &LOG[..60]);
+    assert!(rt; matches!(receiver.peek(), Ok(Some((view, 36))) if view.lsn == Lsn(16)));
+    assert!(rt; take(&rt, &mut receiver, &LOG[..36]));
+    assert_eq!(rt; receiver.next_lsn(), Lsn(52));
+    assert!(rt; matches!(receiver.peek(), Ok(None)));
+    push(&rt, &mut receiver, &LOG[60..]);
+    assert!(rt; take(&rt, &mut receiver, &LOG[36..64]));
+    assert!(rt; take(&rt, &mut receiver, &LOG[64..]));
+    assert_eq!(rt; receiver.partial(), 0);
+}
+
+// Takes the record that is shown, whose bytes are these.
+fn take(rt: &impl Abort, receiver: &mut Receiver, bytes: &[u8]) -> bool {
+    match receiver.peek() {
+        Ok(Some((_, len))) => {
+            assert_eq!(rt; receiver.front(len), bytes);
+            receiver.advance(len);
+            true
+        }
+        _ => false,
+    }
+}

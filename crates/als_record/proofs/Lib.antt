@@ -24,6 +24,7 @@ pub mod Standing
 pub mod Sound
 pub mod Takeover
 pub mod TailLength
+pub mod TailBound
 pub mod Places
 pub mod Held
 pub mod HeldCounts

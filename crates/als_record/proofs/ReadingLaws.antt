@@ -7,10 +7,12 @@ use Rattle.std.proofs.lemmas.List.{take_at, drop_at, take-append-drop, take-take
 use Rattle.als_record.specs.declared.record.Body.{Body}
 use Rattle.als_record.specs.declared.record.Body.TheVariants.{Update, Compensation, Commit, Rollback, End, BeginCheckpoint, EndCheckpoint}
 use Rattle.als_record.specs.declared.record.Record.{Record}
+use Rattle.als_record.specs.declared.record_view.RecordView.{RecordView}
 use Rattle.als_record.specs.declared.fault.Fault.{Fault}
 use Rattle.als_record.specs.declared.fault.Fault.TheVariants.{Memory, BadLength, BadType, BadReserved, WrongLsn}
 use Rattle.als_record.specs.Spelling.{head, spelling, record_len, body_bytes, body_len, type_byte, IsRecord}
 use Rattle.als_record.specs.Reading.{Gives, HasRows, TakesMemory, ◌>>=◌, word_at, long_at, size_at, type_at, is_size, is_type, is_reserved_zero, read_body, read_record}
+use Rattle.als_record.specs.Shown.{shown, shown_found}
 use Rattle.als_record.proofs.FieldLaws.{IsBytes, IsBytes-drop, IsBytes-take, wide32, wide64, number_below, number_more}
 use Rattle.als_record.proofs.RecordLaws.{body_found, body_again, size_range, type_byte_is, body_size, length-head, length-spelling, record_len-high, head_found, head_again, IsHeadOf}
 
@@ -196,12 +198,21 @@ given_found pages at bytes (Ok (Some x)) fits given =
     let f = record_found pages at bytes x.0 x.1 fits given in
     (f.spelled, f.len, f.within, f.placed, f.fits)
 
--- what is spelled so is found
-pub given_only : (pages at : ℕ) (bytes : List ℕ) (result : Result Found Fault) → Gives (λ (o : Found). o) result (read_record pages at bytes)
-    → (r : Record) (rest : List ℕ) → IsRecord pages r → r.lsn.0 ≡ at → bytes ≡ spelling r ++ rest → Gives (λ (o : Found). o) result (Ok (Some (r, record_len r)))
-given_only pages at bytes result given r rest is placed e =
+-- the same of what a view shows
+pub given_shown : (pages at : ℕ) (bytes : List ℕ) (result : Result (Option (RecordView × ℕ)) Fault) → IsBytes bytes → Gives shown_found result (read_record pages at bytes)
+    → IfOk result (λ o. IfSome o (λ x. (take x.1 bytes ≡ spelling (shown x.0)) × (x.1 ≡ record_len (shown x.0)) × (x.1 ≤ length bytes) × (x.0.lsn.0 ≡ at) × IsRecord pages (shown x.0)))
+given_shown pages at bytes (Err fault) fits given = tt
+given_shown pages at bytes (Ok None) fits given = tt
+given_shown pages at bytes (Ok (Some x)) fits given =
+    let f = record_found pages at bytes (shown x.0) x.1 fits given in
+    (f.spelled, f.len, f.within, f.placed, f.fits)
+
+-- what is spelled so is found, whatever shows it
+pub given_only : {X : Type 0} (show : X → Found) (pages at : ℕ) (bytes : List ℕ) (result : Result X Fault) → Gives show result (read_record pages at bytes)
+    → (r : Record) (rest : List ℕ) → IsRecord pages r → r.lsn.0 ≡ at → bytes ≡ spelling r ++ rest → Gives show result (Ok (Some (r, record_len r)))
+given_only show pages at bytes result given r rest is placed e =
     let read : read_record pages at bytes ≡ Ok (Some (r, record_len r)) = ap (λ (k : ℕ). read_record pages k bytes) (sym placed) ∙ ap (read_record pages r.lsn.0) e ∙ record_again pages r rest is in
-    subst (λ (f : Result Found Fault). Gives (λ (o : Found). o) result f) read given
+    subst (λ (f : Result Found Fault). Gives show result f) read given
 
 rows_type : (body : Body) → HasRows body → type_byte body ≡ 7
 rows_type (Update key before after) h = absurd h

@@ -2,6 +2,8 @@ pub mod FaultNames
 pub mod CauseNames
 pub mod Spelling
 pub mod Reading
+pub mod Spelled
+pub mod Shown
 pub mod HeaderReading
 pub mod LogText
 pub mod Pages

@@ -1,105 +1,34 @@
-ghost use Rattle.std.specs.Prelude.{◌≡◌, true, ℕ, ◌<◌, ◌≤◌, ◌+◌, ◌-◌, ◌^◌, ◌++◌, List, length, take, drop, slice_index, Some, None, Ok, Err, IfOk, IfErr, IfSome};
+ghost use Rattle.std.specs.Prelude.{◌≡◌, ℕ, ◌≤◌, ◌++◌, List, length, take, slice_index, Some, Ok, IfOk, IfErr, IfSome};
 ghost use Rattle.std.specs.Result.{IsErrOf};
 ghost use Rattle.als_record.specs.declared.record.Record.{Record as AnyRecord};
 ghost use Rattle.als_record.specs.declared.fault.Fault.TheVariants.{Memory};
 ghost use Rattle.als_record.specs.Spelling.{spelling, record_len, IsRecord};
-ghost use Rattle.als_record.specs.Reading.{Gives, GivesRows, TakesMemory, is_size, is_type, type_at, headed, with_head, read_body, read_record};
+ghost use Rattle.als_record.specs.Reading.{Gives, TakesMemory, read_record};
 
-use crate::bodies::{compensation, update};
 use crate::fault::Fault;
-use crate::fields::{long, word};
 use crate::lsn::Lsn;
-use crate::record::{Body, Record};
-use crate::row_reading::checkpoint;
-use crate::trans_id::TransId;
+use crate::record::Record;
+use crate::viewing::view_record;
 use std::alloc::Global;
 
-/// Is it a length that a record of this type may have?
-#[inline]
-fn may_be(kind: u8, size: usize) -> bool
-    ensures { result ≡ is_size kind size }
-{
-    match kind {
-        1 => 35 <= size && size <= 97,
-        2 => 42 <= size && size <= 73,
-        7 => 32 <= size && size <= 54560,
-        3..=6 => size == 28,
-        _ => 28 <= size && size <= 54560,
-    }
-}
-
-/// The record of this head and body, in so many bytes.
+/// A copy of what `view_record` shows.
 #[inline(always)]
-fn found(bytes: &[u8], at: Lsn, size: usize, body: Body) -> Result<Option<(Record, usize)>, Fault>
-    requires { 28 ≤ length bytes.now }
-    ensures { result ≡ Ok (Some (headed at.0 bytes.now body, size)) }
-{
-    let record = Record {
-        lsn: at,
-        prev: Lsn(long(bytes, 16)),
-        trans: TransId(word(bytes, 24)),
-        body,
-    };
-    Ok(Some((record, size)))
-}
-
-/// The whole record of a type that there is. Each arm builds its record itself, which then needs no move.
-#[inline(always)]
-#[tactic(auto, unfolding(crate::specs::Reading::read_body))]
-fn whole(
+fn copied(
     alloc: Global,
     bytes: &[u8],
     at: Lsn,
     pages: u32,
-    size: usize,
 ) -> Result<Option<(Record, usize)>, Fault>
-    requires whole { size ≤ length bytes.now }
-    requires kind { is_type (type_at bytes.now) ≡ true }
-    requires size { is_size (type_at bytes.now) size ≡ true }
-    ensures exact { Gives (λ o. o) result (with_head at.0 bytes.now size (read_body pages (type_at bytes.now) (drop 28 (take size bytes.now)))) }
-    ensures memory { IfErr result (λ e. e ≡ Memory → GivesRows (read_body pages (type_at bytes.now) (drop 28 (take size bytes.now)))) }
-{
-    let (front, _) = bytes.split_at(size);
-    let (_, body) = front.split_at(28);
-    match bytes[4] {
-        1 => found(bytes, at, size, update(pages, body)?),
-        2 => found(bytes, at, size, compensation(pages, body)?),
-        3 => found(bytes, at, size, Body::Commit),
-        4 => found(bytes, at, size, Body::Rollback),
-        5 => found(bytes, at, size, Body::End),
-        6 => found(bytes, at, size, Body::BeginCheckpoint),
-        _ => found(bytes, at, size, checkpoint(alloc, body)?),
-    }
-}
-
-/// The steps in order, of which the first that applies decides.
-#[inline(always)]
-#[tactic(auto, unfolding(crate::specs::Reading::read_record))]
-fn read(alloc: Global, bytes: &[u8], at: Lsn, pages: u32) -> Result<Option<(Record, usize)>, Fault>
     ensures exact { Gives (λ o. o) result (read_record pages at.0 bytes.now) }
     ensures memory { IfErr result (λ e. e ≡ Memory → TakesMemory (read_record pages at.0 bytes.now)) }
 {
-    if bytes.len() < 28 {
-        return Ok(None);
+    match view_record(bytes, at, pages)? {
+        None => Ok(None),
+        Some((view, len)) => {
+            let record = view.to_record(alloc)?;
+            Ok(Some((record, len)))
+        }
     }
-    let size = word(bytes, 0) as usize;
-    let kind = bytes[4];
-    if !may_be(kind, size) {
-        return Err(Fault::BadLength);
-    }
-    if !(1 <= kind && kind <= 7) {
-        return Err(Fault::BadType);
-    }
-    if !(bytes[5] == 0 && bytes[6] == 0 && bytes[7] == 0) {
-        return Err(Fault::BadReserved);
-    }
-    if long(bytes, 8) != at.0 {
-        return Err(Fault::WrongLsn);
-    }
-    if bytes.len() < size {
-        return Ok(None);
-    }
-    whole(alloc, bytes, at, pages, size)
 }
 
 /// The record at the front of the bytes, and its length in bytes, for a log in which it stands at `at` and a database of
@@ -128,5 +57,5 @@ pub fn decode(
     ensures memory { IsErrOf result Memory → slice_index bytes.now 4 ≡ 7 }
     ensures rows { IsErrOf result Memory → TakesMemory (read_record pages at.0 bytes.now) }
 {
-    read(alloc, bytes, at, pages)
+    copied(alloc, bytes, at, pages)
 }

@@ -1,8 +1,8 @@
 ghost use Rattle.std.specs.Prelude.{◌≡◌, ◌+◌, ◌≤◌, length, take, drop};
-ghost use Rattle.als_record.specs.Reading.{half_at, word_at, long_at, key_at, image_of, is_length_byte, len_of_byte};
+ghost use Rattle.als_record.specs.Reading.{half_at, word_at, long_at, key_at, is_length_byte, len_of_byte};
 
-use crate::image::{Image, Value};
 use crate::key::Key;
+use crate::limits::VALUE_LIMIT;
 
 /// The number in two bytes at a place.
 #[inline]
@@ -56,7 +56,7 @@ pub(crate) fn key(bytes: &[u8], at: usize) -> Key
 pub(crate) fn is_length(byte: u8) -> bool
     ensures { result ≡ is_length_byte byte }
 {
-    byte <= 31 || byte == 255
+    byte as usize <= VALUE_LIMIT || byte == 255
 }
 
 /// How many bytes follow for a length byte.
@@ -65,19 +65,4 @@ pub(crate) fn value_len(byte: u8) -> usize
     ensures { result ≡ len_of_byte byte }
 {
     if byte == 255 { 0 } else { byte as usize }
-}
-
-/// The image of a length byte and the value's bytes.
-#[inline(always)]
-pub(crate) fn image(byte: u8, bytes: &[u8]) -> Image
-    requires { length bytes.now ≤ 31 }
-    ensures { result ≡ image_of byte bytes.now }
-{
-    if byte == 255 {
-        return None;
-    }
-    match Value::try_from(bytes) {
-        Ok(value) => Some(value),
-        Err(_) => unreachable!(),
-    }
 }

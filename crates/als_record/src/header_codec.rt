@@ -5,6 +5,7 @@ ghost use Rattle.als_record.specs.HeaderReading.{is_magic, read_header};
 use crate::fault::Fault;
 use crate::fields::word;
 use crate::header::LogHeader;
+use crate::limits::PAGE_LIMIT;
 use byteorder::{BigEndian, ByteOrder};
 
 /// Is it the text that each log begins with?
@@ -26,7 +27,7 @@ fn read(bytes: &[u8]) -> Result<Option<LogHeader>, Fault>
     let pages = word(bytes, 8);
     let is_header = begins_log(front)
         && 1 <= pages
-        && pages <= LogHeader::MOST_PAGES
+        && pages as usize <= PAGE_LIMIT
         && word(bytes, 12) == 0;
     if !is_header {
         return Err(Fault::BadHeader);
@@ -35,9 +36,6 @@ fn read(bytes: &[u8]) -> Result<Option<LogHeader>, Fault>
 }
 
 impl LogHeader {
-    /// How many pages a database may have.
-    pub const MOST_PAGES: u32 = 4096;
-
     /// The header at the front of the bytes. `None`: there are fewer than 16.
     ///
     /// `BadHeader`: another text, a page count that is not 1 to 4,096, or a byte that must be zero and is not. It takes no

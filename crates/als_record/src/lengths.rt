@@ -2,6 +2,7 @@ ghost use Rattle.std.specs.Prelude.{◌≡◌, ◌≤◌, length};
 ghost use Rattle.als_record.specs.Spelling.{image_bytes, body_len, record_len};
 
 use crate::image::Image;
+use crate::limits::HEAD_LEN;
 use crate::record::{Body, Record};
 
 /// The bytes of an image's value, none where it is absent.
@@ -41,5 +42,5 @@ pub fn encoded_len(logged: &Record) -> usize
     ensures len { result ≡ record_len logged.now }
     ensures limit { result ≤ 54560 }
 {
-    28 + encoded_body_len(&logged.body)
+    HEAD_LEN + encoded_body_len(&logged.body)
 }

@@ -3,6 +3,8 @@
 
 // Where a record stands in the log.
 mod lsn;
+// The numbers that bound a log.
+mod limits;
 // Who wrote a record.
 mod trans_id;
 // What a record writes to.
@@ -15,6 +17,12 @@ mod change;
 mod rows;
 // A record and what it says.
 mod record;
+// An image that is not copied.
+mod image_view;
+// Rows that are not copied.
+mod rows_view;
+// A record that is not copied.
+mod record_view;
 // Why bytes are no record.
 mod fault;
 // The header of a log text.
@@ -23,10 +31,14 @@ mod header;
 mod fields;
 // A header to bytes and back.
 mod header_codec;
-// Bytes to the bodies of updates and compensations.
+// Bytes to views of bodies.
 mod bodies;
-// Bytes to the rows of a checkpoint.
+// The rows of a checkpoint copied, also out of bytes.
 mod row_reading;
+// Records copied, and shown.
+mod copying;
+// Bytes to views of records.
+mod viewing;
 // Bytes to records.
 mod decoding;
 // How many bytes a record has.
@@ -53,15 +65,22 @@ pub use encoding::encode;
 pub use fault::Fault;
 pub use header::LogHeader;
 pub use image::{Image, Value};
+pub use image_view::ImageView;
 pub use key::Key;
 pub use laws::{one_log, one_spelling};
 pub use lengths::encoded_len;
+pub use limits::{
+    FIRST_LSN, HEAD_LEN, PAGE_LIMIT, RECORD_LIMIT, SLOT_COUNT, TRANSACTION_LIMIT, VALUE_LIMIT,
+};
 pub use lsn::Lsn;
 pub use record::{Body, Record};
+pub use record_view::{BodyView, RecordView};
 pub use rows::{LoggedPage, LoggedTransaction, PageRows, TransactionRows};
+pub use rows_view::{RowsView, SpelledRows};
 pub use trans_id::TransId;
 pub use transaction_row::TransactionRow;
 pub use transaction_state::TransactionState;
+pub use viewing::view_record;
 
 #[cfg(test)]
 mod tests;

@@ -1,12 +1,12 @@
 ghost use Rattle.std.specs.Prelude.{◌≡◌, ◌+◌, ◌*◌, ◌≤◌, length, take, drop, IfErr, IfOk, Ok, Err};
-ghost use Rattle.als_record.specs.declared.fault.Fault.TheVariants.{Memory};
-ghost use Rattle.als_record.specs.Reading.{Gives, GivesRows, transaction_at, transactions_at, page_row_at, pages_at, read_checkpoint};
+ghost use Rattle.als_record.specs.Reading.{transaction_at, transactions_at, page_row_at, pages_at};
+ghost use Rattle.als_record.specs.Spelled.{rows_in};
 
-use crate::fault::Fault;
 use crate::fields::{half, long, word};
 use crate::lsn::Lsn;
 use crate::record::Body;
 use crate::rows::{LoggedPage, LoggedTransaction, PageRows, TransactionRows};
+use crate::rows_view::{RowsView, SpelledRows};
 use crate::trans_id::TransId;
 use std::alloc::{AllocError, Global};
 
@@ -64,21 +64,35 @@ fn pages(alloc: Global, count: usize, bytes: &[u8]) -> Result<PageRows, AllocErr
     Ok(rows)
 }
 
-/// The body of an end_chkpt.
-#[inline(never)]
-#[tactic(auto, unfolding(crate::specs::Reading::read_checkpoint))]
-pub(crate) fn checkpoint(alloc: Global, body: &[u8]) -> Result<Body, Fault>
-    requires { 4 ≤ length body.now }
-    ensures read { Gives (λ b. b) result (read_checkpoint body.now) }
-    ensures memory { IfErr result (λ e. e ≡ Memory → GivesRows (read_checkpoint body.now)) }
-{
-    let transaction_count = half(body, 0) as usize;
-    let page_count = half(body, 2) as usize;
-    let is_limited = transaction_count <= TransactionRows::LIMIT && page_count <= PageRows::LIMIT;
-    if !(is_limited && body.len() == 4 + 21 * transaction_count + 12 * page_count) {
-        return Err(Fault::BadLength);
+impl RowsView<'_> {
+    ghost use Rattle.als_record.specs.Shown.{shown_rows};
+
+    /// The body of an end_chkpt with these rows, which are copied.
+    #[inline(never)]
+    pub(crate) fn to_body(&self, alloc: Global) -> Result<Body, AllocError>
+        ensures { IfOk result (λ body. body ≡ shown_rows self.now) }
+    {
+        match *self {
+            RowsView::Spelled { rows } => spelled(alloc, rows),
+            RowsView::Kept {
+                transactions,
+                pages,
+            } => Ok(Body::EndCheckpoint {
+                transactions: transactions.copy(alloc)?,
+                pages: pages.copy(alloc)?,
+            }),
+        }
     }
-    let (_, rows) = body.split_at(4);
+}
+
+/// The body of an end_chkpt of which the rows lie in bytes.
+fn spelled(alloc: Global, view: SpelledRows<'_>) -> Result<Body, AllocError>
+    ensures { IfOk result (λ body. body ≡ rows_in view.entry.bytes.now) }
+{
+    let bytes = view.bytes;
+    let transaction_count = half(bytes, 0) as usize;
+    let page_count = half(bytes, 2) as usize;
+    let (_, rows) = bytes.split_at(4);
     let transactions = transactions(alloc, transaction_count, rows)?;
     let (_, second) = rows.split_at(21 * transaction_count);
     let pages = pages(alloc, page_count, second)?;

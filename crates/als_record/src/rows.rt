@@ -1,5 +1,6 @@
 ghost use Rattle.std.specs.Prelude.{◌≡◌, ◌<◌, ◌≤◌, ◌^◌, [], ◌∷◌, ◌++◌, length, OnOk, OnErr, IfOk};
 
+use crate::limits::{PAGE_LIMIT, TRANSACTION_LIMIT};
 use crate::lsn::Lsn;
 use crate::trans_id::TransId;
 use std::alloc::{AllocError, Global};
@@ -39,7 +40,7 @@ impl Model for TransactionRows {
 }
 
 impl TransactionRows {
-    pub const LIMIT: usize = 256;
+    pub const LIMIT: usize = TRANSACTION_LIMIT;
 
     /// No rows.
     pub fn new(alloc: Global) -> Self
@@ -66,6 +67,14 @@ impl TransactionRows {
     {
         self.rows.push(row)?;
         Ok(())
+    }
+
+    /// The same rows again.
+    pub(crate) fn copy(&self, alloc: Global) -> Result<Self, AllocError>
+        ensures { IfOk result (λ rows. rows ≡ self.now) }
+    {
+        let rows = Vec::from_slice(alloc, self.rows.as_slice())?;
+        Ok(TransactionRows { rows })
     }
 
     /// The rows in order.
@@ -95,7 +104,7 @@ impl Model for PageRows {
 }
 
 impl PageRows {
-    pub const LIMIT: usize = 4096;
+    pub const LIMIT: usize = PAGE_LIMIT;
 
     /// No rows.
     pub fn new(alloc: Global) -> Self
@@ -122,6 +131,14 @@ impl PageRows {
     {
         self.rows.push(row)?;
         Ok(())
+    }
+
+    /// The same rows again.
+    pub(crate) fn copy(&self, alloc: Global) -> Result<Self, AllocError>
+        ensures { IfOk result (λ rows. rows ≡ self.now) }
+    {
+        let rows = Vec::from_slice(alloc, self.rows.as_slice())?;
+        Ok(PageRows { rows })
     }
 
     /// The rows in order.

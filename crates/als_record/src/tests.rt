@@ -53,6 +53,15 @@ fn spelled(rt: &impl Abort, alloc: Global, bytes: &[u8], at: u64) -> Result<Reco
         encode(&found, &mut out)?;
     }
     assert_eq!(rt; out.as_slice(), bytes);
+    let copy = match found.view().to_record(alloc) {
+        Err(_) => found.view().to_record(alloc)?,
+        Ok(copy) => copy,
+    };
+    let mut again = Vec::new(alloc);
+    if encode(&copy, &mut again).is_err() {
+        encode(&copy, &mut again)?;
+    }
+    assert_eq!(rt; again.as_slice(), bytes);
     Ok(found)
 }
 
@@ -65,6 +74,26 @@ fn fault_with(alloc: Global, changes: [(usize, u8); 2]) -> Option<Fault> {
         }
     }
     decode(alloc, &bytes, Lsn(16), 4).err()
+}
+
+#[test]
+fn a_view_shows_the_bytes(rt: HostRuntime) -> Result<(), Fail> {
+    let (view, len) = view_record(&UPDATE, Lsn(16), 4)?.ok_or("a record is there")?;
+    assert_eq!(rt; len, UPDATE.len());
+    assert_eq!(rt; view.trans, TransId(1));
+    match view.body {
+        BodyView::Update { key, before, after } => {
+            assert_eq!(rt; key, Key { page: 0, slot: 0 });
+            assert!(rt; before.bytes.is_none());
+            assert!(rt; after.bytes == Some(&[0xaa]));
+            assert!(rt; !before.is_same(&after) && after.is_same(&after));
+        }
+        _ => panic!(rt; "an update is there"),
+    }
+    assert!(rt; view_record(&UPDATE[..35], Lsn(16), 4)?.is_none());
+    assert!(rt; view_record(&CHECKPOINT, Lsn(16), 4)?.is_some());
+    assert!(rt; view_record(&UPDATE, Lsn(17), 4).err() == Some(Fault::WrongLsn));
+    Ok(())
 }
 
 #[test]

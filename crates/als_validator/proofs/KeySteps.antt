@@ -223,15 +223,6 @@ module _ (log : List Record) (r : Record) (k : Key) (old : KeyState) (kept : IsK
       same_left left (EndCheckpoint transactions pages) u c = refl
 
 -- neither an update nor a compensation
-pub quiet_of : (b : Body) → ((k : Key) (fore after : Image) → b ≡ Update k fore after → ⊥) → ((n : Lsn) (k : Key) (after : Image) → b ≡ Compensation n k after → ⊥) → (is_update b ≡ false) × (is_compensation b ≡ false)
-quiet_of (Update key before after) u c = absurd (u key before after refl)
-quiet_of (Compensation undo_next key after) u c = absurd (c undo_next key after refl)
-quiet_of Commit u c = (refl, refl)
-quiet_of Rollback u c = (refl, refl)
-quiet_of End u c = (refl, refl)
-quiet_of BeginCheckpoint u c = (refl, refl)
-quiet_of (EndCheckpoint transactions pages) u c = (refl, refl)
-
 -- ---- all keys
 
 -- other keys are kept elsewhere

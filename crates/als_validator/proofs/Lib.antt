@@ -2,3 +2,4 @@ pub mod Bounds
 pub mod KeySteps
 pub mod StateSteps
 pub mod HolderSteps
+pub mod Views

@@ -266,15 +266,6 @@ module _ (ids : List TransId) (log : List Record) (r : Record) (are : AreCommitt
     ];
   }
 
-pub not_commit : (b : Body) → (b ≡ Commit → ⊥) → is_commit b ≡ false
-not_commit (Update key before after) n = refl
-not_commit (Compensation undo_next key after) n = refl
-not_commit Commit n = absurd (n refl)
-not_commit Rollback n = refl
-not_commit End n = refl
-not_commit BeginCheckpoint n = refl
-not_commit (EndCheckpoint transactions pages) n = refl
-
 pub committed-none : AreCommitted [] []
 unfolding is_committed records_of
 committed-none = record { each = λ t. refl }

@@ -1,9 +1,9 @@
 -- What the causes ask of a record's transaction.
-use Rattle.std.specs.Prelude.{◌≡◌, ℕ, ◌==◌, true, List, [], ◌∷◌, Option, Some, None, option_copied, if◌then◌else◌}
+use Rattle.std.specs.Prelude.{◌≡◌, ℕ, ◌==◌, List, [], ◌∷◌, Option, Some, None, option_copied, if◌then◌else◌}
 use Rattle.std.specs.List.{list_any}
 use Rattle.als_record.specs.declared.record.Record.{Record}
 use Rattle.als_record.specs.declared.trans_id.TransId.{TransId}
-use Rattle.als_record.specs.Transactions.{is_unended, is_committed, to_undo, surviving}
+use Rattle.als_record.specs.Transactions.{is_unended, is_committed, to_undo}
 use Rattle.als_record.specs.Table.{row_of}
 use Rattle.als_validator.specs.declared.past.Past.{Past}
 

@@ -3,6 +3,7 @@ ghost use Rattle.std.specs.List.{list_any};
 ghost use Rattle.als_record.specs.declared.record.Record.{Record};
 ghost use Rattle.als_record.specs.declared.trans_id.TransId.{TransId};
 ghost use Rattle.als_record.specs.Spelling.{IsRecord, IsKey};
+ghost use Rattle.als_record.specs.Shown.{shown, shown_body, shown_image};
 ghost use Rattle.als_record.specs.Transactions.{is_transactional, is_end, is_open, unended, greatest_trans};
 ghost use Rattle.als_record.specs.Images.{same_image, is_update_at, image_before};
 ghost use Rattle.als_record.specs.Validity.{bad_prev, old_transaction, wrong_state, wrong_undo_next, wrong_compensation, held_by, before_image, too_many, fits_checkpoints, bad_checkpoint, open_checkpoint, is_valid};
@@ -11,28 +12,30 @@ ghost use Rattle.als_validator.specs.Keys.{AreKeysOf, IsKeyOf};
 ghost use Rattle.als_validator.specs.Seen.{IsPastOf, AreCommitted};
 ghost use Rattle.als_validator.specs.Tests.{state_in, last_in, goes_on, barred, skips, misses};
 
-use crate::images::is_same;
 use crate::key_state::KeyState;
 use crate::keys::place;
 use crate::past::Past;
 use als_analysis::TransTable;
-use als_record::{Body, Image, Key, Lsn, Record, TransId, TransactionRow, TransactionState};
-
-/// How many transactions of a valid log are unended at most.
-const TRANSACTION_LIMIT: usize = 256;
+use als_record::{
+    Body, BodyView, ImageView, Key, Lsn, Record, RecordView, TRANSACTION_LIMIT, TransId,
+    TransactionRow, TransactionState,
+};
 
 /// Whether a record belongs to a transaction: all but those of checkpoints.
-fn is_transaction_record(body: &Body) -> bool
-    ensures { result ≡ is_transactional body.now }
+fn is_transaction_record(body: &BodyView<'_>) -> bool
+    ensures { result ≡ is_transactional (shown_body body.now) }
 {
-    !matches!(body, Body::BeginCheckpoint | Body::EndCheckpoint { .. })
+    !matches!(
+        body,
+        BodyView::BeginCheckpoint | BodyView::EndCheckpoint { .. }
+    )
 }
 
 /// Whether a record ends its transaction.
-fn is_end_record(body: &Body) -> bool
-    ensures { result ≡ is_end body.now }
+fn is_end_record(body: &BodyView<'_>) -> bool
+    ensures { result ≡ is_end (shown_body body.now) }
 {
-    matches!(body, Body::End)
+    matches!(body, BodyView::End)
 }
 
 /// LastLSN of a row, 0 without one.
@@ -56,72 +59,79 @@ fn state_of(row: Option<TransactionRow>) -> TransactionState
 }
 
 /// Whether a transaction in this state may not write a record.
-fn is_barred(state: TransactionState, left: bool, body: &Body) -> bool
-    ensures { result ≡ barred state left body.now }
+fn is_barred(state: TransactionState, left: bool, body: &BodyView<'_>) -> bool
+    ensures { result ≡ barred state left (shown_body body.now) }
 {
     match (state, body) {
-        (TransactionState::Committed, Body::End) => false,
+        (TransactionState::Committed, BodyView::End) => false,
         (TransactionState::Committed, _) => true,
-        (TransactionState::RollingBack, Body::Update { .. } | Body::Commit | Body::Rollback) => {
-            true
-        }
-        (_, Body::End) => left,
+        (
+            TransactionState::RollingBack,
+            BodyView::Update { .. } | BodyView::Commit | BodyView::Rollback,
+        ) => { true }
+        (_, BodyView::End) => left,
         _ => false,
     }
 }
 
 /// Whether this is an update of the key with this before image.
-fn is_undone_by(update: &Record, key: Key, after: &Image) -> bool
-    ensures { result ≡ (is_update_at key update.now.body && same_image after.now (image_before update.now.body)) }
+fn is_undone_by(update: &Record, key: Key, after: &ImageView<'_>) -> bool
+    ensures { result ≡ (is_update_at key update.now.body && same_image (shown_image after.now) (image_before update.now.body)) }
 {
     match &update.body {
         Body::Update {
             key: written,
             before,
             ..
-        } => written.page == key.page && written.slot == key.slot && is_same(after, before),
+        } => {
+            written.page == key.page
+                && written.slot == key.slot
+                && after.is_same(&ImageView::of(before))
+        }
         _ => false,
     }
 }
 
 /// Whether a compensation does not go on where the newest surviving update says.
-fn does_skip(newest: Option<&Record>, body: &Body) -> bool
-    ensures { result ≡ skips (option_copied newest.entry) body.now }
+fn does_skip(newest: Option<&Record>, body: &BodyView<'_>) -> bool
+    ensures { result ≡ skips (option_copied newest.entry) (shown_body body.now) }
 {
     match (newest, body) {
-        (Some(update), Body::Compensation { undo_next, .. }) => undo_next.0 != update.prev.0,
+        (Some(update), BodyView::Compensation { undo_next, .. }) => undo_next.0 != update.prev.0,
         _ => false,
     }
 }
 
 /// Whether a compensation does not undo the newest surviving update.
-fn does_miss(newest: Option<&Record>, body: &Body) -> bool
-    ensures { result ≡ misses (option_copied newest.entry) body.now }
+fn does_miss(newest: Option<&Record>, body: &BodyView<'_>) -> bool
+    ensures { result ≡ misses (option_copied newest.entry) (shown_body body.now) }
 {
     match (newest, body) {
-        (None, Body::Compensation { .. }) => true,
-        (Some(update), Body::Compensation { key, after, .. }) => !is_undone_by(update, *key, after),
+        (None, BodyView::Compensation { .. }) => true,
+        (Some(update), BodyView::Compensation { key, after, .. }) => !is_undone_by(
+            update, *key, after,
+        ),
         _ => false,
     }
 }
 
 /// Whether PrevLSN is another than the LastLSN of this row.
-fn is_off_chain(row: Option<TransactionRow>, logged: &Record) -> bool
-    ensures { result ≡ (is_transactional logged.now.body && not (logged.now.prev.0 == last_in row)) }
+fn is_off_chain(row: Option<TransactionRow>, logged: &RecordView<'_>) -> bool
+    ensures { result ≡ (is_transactional (shown_body logged.now.body) && not (logged.now.prev.0 == last_in row)) }
 {
     is_transaction_record(&logged.body) && logged.prev.0 != last_of(row).0
 }
 
 /// Whether a transaction without a row does not rise above the greatest TransID.
-fn is_below(row: Option<TransactionRow>, greatest: TransId, logged: &Record) -> bool
-    ensures { result ≡ (is_transactional logged.now.body && is_none row && nat_le logged.now.trans.0 greatest.0) }
+fn is_below(row: Option<TransactionRow>, greatest: TransId, logged: &RecordView<'_>) -> bool
+    ensures { result ≡ (is_transactional (shown_body logged.now.body) && is_none row && nat_le logged.now.trans.0 greatest.0) }
 {
     is_transaction_record(&logged.body) && row.is_none() && logged.trans.0 <= greatest.0
 }
 
 /// Whether a record makes one row more than the limit.
-fn does_overflow(row: Option<TransactionRow>, count: usize, logged: &Record) -> bool
-    ensures { result ≡ (is_transactional logged.now.body && not (is_end logged.now.body) && is_none row && nat_le 256 count) }
+fn does_overflow(row: Option<TransactionRow>, count: usize, logged: &RecordView<'_>) -> bool
+    ensures { result ≡ (is_transactional (shown_body logged.now.body) && not (is_end (shown_body logged.now.body)) && is_none row && nat_le 256 count) }
 {
     is_transaction_record(&logged.body)
         && !is_end_record(&logged.body)
@@ -130,12 +140,12 @@ fn does_overflow(row: Option<TransactionRow>, count: usize, logged: &Record) -> 
 }
 
 /// Whether a checkpoint's record fits the one that is open.
-fn does_fit(begun: Lsn, logged: &Record) -> bool
-    ensures { result ≡ fits_checkpoints begun.0 logged.now logged.now.body }
+fn does_fit(begun: Lsn, logged: &RecordView<'_>) -> bool
+    ensures { result ≡ fits_checkpoints begun.0 (shown logged.now) (shown_body logged.now.body) }
 {
     match &logged.body {
-        Body::BeginCheckpoint => logged.trans.0 == 0 && logged.prev.0 == 0,
-        Body::EndCheckpoint { .. } => {
+        BodyView::BeginCheckpoint => logged.trans.0 == 0 && logged.prev.0 == 0,
+        BodyView::EndCheckpoint { .. } => {
             logged.trans.0 == 0 && logged.prev.0 == begun.0 && begun.0 != 0
         }
         _ => true,
@@ -160,22 +170,22 @@ fn is_listed(ids: &[TransId], trans: TransId) -> bool
 }
 
 /// 8: PrevLSN does not name the record before it of the same transaction.
-pub(crate) fn is_bad_prev(past: &Past, logged: &Record) -> bool
-    ensures { (log : List Record) → IsPastOf past.now log logged.now.trans.0 → result ≡ bad_prev log logged.now }
+pub(crate) fn is_bad_prev(past: &Past, logged: &RecordView<'_>) -> bool
+    ensures { (log : List Record) → IsPastOf past.now log logged.now.trans.0 → result ≡ bad_prev log (shown logged.now) }
 {
     is_off_chain(past.row, logged)
 }
 
 /// 9: a transaction that has ended, or a new one that does not rise above the greatest TransID.
-pub(crate) fn is_old(past: &Past, greatest: TransId, logged: &Record) -> bool
-    ensures { (log : List Record) → IsPastOf past.now log logged.now.trans.0 → greatest.0 ≡ greatest_trans log → result ≡ old_transaction log logged.now }
+pub(crate) fn is_old(past: &Past, greatest: TransId, logged: &RecordView<'_>) -> bool
+    ensures { (log : List Record) → IsPastOf past.now log logged.now.trans.0 → greatest.0 ≡ greatest_trans log → result ≡ old_transaction log (shown logged.now) }
 {
     is_below(past.row, greatest, logged)
 }
 
 /// 10: what the transaction may no longer write. A checkpoint's record may not name one that has committed.
-pub(crate) fn is_wrong_state(past: &Past, committed: &[TransId], logged: &Record) -> bool
-    ensures { (log : List Record) → IsPastOf past.now log logged.now.trans.0 → AreCommitted committed.now log → old_transaction log logged.now ≡ false → result ≡ wrong_state log logged.now }
+pub(crate) fn is_wrong_state(past: &Past, committed: &[TransId], logged: &RecordView<'_>) -> bool
+    ensures { (log : List Record) → IsPastOf past.now log logged.now.trans.0 → AreCommitted committed.now log → old_transaction log (shown logged.now) ≡ false → result ≡ wrong_state log (shown logged.now) }
 {
     if is_transaction_record(&logged.body) {
         return is_barred(state_of(past.row), past.newest.is_some(), &logged.body);
@@ -184,15 +194,15 @@ pub(crate) fn is_wrong_state(past: &Past, committed: &[TransId], logged: &Record
 }
 
 /// 11: a compensation that does not pass over exactly the update that is to be undone.
-pub(crate) fn is_wrong_undo_next(past: &Past, logged: &Record) -> bool
-    ensures { (log : List Record) → IsPastOf past.now log logged.now.trans.0 → old_transaction log logged.now ≡ false → result ≡ wrong_undo_next log logged.now }
+pub(crate) fn is_wrong_undo_next(past: &Past, logged: &RecordView<'_>) -> bool
+    ensures { (log : List Record) → IsPastOf past.now log logged.now.trans.0 → old_transaction log (shown logged.now) ≡ false → result ≡ wrong_undo_next log (shown logged.now) }
 {
     does_skip(past.newest, &logged.body)
 }
 
 /// 12: a compensation of anything but the update that is to be undone.
-pub(crate) fn is_wrong_compensation(past: &Past, logged: &Record) -> bool
-    ensures { (log : List Record) → IsPastOf past.now log logged.now.trans.0 → old_transaction log logged.now ≡ false → result ≡ wrong_compensation log logged.now }
+pub(crate) fn is_wrong_compensation(past: &Past, logged: &RecordView<'_>) -> bool
+    ensures { (log : List Record) → IsPastOf past.now log logged.now.trans.0 → old_transaction log (shown logged.now) ≡ false → result ≡ wrong_compensation log (shown logged.now) }
 {
     does_miss(past.newest, &logged.body)
 }
@@ -220,11 +230,15 @@ fn is_still_open(table: &TransTable, trans: TransId) -> bool
 
 /// 13: the transaction that holds the key of an update. What is kept of the key names one at most, which holds the key only
 /// while it is unended and not committed.
-pub(crate) fn holder_of(keys: &[KeyState], table: &TransTable, logged: &Record) -> Option<TransId>
-    ensures { (pages : ℕ) (log : List Record) → AreKeysOf keys.now pages log → IsTableOf table.now log → is_valid log ≡ true → IsRecord pages logged.now → result ≡ held_by log logged.now }
+pub(crate) fn holder_of(
+    keys: &[KeyState],
+    table: &TransTable,
+    logged: &RecordView<'_>,
+) -> Option<TransId>
+    ensures { (pages : ℕ) (log : List Record) → AreKeysOf keys.now pages log → IsTableOf table.now log → is_valid log ≡ true → IsRecord pages (shown logged.now) → result ≡ held_by log (shown logged.now) }
 {
     match &logged.body {
-        Body::Update { key, .. } => match kept_of(keys, *key) {
+        BodyView::Update { key, .. } => match kept_of(keys, *key) {
             Some(kept) => holder_in(kept, table, logged.trans),
             None => None,
         },
@@ -249,11 +263,11 @@ fn holder_in(kept: &KeyState, table: &TransTable, trans: TransId) -> Option<Tran
 }
 
 /// 14: an update whose before image is another than the key has.
-pub(crate) fn is_stale(keys: &[KeyState], logged: &Record) -> bool
-    ensures { (pages : ℕ) (log : List Record) → AreKeysOf keys.now pages log → IsRecord pages logged.now → result ≡ before_image log logged.now }
+pub(crate) fn is_stale(keys: &[KeyState], logged: &RecordView<'_>) -> bool
+    ensures { (pages : ℕ) (log : List Record) → AreKeysOf keys.now pages log → IsRecord pages (shown logged.now) → result ≡ before_image log (shown logged.now) }
 {
     match &logged.body {
-        Body::Update { key, before, .. } => match kept_of(keys, *key) {
+        BodyView::Update { key, before, .. } => match kept_of(keys, *key) {
             Some(kept) => !kept.image.is(before),
             None => true,
         },
@@ -262,15 +276,15 @@ pub(crate) fn is_stale(keys: &[KeyState], logged: &Record) -> bool
 }
 
 /// 15: the first record of one transaction too many.
-pub(crate) fn is_one_too_many(past: &Past, count: usize, logged: &Record) -> bool
-    ensures { (log : List Record) → IsPastOf past.now log logged.now.trans.0 → count ≡ length (unended log) → is_valid log ≡ true → old_transaction log logged.now ≡ false → result ≡ too_many log logged.now }
+pub(crate) fn is_one_too_many(past: &Past, count: usize, logged: &RecordView<'_>) -> bool
+    ensures { (log : List Record) → IsPastOf past.now log logged.now.trans.0 → count ≡ length (unended log) → is_valid log ≡ true → old_transaction log (shown logged.now) ≡ false → result ≡ too_many log (shown logged.now) }
 {
     does_overflow(past.row, count, logged)
 }
 
 /// 16: a checkpoint's record that names a transaction, or does not fit those before it.
-pub(crate) fn is_bad_checkpoint(begun: Lsn, logged: &Record) -> bool
-    ensures { (log : List Record) → begun.0 ≡ open_checkpoint log → result ≡ bad_checkpoint log logged.now }
+pub(crate) fn is_bad_checkpoint(begun: Lsn, logged: &RecordView<'_>) -> bool
+    ensures { (log : List Record) → begun.0 ≡ open_checkpoint log → result ≡ bad_checkpoint log (shown logged.now) }
 {
     !does_fit(begun, logged)
 }

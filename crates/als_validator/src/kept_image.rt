@@ -1,7 +1,8 @@
 ghost use Rattle.std.specs.Prelude.{◌≡◌, ◌≤◌, length, None};
 ghost use Rattle.als_record.specs.Images.{same_image};
+ghost use Rattle.als_record.specs.Shown.{shown_image};
 
-use als_record::Image;
+use als_record::ImageView;
 use std::marker::Model;
 
 /// An image in 32 bytes, so that what is kept of all keys stays small: the fewer bytes, the fewer of them have to be fetched.
@@ -36,13 +37,12 @@ impl KeptImage {
     }
 
     /// Keeps this image from now on.
-    pub(crate) fn set(&mut self, image: &Image)
-        ensures { self.new ≡ image.now }
+    pub(crate) fn set(&mut self, image: &ImageView<'_>)
+        ensures { self.new ≡ shown_image image.now }
     {
-        match image {
+        match image.bytes {
             None => self.first = 0,
-            Some(value) => {
-                let bytes = value.as_slice();
+            Some(bytes) => {
                 self.first = bytes.len() as u8 + 1;
                 self.bytes[..bytes.len()].copy_from_slice(bytes);
             }
@@ -50,13 +50,12 @@ impl KeptImage {
     }
 
     /// Whether an image is this one.
-    pub(crate) fn is(&self, image: &Image) -> bool
-        ensures { result ≡ same_image image.now self.now }
+    pub(crate) fn is(&self, image: &ImageView<'_>) -> bool
+        ensures { result ≡ same_image (shown_image image.now) self.now }
     {
-        match image {
+        match image.bytes {
             None => self.first == 0,
-            Some(value) => {
-                let bytes = value.as_slice();
+            Some(bytes) => {
                 self.first as usize == bytes.len() + 1 && bytes == &self.bytes[..bytes.len()]
             }
         }

@@ -1,7 +1,8 @@
 ghost use Rattle.std.specs.Prelude.{◌≡◌, ◌==◌, ◌+◌, ◌-◌, ◌^◌, min, None, if◌then◌else◌};
+ghost use Rattle.als_record.specs.Shown.{shown_image};
 
 use crate::kept_image::KeptImage;
-use als_record::{Image, TransId};
+use als_record::{ImageView, TransId};
 
 /// What is kept of a key: what it has, and how many surviving updates of it a transaction has. Once that transaction has
 /// committed or ended the count says nothing, and nobody clears it: the next update of the key does.
@@ -26,8 +27,8 @@ impl KeyState {
     }
 
     /// A transaction that may write the key updates it.
-    pub(crate) fn update(&mut self, trans: TransId, after: &Image)
-        ensures image { self.new.image ≡ after.now }
+    pub(crate) fn update(&mut self, trans: TransId, after: &ImageView<'_>)
+        ensures image { self.new.image ≡ shown_image after.now }
         ensures holder { self.new.holder ≡ trans }
         ensures count { self.new.count ≡ (if self.old.holder.0 == trans.0 then min (self.old.count + 1) (2 ^ 64 - 1) else 1) }
     {
@@ -41,8 +42,8 @@ impl KeyState {
     }
 
     /// A transaction undoes an update of the key.
-    pub(crate) fn undo(&mut self, trans: TransId, after: &Image)
-        ensures image { self.new.image ≡ after.now }
+    pub(crate) fn undo(&mut self, trans: TransId, after: &ImageView<'_>)
+        ensures image { self.new.image ≡ shown_image after.now }
         ensures holder { self.new.holder ≡ self.old.holder }
         ensures count { self.new.count ≡ (if self.old.holder.0 == trans.0 then self.old.count - 1 else self.old.count) }
     {

@@ -5,8 +5,6 @@
 mod causes;
 // Why a record is not admitted.
 mod fault;
-// Images compared.
-mod images;
 // An image in few bytes.
 mod kept_image;
 // What is kept of a key.

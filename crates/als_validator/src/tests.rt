@@ -104,18 +104,18 @@ fn make_room(rt: &impl Abort, validator: &mut Validator)
 
 // Takes a record that may follow. What a takeover would append then was told before.
 fn admit(rt: &impl Abort, validator: &mut Validator, logged: &Record) {
-    assert_eq!(rt; validator.check(logged), Ok(()));
+    assert_eq!(rt; validator.check(&logged.view()), Ok(()));
     make_room(rt, validator);
-    assert_eq!(rt; validator.check(logged), Ok(()));
-    let after = validator.reserve_after(logged);
-    validator.admit(logged);
+    assert_eq!(rt; validator.check(&logged.view()), Ok(()));
+    let after = validator.reserve_after(&logged.view());
+    validator.admit(&logged.view());
     assert_eq!(rt; validator.reserve_bytes(), after);
 }
 
 // Refuses a record, and again.
 fn refuse(rt: &impl Abort, validator: &mut Validator, logged: &Record, cause: Cause) {
-    assert_eq!(rt; validator.check(logged), Err(Fault::Invalid(cause)));
-    assert_eq!(rt; validator.check(logged), Err(Fault::Invalid(cause)));
+    assert_eq!(rt; validator.check(&logged.view()), Err(Fault::Invalid(cause)));
+    assert_eq!(rt; validator.check(&logged.view()), Err(Fault::Invalid(cause)));
 }
 
 #[test]
@@ -261,6 +261,6 @@ fn a_partial_rollback_goes_on(rt: HostRuntime) {
     );
     assert_eq!(rt; one.table().survivors_of(TransId(1)).len(), 1);
     let commit = record(246, 174, 1, Body::Commit);
-    assert_eq!(rt; one.check(&commit), Ok(()));
-    assert_eq!(rt; one.reserve_after(&commit), 28 + 28 + 42);
+    assert_eq!(rt; one.check(&commit.view()), Ok(()));
+    assert_eq!(rt; one.reserve_after(&commit.view()), 28 + 28 + 42);
 }

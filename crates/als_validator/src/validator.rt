@@ -1,6 +1,7 @@
-ghost use Rattle.std.specs.Prelude.{◌≡◌, ◌≢◌, ◌<◌, vec_len, vec_capacity, ℕ, ◌+◌, List, [], ◌∷◌, ◌++◌, max, map, None, Ok, Err, IsOk, OnOk, OnErr, IfOk, IfErr, slice_index_or};
+ghost use Rattle.std.specs.Prelude.{◌≡◌, ◌≢◌, ◌<◌, vec_len, vec_capacity, ℕ, ◌+◌, ◌^◌, List, [], ◌∷◌, ◌++◌, max, map, None, Ok, Err, IsOk, OnOk, OnErr, IfOk, IfErr, slice_index_or};
 ghost use Rattle.als_record.specs.declared.record.Record.{Record};
 ghost use Rattle.als_record.specs.Spelling.{IsRecord};
+ghost use Rattle.als_record.specs.Shown.{shown, shown_body};
 ghost use Rattle.als_record.specs.LogText.{end_of};
 ghost use Rattle.als_record.specs.Tail.{reserve_of};
 ghost use Rattle.als_record.specs.Transactions.{unended, surviving};
@@ -23,7 +24,7 @@ use crate::key_state::KeyState;
 use crate::keys::{note_change, unwritten_keys};
 use crate::past::past_of;
 use als_analysis::{OpenTransaction, TransTable};
-use als_record::{Body, Cause, Lsn, Record, TransId};
+use als_record::{BodyView, Cause, Lsn, RecordView, TransId};
 use std::alloc::Global;
 
 /// What is kept of a valid log to tell which record may follow it: the transaction table with the surviving updates, what
@@ -41,18 +42,18 @@ pub struct Validator {
 }
 
 /// The LSN of the open begin_chkpt after one more record.
-fn next_begun(begun: Lsn, logged: &Record) -> Lsn
-    ensures { result.0 ≡ checkpoint_after begun.0 logged.now.lsn.0 logged.now.body }
+fn next_begun(begun: Lsn, logged: &RecordView<'_>) -> Lsn
+    ensures { result.0 ≡ checkpoint_after begun.0 logged.now.lsn.0 (shown_body logged.now.body) }
 {
     match &logged.body {
-        Body::BeginCheckpoint => logged.lsn,
-        Body::EndCheckpoint { .. } => Lsn(0),
+        BodyView::BeginCheckpoint => logged.lsn,
+        BodyView::EndCheckpoint { .. } => Lsn(0),
         _ => begun,
     }
 }
 
 /// The greatest TransID after one more record.
-fn next_greatest(greatest: TransId, logged: &Record) -> TransId
+fn next_greatest(greatest: TransId, logged: &RecordView<'_>) -> TransId
     ensures { result.0 ≡ max greatest.0 logged.now.trans.0 }
 {
     if greatest.0 < logged.trans.0 {
@@ -62,12 +63,12 @@ fn next_greatest(greatest: TransId, logged: &Record) -> TransId
 }
 
 /// Notes a commit.
-fn note_commit(committed: &mut Vec<TransId>, logged: &Record)
+fn note_commit(committed: &mut Vec<TransId>, logged: &RecordView<'_>)
     requires { vec_len committed.old < vec_capacity committed.old }
-    ensures { (log : List Record) → AreCommitted committed.old.items log → AreCommitted committed.new.items (log ++ logged.now ∷ []) }
+    ensures { (log : List Record) → AreCommitted committed.old.items log → AreCommitted committed.new.items (log ++ (shown logged.now) ∷ []) }
 {
     match &logged.body {
-        Body::Commit => committed.push_reserved(logged.trans),
+        BodyView::Commit => committed.push_reserved(logged.trans),
         _ => {}
     }
 }
@@ -102,8 +103,8 @@ impl Validator {
     }
 
     /// The first cause for which a record may not follow the log.
-    fn first_cause(&self, logged: &Record) -> Option<Cause>
-        ensures { (pages : ℕ) (log : List Record) → IsValidatorOf pages self.now log → IsValidLog pages log → IsRecord pages logged.now → result ≡ first_bad log logged.now }
+    fn first_cause(&self, logged: &RecordView<'_>) -> Option<Cause>
+        ensures { (pages : ℕ) (log : List Record) → IsValidatorOf pages self.now log → IsValidLog pages log → IsRecord pages (shown logged.now) → result ≡ first_bad log (shown logged.now) }
     {
         let past = past_of(&self.table, logged.trans);
         if is_bad_prev(&past, logged) {
@@ -139,8 +140,8 @@ impl Validator {
     /// Whether a record may follow the log, where it stands at the log's end: `Err` carries the first cause in the order of
     /// their numbers. The cost does not depend on how much is kept, but for a checkpoint's record that wrongly names a
     /// transaction.
-    pub fn check(&self, logged: &Record) -> Result<(), Fault>
-        ensures exact { (pages : ℕ) (log : List Record) → IsValidatorOf pages self.now log → IsValidLog pages log → IsRecord pages logged.now → result ≡ answer_of (first_bad log logged.now) }
+    pub fn check(&self, logged: &RecordView<'_>) -> Result<(), Fault>
+        ensures exact { (pages : ℕ) (log : List Record) → IsValidatorOf pages self.now log → IsValidLog pages log → IsRecord pages (shown logged.now) → result ≡ answer_of (first_bad log (shown logged.now)) }
         ensures no_memory { IfErr result (λ e. e ≢ Memory) }
     {
         match self.first_cause(logged) {
@@ -163,9 +164,9 @@ impl Validator {
 
     /// Takes a record that may follow the log: what is kept is that of the log with the record. Of any other record it is
     /// only said that nothing breaks.
-    pub fn admit(&mut self, logged: &Record)
+    pub fn admit(&mut self, logged: &RecordView<'_>)
         requires { HasRoom self.old }
-        ensures { (pages : ℕ) (log : List Record) → IsValidatorOf pages self.old log → IsValidLog pages (log ++ logged.now ∷ []) → IsValidatorOf pages self.new (log ++ logged.now ∷ []) }
+        ensures { (pages : ℕ) (log : List Record) → IsValidatorOf pages self.old log → IsValidLog pages (log ++ (shown logged.now) ∷ []) → IsValidatorOf pages self.new (log ++ (shown logged.now) ∷ []) }
     {
         match self.table.note(logged) {
             Ok(()) => {}
@@ -193,17 +194,17 @@ impl Validator {
         self.table.rows()
     }
 
-    /// The bytes that a takeover would append.
+    /// The bytes that a takeover would append, exact for a log of less than 2^62 bytes.
     pub fn reserve_bytes(&self) -> u64
-        ensures { (pages : ℕ) (log : List Record) → IsValidatorOf pages self.now log → result ≡ reserve_of log }
+        ensures { (pages : ℕ) (log : List Record) → IsValidatorOf pages self.now log → end_of log < 2 ^ 62 → result ≡ reserve_of log }
     {
         self.table.reserve_bytes()
     }
 
-    /// The bytes that a takeover would append after one more record that may follow the log, before that is taken. It takes no
-    /// memory, and the cost does not depend on how much is kept.
-    pub fn reserve_after(&self, logged: &Record) -> u64
-        ensures { (pages : ℕ) (log : List Record) → IsValidatorOf pages self.now log → logged.now.lsn.0 ≡ end_of log → first_bad log logged.now ≡ None → result ≡ reserve_of (log ++ logged.now ∷ []) }
+    /// The bytes that a takeover would append after one more record that may follow the log, before that is taken, exact for a
+    /// log of less than 2^62 bytes. It takes no memory, and the cost does not depend on how much is kept.
+    pub fn reserve_after(&self, logged: &RecordView<'_>) -> u64
+        ensures { (pages : ℕ) (log : List Record) → IsValidatorOf pages self.now log → logged.now.lsn.0 ≡ end_of log → first_bad log (shown logged.now) ≡ None → end_of (log ++ (shown logged.now) ∷ []) < 2 ^ 62 → result ≡ reserve_of (log ++ (shown logged.now) ∷ []) }
     {
         self.table.reserve_after(logged)
     }

@@ -5,7 +5,7 @@ use std::process::Abort;
 const WIDE: (&str, &str) = ("world pages=4 log=32 frames=4 workers=2 pending=1000\n", "");
 
 /// Each cause for which a record may not follow the log, fed whole.
-const REFUSED: [(&str, &str); 6] = [
+const REFUSED: [(&str, &str); 7] = [
     (
         "u 1 0 0 - aa\ncommit 1 prev=0\nfeed 16 80\n",
         "refused 8 BadPrev taken=36 records=1 end=52\n",
@@ -29,6 +29,39 @@ const REFUSED: [(&str, &str); 6] = [
     (
         "ckpt\nckptend\nckptend\nfeed 16 108\n",
         "refused 16 BadCheckpoint taken=60 records=2 end=76\n",
+    ),
+    (
+        "u 1 0 0 - aa\nckpt prev=16\nfeed 16 80\n",
+        "refused 16 BadCheckpoint taken=36 records=1 end=52\n",
+    ),
+];
+
+/// What a transaction that rolls back may not write; and where two causes stand, the one with the lower number: 8 and 9, 9 and
+/// 10, 10 and 11, 13 and 14.
+const ORDERED: [(&str, &str); 6] = [
+    (
+        "rollback 1\ncommit 1\nfeed 16 72\n",
+        "refused 10 WrongState taken=28 records=1 end=44\n",
+    ),
+    (
+        "u 1 0 0 - aa\nrollback 1\nrollback 1\nfeed 16 108\n",
+        "refused 10 WrongState taken=64 records=2 end=80\n",
+    ),
+    (
+        "commit 1\nend 1\nrollback 1 prev=16\nfeed 16 100\n",
+        "refused 8 BadPrev taken=56 records=2 end=72\n",
+    ),
+    (
+        "commit 1\nend 1\ncommit 1 prev=0\nfeed 16 100\n",
+        "refused 9 OldTransaction taken=56 records=2 end=72\n",
+    ),
+    (
+        "u 1 0 0 - aa\ncommit 1\nc 1 0 0 - 16\nfeed 16 122\n",
+        "refused 10 WrongState taken=64 records=2 end=80\n",
+    ),
+    (
+        "u 1 0 0 - 11\nu 2 0 0 - 22\nfeed 16 88\n",
+        "refused 13 RecordHeld 1 taken=36 records=1 end=52\n",
     ),
 ];
 
@@ -60,6 +93,7 @@ const HELD: [(&str, &str); 5] = [
 #[test]
 fn records_are_judged(rt: HostRuntime) {
     run_scripts(&rt, WIDE, &REFUSED);
+    run_scripts(&rt, WIDE, &ORDERED);
     run_scripts(&rt, (WORLD, ""), &HELD);
 }
 

@@ -1,9 +1,10 @@
 use Rattle.std.proofs.Common.{sym, ◌∙◌}
 use Rattle.std.specs.Prelude.{option_copied}
+use Rattle.als_record.specs.Shown.{shown}
 use Rattle.als_validator.proofs.StateSteps.{known_of, newest-known, wrong_compensation-misses}
 use Rattle.als_validator.proofs.causes.is_wrong_compensation.Goals as goal
 
 pub returns : goal.returns
 returns c log p o =
-    let r = c.args.logged.now in
+    let r = shown c.args.logged.now in
     c.does_miss.ensures ∙ sym (wrong_compensation-misses log r (option_copied c.args.past.now.newest) (λ w. newest-known log r.trans.0 (known_of log r w o) (option_copied c.args.past.now.newest) p.newest))

@@ -1,5 +1,6 @@
 use Rattle.std.proofs.Common.{◌≡◌, true, false, sym, ap, ◌∙◌}
 use Rattle.std.specs.Prelude.{is_some, option_copied}
+use Rattle.als_record.specs.Shown.{shown}
 use Rattle.als_record.specs.Transactions.{is_transactional, to_undo, is_some_left}
 use Rattle.als_record.specs.Table.{state_of}
 use Rattle.als_validator.specs.Tests.{barred}
@@ -8,7 +9,7 @@ use Rattle.als_validator.proofs.causes.is_wrong_state.Goals as goal
 
 pub returns-then-is_transaction_record : goal.returns-then-is_transaction_record
 returns-then-is_transaction_record c log p ids o =
-    let r = c.args.logged.now in
+    let r = shown c.args.logged.now in
     let w : is_transactional r.body ≡ true = sym c.is_transaction_record.ensures ∙ c.if-is_transaction_record.true in
     let known = known_of log r w o in
     let state : c.state_of.result ≡ state_of log r.trans.0 = c.state_of.ensures ∙ state_in-known log r.trans.0 known c.args.past.now.row p.row in
@@ -17,6 +18,6 @@ returns-then-is_transaction_record c log p ids o =
 
 pub returns : goal.returns
 returns c log p ids o =
-    let r = c.args.logged.now in
+    let r = shown c.args.logged.now in
     let w : is_transactional r.body ≡ false = sym c.is_transaction_record.ensures ∙ c.if-is_transaction_record.false in
     c.is_listed.ensures ∙ ids.each r.trans.0 ∙ sym (wrong_state-checkpoint log r w)

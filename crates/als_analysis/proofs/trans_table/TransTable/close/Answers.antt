@@ -1,4 +1,4 @@
-use Rattle.std.proofs.Common.{◌≡◌, ◌-◌, ◌<◌, true, false, length, get_or, sym, ap, ◌∙◌, subst, arith}
+use Rattle.std.proofs.Common.{◌≡◌, ◌-◌, ◌+◌, ◌%◌, ◌^◌, ◌<◌, true, false, length, get_or, sym, ap, ◌∙◌, subst, arith}
 use Rattle.std.specs.List.{remove}
 use Rattle.std.proofs.lemmas.List.{length-map}
 use Rattle.als_analysis.specs.Open.{Open, owed, rows_of, left_of}
@@ -16,9 +16,9 @@ invariant_of-self c =
     let m : length (rows_of xs) ≡ length c.args.self.now.rows = ap (λ (t : Table). length t.rows) c.self.view_is in
     let lt : c.args.at < length xs = omega (arith, c.requires.within) in
     let k = subst (λ b. IsKept xs c.self.inside.spares.items c.self.inside.reserve c.self.inside.tight b c.self.inside.entries.cap) ready c.self.invariant in
-    let was : c.owed.result ≡ owed (get_or xs c.args.at e) = c.owed.ensures.owed ∙ ap owed c.remove-ended.ensures.value in
+    let was : c.owed.result ≡ owed (get_or xs c.args.at e) % 2 ^ 64 = c.owed.ensures ∙ ap (λ o. owed o % 2 ^ 64) c.remove-ended.ensures.value in
     let ys = c.keep_spare.new.spares.items in
-    let kept : IsKept (remove xs c.args.at) ys (c.self.inside.reserve - c.owed.result) c.self.inside.tight false c.self.inside.entries.cap =
+    let kept : IsKept (remove xs c.args.at) ys ((c.self.inside.reserve + (2 ^ 64 - c.owed.result)) % 2 ^ 64) c.self.inside.tight false c.self.inside.entries.cap =
     rw was (kept-remove xs c.self.inside.spares.items c.self.inside.reserve c.self.inside.tight c.self.inside.entries.cap k ys c.args.at e lt c.keep_spare.ensures) in
     rw (c.remove-ended.ensures.items, c.remove-ended.ensures.capacity) kept
 

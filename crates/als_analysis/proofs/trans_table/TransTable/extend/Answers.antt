@@ -1,20 +1,13 @@
-use Rattle.std.proofs.Common.{◌≡◌, ◌*◌, ◌≤◌, ◌<◌, true, length, get_or, set, sym, ap, ◌∙◌, subst, arith}
-use Rattle.std.specs.List.{sum_by}
+use Rattle.std.proofs.Common.{◌≡◌, ◌%◌, ◌^◌, ◌<◌, true, length, get_or, set, sym, ap, ◌∙◌, subst, arith}
 use Rattle.std.proofs.lemmas.List.{length-map, get_or-map, map-set}
+use Rattle.als_record.specs.Shown.{shown}
 use Rattle.als_record.specs.declared.transaction_row.TransactionRow.{TransactionRow}
 use Rattle.als_record.specs.Table.{row_after}
-use Rattle.als_analysis.specs.Open.{Open, owed, owed_limit, rows_of, left_of, left_after}
+use Rattle.als_analysis.specs.Open.{Open, owed, rows_of, left_of, left_after}
 use Rattle.als_analysis.specs.Kept.{IsKept}
 use Rattle.als_analysis.specs.Noted.{Table}
-use Rattle.als_analysis.proofs.KeptSteps.{owed-bound, kept-set}
+use Rattle.als_analysis.proofs.KeptSteps.{kept-set}
 use Rattle.als_analysis.proofs.trans_table.TransTable.extend.Goals as goal
-
-pub overflow_add-self : goal.overflow_add-self
-overflow_add-self c =
-    let bound : sum_by owed c.self.inside.entries.items ≤ 256 * owed_limit = owed-bound c.self.inside.entries.items c.self.invariant.few c.self.invariant.limit in
-    let counted : c.self.inside.reserve ≡ sum_by owed c.self.inside.entries.items = c.self.invariant.counted in
-    let small : c.owed-after.result ≤ owed_limit = c.owed-after.ensures.limit in
-    omega arith
 
 pub invariant_of-self : goal.invariant_of-self
 invariant_of-self c =
@@ -28,9 +21,8 @@ invariant_of-self c =
     let here : e ≡ get_or xs c.args.at e = c.index_mut-entry.ensures.value in
     let k = subst (λ b. IsKept xs c.self.inside.spares.items c.self.inside.reserve c.self.inside.tight b c.self.inside.entries.cap) ready c.self.invariant in
     let same : o.row.trans.0 ≡ (get_or xs c.args.at e).row.trans.0 = ap (λ (r : TransactionRow). r.trans.0) c.extend.ensures.row ∙ ap (λ (p : Open). p.row.trans.0) here in
-    let small : owed o ≤ owed_limit = subst (λ x. x ≤ owed_limit) c.owed-after.ensures.owed c.owed-after.ensures.limit in
-    let was : c.owed-before.result ≡ owed (get_or xs c.args.at e) = c.owed-before.ensures.owed ∙ ap owed here in
-    rw (was, c.owed-after.ensures.owed) (kept-set xs c.self.inside.spares.items c.self.inside.reserve c.self.inside.tight c.self.inside.entries.cap k c.args.at e o lt same small)
+    let was : c.owed-before.result ≡ owed (get_or xs c.args.at e) % 2 ^ 64 = c.owed-before.ensures ∙ ap (λ p. owed p % 2 ^ 64) here in
+    rw (was, c.owed-after.ensures) (kept-set xs c.self.inside.spares.items c.self.inside.reserve c.self.inside.tight c.self.inside.entries.cap k c.args.at e o lt same)
 
 pub returns-clause-rows : goal.returns-clause-rows
 returns-clause-rows c d =
@@ -40,8 +32,8 @@ returns-clause-rows c d =
     let m : length (rows_of xs) ≡ length c.args.self.now.rows = ap (λ (t : Table). length t.rows) c.self.view_is in
     let lt : c.args.at < length xs = omega (arith, c.requires.within) in
     map-set (λ (o : Open). o.row) xs c.args.at c.extend.new.self
-    ∙ ap (λ row. set (rows_of xs) c.args.at row) (c.extend.ensures.row ∙ ap (λ row. row_after row c.args.logged.now) (ap (λ (p : Open). p.row) c.index_mut-entry.ensures.value ∙ sym (get_or-map (λ (o : Open). o.row) xs c.args.at e d lt)))
-    ∙ ap (λ (t : Table). set t.rows c.args.at (row_after (get_or t.rows c.args.at d) c.args.logged.now)) c.self.view_is
+    ∙ ap (λ row. set (rows_of xs) c.args.at row) (c.extend.ensures.row ∙ ap (λ row. row_after row (shown c.args.logged.now)) (ap (λ (p : Open). p.row) c.index_mut-entry.ensures.value ∙ sym (get_or-map (λ (o : Open). o.row) xs c.args.at e d lt)))
+    ∙ ap (λ (t : Table). set t.rows c.args.at (row_after (get_or t.rows c.args.at d) (shown c.args.logged.now))) c.self.view_is
 
 pub returns-clause-left : goal.returns-clause-left
 returns-clause-left c d =
@@ -51,5 +43,5 @@ returns-clause-left c d =
     let m : length (rows_of xs) ≡ length c.args.self.now.rows = ap (λ (t : Table). length t.rows) c.self.view_is in
     let lt : c.args.at < length xs = omega (arith, c.requires.within) in
     map-set (λ (o : Open). o.left) xs c.args.at c.extend.new.self
-    ∙ ap (λ left. set (left_of xs) c.args.at left) (c.extend.ensures.left ∙ ap (λ left. left_after left c.args.logged.now c.args.logged.now.body) (ap (λ (p : Open). p.left) c.index_mut-entry.ensures.value ∙ sym (get_or-map (λ (o : Open). o.left) xs c.args.at e d lt)))
-    ∙ ap (λ (t : Table). set t.left c.args.at (left_after (get_or t.left c.args.at d) c.args.logged.now c.args.logged.now.body)) c.self.view_is
+    ∙ ap (λ left. set (left_of xs) c.args.at left) (c.extend.ensures.left ∙ ap (λ left. left_after left (shown c.args.logged.now) (shown c.args.logged.now).body) (ap (λ (p : Open). p.left) c.index_mut-entry.ensures.value ∙ sym (get_or-map (λ (o : Open). o.left) xs c.args.at e d lt)))
+    ∙ ap (λ (t : Table). set t.left c.args.at (left_after (get_or t.left c.args.at d) (shown c.args.logged.now) (shown c.args.logged.now).body)) c.self.view_is

@@ -1,9 +1,11 @@
-use Rattle.std.proofs.Common.{ap, ◌∙◌}
+use Rattle.std.proofs.Common.{◌%◌, ◌^◌, ap, ◌∙◌}
 use Rattle.als_analysis.specs.Noted.{Table}
+use Rattle.als_record.proofs.TailBound.{reserve_of-exact}
 use Rattle.als_analysis.proofs.TailLength.{owed-tail}
 use Rattle.als_analysis.proofs.trans_table.TransTable.reserve_bytes.Goals as goal
 
 pub returns : goal.returns
-returns c log h =
+returns c log h short =
     c.self.invariant.counted
-    ∙ owed-tail log c.self.inside.entries.items (ap (λ (t : Table). t.rows) c.self.view_is ∙ h.rows) (ap (λ (t : Table). t.left) c.self.view_is ∙ h.left)
+    ∙ ap (λ n. n % 2 ^ 64) (owed-tail log c.self.inside.entries.items (ap (λ (t : Table). t.rows) c.self.view_is ∙ h.rows) (ap (λ (t : Table). t.left) c.self.view_is ∙ h.left))
+    ∙ reserve_of-exact log short

@@ -1,5 +1,6 @@
 use Rattle.std.proofs.Common.{◌≡◌, List, length, max, sym, ap, ◌∙◌, subst}
 use Rattle.std.proofs.lemmas.List.{with_items_is}
+use Rattle.als_record.specs.Shown.{shown}
 use Rattle.als_validator.specs.declared.key_state.KeyState.{KeyState}
 use Rattle.als_record.specs.Validity.{checkpoint_after}
 use Rattle.als_record.proofs.Places.{open_checkpoint-push}
@@ -10,7 +11,7 @@ use Rattle.als_validator.proofs.validator.Validator.admit.Goals as goal
 
 pub returns : goal.returns
 returns c pages log v valid =
-    let r = c.args.logged.now in
+    let r = shown c.args.logged.now in
     let f : Follows pages log r = follows pages log r valid in
     let len : length c.note_change.new.keys ≡ c.args.self.now.keys.len = c.note_change.auto.keys ∙ ap (λ (xs : List KeyState). length xs) c.as_mut_slice.ensures.value ∙ sym c.args.self.now.keys.ok.0 in
     record {

@@ -1,5 +1,6 @@
 use Rattle.std.proofs.Common.{◌≡◌, true, false, List, length, Option, Some, None, refl, sym, ap, ◌∙◌, subst}
 use Rattle.std.proofs.lemmas.List.{length-map}
+use Rattle.als_record.specs.Shown.{shown}
 use Rattle.als_record.specs.declared.trans_id.TransId.{TransId}
 use Rattle.als_record.specs.declared.transaction_row.TransactionRow.{TransactionRow}
 use Rattle.als_record.specs.Transactions.{unended}
@@ -18,7 +19,7 @@ none_of (Some by) n = absurd (n by refl)
 pub returns-then-is_bad_prev : goal.returns-then-is_bad_prev
 unfolding first_bad
 returns-then-is_bad_prev c pages log v valid fits =
-    let r = c.args.logged.now in
+    let r = shown c.args.logged.now in
     let past : IsPastOf c.past_of-past.result log r.trans.0 = c.past_of-past.ensures log v.table in
     let prev : bad_prev log r ≡ true = sym (c.is_bad_prev.ensures log past) ∙ c.if-is_bad_prev.true in
     rw prev refl
@@ -26,7 +27,7 @@ returns-then-is_bad_prev c pages log v valid fits =
 pub returns-then-is_old : goal.returns-then-is_old
 unfolding first_bad
 returns-then-is_old c pages log v valid fits =
-    let r = c.args.logged.now in
+    let r = shown c.args.logged.now in
     let past : IsPastOf c.past_of-past.result log r.trans.0 = c.past_of-past.ensures log v.table in
     let prev : bad_prev log r ≡ false = sym (c.is_bad_prev.ensures log past) ∙ c.if-is_bad_prev.false in
     let old : old_transaction log r ≡ true = sym (c.is_old.ensures log past v.greatest) ∙ c.if-is_old.true in
@@ -35,7 +36,7 @@ returns-then-is_old c pages log v valid fits =
 pub returns-then-is_wrong_state : goal.returns-then-is_wrong_state
 unfolding first_bad
 returns-then-is_wrong_state c pages log v valid fits =
-    let r = c.args.logged.now in
+    let r = shown c.args.logged.now in
     let past : IsPastOf c.past_of-past.result log r.trans.0 = c.past_of-past.ensures log v.table in
     let prev : bad_prev log r ≡ false = sym (c.is_bad_prev.ensures log past) ∙ c.if-is_bad_prev.false in
     let old : old_transaction log r ≡ false = sym (c.is_old.ensures log past v.greatest) ∙ c.if-is_old.false in
@@ -45,7 +46,7 @@ returns-then-is_wrong_state c pages log v valid fits =
 pub returns-then-is_wrong_undo_next : goal.returns-then-is_wrong_undo_next
 unfolding first_bad
 returns-then-is_wrong_undo_next c pages log v valid fits =
-    let r = c.args.logged.now in
+    let r = shown c.args.logged.now in
     let past : IsPastOf c.past_of-past.result log r.trans.0 = c.past_of-past.ensures log v.table in
     let prev : bad_prev log r ≡ false = sym (c.is_bad_prev.ensures log past) ∙ c.if-is_bad_prev.false in
     let old : old_transaction log r ≡ false = sym (c.is_old.ensures log past v.greatest) ∙ c.if-is_old.false in
@@ -56,7 +57,7 @@ returns-then-is_wrong_undo_next c pages log v valid fits =
 pub returns-then-is_wrong_compensation : goal.returns-then-is_wrong_compensation
 unfolding first_bad
 returns-then-is_wrong_compensation c pages log v valid fits =
-    let r = c.args.logged.now in
+    let r = shown c.args.logged.now in
     let past : IsPastOf c.past_of-past.result log r.trans.0 = c.past_of-past.ensures log v.table in
     let prev : bad_prev log r ≡ false = sym (c.is_bad_prev.ensures log past) ∙ c.if-is_bad_prev.false in
     let old : old_transaction log r ≡ false = sym (c.is_old.ensures log past v.greatest) ∙ c.if-is_old.false in
@@ -68,7 +69,7 @@ returns-then-is_wrong_compensation c pages log v valid fits =
 pub returns-in-Some : goal.returns-in-Some
 unfolding first_bad
 returns-in-Some c pages log v valid fits =
-    let r = c.args.logged.now in
+    let r = shown c.args.logged.now in
     let past : IsPastOf c.past_of-past.result log r.trans.0 = c.past_of-past.ensures log v.table in
     let prev : bad_prev log r ≡ false = sym (c.is_bad_prev.ensures log past) ∙ c.if-is_bad_prev.false in
     let old : old_transaction log r ≡ false = sym (c.is_old.ensures log past v.greatest) ∙ c.if-is_old.false in
@@ -81,7 +82,7 @@ returns-in-Some c pages log v valid fits =
 pub returns-then-is_stale : goal.returns-then-is_stale
 unfolding first_bad
 returns-then-is_stale c pages log v valid fits =
-    let r = c.args.logged.now in
+    let r = shown c.args.logged.now in
     let past : IsPastOf c.past_of-past.result log r.trans.0 = c.past_of-past.ensures log v.table in
     let prev : bad_prev log r ≡ false = sym (c.is_bad_prev.ensures log past) ∙ c.if-is_bad_prev.false in
     let old : old_transaction log r ≡ false = sym (c.is_old.ensures log past v.greatest) ∙ c.if-is_old.false in
@@ -95,7 +96,7 @@ returns-then-is_stale c pages log v valid fits =
 pub returns-then-is_one_too_many : goal.returns-then-is_one_too_many
 unfolding first_bad
 returns-then-is_one_too_many c pages log v valid fits =
-    let r = c.args.logged.now in
+    let r = shown c.args.logged.now in
     let past : IsPastOf c.past_of-past.result log r.trans.0 = c.past_of-past.ensures log v.table in
     let prev : bad_prev log r ≡ false = sym (c.is_bad_prev.ensures log past) ∙ c.if-is_bad_prev.false in
     let old : old_transaction log r ≡ false = sym (c.is_old.ensures log past v.greatest) ∙ c.if-is_old.false in
@@ -113,7 +114,7 @@ returns-then-is_one_too_many c pages log v valid fits =
 pub returns-then-is_bad_checkpoint : goal.returns-then-is_bad_checkpoint
 unfolding first_bad
 returns-then-is_bad_checkpoint c pages log v valid fits =
-    let r = c.args.logged.now in
+    let r = shown c.args.logged.now in
     let past : IsPastOf c.past_of-past.result log r.trans.0 = c.past_of-past.ensures log v.table in
     let prev : bad_prev log r ≡ false = sym (c.is_bad_prev.ensures log past) ∙ c.if-is_bad_prev.false in
     let old : old_transaction log r ≡ false = sym (c.is_old.ensures log past v.greatest) ∙ c.if-is_old.false in
@@ -132,7 +133,7 @@ returns-then-is_bad_checkpoint c pages log v valid fits =
 pub returns : goal.returns
 unfolding first_bad
 returns c pages log v valid fits =
-    let r = c.args.logged.now in
+    let r = shown c.args.logged.now in
     let past : IsPastOf c.past_of-past.result log r.trans.0 = c.past_of-past.ensures log v.table in
     let prev : bad_prev log r ≡ false = sym (c.is_bad_prev.ensures log past) ∙ c.if-is_bad_prev.false in
     let old : old_transaction log r ≡ false = sym (c.is_old.ensures log past v.greatest) ∙ c.if-is_old.false in
