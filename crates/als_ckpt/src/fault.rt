@@ -3,8 +3,8 @@ ghost use Rattle.als_fault.specs.Kinds.{number_of, name_of, text_of};
 ghost use Rattle.als_ckpt.specs.declared.fault.Fault.TheVariants.{Device};
 ghost use Rattle.als_ckpt.specs.FaultNames.{kind_of};
 
-use als_fault::FaultKind;
 use als_disk::DeviceError;
+use als_fault::FaultKind;
 use std::fmt;
 
 /// Why there is no control block. The numbers are common to all crates.

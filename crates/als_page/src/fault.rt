@@ -2,7 +2,6 @@ ghost use Rattle.std.specs.Prelude.{◌≡◌, Some};
 ghost use Rattle.als_fault.specs.Kinds.{number_of, name_of, text_of};
 ghost use Rattle.als_page.specs.FaultNames.{kind_of};
 
-
 use als_fault::FaultKind;
 use std::fmt;
 

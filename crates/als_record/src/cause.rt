@@ -2,8 +2,8 @@ ghost use Rattle.std.specs.Prelude.{◌≡◌, Some};
 ghost use Rattle.als_fault.specs.Kinds.{number_of, name_of, text_of};
 ghost use Rattle.als_record.specs.CauseNames.{kind_of_cause};
 
-use als_fault::FaultKind;
 use crate::trans_id::TransId;
+use als_fault::FaultKind;
 use std::fmt;
 
 /// Why a record may not follow a valid log. Where several causes stand the least number is the one given.
