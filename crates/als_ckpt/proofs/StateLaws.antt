@@ -25,7 +25,7 @@ Contains-cons_cases x xs y (suc k, below, is) = inr (k, omega (arith, below), is
 Contains-tail : {X : Type 0} (x : X) (xs : List X) (y : X) → Contains xs y → Contains (x ∷ xs) y
 Contains-tail x xs y (k, below, is) = (suc k, omega (arith, below), is)
 
-Contains-head : {X : Type 0} (x : X) (xs : List X) → Contains (x ∷ xs) x
+pub Contains-head : {X : Type 0} (x : X) (xs : List X) → Contains (x ∷ xs) x
 Contains-head x xs = (0, omega arith, refl)
 
 pub Contains-last_state : (s : ControlState) (xs : List ControlState) → Contains (s ∷ xs) (last_state s xs)

@@ -183,6 +183,8 @@ impl<D: BlockDisk> Control<D> {
     pub fn sync(&mut self) -> Result<(), Fault>
         requires { self.old.sure ≡ true }
         ensures ok { OnOk result (self.new ≡ settled self.old) }
+        // What is acknowledged never falls.
+        ensures rises { OnOk result (self.old.synced.mark.0 ≤ (newest self.old).mark.0) }
         ensures err { OnErr result (self.new ≡ record self.old { failures = self.new.failures; attempts = self.old.attempts + 1 }) }
         ensures fault { IfErr result (λ fault. fault ≡ Fault.Device) }
         ensures failures { CountsFailure result self.old.failures self.new.failures }

@@ -31,6 +31,10 @@ pub struct FileDisk {
 }
 
 /// The contents of the file's blocks, each read once.
+///
+/// A block that is not all zeros is written back as it is read: after a sync that failed, a file
+/// system may show bytes that are not on the disk, and take them for synced. The caller's next sync
+/// then brings to the disk what was read.
 fn mirror_of(alloc: Global, file: &File, blocks: u64) -> io::Result<MemDisk>
     requires { blocks * 512 < 2 ^ 64 }
     ensures count { IfOk result (λ mirror. mem_blocks mirror ≡ blocks) }
@@ -42,6 +46,7 @@ fn mirror_of(alloc: Global, file: &File, blocks: u64) -> io::Result<MemDisk>
         file.read_exact_at(&mut block, i * 512)?;
         if block != [0; 512] {
             keep(&mut mirror, i, &block)?;
+            file.write_all_at(&block, i * 512)?;
         }
     }
     Ok(mirror)
@@ -117,7 +122,9 @@ impl FileDisk {
         })
     }
 
-    /// Opens a file, whatever it holds. It fails where the file does, or where there is no memory.
+    /// Opens a file, whatever it holds, and makes what it read last: each block that is not all
+    /// zeros is written back, and the file is synced. It fails where the file does, or where there
+    /// is no memory.
     pub fn open<R: Files<File = File> + AllocGlobal, P: AsPath>(
         rt: &R,
         path: P,
@@ -125,10 +132,10 @@ impl FileDisk {
         ensures settled { IfOk result (λ disk. (k : ℕ) → IsSettled (⟦<FileDisk as BlockDisk>⟧.slot disk k)) }
     {
         let file = OpenOptions::new().read(true).write(true).open(rt, path)?;
-        // What an earlier run wrote may still be on its way: what is read has to be on the disk.
-        file.sync_all()?;
         let blocks = file.metadata()?.len() / 512;
         let mirror = mirror_of(rt.alloc(), &file, blocks)?;
+        // What is read has to be on the disk: an earlier run's writes may still be on their way.
+        file.sync_all()?;
         Ok(FileDisk {
             file,
             mirror,

@@ -8,7 +8,7 @@ use Rattle.als_receiver.specs.Reception.{Reception}
 use Rattle.als_engine.specs.declared.fault.Fault.{Fault}
 use Rattle.als_store.specs.Stored.{Stored}
 use Rattle.als_engine.specs.Machine.{Machine}
-use Rattle.als_engine.specs.Feeds.{grown, TakesLog, FeedsAll, FeedsFront, kept_fault}
+use Rattle.als_engine.specs.Feeds.{grown, FeedsAll, FeedsFront, kept_fault}
 use Rattle.als_engine.specs.TakingIn.{TakesAll, TakesFront}
 use Rattle.als_engine.proofs.TakingLaws.{end_grown}
 
@@ -21,11 +21,10 @@ log_at held new records e is_log = subst (λ (h : Stored). IsValidLog h.pages h.
 counted : (held new : Stored) (records : List Record) (count : ℕ) → new ≡ grown held records → count ≡ length new.log - length held.log → count ≡ length records
 counted held new records count e f = omega (arith, f, ap (λ (h : Stored). length h.log) e, length-append held.log records)
 
-pub feeds_all : (held new : Stored) (limit : ℕ) (kept piece : List ℕ) (refused : Option Fault) (receiver : Reception) (taken count : ℕ) → TakesLog (machine held limit kept refused)
+pub feeds_all : (held new : Stored) (limit : ℕ) (kept piece : List ℕ) (refused : Option Fault) (receiver : Reception) (taken count : ℕ)
     → TakesAll held (kept ++ piece) new receiver → IsValidLog new.pages new.log → taken ≡ length piece → count ≡ length new.log - length held.log
     → FeedsAll (machine held limit kept refused) piece (record { taken = taken; records = count }) (machine new limit receiver.kept refused)
-feeds_all held new limit kept piece refused receiver taken count takes all is_log taken-is count-is = record {
-  takes = takes;
+feeds_all held new limit kept piece refused receiver taken count all is_log taken-is count-is = record {
   records = all.records;
   rest = receiver.kept;
   split = record { whole = all.whole; is_log = log_at held new all.records all.after is_log; fit = all.fit };
@@ -35,11 +34,10 @@ feeds_all held new limit kept piece refused receiver taken count takes all is_lo
   count = counted held new all.records count all.after count-is;
 }
 
-pub feeds_front : (held new : Stored) (limit : ℕ) (kept piece : List ℕ) (refused : Option Fault) (fault : Fault) (taken count bytes : ℕ) → TakesLog (machine held limit kept refused)
+pub feeds_front : (held new : Stored) (limit : ℕ) (kept piece : List ℕ) (refused : Option Fault) (fault : Fault) (taken count bytes : ℕ)
     → TakesFront held (kept ++ piece) new fault → IsValidLog new.pages new.log → bytes ≡ end_of new.log - end_of held.log → taken ≡ bytes - length kept → count ≡ length new.log - length held.log
     → FeedsFront (machine held limit kept refused) piece (record { taken = taken; records = count; fault = fault }) (machine new limit [] (kept_fault fault))
-feeds_front held new limit kept piece refused fault taken count bytes takes front is_log bytes-is taken-is count-is = record {
-  takes = takes;
+feeds_front held new limit kept piece refused fault taken count bytes front is_log bytes-is taken-is count-is = record {
   records = front.records;
   rest = front.rest;
   split = record { whole = front.whole; is_log = log_at held new front.records front.after is_log; fit = front.fit };

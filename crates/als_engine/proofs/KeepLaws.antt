@@ -4,13 +4,13 @@ use Rattle.als_record.specs.declared.record.Record.{Record}
 use Rattle.als_store.specs.Stored.{acknowledged}
 use Rattle.als_engine.specs.Machine.{Machine, Keeps}
 
-le_refl : (n : ℕ) → n ≤ n
+pub le_refl : (n : ℕ) → n ≤ n
 le_refl n = omega arith
 
 pub keeps_same : (m : Machine) → Keeps m m
 keeps_same m = record { acknowledged = le_refl (acknowledged m.held); more = []; log = sym (append-nil m.held.log); stopped = λ s. s }
 
-keeps_equal : (old new : Machine) → new ≡ old → Keeps old new
+pub keeps_equal : (old new : Machine) → new ≡ old → Keeps old new
 keeps_equal old new e = subst (λ (m : Machine). Keeps old m) (sym e) (keeps_same old)
 
 pub keeps_both : (a b c : Machine) → Keeps a b → Keeps b c → Keeps a c

@@ -3,4 +3,5 @@ pub mod RoomLaws
 pub mod ReadyLaws
 pub mod FeedLaws
 pub mod KeepLaws
+pub mod RefusalLaws
 pub mod RunLaws

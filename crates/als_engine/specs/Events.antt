@@ -3,23 +3,16 @@ use Rattle.std.specs.Prelude.{◌≡◌, ℕ, ◌⊎◌, [], Option, None, Resul
 use Rattle.als_record.specs.declared.lsn.Lsn.{Lsn}
 use Rattle.als_record.specs.declared.record.Record.{Record}
 use Rattle.als_log.specs.Reading.{HasRowsAt}
-use Rattle.als_store.specs.Stored.{Stored, AppliesFirst, IsDry, StandsAt}
-use Rattle.als_store.specs.Events.{Breaks, FailsToRead, HasUnwritten, WritesLog, SyncsLog, HasUnmarked, WritesMark, BreaksMark, SyncsControl}
+use Rattle.als_store.specs.Stored.{Stored, AppliesFirst, StandsAt}
+use Rattle.als_store.specs.Events.{Breaks, FailsToRead, WritesLog, SyncsLog, WritesMark, BreaksMark, SyncsControl}
 use Rattle.als_engine.specs.declared.fault.Fault.{Fault}
-use Rattle.als_engine.specs.declared.fault.Fault.TheVariants.{NothingToDo, Device, Stopped, Memory}
-use Rattle.als_engine.specs.Machine.{Machine, IsRunning, IsStopped}
-
--- an engine that has stopped refuses the event, and nothing changes
-abbrev pub RefusesStopped : Machine → Fault → Machine → Type 0
-RefusesStopped old fault new = IsStopped old × (fault ≡ Stopped) × (new ≡ old)
-
--- there is nothing for the event to do, and nothing changes
-abbrev pub HasNothing : Machine → Fault → Type 0 → Machine → Type 0
-HasNothing old fault nothing new = IsRunning old × (fault ≡ NothingToDo) × nothing × (new ≡ old)
+use Rattle.als_engine.specs.declared.fault.Fault.TheVariants.{Device, Memory}
+use Rattle.als_engine.specs.declared.step.Step.TheVariants as step
+use Rattle.als_engine.specs.Machine.{Machine}
+use Rattle.als_engine.specs.Refusals.{Does}
 
 -- the event changes what is held, and nothing else
 pub record Changes (old : Machine) (event : Stored → Stored → Type 0) (new : Machine) : Type 0 where
-  pub running : IsRunning old
   pub held : Stored
   pub becomes : event old.held held
   pub after : new ≡ record old { held = held }
@@ -28,40 +21,60 @@ pub record Changes (old : Machine) (event : Stored → Stored → Type 0) (new :
 abbrev pub FailsIn : Machine → Fault → (Stored → Stored → Type 0) → Machine → Type 0
 FailsIn old fault event new = (fault ≡ Device) × Changes old event new
 
--- ---- the events
+-- ---- the events, where no cause stands against them
 
 -- the partial record is dropped, and nothing is refused any more
 abbrev pub resynced : Machine → Machine
 resynced m = record m { partial = []; refused = None }
 
-abbrev pub Resyncs : Machine → Result (Unit {0}) Fault → Machine → Type 0
-Resyncs old (Ok done) new = IsRunning old × (new ≡ resynced old)
-Resyncs old (Err fault) new = RefusesStopped old fault new
+abbrev pub DropsPartial : Machine → Result (Unit {0}) Fault → Machine → Type 0
+DropsPartial old (Ok done) new = new ≡ resynced old
+DropsPartial old (Err fault) new = ⊥
 
 -- the first changes that a page waits for are redone, and its page_LSN is answered
-abbrev pub Applies : Machine → ℕ → Result Lsn Fault → Machine → Type 0
-Applies old page (Ok lsn) new = Changes old (λ held after. AppliesFirst held page lsn after) new
-Applies old page (Err fault) new = RefusesStopped old fault new ⊎ HasNothing old fault (IsDry old.held page) new
+abbrev pub Redoes : Machine → ℕ → Result Lsn Fault → Machine → Type 0
+Redoes old page (Ok lsn) new = Changes old (λ held after. AppliesFirst held page lsn after) new
+Redoes old page (Err fault) new = ⊥
 
 -- the first block with unwritten bytes of the log is written, by one write of a device
-abbrev pub LogWrites : Machine → Result (Unit {0}) Fault → Machine → Type 0
-LogWrites old (Ok done) new = Changes old WritesLog new
-LogWrites old (Err fault) new = RefusesStopped old fault new ⊎ (HasNothing old fault (HasUnwritten old.held → ⊥) new ⊎ FailsIn old fault (λ held after. HasUnwritten held × Breaks held after) new)
+abbrev pub WritesBlock : Machine → Result (Unit {0}) Fault → Machine → Type 0
+WritesBlock old (Ok done) new = Changes old WritesLog new
+WritesBlock old (Err fault) new = FailsIn old fault Breaks new
 
 -- the log is synced, by one sync of a device
-abbrev pub LogSyncs : Machine → Result (Unit {0}) Fault → Machine → Type 0
-LogSyncs old (Ok done) new = Changes old SyncsLog new
-LogSyncs old (Err fault) new = RefusesStopped old fault new ⊎ FailsIn old fault Breaks new
+abbrev pub SyncsBlocks : Machine → Result (Unit {0}) Fault → Machine → Type 0
+SyncsBlocks old (Ok done) new = Changes old SyncsLog new
+SyncsBlocks old (Err fault) new = FailsIn old fault Breaks new
 
 -- the control block is written with the synced end as its mark, by one write of a device
-abbrev pub MarkWrites : Machine → Result (Unit {0}) Fault → Machine → Type 0
-MarkWrites old (Ok done) new = Changes old WritesMark new
-MarkWrites old (Err fault) new = RefusesStopped old fault new ⊎ (HasNothing old fault (HasUnmarked old.held → ⊥) new ⊎ FailsIn old fault BreaksMark new)
+abbrev pub MovesMark : Machine → Result (Unit {0}) Fault → Machine → Type 0
+MovesMark old (Ok done) new = Changes old WritesMark new
+MovesMark old (Err fault) new = FailsIn old fault BreaksMark new
 
 -- the control block is synced, by one sync of a device, and its mark is answered: no log byte below it can be lost
+abbrev pub Acknowledges : Machine → Result Lsn Fault → Machine → Type 0
+Acknowledges old (Ok lsn) new = Changes old (λ held after. SyncsControl held lsn after) new
+Acknowledges old (Err fault) new = FailsIn old fault Breaks new
+
+-- ---- the events, refused or not
+
+abbrev pub Resyncs : Machine → Result (Unit {0}) Fault → Machine → Type 0
+Resyncs old result new = Does old step.Resync (DropsPartial old) result new
+
+abbrev pub Applies : Machine → ℕ → Result Lsn Fault → Machine → Type 0
+Applies old page result new = Does old (step.Apply page) (Redoes old page) result new
+
+abbrev pub LogWrites : Machine → Result (Unit {0}) Fault → Machine → Type 0
+LogWrites old result new = Does old step.LogWrite (WritesBlock old) result new
+
+abbrev pub LogSyncs : Machine → Result (Unit {0}) Fault → Machine → Type 0
+LogSyncs old result new = Does old step.LogSync (SyncsBlocks old) result new
+
+abbrev pub MarkWrites : Machine → Result (Unit {0}) Fault → Machine → Type 0
+MarkWrites old result new = Does old step.MarkWrite (MovesMark old) result new
+
 abbrev pub ControlSyncs : Machine → Result Lsn Fault → Machine → Type 0
-ControlSyncs old (Ok lsn) new = Changes old (λ held after. SyncsControl held lsn after) new
-ControlSyncs old (Err fault) new = RefusesStopped old fault new ⊎ FailsIn old fault Breaks new
+ControlSyncs old result new = Does old step.ControlSync (Acknowledges old) result new
 
 -- ---- a query that may read a device
 

@@ -1,5 +1,5 @@
 -- The feed rule.
-use Rattle.std.specs.Prelude.{◌≡◌, ℕ, ◌-◌, ◌<◌, ◌≤◌, ◌⊎◌, List, [], ◌∷◌, ◌++◌, length, Option, Some, None, Result, Ok, Err}
+use Rattle.std.specs.Prelude.{◌≡◌, ℕ, ◌-◌, ◌⊎◌, List, [], ◌∷◌, ◌++◌, length, Option, Some, None, MatchOption, Result, Ok, Err}
 use Rattle.als_record.specs.declared.record.Record.{Record}
 use Rattle.als_record.specs.declared.fault.Fault.{Fault as RecordFault}
 use Rattle.als_record.specs.declared.cause.Cause.{Cause}
@@ -7,13 +7,13 @@ use Rattle.als_record.specs.Reading.{read_record}
 use Rattle.als_record.specs.Spelling.{record_len}
 use Rattle.als_record.specs.LogText.{spellings, end_of}
 use Rattle.als_record.specs.Validity.{first_bad, IsValidLog}
-use Rattle.als_store.specs.Stored.{Stored, with_log, pending_of, IsTooLong}
+use Rattle.als_store.specs.Stored.{Stored, with_log, IsTooLong}
 use Rattle.als_engine.specs.declared.fault.Fault.{Fault}
 use Rattle.als_engine.specs.declared.fault.Fault.TheVariants.{BadHeader, BadLength, BadType, BadReserved, WrongLsn, BadKey, BadValue, BadPrev, OldTransaction, WrongState, WrongUndoNext, WrongCompensation, RecordHeld, BeforeImage, TooManyTransactions, BadCheckpoint, NothingToDo, LogFull, Device, Stopped, Memory, Backlog, BadConfig}
 use Rattle.als_engine.specs.declared.fed.Fed.{Fed}
 use Rattle.als_engine.specs.declared.fed.FeedFault.{FeedFault}
 use Rattle.als_engine.specs.Faults.{from_record, from_cause}
-use Rattle.als_engine.specs.Machine.{Machine, IsRunning, IsStopped}
+use Rattle.als_engine.specs.Machine.{Machine}
 
 -- the held log with more records
 abbrev pub grown : Stored → List Record → Stored
@@ -30,15 +30,8 @@ pub record Splits (held : Stored) (bytes : List ℕ) (records : List Record) (re
   pub is_log : IsValidLog held.pages (held.log ++ records)
   pub fit : AllFit held records
 
--- the engine takes the log: it has not stopped, it refuses nothing, and its pending changes are below their limit
-pub record TakesLog (m : Machine) : Type 0 where
-  pub running : IsRunning m
-  pub following : m.refused ≡ None
-  pub room : pending_of m.held < m.limit
-
 -- all of the piece is taken: the rest is no whole record yet
 pub record FeedsAll (old : Machine) (piece : List ℕ) (fed : Fed) (new : Machine) : Type 0 where
-  pub takes : TakesLog old
   pub records : List Record
   pub rest : List ℕ
   pub split : Splits old.held (old.partial ++ piece) records rest
@@ -84,7 +77,6 @@ kept_fault BadConfig = Some BadConfig
 
 -- whole records in front of a fault are held, and no rest is kept
 pub record FeedsFront (old : Machine) (piece : List ℕ) (refusal : FeedFault) (new : Machine) : Type 0 where
-  pub takes : TakesLog old
   pub records : List Record
   pub rest : List ℕ
   pub split : Splits old.held (old.partial ++ piece) records rest
@@ -94,20 +86,15 @@ pub record FeedsFront (old : Machine) (piece : List ℕ) (refusal : FeedFault) (
   pub taken : refusal.taken ≡ length (spellings records) - length old.partial
   pub count : refusal.records ≡ length records
 
--- why an engine takes nothing: it has stopped, else it refuses, else as many changes are pending as the limit allows
-abbrev pub TakesNothing : Machine → Fault → Type 0
-TakesNothing m fault =
-    (IsStopped m × (fault ≡ Stopped))
-    ⊎ ((IsRunning m × (m.refused ≡ Some fault))
-    ⊎ (IsRunning m × (m.refused ≡ None) × (m.limit ≤ pending_of m.held) × (fault ≡ Backlog)))
+-- a piece is taken, as far as it can be
+abbrev pub TakesPiece : Machine → List ℕ → Result Fed FeedFault → Machine → Type 0
+TakesPiece old piece (Ok fed) new = FeedsAll old piece fed new
+TakesPiece old piece (Err refusal) new = FeedsFront old piece refusal new
 
--- nothing is taken
-pub record FeedsNothing (old : Machine) (refusal : FeedFault) (new : Machine) : Type 0 where
-  pub cause : TakesNothing old refusal.fault
-  pub after : new ≡ old
-  pub taken : refusal.taken ≡ 0
-  pub count : refusal.records ≡ 0
+-- a refusal that takes nothing
+abbrev pub refused_whole : Fault → FeedFault
+refused_whole fault = record { taken = 0; records = 0; fault = fault }
 
-abbrev pub Feeds : Machine → List ℕ → Result Fed FeedFault → Machine → Type 0
-Feeds old piece (Ok fed) new = FeedsAll old piece fed new
-Feeds old piece (Err refusal) new = FeedsNothing old refusal new ⊎ FeedsFront old piece refusal new
+-- A feed that is refused before it begins takes nothing and changes nothing; any other one takes the piece.
+abbrev pub Feeds : Machine → List ℕ → Option Fault → Result Fed FeedFault → Machine → Type 0
+Feeds old piece refusal result new = MatchOption refusal (TakesPiece old piece result new) (λ fault. (result ≡ Err (refused_whole fault)) × (new ≡ old))

@@ -3,6 +3,7 @@ pub mod Faults
 pub mod Machine
 pub mod Serving
 pub mod Feeds
+pub mod Refusals
 pub mod Events
 pub mod TakingIn
 pub mod Runs

@@ -6,6 +6,7 @@ use Rattle.als_engine.specs.declared.step.Step.TheVariants as step
 use Rattle.als_engine.specs.declared.step.Reply.{Reply}
 use Rattle.als_engine.specs.declared.step.Reply.TheVariants as reply
 use Rattle.als_engine.specs.Machine.{Machine}
+use Rattle.als_engine.specs.Refusals.{feed_refusal}
 use Rattle.als_engine.specs.Feeds.{Feeds}
 use Rattle.als_engine.specs.Events.{Resyncs, Applies, LogWrites, LogSyncs, MarkWrites, ControlSyncs}
 
@@ -16,8 +17,8 @@ reply_of (Err fault) = reply.Refused fault
 
 -- From old, a step may have this reply and lead to new.
 abbrev pub Steps : Machine → Step → Reply → Machine → Type 0
-Steps old (step.Feed piece) (reply.Fed fed) new = Feeds old piece.now (Ok fed) new
-Steps old (step.Feed piece) (reply.FeedRefused refusal) new = Feeds old piece.now (Err refusal) new
+Steps old (step.Feed piece) (reply.Fed fed) new = Feeds old piece.now (feed_refusal old) (Ok fed) new
+Steps old (step.Feed piece) (reply.FeedRefused fault) new = Feeds old piece.now (feed_refusal old) (Err fault) new
 Steps old step.Resync reply.Done new = Resyncs old (Ok tt) new
 Steps old step.Resync (reply.Refused fault) new = Resyncs old (Err fault) new
 Steps old (step.Apply page) (reply.Applied lsn) new = Applies old page (Ok lsn) new
@@ -31,34 +32,7 @@ Steps old step.MarkWrite (reply.Refused fault) new = MarkWrites old (Err fault) 
 Steps old step.ControlSync (reply.Acknowledged lsn) new = ControlSyncs old (Ok lsn) new
 Steps old step.ControlSync (reply.Refused fault) new = ControlSyncs old (Err fault) new
 -- no other reply comes
-Steps old (step.Feed piece) reply.Done new = ⊥
-Steps old (step.Feed piece) (reply.Applied lsn) new = ⊥
-Steps old (step.Feed piece) (reply.Acknowledged lsn) new = ⊥
-Steps old (step.Feed piece) (reply.Refused fault) new = ⊥
-Steps old step.Resync (reply.Fed fed) new = ⊥
-Steps old step.Resync (reply.FeedRefused refusal) new = ⊥
-Steps old step.Resync (reply.Applied lsn) new = ⊥
-Steps old step.Resync (reply.Acknowledged lsn) new = ⊥
-Steps old (step.Apply page) (reply.Fed fed) new = ⊥
-Steps old (step.Apply page) (reply.FeedRefused refusal) new = ⊥
-Steps old (step.Apply page) reply.Done new = ⊥
-Steps old (step.Apply page) (reply.Acknowledged lsn) new = ⊥
-Steps old step.LogWrite (reply.Fed fed) new = ⊥
-Steps old step.LogWrite (reply.FeedRefused refusal) new = ⊥
-Steps old step.LogWrite (reply.Applied lsn) new = ⊥
-Steps old step.LogWrite (reply.Acknowledged lsn) new = ⊥
-Steps old step.LogSync (reply.Fed fed) new = ⊥
-Steps old step.LogSync (reply.FeedRefused refusal) new = ⊥
-Steps old step.LogSync (reply.Applied lsn) new = ⊥
-Steps old step.LogSync (reply.Acknowledged lsn) new = ⊥
-Steps old step.MarkWrite (reply.Fed fed) new = ⊥
-Steps old step.MarkWrite (reply.FeedRefused refusal) new = ⊥
-Steps old step.MarkWrite (reply.Applied lsn) new = ⊥
-Steps old step.MarkWrite (reply.Acknowledged lsn) new = ⊥
-Steps old step.ControlSync (reply.Fed fed) new = ⊥
-Steps old step.ControlSync (reply.FeedRefused refusal) new = ⊥
-Steps old step.ControlSync reply.Done new = ⊥
-Steps old step.ControlSync (reply.Applied lsn) new = ⊥
+Steps _ _ _ _ = ⊥
 
 -- The steps have these replies, one after another, and lead from old to new.
 abbrev pub Run : Machine → List Step → List Reply → Machine → Type 0

@@ -5,9 +5,11 @@ ghost use Rattle.als_record.specs.Table.{table_of};
 ghost use Rattle.als_analysis.specs.Open.{rows_of};
 ghost use Rattle.als_store.specs.Stored.{acknowledged, pending_of, WaitsFrom, ShowsPage};
 ghost use Rattle.als_store.specs.Devices.{AreKept};
+ghost use Rattle.als_store.specs.Formatting.{IsHalfFormatted};
 ghost use Rattle.als_engine.specs.Config.{IsConfig, IsWorld};
 ghost use Rattle.als_engine.specs.Machine.{formatted_machine, state_of, state_from, Keeps};
 ghost use Rattle.als_engine.specs.Serving.{HasRoomForPiece};
+ghost use Rattle.als_engine.specs.Refusals.{feed_refusal};
 ghost use Rattle.als_engine.specs.Feeds.{Feeds, kept_fault};
 ghost use Rattle.als_engine.specs.Events.{Resyncs, Applies, LogWrites, LogSyncs, MarkWrites, ControlSyncs, Reads};
 ghost use Rattle.als_engine.specs.Runs.{Steps, reply_of};
@@ -67,12 +69,20 @@ impl<D: BlockDisk + Drop> Drop for Engine<D> {
 }
 
 impl<D: BlockDisk> Engine<D> {
-    /// A standby with an empty log and empty pages, over devices that it formats. BadConfig: a number of the configuration is
-    /// out of its range, or a device has too few blocks, or the log's too many; the devices are unchanged then. Device: a
-    /// device failed. Memory: a growth was refused. On a refusal the devices come back.
+    /// A standby with an empty log and empty pages, over devices that it formats. On a refusal the devices come back.
+    ///
+    /// BadConfig: a number of the configuration is out of its range, or a device has too few blocks, or the log's too many;
+    /// the devices are as they were. Memory: a growth was refused; the devices are as they were. Device: a device failed; the
+    /// log is as it was, or a crash leaves a control block that is cleared or that of the new database.
     pub fn format(alloc: Global, disks: Disks<D>, config: Config) -> Result<Engine<D>, Refused<D>>
-        ensures ok { IfOk result (λ e. IsWorld config (D.block_count disks.log) (D.block_count disks.control) (D.block_count disks.pages) × (e.machine ≡ formatted_machine config (D.block_count disks.log) (D.failures disks.log + D.failures disks.control + D.failures disks.pages) e.machine.held.attempts)) }
-        ensures err { IfErr result (λ r. ((r.fault ≡ Fault.BadConfig) × (IsWorld config (D.block_count disks.log) (D.block_count disks.control) (D.block_count disks.pages) → ⊥) × (r.disks ≡ disks)) ⊎ (IsWorld config (D.block_count disks.log) (D.block_count disks.control) (D.block_count disks.pages) × ((r.fault ≡ Fault.Memory) ⊎ ((r.fault ≡ Fault.Device) × (D.failures disks.log + D.failures disks.control < D.failures r.disks.log + D.failures r.disks.control))))) }
+        ensures fits { IfOk result (λ e. IsWorld config (D.block_count disks.log) (D.block_count disks.control) (D.block_count disks.pages)) }
+        ensures ok { IfOk result (λ e. e.machine ≡ formatted_machine config (D.block_count disks.log) (D.failures disks.log + D.failures disks.control + D.failures disks.pages) e.machine.held.attempts) }
+        ensures config { IfErr result (λ r. r.fault ≡ Fault.BadConfig → IsWorld config (D.block_count disks.log) (D.block_count disks.control) (D.block_count disks.pages) → ⊥) }
+        ensures fault { IfErr result (λ r. (r.fault ≡ Fault.BadConfig) ⊎ (IsWorld config (D.block_count disks.log) (D.block_count disks.control) (D.block_count disks.pages) × ((r.fault ≡ Fault.Memory) ⊎ (r.fault ≡ Fault.Device)))) }
+        ensures same { IfErr result (λ r. (r.fault ≡ Fault.Device → ⊥) → r.disks ≡ disks) }
+        ensures device { IfErr result (λ r. r.fault ≡ Fault.Device → D.failures disks.log + D.failures disks.control < D.failures r.disks.log + D.failures r.disks.control) }
+        ensures left { IfErr result (λ r. r.fault ≡ Fault.Device → IsHalfFormatted config.pages (D.slot disks.log) (D.slot r.disks.log) (D.slot r.disks.control)) }
+        ensures counts { IfErr result (λ r. (D.block_count r.disks.log ≡ D.block_count disks.log) × (D.block_count r.disks.control ≡ D.block_count disks.control) × (r.disks.pages ≡ disks.pages)) }
     {
         if !config.fits(&disks) {
             return Err(Refused {
@@ -119,7 +129,7 @@ impl<D: BlockDisk> Engine<D> {
     /// record is kept; a fault of the record (2 to 16) is kept, LogFull and Memory are not. Memory does not come where there
     /// is room for the piece.
     pub fn feed(&mut self, piece: &[u8]) -> Result<Fed, FeedFault>
-        ensures feeds { Feeds self.old.machine piece.now result self.new.machine }
+        ensures feeds { Feeds self.old.machine piece.now (feed_refusal self.old.machine) result self.new.machine }
         // Where there is room for the piece, memory is not wanted.
         ensures reserved { HasRoomForPiece self.old piece.now → IfErr result (λ refusal. refusal.fault ≡ Fault.Memory → ⊥) }
     {

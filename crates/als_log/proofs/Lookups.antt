@@ -1,9 +1,9 @@
 -- Which record stands at an offset, and the bytes of it in the text.
-use Rattle.std.proofs.Common.{◌≡◌, ℕ, ◌+◌, ◌<◌, ◌≤◌, eqb, List, [], ◌∷◌, ◌++◌, length, drop, take, Option, Some, None, Result, Ok, Err, refl, sym, ap, subst, ◌∙◌, append_assoc, arith}
+use Rattle.std.proofs.Common.{◌≡◌, ℕ, ◌+◌, ◌<◌, ◌≤◌, eqb, List, [], ◌∷◌, ◌++◌, length, drop, take, Option, Some, None, Result, Ok, Err, refl, sym, ap, subst, inl, inr, ◌∙◌, append_assoc, arith}
 use Rattle.std.specs.List.{AllByRecursion}
-use Rattle.std.specs.Prelude.{IsTrue, IsSomeAnd}
+use Rattle.std.specs.Prelude.{IsTrue, IsSomeAnd, is_some}
 use Rattle.std.specs.Int.{w32, from_be_bytes}
-use Rattle.std.proofs.lemmas.Bool.{cond-true, cond-false, ne_eqb, eq-eqb, and_parts}
+use Rattle.std.proofs.lemmas.Bool.{cond-true, cond-false, cases_Bool, eqb-true, ne_eqb, eq-eqb, false≢true, and_parts}
 use Rattle.std.proofs.lemmas.List.{append-nil, length-append, take-take, take_at}
 use Rattle.als_record.specs.declared.fault.Fault.{Fault as RecordFault}
 use Rattle.als_record.specs.declared.record.Record.{Record}
@@ -11,11 +11,11 @@ use Rattle.als_record.specs.Spelling.{record_len, spelling, IsRecord}
 use Rattle.als_record.specs.LogText.{spellings, log_text, end_of, follow_from, IsLog}
 use Rattle.als_record.specs.declared.fault.Fault.TheVariants.{BadHeader, BadLength, BadType, BadReserved, WrongLsn, BadKey, BadValue, Memory}
 use Rattle.als_record.specs.Reading.{word_at, read_record, Fails, HasRows, TakesMemory}
-use Rattle.als_record.proofs.LogLaws.{spellings-cons, end_of_is, end_of_push, follow-cons, follow-append}
+use Rattle.als_record.proofs.LogLaws.{spellings-nil, spellings-cons, end_of_is, end_of_push, follow-cons, follow-append}
 use Rattle.als_record.proofs.ReadingLaws.{record_again}
 use Rattle.als_record.proofs.RecordLaws.{length-spelling, record_len-low, record_len-high}
 use Rattle.als_log.specs.Local.{IsFrontEnd}
-use Rattle.als_log.specs.Reading.{record_at, HasRowsAt}
+use Rattle.als_log.specs.Reading.{record_at, HasRecord, HasRowsAt}
 use Rattle.als_log.proofs.Walks.{all-behind, text-behind, len_field, end_of-parts}
 
 -- ---- lookups
@@ -181,3 +181,43 @@ wants_rows {pages} {log} {at} p e bytes is fails takes =
     let read : read_record pages at bytes ≡ found (p.r, record_len p.r)
     = ap (λ (n : ℕ). read_record pages n bytes) (sym p.lsn) ∙ ap (read_record pages p.r.lsn.0) is ∙ record_again pages p.r [] p.fits in
     subst (λ (o : Option Record). IsSomeAnd o (λ r. HasRows r.body)) (sym (record_at-placed p)) (no_memory (p.r, record_len p.r) e (read_record pages at bytes) fails read takes)
+
+-- ---- a record that is found stands behind a front
+
+pub record Stands (log : List Record) (from at : ℕ) : Type 0 where
+  pub front : List Record
+  pub rest : List Record
+  pub parts : log ≡ front ++ rest
+  pub place : from + length (spellings front) ≡ at
+  pub within : at < from + length (spellings log)
+
+stands : (log : List Record) (from at : ℕ) → IsTrue (follow_from from log) → HasRecord log at → Stands log from at
+stands [] from at follow has = absurd (false≢true has)
+stands (r ∷ rest) from at follow has =
+    let f = follow-cons from r rest follow in
+    let len = length-spellings r rest in
+    elim (cases_Bool (eqb r.lsn.0 at)) [
+      | inl e ↦ record {
+        front = [];
+        rest = r ∷ rest;
+        parts = refl;
+        place = omega (arith, ap length spellings-nil, f.placed, eqb-true r.lsn.0 at e);
+        within = omega (arith, len, f.placed, eqb-true r.lsn.0 at e, record_len-low r);
+      }
+      | inr e ↦
+          let later : record_at (r ∷ rest) at ≡ record_at rest at = cond-false (eqb r.lsn.0 at) (Some r) (record_at rest at) e in
+          let s = stands rest (from + record_len r) at f.others (ap (λ (o : Option Record). is_some o) (sym later) ∙ has) in
+          record {
+            front = r ∷ s.front;
+            rest = s.rest;
+            parts = ap (λ (xs : List Record). r ∷ xs) s.parts;
+            place = omega (arith, s.place, length-spellings r s.front);
+            within = omega (arith, s.within, len);
+          }
+    ]
+
+-- it is where records end, and below the log's end
+pub has-front : (log : List Record) (at : ℕ) → IsTrue (follow_from 16 log) → HasRecord log at → IsFrontEnd log at × (at < end_of log)
+has-front log at follow has =
+    let s = stands log 16 at follow has in
+    (record { front = s.front; rest = s.rest; parts = s.parts; ends = end_of_is s.front ∙ s.place }, omega (arith, s.within, end_of_is log))

@@ -16,13 +16,6 @@ pub record AttemptFails (old new : Local) : Type 0 where
   pub failed : old.failures < new.failures
   pub same : new ≡ record old { failures = new.failures; attempts = old.attempts + 1 }
 
--- a device could not be laid out: it failed, or there was no memory and it was not touched
-abbrev pub RefusesFormat : Fault → ℕ → ℕ → Type 0
-RefusesFormat Device before now = before < now
-RefusesFormat Memory before now = now ≡ before
-RefusesFormat NothingToDo before now = ⊥
-RefusesFormat LogFull before now = ⊥
-
 -- a record was not appended: it does not fit, or there was no memory for it
 abbrev pub RefusesRecord : Fault → Local → ℕ → ℕ → Type 0
 RefusesRecord LogFull l len reserve_after = 512 * l.blocks < end_of l.log + len + reserve_after

@@ -1,5 +1,5 @@
 -- Records read back, and where the bytes for it come from.
-use Rattle.std.specs.Prelude.{◌≡◌, ℕ, ◌<◌, ◌≤◌, ◌*◌, ◌/◌, ◌==◌, List, length, drop, Option, IsSomeAnd, find}
+use Rattle.std.specs.Prelude.{◌≡◌, ℕ, ◌<◌, ◌≤◌, ◌*◌, ◌/◌, ◌==◌, List, length, drop, Option, IsSomeAnd, IsTrue, is_some, find}
 use Rattle.als_record.specs.declared.record.Record.{Record}
 use Rattle.als_record.specs.LogText.{log_text, end_of, IsLog}
 use Rattle.als_record.specs.Reading.{HasRows}
@@ -11,6 +11,10 @@ use Rattle.als_log.specs.Texts.{AllHaveText}
 -- the record of a log that stands at an offset
 abbrev pub record_at : List Record → ℕ → Option Record
 record_at log at = find (λ r. r.lsn.0 == at) log
+
+-- a record of the log stands at an offset
+abbrev pub HasRecord : List Record → ℕ → Type 0
+HasRecord log at = IsTrue (is_some (record_at log at))
 
 -- an end_chkpt stands at an offset of a log: the one record that takes memory to be read, for its rows
 abbrev pub HasRowsAt : List Record → ℕ → Type 0

@@ -56,14 +56,15 @@ pub(crate) fn sync<D: BlockDisk>(disk: &mut D) -> Result<(), DeviceError>
 }
 
 /// Writes the first bytes of a text into block 0, with zeros behind them, and syncs.
-pub(crate) fn lay_out<D: BlockDisk>(device: &mut D, front: &[u8; 16]) -> Result<(), DeviceError>
-    requires { 1 ≤ D.block_count device.old }
+pub(crate) fn lay_out<D: BlockDisk>(device: &mut D, front: &[u8]) -> Result<(), DeviceError>
+    requires some { 1 ≤ D.block_count device.old }
+    requires front { length front.now ≡ 16 }
     ensures ok { OnOk result (IsStored (D.slot device.new) front.now 16 16) }
     ensures count { D.block_count device.new ≡ D.block_count device.old }
     ensures failures { CountsFailure result (D.failures device.old) (D.failures device.new) }
     ensures attempts { OnOk result (D.attempts device.new ≡ D.attempts device.old + 2) }
 {
-    let block = block_at(front.as_slice(), 0);
+    let block = block_at(front, 0);
     device.write(0, &block)?;
     device.sync()?;
     Ok(())

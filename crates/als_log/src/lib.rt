@@ -16,8 +16,8 @@ mod source;
 mod part;
 // The text read back.
 mod reading;
-// A device that could not be laid out.
-mod unformatted;
+// What a new log has in memory.
+mod new_log;
 // The log.
 mod local_log;
 #[cfg(test)]
@@ -25,4 +25,4 @@ mod tests;
 
 pub use fault::Fault;
 pub use local_log::LocalLog;
-pub use unformatted::Unformatted;
+pub use new_log::NewLog;

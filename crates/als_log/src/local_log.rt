@@ -1,21 +1,21 @@
-ghost use Rattle.std.specs.Prelude.{◌≡◌, ◌<◌, ◌≤◌, ◌+◌, ◌*◌, [], ◌∷◌, ◌++◌, IsTrue, ◌↔◌, IsOk, IfOk, IfErr, OnOk, OnErr, vec_len, vec_capacity};
+ghost use Rattle.std.specs.Prelude.{◌≡◌, ◌<◌, ◌≤◌, ◌+◌, ◌*◌, [], ◌∷◌, ◌++◌, IsTrue, ◌↔◌, Some, IsOk, IfOk, IfErr, OnOk, OnErr, vec_len, vec_capacity};
 ghost use Rattle.std.specs.Result.{IsErrOf};
 ghost use Rattle.als_record.specs.Spelling.{spelling, record_len, IsRecord};
 ghost use Rattle.als_record.specs.LogText.{end_of, log_text};
 ghost use Rattle.als_log.specs.declared.fault.Fault.TheVariants.{LogFull, Memory as OutOfMemory};
 ghost use Rattle.als_log.specs.Local.{Local, IsLocal, HasRoomFor, next_written, whole_end};
-ghost use Rattle.als_log.specs.Outcomes.{RefusesFormat, RefusesRecord, RefusesBlock, RefusesSync, RefusesReading};
-ghost use Rattle.als_log.specs.Reading.{record_at};
+ghost use Rattle.als_log.specs.Outcomes.{RefusesRecord, RefusesBlock, RefusesSync, RefusesReading};
+ghost use Rattle.als_log.specs.Reading.{record_at, HasRecord};
 ghost use Rattle.als_log.specs.Texts.{AllHaveText};
 
 use crate::fault::Fault;
 use crate::history::History;
+use crate::new_log::NewLog;
 use crate::part::Part;
 use crate::source::Source;
-use crate::unformatted::Unformatted;
 use crate::{blocks, reading, tail};
 use als_disk::BlockDisk;
-use als_record::{LogHeader, Lsn, Record, encode, encoded_len};
+use als_record::{Lsn, Record, encode, encoded_len};
 use std::alloc::{AllocError, Global};
 use std::marker::Model;
 
@@ -56,16 +56,6 @@ impl<D: BlockDisk> Model for LocalLog<D> {
     ghost invariant = { λ l. IsHeld l.pages (records_in l.history) l.base l.written l.synced l.cursor (D.block_count l.disk) l.tail.items (D.slot l.disk) };
 }
 
-/// What a new log has in memory: its header, and the room for a record that is read.
-fn in_memory(alloc: Global, front: &[u8; 16]) -> Result<(Vec<u8>, Part), AllocError>
-    ensures { IfOk result (λ x. x.0.items ≡ front.now) }
-{
-    let part = Part::new(alloc)?;
-    let mut bytes = Vec::new(alloc);
-    bytes.extend_from_slice(front.as_slice())?;
-    Ok((bytes, part))
-}
-
 /// The length of a record, of which these are the bytes.
 #[inline(always)]
 fn spelled_len(_logged: &Record, bytes: &[u8]) -> usize
@@ -90,40 +80,31 @@ fn copy_in(_logged: &Record, bytes: &[u8], out: &mut Vec<u8>) -> Result<(), Allo
 }
 
 impl<D: BlockDisk> LocalLog<D> {
-    /// Lays out a device as an empty log of a database of `pages` pages: writes the header and syncs.
+    /// Lays out a device as an empty log: writes the header and syncs. It takes no memory but that of `new`.
     ///
-    /// `Device`: the device failed. `Memory`: there was none for the header and for the longest record, and the
-    /// device is not touched.
-    pub fn format(alloc: Global, disk: D, pages: u32) -> Result<LocalLog<D>, Unformatted<D>>
-        requires pages { 1 ≤ pages × (pages ≤ 4096) }
+    /// The device comes back where it failed.
+    pub fn lay_out(disk: D, new: NewLog) -> Result<LocalLog<D>, D>
         requires blocks { (1 ≤ D.block_count disk) × (D.block_count disk ≤ 4194304) }
-        ensures ok { IfOk result (λ l. l ≡ record { pages = pages; log = []; written = 16; synced = 16; blocks = D.block_count disk; failures = D.failures disk; attempts = D.attempts disk + 2; room = l.room }) }
-        ensures err { IfErr result (λ u. RefusesFormat u.fault (D.failures disk) (D.failures u.disk)) }
-        ensures untouched { IfErr result (λ u. u.fault ≡ OutOfMemory → u.disk ≡ disk) }
-        ensures blocks { IfErr result (λ u. D.block_count u.disk ≡ D.block_count disk) }
+        ensures ok { IfOk result (λ l. l ≡ record { pages = new; log = []; written = 16; synced = 16; blocks = D.block_count disk; failures = D.failures disk; attempts = D.attempts disk + 2; room = l.room }) }
+        ensures err { IfErr result (λ d. (D.failures disk < D.failures d) × (D.block_count d ≡ D.block_count disk)) }
     {
         let mut disk = disk;
-        let front = LogHeader { pages }.encode();
-        let (tail, part) = match in_memory(alloc, &front) {
-            Ok(parts) => parts,
-            Err(_) => {
-                let fault = Fault::Memory;
-                return Err(Unformatted { disk, fault });
-            }
-        };
-        match blocks::lay_out(&mut disk, &front) {
+        let NewLog {
+            alloc,
+            pages,
+            text,
+            part,
+        } = new;
+        match blocks::lay_out(&mut disk, text.as_slice()) {
             Ok(()) => {}
-            Err(_) => {
-                let fault = Fault::Device;
-                return Err(Unformatted { disk, fault });
-            }
+            Err(_) => return Err(disk),
         }
         Ok(LocalLog {
             alloc,
             disk,
             pages,
             base: 0,
-            tail,
+            tail: text,
             written: 16,
             synced: 16,
             cursor: 16,
@@ -297,6 +278,8 @@ impl<D: BlockDisk> LocalLog<D> {
         ensures ok { IfOk result (λ found. found ≡ record_at self.old.log lsn.0) }
         ensures same { OnOk result (self.new ≡ self.old) }
         ensures err { IfErr result (λ e. RefusesReading lsn.0 e self.old self.new) }
+        // At and behind the log's end there is none, which takes no look at the device.
+        ensures past { end_of self.old.log ≤ lsn.0 → IsOk result }
     {
         let source = Source {
             history: &self.history,
@@ -314,6 +297,25 @@ impl<D: BlockDisk> LocalLog<D> {
         )?;
         self.cursor = cursor;
         Ok(found)
+    }
+
+    /// The record that stands at an LSN, where its caller knows that one does: it is read with no walk.
+    ///
+    /// `Device`: the device failed. `Memory`: there was none for the rows of the end_chkpt that stands there; no other record
+    /// takes any.
+    pub fn record(&mut self, lsn: Lsn) -> Result<Record, Fault>
+        requires { HasRecord self.old.log lsn.0 }
+        ensures ok { IfOk result (λ found. record_at self.old.log lsn.0 ≡ Some found) }
+        ensures same { OnOk result (self.new ≡ self.old) }
+        ensures err { IfErr result (λ e. RefusesReading lsn.0 e self.old self.new) }
+    {
+        let source = Source {
+            history: &self.history,
+            pages: self.pages,
+            bytes: self.tail.as_slice(),
+            base: self.base,
+        };
+        reading::read_record(source, self.alloc, &mut self.disk, lsn.0, &mut self.part)
     }
 
     /// The device. Whatever a crash leaves of it has the log's text below the synced end, and whatever a read gives has it

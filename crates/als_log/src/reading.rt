@@ -1,5 +1,5 @@
 // A text read back: its front from the device, and the rest from memory.
-ghost use Rattle.std.specs.Prelude.{◌≡◌, ◌⊎◌, ℕ, ◌<◌, ◌≤◌, ◌+◌, ◌-◌, ◌*◌, ◌/◌, List, length, take, drop, slice_index, Some, None, IfOk, IfErr, OnOk};
+ghost use Rattle.std.specs.Prelude.{◌≡◌, ◌⊎◌, ℕ, ◌<◌, ◌≤◌, ◌+◌, ◌-◌, ◌*◌, ◌/◌, List, length, take, drop, slice_index, Some, None, IfOk, IfErr, IsOk, OnOk};
 ghost use Rattle.als_record.specs.LogText.{end_of};
 ghost use Rattle.als_disk.specs.Failures.{CountsFailure};
 ghost use Rattle.als_disk.specs.Slot.{SameBlocks};
@@ -117,7 +117,7 @@ fn walk<D: BlockDisk>(
 }
 
 /// Reads the record that stands at an offset.
-fn read_record<D: BlockDisk>(
+pub(crate) fn read_record<D: BlockDisk>(
     source: Source<'_>,
     alloc: Global,
     disk: &mut D,
@@ -174,6 +174,7 @@ pub(crate) fn find<D: BlockDisk>(
     ensures attempts { D.attempts disk.new ≡ D.attempts disk.old }
     ensures done { OnOk result (D.failures disk.new ≡ D.failures disk.old) }
     ensures err { IfErr result (λ e. FailsToRead (records_in source.entry.history.now) to e (D.failures disk.old) (D.failures disk.new)) }
+    ensures past { end_of (records_in source.entry.history.now) ≤ to → IsOk result }
 {
     let end = source.base + source.bytes.len() as u64;
     if to < 16 {

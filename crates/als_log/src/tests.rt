@@ -1,4 +1,4 @@
-use crate::{Fault, LocalLog};
+use crate::{Fault, LocalLog, NewLog};
 use als_disk::{BlockDisk, FailingDisk, Fuse, MemDisk};
 use als_record::{Lsn, Record, decode, encode};
 use std::alloc::Global;
@@ -28,18 +28,27 @@ fn commit_at(at: Lsn) -> [u8; 28] {
     bytes
 }
 
-// An empty log of a database of four pages. A device that fails once and a growth that is refused once are met by further
-// tries.
+// The memory of an empty log of a database of four pages, made again where memory is refused once.
+fn new_log(rt: &impl Abort, alloc: Global) -> NewLog {
+    for _ in 0..2 {
+        match NewLog::new(alloc, 4) {
+            Ok(new) => return new,
+            Err(fault) => assert_eq!(rt; fault, Fault::Memory),
+        }
+    }
+    panic!(rt; "memory is refused twice")
+}
+
+// An empty log of a database of four pages. A device that fails once is met by further tries.
 fn formatted<D: BlockDisk + Drop>(rt: &impl Abort, alloc: Global, mut disk: D) -> LocalLog<D> {
     for _ in 0..3 {
         let blocks = disk.blocks();
         assert!(rt; 1 <= blocks && blocks <= 4194304);
-        match LocalLog::format(alloc, disk, 4) {
+        match LocalLog::lay_out(disk, new_log(rt, alloc)) {
             Ok(log) => return log,
-            Err(unformatted) => {
-                assert!(rt; matches!(unformatted.fault, Fault::Device | Fault::Memory));
-                assert_eq!(rt; unformatted.disk.blocks(), blocks);
-                disk = unformatted.disk;
+            Err(failed) => {
+                assert_eq!(rt; failed.blocks(), blocks);
+                disk = failed;
             }
         }
     }
@@ -289,6 +298,30 @@ fn records_are_read_back(rt: HostRuntime) {
     sync(&rt, &mut log);
     assert_eq!(rt; log.synced(), Lsn(1136));
     expect_commits(&rt, rt.alloc(), &mut log);
+}
+
+// The record at an offset where one stands, read with no walk.
+fn read_again<D: BlockDisk + Drop>(log: &mut LocalLog<D>, at: u64) -> Option<Record> {
+    match log.read_at(Lsn(at)) {
+        Ok(Some(_)) => log.record(Lsn(at)).ok(),
+        _ => None,
+    }
+}
+
+#[test]
+fn a_record_is_read_with_no_walk(rt: HostRuntime) {
+    let mut log = commits(&rt, rt.alloc(), 3, 40);
+    let Some(found) = read_again(&mut log, 996) else {
+        panic!(rt; "no record at 996")
+    };
+    assert_eq!(rt; found.lsn, Lsn(996));
+    write(&rt, &mut log);
+    write(&rt, &mut log);
+    sync(&rt, &mut log);
+    let Some(found) = read_again(&mut log, 492) else {
+        panic!(rt; "no record at 492")
+    };
+    assert_eq!(rt; found.lsn, Lsn(492));
 }
 
 #[test]

@@ -24,7 +24,7 @@ use Rattle.als_ckpt.specs.Control.{Controlled, newest, last_state, with_state, s
 use Rattle.als_store.specs.Warm.{Warm, CanRoute, MakesPlaces, AppliesAt, total_waiting, fresh_from}
 use Rattle.als_record.specs.Tail as tail
 use Rattle.als_record.specs.Transactions as transactions
-use Rattle.als_record.specs.Tail.{tail_len}
+use Rattle.als_record.specs.Tail.{tail_len, reserve_of}
 use Rattle.als_store.specs.Stored.{Stored, AppliesFirst, formatted, with_log, IsTooLong, FrontsFit}
 use Rattle.als_store.specs.Parts.{IsStored, AreMarks, applied_of, stored_of, spare_of}
 use Rattle.als_store.specs.Spare.{HasSpare}
@@ -56,19 +56,23 @@ front_of_push (x ∷ front) rest (y ∷ log) r e =
     ]
 
 -- a record with room for it and for the tail behind it
-fit-push : (blocks : ℕ) (log : List Record) (r : Record) → FrontsFit blocks log → end_of log + record_len r + tail_len (log ++ r ∷ []) ≤ 512 * blocks → FrontsFit blocks (log ++ r ∷ [])
-fit-push blocks log r fit left front rest parts = elim (front_of_push front rest log r parts) [
-  | inl all ↦ subst (λ (xs : List Record). end_of xs + tail_len xs ≤ 512 * blocks) (sym all) (omega (arith, end_of-push log r, left))
-  | inr part ↦ fit front part.0 part.1
+fit-push : (blocks from : ℕ) (log : List Record) (r : Record) → FrontsFit blocks from log → end_of log + record_len r + reserve_of (log ++ r ∷ []) ≤ 512 * blocks → FrontsFit blocks from (log ++ r ∷ [])
+fit-push blocks from log r fit left front rest parts low = elim (front_of_push front rest log r parts) [
+  | inl all ↦ subst (λ (xs : List Record). end_of xs + reserve_of xs ≤ 512 * blocks) (sym all) (omega (arith, end_of-push log r, left))
+  | inr part ↦ fit front part.0 part.1 low
 ]
+
+-- as what is acknowledged rises, fewer fronts count
+fit-raised : (blocks from higher : ℕ) (log : List Record) → from ≤ higher → FrontsFit blocks from log → FrontsFit blocks higher log
+fit-raised blocks from higher log rises fit front rest parts low = fit front rest parts (omega (arith, rises, low))
 
 tail_len-nil : tail_len [] ≡ 0
 unfolding tail_len tail.tail_of tail.numbered tail.tail_steps transactions.unended transactions.transactions tail.undoes tail.losing transactions.all_surviving
 tail_len-nil = refl
 
-fit-nil : (blocks : ℕ) → 1 ≤ blocks → FrontsFit blocks []
-fit-nil blocks some [] rest parts = omega (arith, some, end-nil, tail_len-nil)
-fit-nil blocks some (r ∷ front) rest parts = absurd cc
+fit-nil : (blocks from : ℕ) → 1 ≤ blocks → FrontsFit blocks from []
+fit-nil blocks from some [] rest parts low = omega (arith, some, end-nil, tail_len-nil)
+fit-nil blocks from some (r ∷ front) rest parts low = absurd cc
 
 -- ---- control states
 
@@ -190,13 +194,13 @@ module _ (pages held : ℕ) (l : Local) (c : Controlled) (warm : List Warm) (val
 
   -- a record more
   pub stored-push : (l' : Local) (r : Record) (warm' : List Warm) (validator' : Validator) → IsRecord pages r → r.lsn.0 ≡ end_of l.log → first_bad l.log r ≡ None
-      → end_of l.log + record_len r + tail_len (l.log ++ r ∷ []) ≤ 512 * l.blocks → l' ≡ record l { log = l.log ++ r ∷ []; room = l'.room } → IsValidatorOf pages validator' (l.log ++ r ∷ []) → Routes warm (change_of r) warm' → IsStored pages l' (held + 1) c warm' validator' broken
+      → end_of l.log + record_len r + reserve_of (l.log ++ r ∷ []) ≤ 512 * l.blocks → l' ≡ record l { log = l.log ++ r ∷ []; room = l'.room } → IsValidatorOf pages validator' (l.log ++ r ∷ []) → Routes warm (change_of r) warm' → IsStored pages l' (held + 1) c warm' validator' broken
   stored-push l' r warm' validator' fits at good left e judged routes =
       let k = routes_count warm warm' (change_of r) routes in
       subst (λ (x : Local). IsStored pages x (held + 1) c warm' validator' broken) (sym e) (record {
         log_pages = h.log_pages;
         is_log = valid_push pages l.log r h.is_log fits at good;
-        fit = fit-push l.blocks l.log r h.fit left;
+        fit = fit-push l.blocks c.synced.mark.0 l.log r h.fit left;
         judged = judged;
         are_pages = routes_pages l.log r warm warm' (change_of r) refl at routes h.are_pages;
         count = k.0 ∙ h.count;
@@ -273,11 +277,11 @@ module _ (pages held : ℕ) (l : Local) (c : Controlled) (warm : List Warm) (val
     sure = h.sure;
   })
 
-  with_control : (c' : Controlled) (broken' : Bool) → AreMarks l c' → (broken' ≡ false → c'.sure ≡ true) → IsStored pages l held c' warm validator broken'
-  with_control c' broken' marks sure = record {
+  with_control : (c' : Controlled) (broken' : Bool) → c.synced.mark.0 ≤ c'.synced.mark.0 → AreMarks l c' → (broken' ≡ false → c'.sure ≡ true) → IsStored pages l held c' warm validator broken'
+  with_control c' broken' rises marks sure = record {
     log_pages = h.log_pages;
     is_log = h.is_log;
-    fit = h.fit;
+    fit = fit-raised l.blocks c.synced.mark.0 c'.synced.mark.0 l.log rises h.fit;
     judged = h.judged;
     are_pages = h.are_pages;
     count = h.count;
@@ -301,17 +305,17 @@ module _ (pages held : ℕ) (l : Local) (c : Controlled) (warm : List Warm) (val
   }
 
   pub stored-marked : (c' : Controlled) (t : ControlState) → IsLocal l → t.mark.0 ≡ l.synced → c' ≡ with_state c t → IsStored pages l held c' warm validator broken
-  stored-marked c' t facts is e = subst (λ (x : Controlled). IsStored pages l held x warm validator broken) (sym e) (with_control (with_state c t) broken (marks-written t facts is) h.sure)
+  stored-marked c' t facts is e = subst (λ (x : Controlled). IsStored pages l held x warm validator broken) (sym e) (with_control (with_state c t) broken (omega arith) (marks-written t facts is) h.sure)
 
   pub stored-torn : (c' : Controlled) (t : ControlState) → IsLocal l → t.mark.0 ≡ l.synced → c' ≡ record (with_state c t) { sure = false; failures = c'.failures } → IsStored pages l held c' warm validator true
   stored-torn c' t facts is e =
       let m = marks-written t facts is in
       subst (λ (x : Controlled). IsStored pages l held x warm validator true) (sym e)
-      (with_control (record (with_state c t) { sure = false; failures = c'.failures }) true (record { pages = m.pages; bytes = m.bytes; newest_synced = m.newest_synced; fronts = m.fronts }) (λ wrong. absurd cc))
+      (with_control (record (with_state c t) { sure = false; failures = c'.failures }) true (omega arith) (record { pages = m.pages; bytes = m.bytes; newest_synced = m.newest_synced; fronts = m.fronts }) (λ wrong. absurd cc))
 
   -- the control device synced
-  pub stored-settled : (c' : Controlled) → c' ≡ settled c → IsStored pages l held c' warm validator broken
-  stored-settled c' e = subst (λ (x : Controlled). IsStored pages l held x warm validator broken) (sym e) (with_control (settled c) broken (record {
+  pub stored-settled : (c' : Controlled) → c' ≡ settled c → c.synced.mark.0 ≤ (newest c).mark.0 → IsStored pages l held c' warm validator broken
+  stored-settled c' e rises = subst (λ (x : Controlled). IsStored pages l held x warm validator broken) (sym e) (with_control (settled c) broken rises (record {
     pages = h.marks.pages;
     bytes = h.marks.bytes;
     newest_synced = h.marks.newest_synced;
@@ -330,7 +334,7 @@ stored-new pages blocks log_failures log_attempts control_blocks control_failure
     subst (λ (ws : List Warm). IsStored pages fresh_log 0 fresh_control ws validator false) (sym ew) (record {
       log_pages = refl;
       is_log = valid-nil pages;
-      fit = fit-nil blocks some;
+      fit = fit-nil blocks 16 some;
       judged = judged;
       are_pages = pages-fresh pages;
       count = length-fresh 0 pages;
@@ -361,10 +365,10 @@ pub appended : (l l' l'' : Local) (r : Record) → l' ≡ record l { room = l'.r
 appended l l' l'' r e f = f ∙ ap (λ (x : Local). record x { log = x.log ++ r ∷ []; room = l''.room }) e
 
 -- a record with room on the device is not too long
-pub not_too_long : (s : Stored) (r : Record) (len after : ℕ) → len ≡ record_len r → after ≡ tail_len (s.log ++ r ∷ []) → end_of s.log + len + after ≤ 512 * s.blocks → IsTooLong s r → ⊥
+pub not_too_long : (s : Stored) (r : Record) (len after : ℕ) → len ≡ record_len r → after ≡ reserve_of (s.log ++ r ∷ []) → end_of s.log + len + after ≤ 512 * s.blocks → IsTooLong s r → ⊥
 not_too_long s r len after len-is after-is le long = omega (arith, len-is, after-is, le, long)
 
-pub too_long : (s : Stored) (r : Record) (len after : ℕ) → len ≡ record_len r → after ≡ tail_len (s.log ++ r ∷ []) → (end_of s.log + len + after ≤ 512 * s.blocks → IsTrue false) → IsTooLong s r
+pub too_long : (s : Stored) (r : Record) (len after : ℕ) → len ≡ record_len r → after ≡ reserve_of (s.log ++ r ∷ []) → (end_of s.log + len + after ≤ 512 * s.blocks → IsTrue false) → IsTooLong s r
 too_long s r len after len-is after-is none = elim (cases_lt (512 * s.blocks) (end_of s.log + len + after)) [
   | inl lt ↦ omega (arith, len-is, after-is, lt)
   | inr le ↦ let wrong : false ≡ true = none le in absurd cc

@@ -26,4 +26,4 @@ pub record AreKept (s : Stored) (log control : ℕ → Slot) : Type 0 where
   pub marks : (content : List ℕ) → Contains (control 0).candidates content → IsControlOf s content
   pub valid : IsValidLog s.pages s.log
   pub room : end_of s.log ≤ 512 * s.blocks
-  pub fit : FrontsFit s.blocks s.log
+  pub fit : FrontsFit s.blocks (acknowledged s) s.log

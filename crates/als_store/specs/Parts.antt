@@ -50,7 +50,7 @@ pub record AreMarks (l : Local) (c : Controlled) : Type 0 where
 pub record IsStored (pages : ℕ) (l : Local) (held : ℕ) (c : Controlled) (warm : List Warm) (validator : Validator) (broken : Bool) : Type 0 where
   pub log_pages : l.pages ≡ pages
   pub is_log : IsValidLog pages l.log
-  pub fit : FrontsFit l.blocks l.log
+  pub fit : FrontsFit l.blocks c.synced.mark.0 l.log
   pub judged : IsValidatorOf pages validator l.log
   pub are_pages : ArePagesOf l.log warm
   pub count : length warm ≡ pages

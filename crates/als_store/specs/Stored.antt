@@ -8,7 +8,7 @@ use Rattle.als_record.specs.declared.cause.Cause.{Cause}
 use Rattle.als_record.specs.Spelling.{record_len}
 use Rattle.als_record.specs.LogText.{end_of}
 use Rattle.als_record.specs.Validity.{first_bad}
-use Rattle.als_record.specs.Tail.{tail_len}
+use Rattle.als_record.specs.Tail.{reserve_of}
 use Rattle.als_record.specs.Pages.{page_at, changes_above}
 use Rattle.als_page.specs.declared.page.Page.{Page}
 use Rattle.als_page.specs.Page.{state_of}
@@ -56,12 +56,13 @@ formatted pages blocks failures attempts = record { pages = pages; log = []; app
 
 -- the log device has no room for the log with a record and with the tail that a takeover would then append
 abbrev pub IsTooLong : Stored → Record → Type 0
-IsTooLong s r = 512 * s.blocks < end_of s.log + record_len r + tail_len (s.log ++ r ∷ [])
+IsTooLong s r = 512 * s.blocks < end_of s.log + record_len r + reserve_of (s.log ++ r ∷ [])
 
--- A log device of so many blocks has room for each front of the log with the tail that a takeover would append to it: so one
--- can go ahead whatever a crash leaves.
-abbrev pub FrontsFit : ℕ → List Record → Type 0
-FrontsFit blocks log = (front rest : List Record) → log ≡ front ++ rest → end_of front + tail_len front ≤ 512 * blocks
+-- A log device of so many blocks has room for each front of the log that ends at or above an offset, with the tail that a
+-- takeover would append to it. From the acknowledged LSN on these are the logs that a crash may leave: so a takeover can go
+-- ahead whatever it leaves.
+abbrev pub FrontsFit : ℕ → ℕ → List Record → Type 0
+FrontsFit blocks from log = (front rest : List Record) → log ≡ front ++ rest → from ≤ end_of front → end_of front + reserve_of front ≤ 512 * blocks
 
 -- why a record is not held: the first cause that it may not follow, or else no room, or a growth was refused
 abbrev pub IsRefused : Stored → Record → Fault → Type 0

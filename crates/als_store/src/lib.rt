@@ -11,6 +11,10 @@ mod unformatted;
 mod warm_page;
 // All pages.
 mod warm_pages;
+// What a new store has in memory.
+mod new_parts;
+// The devices of a new store.
+mod laying_out;
 // The log, the control block, the pages and the transaction table.
 mod store;
 

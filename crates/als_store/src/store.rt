@@ -6,27 +6,29 @@ ghost use Rattle.als_record.specs.Spelling.{spelling, record_len, IsRecord};
 ghost use Rattle.als_record.specs.LogText.{end_of};
 ghost use Rattle.als_record.specs.Validity.{first_bad, IsValidLog};
 ghost use Rattle.als_record.specs.Table.{table_of};
-ghost use Rattle.als_record.specs.Tail.{tail_len};
 ghost use Rattle.als_record.specs.Pages.{change_of};
 ghost use Rattle.als_analysis.specs.Open.{rows_of};
 ghost use Rattle.als_validator.specs.Validated.{IsValidatorOf, HasRoom};
 ghost use Rattle.als_store.specs.declared.fault.Fault.TheVariants as fault;
-ghost use Rattle.als_store.specs.Warm.{CanRoute, HasPlace, MakesPlaces, IsRouted, total_waiting, fresh_from};
+ghost use Rattle.als_store.specs.Warm.{CanRoute, HasPlace, MakesPlaces, IsRouted, total_waiting};
 ghost use Rattle.als_store.specs.Spare.{HasSpare};
 ghost use Rattle.als_store.specs.Parts.{spare_of};
 ghost use Rattle.als_store.specs.Stored.{Stored, formatted, acknowledged, with_log, pending_of, AppliesFirst, IsDry, WaitsFrom, ShowsPage, StandsAt, IsRefused, IsTooLong, FrontsFit, judgement_of};
 ghost use Rattle.als_store.specs.Events.{Breaks, FailsToRead, HasUnwritten, WritesLog, SyncsLog, HasUnmarked, WritesMark, BreaksMark, SyncsControl};
 ghost use Rattle.als_store.specs.Devices.{AreKept};
+ghost use Rattle.als_store.specs.Formatting.{IsHalfFormatted};
 ghost use Rattle.als_log.specs.Local.{HasRoomFor, next_written, whole_end};
 ghost use Rattle.als_log.specs.Reading.{record_at, HasRowsAt};
-ghost use Rattle.als_log.specs.Outcomes.{ReadFails, AttemptFails, RefusesFormat};
+ghost use Rattle.als_log.specs.Outcomes.{ReadFails, AttemptFails};
 
 use crate::disks::Disks;
 use crate::fault::Fault;
+use crate::laying_out::lay_out;
+use crate::new_parts::NewParts;
 use crate::unformatted::Unformatted;
 use crate::warm_pages::WarmPages;
 use als_analysis::OpenTransaction;
-use als_ckpt::{Control, clear};
+use als_ckpt::Control;
 use als_disk::BlockDisk;
 use als_log::{Fault as LogFault, LocalLog};
 use als_page::Page;
@@ -147,53 +149,6 @@ fn new_validator(alloc: Global, pages: u32) -> Result<Validator, Fault>
     }
 }
 
-/// The pages and the validator of an empty log.
-fn empty_parts(alloc: Global, pages: u32) -> Result<(WarmPages, Validator), Fault>
-    requires { pages ≤ 4096 }
-    ensures warm { IfOk result (λ parts. parts.0 ≡ fresh_from 0 pages) }
-    ensures validator { IfOk result (λ parts. IsValidatorOf pages parts.1 []) }
-    ensures err { IfErr result (λ f. f ≡ fault.Memory) }
-{
-    let warm = WarmPages::empty(alloc, pages)?;
-    let validator = new_validator(alloc, pages)?;
-    Ok((warm, validator))
-}
-
-/// Devices that were not formatted.
-fn unformatted<D>(log: D, control: D, pages: D, fault: Fault) -> Unformatted<D>
-    ensures { result ≡ record { disks = record { log = log; control = control; pages = pages }; fault = fault } }
-{
-    let disks = Disks {
-        log,
-        control,
-        pages,
-    };
-    Unformatted { disks, fault }
-}
-
-/// The fault of a log that could not be laid out.
-fn fault_of(refused: LogFault) -> Fault
-    ensures { (before now : ℕ) → RefusesFormat refused before now → ((result ≡ fault.Memory) × (now ≡ before)) ⊎ ((result ≡ fault.Device) × (before < now)) }
-{
-    match refused {
-        LogFault::Memory => Fault::Memory,
-        _ => Fault::Device,
-    }
-}
-
-/// Makes the control block one that nobody takes for a control block.
-fn clear_control<D: BlockDisk>(control: &mut D) -> Result<(), Fault>
-    requires { 1 ≤ D.block_count control.old }
-    ensures count { D.block_count control.new ≡ D.block_count control.old }
-    ensures ok { OnOk result (D.failures control.new ≡ D.failures control.old) }
-    ensures err { IfErr result (λ f. (f ≡ fault.Device) × (D.failures control.old < D.failures control.new)) }
-{
-    match clear(control) {
-        Ok(()) => Ok(()),
-        Err(_) => Err(Fault::Device),
-    }
-}
-
 /// Room for so many more bytes in the log. An `Err` changes nothing.
 fn reserve_bytes<D: BlockDisk>(log: &mut LocalLog<D>, len: usize) -> Result<(), Fault>
     ensures same { log.new ≡ record log.old { room = log.new.room } }
@@ -292,7 +247,11 @@ fn read_log<D: BlockDisk>(log: &mut LocalLog<D>, lsn: Lsn) -> Result<Option<Reco
 
 impl<D: BlockDisk> Store<D> {
     /// Formats the devices for a database of so many pages: clears and syncs the control block, then writes and syncs the
-    /// log's header, then writes and syncs the control block. It leaves an empty log, acknowledged up to 16.
+    /// log's header, then writes and syncs the control block. It leaves an empty log, acknowledged up to 16. All memory is
+    /// taken before a device is touched.
+    ///
+    /// Memory: the devices come back as they were. Device: one of them failed; they come back with the log as it was, or with
+    /// a control block that is cleared or that of the new database, whatever a crash leaves.
     pub fn format(alloc: Global, disks: Disks<D>, pages: u32) -> Result<Store<D>, Unformatted<D>>
         requires some_pages { 1 ≤ pages }
         requires few_pages { pages ≤ 4096 }
@@ -300,45 +259,36 @@ impl<D: BlockDisk> Store<D> {
         requires few_blocks { D.block_count disks.log ≤ 4194304 }
         requires control { 321 ≤ D.block_count disks.control }
         ensures ok { IfOk result (λ s. s.stored ≡ formatted pages (D.block_count disks.log) (D.failures disks.log + D.failures disks.control + D.failures disks.pages) s.stored.attempts) }
-        ensures err { IfErr result (λ u. (u.fault ≡ fault.Memory) ⊎ ((u.fault ≡ fault.Device) × (D.failures disks.log + D.failures disks.control < D.failures u.disks.log + D.failures u.disks.control))) }
+        ensures fault { IfErr result (λ u. (u.fault ≡ fault.Memory) ⊎ (u.fault ≡ fault.Device)) }
+        ensures memory { IfErr result (λ u. u.fault ≡ fault.Memory → u.disks ≡ disks) }
+        ensures device { IfErr result (λ u. u.fault ≡ fault.Device → D.failures disks.log + D.failures disks.control < D.failures u.disks.log + D.failures u.disks.control) }
+        ensures left { IfErr result (λ u. u.fault ≡ fault.Device → IsHalfFormatted pages (D.slot disks.log) (D.slot u.disks.log) (D.slot u.disks.control)) }
+        ensures counts { IfErr result (λ u. (D.block_count u.disks.log ≡ D.block_count disks.log) × (D.block_count u.disks.control ≡ D.block_count disks.control) × (u.disks.pages ≡ disks.pages)) }
     {
-        let Disks {
+        let NewParts {
             log,
-            mut control,
-            pages: page_disk,
-        } = disks;
-        let (warm, validator) = match empty_parts(alloc, pages) {
-            Ok(parts) => parts,
-            Err(fault) => return Err(unformatted(log, control, page_disk, fault)),
-        };
-        if let Err(fault) = clear_control(&mut control) {
-            return Err(unformatted(log, control, page_disk, fault));
-        }
-        let log = match LocalLog::format(alloc, log, pages) {
-            Ok(log) => log,
-            Err(refused) => {
-                let fault = fault_of(refused.fault);
-                return Err(unformatted(refused.disk, control, page_disk, fault));
-            }
-        };
-        let log_bytes = 512 * log.blocks();
-        let control = match Control::create(control, pages, log_bytes) {
-            Ok(control) => control,
-            Err(refused) => {
-                let log = log.into_disk();
-                return Err(unformatted(log, refused.disk, page_disk, Fault::Device));
-            }
-        };
-        Ok(Store {
-            pages,
-            log,
-            count: 0,
-            control,
-            page_disk,
             warm,
             validator,
-            broken: false,
-        })
+        } = match NewParts::new(alloc, pages) {
+            Ok(parts) => parts,
+            Err(fault) => return Err(Unformatted { disks, fault }),
+        };
+        match lay_out(disks, pages, log) {
+            Ok(laid) => Ok(Store {
+                pages,
+                log: laid.log,
+                count: 0,
+                control: laid.control,
+                page_disk: laid.pages,
+                warm,
+                validator,
+                broken: false,
+            }),
+            Err(disks) => {
+                let fault = Fault::Device;
+                Err(Unformatted { disks, fault })
+            }
+        }
     }
 
     /// The devices. Whatever a crash leaves of them has all acknowledged bytes. Their attempts together are the store's.
@@ -376,7 +326,7 @@ impl<D: BlockDisk> Store<D> {
     pub fn end(&self) -> Lsn
         ensures end { result.0 ≡ end_of self.now.stored.log }
         ensures limit { end_of self.now.stored.log ≤ 2 ^ 31 }
-        ensures fit { FrontsFit self.now.stored.blocks self.now.stored.log }
+        ensures fit { FrontsFit self.now.stored.blocks (acknowledged self.now.stored) self.now.stored.log }
         ensures log { IsValidLog self.now.stored.pages self.now.stored.log }
     {
         self.log.end()

@@ -36,3 +36,17 @@ read_record-requires-clause-within g c =
     let end : c.args.source.base + length c.args.source.bytes.now ≡ end_of log
     = readable-reach c.args.source.pages log (g.D.BlockDisk.slot c.args.disk.now) (g.D.BlockDisk.block_count c.args.disk.now) c.args.source.bytes.now c.args.source.base c.requires.readable in
     omega (arith, end, c.if-end-to.false, c.if-at-to.false)
+
+pub returns-in_err-at-clause-past : goal.returns-in_err-at-clause-past
+returns-in_err-at-clause-past g c past =
+    let log = records_in c.args.source.history.now in
+    let end : c.args.source.base + length c.args.source.bytes.now ≡ end_of log
+    = readable-reach c.args.source.pages log (g.D.BlockDisk.slot c.args.disk.now) (g.D.BlockDisk.block_count c.args.disk.now) c.args.source.bytes.now c.args.source.base c.requires.readable in
+    absurd (omega (arith, end, past, c.if-end-to.false))
+
+pub returns-in_err-found-clause-past : goal.returns-in_err-found-clause-past
+returns-in_err-found-clause-past g c past =
+    let log = records_in c.args.source.history.now in
+    let end : c.args.source.base + length c.args.source.bytes.now ≡ end_of log
+    = readable-reach c.args.source.pages log (g.D.BlockDisk.slot c.args.disk.now) (g.D.BlockDisk.block_count c.args.disk.now) c.args.source.bytes.now c.args.source.base c.requires.readable in
+    absurd (omega (arith, end, past, c.if-end-to.false))

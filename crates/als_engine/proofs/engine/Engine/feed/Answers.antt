@@ -1,7 +1,8 @@
-use Rattle.std.proofs.Common.{◌-◌, refl, sym, ◌∙◌, inr, arith}
+use Rattle.std.proofs.Common.{◌-◌, refl, sym, ◌∙◌, arith}
 use Rattle.als_engine.proofs.TakingLaws.{end_grown}
 use Rattle.als_engine.proofs.ReadyLaws.{ready_grown, ready_again}
-use Rattle.als_engine.proofs.FeedLaws.{feeds_all, feeds_front}
+use Rattle.als_engine.proofs.FeedLaws.{machine, feeds_all, feeds_front}
+use Rattle.als_engine.proofs.RefusalLaws.{feed_not_refused}
 use Rattle.als_engine.proofs.engine.Engine.feed.Goals as goal
 
 pub overflow_sub-held_bytes : goal.overflow_sub-held_bytes
@@ -22,16 +23,21 @@ invariant_of-self-in-Err g c =
 
 pub returns-in-Ok-clause-feeds : goal.returns-in-Ok-clause-feeds
 returns-in-Ok-clause-feeds g c =
+    let s = c.self.inside in
+    let m = machine s.store.stored s.limit s.receiver.kept s.refused in
+    let looked = feed_not_refused m (sym c.is_broken-stopped.ensures ∙ c.if-stopped.false) c.in_default.is (omega (arith, c.pending.ensures, c.if-pending-self.false)) in
     rw (← c.self.view_is)
-    (feeds_all c.self.inside.store.stored c.take_piece.new.held.stored c.self.inside.limit c.self.inside.receiver.kept c.args.piece.now c.self.inside.refused c.take_piece.new.receiver _ _
-    (record { running = sym c.is_broken-stopped.ensures ∙ c.if-stopped.false; following = c.in_default.is; room = omega (arith, c.pending.ensures, c.if-pending-self.false) })
-    c.in-Ok.ensures.ok c.len.ensures.log refl (omega (arith, c.len.ensures.count, c.len-records.ensures.count)))
+    (rw looked
+    (feeds_all s.store.stored c.take_piece.new.held.stored s.limit s.receiver.kept c.args.piece.now s.refused c.take_piece.new.receiver _ _
+    c.in-Ok.ensures.ok c.len.ensures.log refl (omega (arith, c.len.ensures.count, c.len-records.ensures.count))))
 
 pub returns-in-Err-clause-feeds : goal.returns-in-Err-clause-feeds
 returns-in-Err-clause-feeds g c =
+    let s = c.self.inside in
+    let m = machine s.store.stored s.limit s.receiver.kept s.refused in
+    let looked = feed_not_refused m (sym c.is_broken-stopped.ensures ∙ c.if-stopped.false) c.in_default.is (omega (arith, c.pending.ensures, c.if-pending-self.false)) in
     rw (← c.self.view_is)
-    (rw (c.new.ensures, c.kept-self-inside.ensures)
-    (inr (feeds_front c.self.inside.store.stored c.take_piece.new.held.stored c.self.inside.limit c.self.inside.receiver.kept c.args.piece.now c.self.inside.refused c.in-Err.fault _ _ (c.end.result.0 - c.end-end.result.0)
-    (record { running = sym c.is_broken-stopped.ensures ∙ c.if-stopped.false; following = c.in_default.is; room = omega (arith, c.pending.ensures, c.if-pending-self.false) })
+    (rw (looked, c.new.ensures, c.kept-self-inside.ensures)
+    (feeds_front s.store.stored c.take_piece.new.held.stored s.limit s.receiver.kept c.args.piece.now s.refused c.in-Err.fault _ _ (c.end.result.0 - c.end-end.result.0)
     c.in-Err.ensures.err c.len-in-Err.ensures.log (omega (arith, c.end.ensures.end, c.end-end.ensures.end))
-    (omega (arith, c.saturating_sub.ensures, c.partial-partial.ensures)) (omega (arith, c.len-in-Err.ensures.count, c.len-records.ensures.count)))))
+    (omega (arith, c.saturating_sub.ensures, c.partial-partial.ensures)) (omega (arith, c.len-in-Err.ensures.count, c.len-records.ensures.count))))

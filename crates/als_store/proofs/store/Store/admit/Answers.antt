@@ -2,7 +2,7 @@ use Rattle.std.proofs.Common.{◌≡◌, ◌+◌, ◌≤◌, ◌∷◌, ◌++◌
 use Rattle.std.specs.Prelude.{◌*◌}
 use Rattle.als_record.specs.Spelling.{IsRecord, record_len}
 use Rattle.als_record.specs.LogText.{end_of}
-use Rattle.als_record.specs.Tail.{tail_len}
+use Rattle.als_record.specs.Tail.{reserve_of}
 use Rattle.als_record.specs.Pages.{change_of}
 use Rattle.als_record.specs.Validity.{first_bad}
 use Rattle.als_store.specs.Stored.{Stored, with_log}
@@ -63,7 +63,7 @@ invariant_of-self-2 g c =
     let fits = subst (λ (h : Holding). IsRecord h.stored.pages r) (sym c.self.view_is) c.requires.fits in
     let at = subst (λ (h : Holding). r.lsn.0 ≡ end_of h.stored.log) (sym c.self.view_is) c.requires.at in
     let good = good_from (first_bad s.log.log r) c.judge.result c.in_ok-judge.was (c.judge.ensures s.pages s.log.log c.self.invariant.judged c.self.invariant.is_log fits at) in
-    let left : end_of s.log.log + record_len r + tail_len (s.log.log ++ r ∷ []) ≤ 512 * s.log.blocks =
+    let left : end_of s.log.log + record_len r + reserve_of (s.log.log ++ r ∷ []) ≤ 512 * s.log.blocks =
     omega (arith, c.len_of-len.ensures, c.reserve_after-reserve_after.ensures s.pages s.log.log c.self.invariant.judged at good, c.if-not-fits.ensures.0 refl) in
     let judged-room = c.in_ok-make_room.ensures.validator s.pages s.log.log c.self.invariant.judged in
     let roomed = stored-room s.pages s.count s.log s.control s.warm s.validator s.broken c.self.invariant s.log c.make_room.new.warm c.make_room.new.validator (change_of r) refl judged-room c.in_ok-make_room.ensures.pages in

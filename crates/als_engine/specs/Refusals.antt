@@ -1,0 +1,68 @@
+-- Why an event is refused before it does anything.
+use Rattle.std.specs.Prelude.{◌≡◌, ℕ, ◌==◌, nat_lt, nat_le, Bool, true, not, ◌||◌, List, [], ◌∷◌, ◌++◌, length, Option, Some, None, MatchOption, Result, Err, if◌then◌else◌}
+use Rattle.als_record.specs.LogText.{end_of}
+use Rattle.als_store.specs.Stored.{Stored, newest, pending_of, waiting_on}
+use Rattle.als_engine.specs.declared.fault.Fault.{Fault}
+use Rattle.als_engine.specs.declared.fault.Fault.TheVariants.{NothingToDo, Stopped, Backlog}
+use Rattle.als_engine.specs.declared.step.Step.{Step}
+use Rattle.als_engine.specs.declared.step.Step.TheVariants as step
+use Rattle.als_engine.specs.Machine.{Machine}
+
+-- ---- the causes
+
+-- a write or a sync has failed
+abbrev pub has_stopped : Machine → Bool × Fault
+has_stopped m = (m.held.broken, Stopped)
+
+-- a fault of the log was met, and is kept until a resync
+abbrev pub has_refused : Option Fault → List (Bool × Fault)
+has_refused None = []
+has_refused (Some fault) = (true, fault) ∷ []
+
+-- as many changes are pending as the limit allows
+abbrev pub is_full : Machine → Bool
+is_full m = nat_le m.limit (pending_of m.held)
+
+-- no change waits for the page, or there is no such page
+abbrev pub is_dry : Stored → ℕ → Bool
+is_dry held page = nat_le held.pages page || (length (waiting_on held page) == 0)
+
+-- the log has bytes that are not written
+abbrev pub is_unwritten : Stored → Bool
+is_unwritten held = nat_lt held.written (end_of held.log)
+
+-- the synced end is above the last mark written
+abbrev pub is_unmarked : Stored → Bool
+is_unmarked held = nat_lt (newest held).mark.0 held.synced
+
+-- ---- the table: each event's causes, in the order in which they are looked at
+
+-- of a feed, whatever the piece
+abbrev pub feed_causes : Machine → List (Bool × Fault)
+feed_causes m = has_stopped m ∷ has_refused m.refused ++ (is_full m, Backlog) ∷ []
+
+abbrev pub causes : Machine → Step → List (Bool × Fault)
+causes m (step.Feed piece) = feed_causes m
+causes m step.Resync = has_stopped m ∷ []
+causes m (step.Apply page) = has_stopped m ∷ (is_dry m.held page, NothingToDo) ∷ []
+causes m step.LogWrite = has_stopped m ∷ (not (is_unwritten m.held), NothingToDo) ∷ []
+causes m step.LogSync = has_stopped m ∷ []
+causes m step.MarkWrite = has_stopped m ∷ (not (is_unmarked m.held), NothingToDo) ∷ []
+causes m step.ControlSync = has_stopped m ∷ []
+
+-- the fault of the first cause that stands
+abbrev pub first_of : List (Bool × Fault) → Option Fault
+first_of [] = None
+first_of (cause ∷ rest) = if cause.0 then Some cause.1 else first_of rest
+
+-- the fault by which an event is refused, if it is
+abbrev pub refusal : Machine → Step → Option Fault
+refusal m event = first_of (causes m event)
+
+-- the fault by which a feed is refused before it takes anything, if it is
+abbrev pub feed_refusal : Machine → Option Fault
+feed_refusal m = first_of (feed_causes m)
+
+-- An event that is refused changes nothing; any other one acts.
+abbrev pub Does : {A : Type 0} → Machine → Step → (Result A Fault → Machine → Type 0) → Result A Fault → Machine → Type 0
+Does old event acts result new = MatchOption (refusal old event) (acts result new) (λ fault. (result ≡ Err fault) × (new ≡ old))

@@ -1,0 +1,62 @@
+ghost use Rattle.std.specs.Prelude.{◌≡◌, ◌≤◌, [], IfOk, IfErr};
+ghost use Rattle.als_validator.specs.Validated.{IsValidatorOf};
+ghost use Rattle.als_store.specs.declared.fault.Fault.TheVariants as fault;
+ghost use Rattle.als_store.specs.Warm.{fresh_from};
+
+use crate::fault::Fault;
+use crate::warm_pages::WarmPages;
+use als_log::NewLog;
+use als_validator::Validator;
+use std::alloc::Global;
+
+/// What a new store has in memory. It is made before a device is touched.
+#[derive(Drop)]
+pub(crate) struct NewParts {
+    pub(crate) log: NewLog,
+    pub(crate) warm: WarmPages,
+    pub(crate) validator: Validator,
+}
+
+impl NewParts {
+    /// The memory of an empty store of a database of so many pages. Memory: a growth was refused.
+    pub(crate) fn new(alloc: Global, pages: u32) -> Result<NewParts, Fault>
+        requires some { 1 ≤ pages }
+        requires few { pages ≤ 4096 }
+        ensures log { IfOk result (λ parts. parts.log ≡ pages) }
+        ensures warm { IfOk result (λ parts. parts.warm ≡ fresh_from 0 pages) }
+        ensures validator { IfOk result (λ parts. IsValidatorOf pages parts.validator []) }
+        ensures err { IfErr result (λ f. f ≡ fault.Memory) }
+    {
+        let log = new_log(alloc, pages)?;
+        let warm = WarmPages::empty(alloc, pages)?;
+        let validator = new_validator(alloc, pages)?;
+        Ok(NewParts {
+            log,
+            warm,
+            validator,
+        })
+    }
+}
+
+/// The memory of an empty log.
+fn new_log(alloc: Global, pages: u32) -> Result<NewLog, Fault>
+    requires { 1 ≤ pages × (pages ≤ 4096) }
+    ensures ok { IfOk result (λ log. log ≡ pages) }
+    ensures err { IfErr result (λ f. f ≡ fault.Memory) }
+{
+    match NewLog::new(alloc, pages) {
+        Ok(log) => Ok(log),
+        Err(_) => Err(Fault::Memory),
+    }
+}
+
+/// A validator of an empty log.
+fn new_validator(alloc: Global, pages: u32) -> Result<Validator, Fault>
+    ensures ok { IfOk result (λ v. IsValidatorOf pages v []) }
+    ensures err { IfErr result (λ f. f ≡ fault.Memory) }
+{
+    match Validator::new(alloc, pages) {
+        Ok(validator) => Ok(validator),
+        Err(_) => Err(Fault::Memory),
+    }
+}
