@@ -1,24 +1,21 @@
 use crate::measure::FIRST;
 use crate::primary::PAGES;
 use als_receiver::Receiver;
-use als_record::{Body, Lsn, Record, decode};
+use als_record::{BodyView, Lsn, RecordView, decode, view_record};
 use als_validator::Validator;
 use std::alloc::Global;
 
 /// The last byte of what a record writes, 0 for none. The jobs below ask for it, since a record that nobody reads is not even
 /// made.
 #[inline(never)]
-fn last_byte(logged: &Record) -> usize {
-    match &logged.body {
-        Body::Update {
-            after: Some(value),
-            ..
-        }
-        | Body::Compensation {
-            after: Some(value),
-            ..
-        } => value.as_slice().last().map_or(0, |byte| *byte as usize),
-        _ => 0,
+fn last_byte(logged: &RecordView<'_>) -> usize {
+    let (BodyView::Update { after, .. } | BodyView::Compensation { after, .. }) = &logged.body
+    else {
+        return 0;
+    };
+    match after.bytes {
+        Some(bytes) => bytes.last().map_or(0, |byte| *byte as usize),
+        None => 0,
     }
 }
 
@@ -31,7 +28,7 @@ pub fn decode_all(alloc: Global, text: &[u8]) -> u64 {
             break;
         };
         match decode(alloc, rest, Lsn(at as u64), PAGES) {
-            Ok(Some((logged, len))) if last_byte(&logged) <= text.len() => {
+            Ok(Some((logged, len))) if last_byte(&logged.view()) <= text.len() => {
                 at = at.saturating_add(len);
             }
             _ => break,
@@ -52,7 +49,7 @@ pub fn judge_all(alloc: Global, text: &[u8]) -> u64 {
         let Some(rest) = text.get(at..) else {
             break;
         };
-        let Ok(Some((logged, len))) = decode(alloc, rest, Lsn(at as u64), PAGES) else {
+        let Ok(Some((logged, len))) = view_record(rest, Lsn(at as u64), PAGES) else {
             break;
         };
         if validator.check(&logged).is_err() {
@@ -80,8 +77,9 @@ pub fn receive_all(alloc: Global, text: &[u8], piece: usize) -> u64 {
             break;
         }
         for _ in 0..u64::MAX {
-            match receiver.next() {
-                Ok(Some(logged)) if last_byte(&logged) <= text.len() => {
+            match receiver.peek() {
+                Ok(Some((logged, len))) if last_byte(&logged) <= text.len() => {
+                    receiver.advance(len);
                     records = records.saturating_add(1);
                 }
                 _ => break,
@@ -95,7 +93,7 @@ pub fn receive_all(alloc: Global, text: &[u8], piece: usize) -> u64 {
 fn judge_whole(receiver: &mut Receiver, validator: &mut Validator) -> u64 {
     let mut records = 0u64;
     for _ in 0..u64::MAX {
-        let Ok(Some(logged)) = receiver.next() else {
+        let Ok(Some((logged, len))) = receiver.peek() else {
             break;
         };
         if validator.check(&logged).is_err() {
@@ -105,6 +103,7 @@ fn judge_whole(receiver: &mut Receiver, validator: &mut Validator) -> u64 {
             Ok(()) => validator.admit(&logged),
             Err(_) => break,
         }
+        receiver.advance(len);
         records = records.saturating_add(1);
     }
     records

@@ -146,7 +146,7 @@ impl<D: BlockDisk> Engine<D> {
         let end = self.store.end().0;
         let records = self.store.len();
         let partial = self.receiver.partial();
-        match take_piece(&mut self.store, &mut self.receiver, piece) {
+        match take_piece(self.alloc, &mut self.store, &mut self.receiver, piece) {
             Ok(()) => Ok(Fed {
                 taken: piece.len(),
                 records: self.store.len() - records,

@@ -9,12 +9,14 @@ use crate::fault::Fault;
 use als_disk::BlockDisk;
 use als_receiver::Receiver;
 use als_store::Store;
+use std::alloc::Global;
 
 /// How many bytes of a piece go to the receiver at once.
 const CHUNK: usize = 65_536;
 
 /// Gives a piece to the receiver, and each record that is whole then to the store.
 pub(crate) fn take_piece<D: BlockDisk>(
+    alloc: Global,
     held: &mut Store<D>,
     receiver: &mut Receiver,
     piece: &[u8],
@@ -25,12 +27,12 @@ pub(crate) fn take_piece<D: BlockDisk>(
     ensures reserved { length piece.now ≤ 65536 → length piece.now ≤ receiver.old.room → HasRoomForBytes held.old.stored held.old.spare (receiver.old.kept ++ piece.now) → IsErrOf result fault.Memory → ⊥ }
 {
     if piece.len() <= CHUNK {
-        return take_chunk(held, receiver, piece);
+        return take_chunk(alloc, held, receiver, piece);
     }
     let mut rest = piece;
     while !rest.is_empty() {
         let (chunk, after) = rest.split_at(rest.len().min(CHUNK));
-        take_chunk(held, receiver, chunk)?;
+        take_chunk(alloc, held, receiver, chunk)?;
         rest = after;
     }
     Ok(())
@@ -38,6 +40,7 @@ pub(crate) fn take_piece<D: BlockDisk>(
 
 /// The same for a chunk of at most 65,536 bytes.
 fn take_chunk<D: BlockDisk>(
+    alloc: Global,
     held: &mut Store<D>,
     receiver: &mut Receiver,
     chunk: &[u8],
@@ -50,29 +53,38 @@ fn take_chunk<D: BlockDisk>(
 {
     let _ = held.end();
     receiver.push(chunk)?;
-    take_records(held, receiver)
+    take_records(alloc, held, receiver)
 }
 
 /// Gives each record that is whole to the store.
-fn take_records<D: BlockDisk>(held: &mut Store<D>, receiver: &mut Receiver) -> Result<(), Fault>
+fn take_records<D: BlockDisk>(
+    alloc: Global,
+    held: &mut Store<D>,
+    receiver: &mut Receiver,
+) -> Result<(), Fault>
     requires { Meets held.old.stored receiver.old }
     ensures ok { OnOk result (TakesAll held.old.stored receiver.old.kept held.new.stored receiver.new) }
     ensures err { IfErr result (TakesFront held.old.stored receiver.old.kept held.new.stored) }
     ensures reserved { HasRoomForBytes held.old.stored held.old.spare receiver.old.kept → IsErrOf result fault.Memory → ⊥ }
 {
-    while take_record(held, receiver)? {}
+    while take_record(alloc, held, receiver)? {}
     Ok(())
 }
 
 /// Gives the next record to the store, if it is whole; says whether it was.
-fn take_record<D: BlockDisk>(held: &mut Store<D>, receiver: &mut Receiver) -> Result<bool, Fault>
+fn take_record<D: BlockDisk>(
+    alloc: Global,
+    held: &mut Store<D>,
+    receiver: &mut Receiver,
+) -> Result<bool, Fault>
     requires { Meets held.old.stored receiver.old }
     ensures ok { IfOk result (λ more. MatchBool more (TakesOne held.old.stored receiver.old held.new.stored receiver.new) ((held.new.stored ≡ held.old.stored) × (receiver.new ≡ receiver.old) × Rests held.old.stored receiver.old)) }
     ensures err { IfErr result (λ fault. (held.new.stored ≡ held.old.stored) × IsCause held.old.stored receiver.old.kept fault) }
     ensures reserved { HasRoomForBytes held.old.stored held.old.spare receiver.old.kept → IsErrOf result fault.Memory → ⊥ }
 {
     match receiver.peek() {
-        Ok(Some((logged, len))) => {
+        Ok(Some((view, len))) => {
+            let logged = view.to_record(alloc)?;
             held.admit(&logged, receiver.front(len))?;
             receiver.advance(len);
             Ok(true)

@@ -1,6 +1,6 @@
 -- The parts of a store, after each event.
 use Rattle.std.proofs.Common.{◌≡◌, ℕ, suc, ◌+◌, ◌<◌, ◌≤◌, ◌⊎◌, List, [], ◌∷◌, ◌++◌, length, Option, Some, None, refl, sym, ap, subst, ◌∙◌, inl, inr, arith, length-append, append_assoc}
-use Rattle.std.specs.Prelude.{Bool, ◌*◌, true, false, slice_set, IfSome, Contains, IsTrue}
+use Rattle.std.specs.Prelude.{Bool, ◌^◌, ◌*◌, true, false, slice_set, IfSome, Contains, IsTrue}
 use Rattle.std.proofs.lemmas.Bool.{cases_lt, le-leb, lt-leb}
 use Rattle.std.specs.List.{sum_by}
 use Rattle.als_disk.specs.SlotLaws.{Contains-one}
@@ -15,6 +15,7 @@ use Rattle.als_record.specs.Spelling.{record_len, IsRecord}
 use Rattle.als_record.specs.LogText.{end_of}
 use Rattle.als_record.specs.Validity.{first_bad}
 use Rattle.als_record.specs.Pages.{change_of}
+use Rattle.als_record.proofs.RecordLaws.{record_len-high}
 use Rattle.als_record.proofs.PageLaws.{end_of-push, record_len-least, lsn_after-last, lsn-fold}
 use Rattle.als_validator.specs.declared.validator.Validator.{Validator}
 use Rattle.als_validator.specs.Validated.{IsValidatorOf, HasRoom}
@@ -373,3 +374,7 @@ too_long s r len after len-is after-is none = elim (cases_lt (512 * s.blocks) (e
   | inl lt ↦ omega (arith, len-is, after-is, lt)
   | inr le ↦ let wrong : false ≡ true = none le in absurd cc
 ]
+
+-- a log that the device has room for is far from the limit of what a reserve counts
+pub short_push : (pages blocks : ℕ) (log : List Record) (r : Record) → IsRecord pages r → end_of log ≤ 512 * blocks → blocks ≤ 4194304 → end_of (log ++ r ∷ []) < 2 ^ 62
+short_push pages blocks log r is fits few = omega (arith, end_of-push log r, record_len-high pages r is, fits, few)

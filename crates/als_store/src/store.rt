@@ -6,6 +6,7 @@ ghost use Rattle.als_record.specs.Spelling.{spelling, record_len, IsRecord};
 ghost use Rattle.als_record.specs.LogText.{end_of};
 ghost use Rattle.als_record.specs.Validity.{first_bad, IsValidLog};
 ghost use Rattle.als_record.specs.Table.{table_of};
+ghost use Rattle.als_record.specs.Tail.{reserve_of};
 ghost use Rattle.als_record.specs.Pages.{change_of};
 ghost use Rattle.als_analysis.specs.Open.{rows_of};
 ghost use Rattle.als_validator.specs.Validated.{IsValidatorOf, HasRoom};
@@ -118,11 +119,27 @@ fn judge(validator: &Validator, logged: &Record) -> Result<(), Fault>
     ensures { (pages : ℕ) (log : List AnyRecord) → IsValidatorOf pages validator.now log → IsValidLog pages log → IsRecord pages logged.now
         → logged.now.lsn.0 ≡ end_of log → result ≡ judgement_of (first_bad log logged.now) }
 {
-    match validator.check(logged) {
+    match validator.check(&logged.view()) {
         Ok(()) => Ok(()),
         Err(Refusal::Invalid(cause)) => Err(Fault::Invalid(cause)),
         Err(Refusal::Memory) => Err(Fault::Memory),
     }
+}
+
+/// The bytes that a takeover would append after a record that may follow the log.
+fn reserve_after(validator: &Validator, logged: &Record) -> u64
+    ensures { (pages : ℕ) (log : List AnyRecord) → IsValidatorOf pages validator.now log → logged.now.lsn.0 ≡ end_of log → first_bad log logged.now ≡ None
+        → end_of (log ++ logged.now ∷ []) < 2 ^ 62 → result ≡ reserve_of (log ++ logged.now ∷ []) }
+{
+    validator.reserve_after(&logged.view())
+}
+
+/// Lets the validator take a record that may follow the log.
+fn admit(validator: &mut Validator, logged: &Record)
+    requires { HasRoom validator.old }
+    ensures { (pages : ℕ) (log : List AnyRecord) → IsValidatorOf pages validator.old log → IsValidLog pages (log ++ logged.now ∷ []) → IsValidatorOf pages validator.new (log ++ logged.now ∷ []) }
+{
+    validator.admit(&logged.view())
 }
 
 /// Room for one more record in the validator.
@@ -400,7 +417,7 @@ impl<D: BlockDisk> Store<D> {
     {
         judge(&self.validator, logged)?;
         let _ = self.log.end();
-        let reserve_after = self.validator.reserve_after(logged);
+        let reserve_after = reserve_after(&self.validator, logged);
         let len = len_of(logged, bytes);
         if !self.log.fits(len as u64, reserve_after) {
             return Err(Fault::LogFull);
@@ -412,7 +429,7 @@ impl<D: BlockDisk> Store<D> {
             logged,
             len,
         )?;
-        self.validator.admit(logged);
+        admit(&mut self.validator, logged);
         route_change(&mut self.warm, logged);
         append(&mut self.log, logged, bytes, reserve_after);
         self.count += 1;
