@@ -222,6 +222,7 @@ fn copy_of(image: &Image) -> Image
         None => None,
         Some(value) => match Value::try_from(value.as_slice()) {
             Ok(copy) => Some(copy),
+            // It is as long as the value that it is copied from.
             Err(_) => unreachable!(),
         },
     }

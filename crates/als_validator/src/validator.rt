@@ -101,7 +101,7 @@ impl Validator {
         })
     }
 
-    /// The first cause for which a record may not follow the log.
+    /// The first cause for which a record may not follow the log. `check` answers by it, in the words of this crate's faults.
     fn first_cause(&self, logged: &Record) -> Option<Cause>
         ensures { (pages : ℕ) (log : List Record) → IsValidatorOf pages self.now log → IsValidLog pages log → IsRecord pages logged.now → result ≡ first_bad log logged.now }
     {
@@ -169,6 +169,7 @@ impl Validator {
     {
         match self.table.note(logged) {
             Ok(()) => {}
+            // There is room, so no growth is asked for.
             Err(_) => unreachable!(),
         }
         note_change(self.keys.as_mut_slice(), logged);
