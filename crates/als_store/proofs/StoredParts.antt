@@ -1,6 +1,6 @@
 -- The parts of a store, after each event.
 use Rattle.std.proofs.Common.{◌≡◌, ℕ, suc, ◌+◌, ◌<◌, ◌≤◌, ◌⊎◌, List, [], ◌∷◌, ◌++◌, length, Option, Some, None, refl, sym, ap, subst, ◌∙◌, inl, inr, arith, length-append, append_assoc}
-use Rattle.std.specs.Prelude.{Bool, ◌*◌, true, false, slice_set, IfSome, Contains, IsTrue}
+use Rattle.std.specs.Prelude.{Bool, ◌*◌, ◌^◌, true, false, slice_set, IfSome, Contains, IsTrue}
 use Rattle.std.proofs.lemmas.Bool.{cases_lt, le-leb, lt-leb}
 use Rattle.std.specs.List.{sum_by}
 use Rattle.als_disk.specs.SlotLaws.{Contains-one}
@@ -15,6 +15,7 @@ use Rattle.als_record.specs.Spelling.{record_len, IsRecord}
 use Rattle.als_record.specs.LogText.{end_of}
 use Rattle.als_record.specs.Validity.{first_bad}
 use Rattle.als_record.specs.Pages.{change_of}
+use Rattle.als_record.proofs.RecordLaws.{record_len-high}
 use Rattle.als_record.proofs.PageLaws.{end_of-push, record_len-least, lsn_after-last, lsn-fold}
 use Rattle.als_validator.specs.declared.validator.Validator.{Validator}
 use Rattle.als_validator.specs.Validated.{IsValidatorOf, HasRoom}
@@ -37,6 +38,13 @@ pub length-below_end : (log : List Record) → length log ≤ end_of log
 unfolding end_of
 length-below_end [] = omega arith
 length-below_end (r ∷ rest) = omega (arith, sum_by-cons record_len r rest, record_len-least r, length-below_end rest)
+
+-- with one more record the log is far shorter than 2^62 bytes, so that its reserve is exact
+pub short-push : (pages : ℕ) (l : Local) (r : Record) → IsLocal l → IsRecord pages r → end_of (l.log ++ r ∷ []) < 2 ^ 62
+short-push pages l r h f =
+    let e : end_of (l.log ++ r ∷ []) ≡ end_of l.log + record_len r = end_of-push l.log r in
+    let n : record_len r ≤ 54560 = record_len-high pages r f in
+    omega (arith, h.fits, h.few)
 
 -- an end of records in front stays one as the log grows
 pub front-push : (log : List Record) (r : Record) (at : ℕ) → IsFrontEnd log at → IsFrontEnd (log ++ r ∷ []) at

@@ -9,7 +9,7 @@ use Rattle.als_store.specs.Stored.{Stored, with_log}
 use Rattle.als_store.specs.Spare.{Holding}
 use Rattle.als_store.specs.Parts.{stored_of}
 use Rattle.als_store.proofs.StoredViews.{valid_push, places_count}
-use Rattle.als_store.proofs.StoredParts.{can_route_change, stored-again, stored-room, stored-push, view-room, view-push, length-below_end, appended, too_long, not_too_long}
+use Rattle.als_store.proofs.StoredParts.{can_route_change, stored-again, stored-room, stored-push, view-room, view-push, length-below_end, appended, short-push, too_long, not_too_long}
 use Rattle.als_store.proofs.JudgingLaws.{good_from}
 use Rattle.als_store.proofs.store.Store.admit.Goals as goal
 
@@ -23,7 +23,7 @@ returns-then-not-fits-clause-cause g c =
     rw (← c.self.view_is)
     (inr (inl (
       good,
-      too_long seen c.args.logged.now c.len_of-len.result c.reserve_after-reserve_after.result c.len_of-len.ensures (c.reserve_after-reserve_after.ensures s.pages s.log.log c.self.invariant.judged at good) c.if-not-fits.ensures.1,
+      too_long seen c.args.logged.now c.len_of-len.result c.reserve_after-reserve_after.result c.len_of-len.ensures (c.reserve_after-reserve_after.ensures s.pages s.log.log c.self.invariant.judged at good (short-push s.pages s.log c.args.logged.now c.end.ensures.facts fits)) c.if-not-fits.ensures.1,
       refl,
     )))
 
@@ -64,7 +64,7 @@ invariant_of-self-2 g c =
     let at = subst (λ (h : Holding). r.lsn.0 ≡ end_of h.stored.log) (sym c.self.view_is) c.requires.at in
     let good = good_from (first_bad s.log.log r) c.judge.result c.in_ok-judge.was (c.judge.ensures s.pages s.log.log c.self.invariant.judged c.self.invariant.is_log fits at) in
     let left : end_of s.log.log + record_len r + tail_len (s.log.log ++ r ∷ []) ≤ 512 * s.log.blocks =
-    omega (arith, c.len_of-len.ensures, c.reserve_after-reserve_after.ensures s.pages s.log.log c.self.invariant.judged at good, c.if-not-fits.ensures.0 refl) in
+    omega (arith, c.len_of-len.ensures, c.reserve_after-reserve_after.ensures s.pages s.log.log c.self.invariant.judged at good (short-push s.pages s.log c.args.logged.now c.end.ensures.facts fits), c.if-not-fits.ensures.0 refl) in
     let judged-room = c.in_ok-make_room.ensures.validator s.pages s.log.log c.self.invariant.judged in
     let roomed = stored-room s.pages s.count s.log s.control s.warm s.validator s.broken c.self.invariant s.log c.make_room.new.warm c.make_room.new.validator (change_of r) refl judged-room c.in_ok-make_room.ensures.pages in
     let judged = c.admit.ensures s.pages s.log.log judged-room (valid_push s.pages s.log.log r c.self.invariant.is_log fits at good) in
@@ -97,7 +97,7 @@ returns-in_err-make_room-clause-full g c =
     let good = good_from (first_bad s.log.log r) c.judge.result c.in_ok-judge.was (c.judge.ensures s.pages s.log.log c.self.invariant.judged c.self.invariant.is_log fits at) in
     rw (← c.self.view_is)
     (λ none long. absurd (not_too_long seen r c.len_of-len.result c.reserve_after-reserve_after.result c.len_of-len.ensures
-    (c.reserve_after-reserve_after.ensures s.pages s.log.log c.self.invariant.judged at good) (c.if-not-fits.ensures.0 refl) long))
+    (c.reserve_after-reserve_after.ensures s.pages s.log.log c.self.invariant.judged at good (short-push s.pages s.log c.args.logged.now c.end.ensures.facts fits)) (c.if-not-fits.ensures.0 refl) long))
 
 pub returns-clause-full : goal.returns-clause-full
 returns-clause-full g c =
@@ -109,7 +109,7 @@ returns-clause-full g c =
     let good = good_from (first_bad s.log.log r) c.judge.result c.in_ok-judge.was (c.judge.ensures s.pages s.log.log c.self.invariant.judged c.self.invariant.is_log fits at) in
     rw (← c.self.view_is)
     (λ none long. absurd (not_too_long seen r c.len_of-len.result c.reserve_after-reserve_after.result c.len_of-len.ensures
-    (c.reserve_after-reserve_after.ensures s.pages s.log.log c.self.invariant.judged at good) (c.if-not-fits.ensures.0 refl) long))
+    (c.reserve_after-reserve_after.ensures s.pages s.log.log c.self.invariant.judged at good (short-push s.pages s.log c.args.logged.now c.end.ensures.facts fits)) (c.if-not-fits.ensures.0 refl) long))
 
 pub returns-in_err-make_room-clause-wanted : goal.returns-in_err-make_room-clause-wanted
 returns-in_err-make_room-clause-wanted g c =
