@@ -5,7 +5,7 @@ use Rattle.std.proofs.lemmas.Bool.{cases_Bool, false≢true}
 use Rattle.als_record.specs.declared.record.Body.{Body}
 use Rattle.als_record.specs.declared.record.Body.TheVariants.{Update, Compensation, Commit, Rollback, End, BeginCheckpoint, EndCheckpoint}
 use Rattle.als_record.specs.declared.record.Record.{Record}
-use Rattle.als_record.specs.Transactions.{is_update, is_compensation, to_undo, is_loser, unended, all_surviving}
+use Rattle.als_record.specs.Transactions.{is_update, to_undo, is_loser, unended, all_surviving}
 use Rattle.als_record.specs.Tail.{TailStep, Ends, Undoes, is_finished, ends, undoes, losing, tail_steps, undone, record_for, numbered, tail_of}
 use Rattle.als_record.specs.Sweep.{compensations, IsUndone, AreCompensationsOf}
 use Rattle.als_record.proofs.Survivors.{is_by, All-is_update}

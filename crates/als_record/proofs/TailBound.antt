@@ -1,5 +1,5 @@
 -- The reserve of a log is bounded by the log: each update has its bytes there, and each transaction a record.
-use Rattle.std.proofs.Common.{◌≡◌, ℕ, ◌+◌, ◌*◌, ◌≤◌, ◌<◌, ◌^◌, ◌%◌, Bool, true, false, cond, not, ◌&&◌, ◌==◌, refl, List, [], ◌∷◌, ◌++◌, length, filter, sym, ap, ◌∙◌, inl, inr, subst, arith}
+use Rattle.std.proofs.Common.{◌≡◌, ℕ, ◌+◌, ◌*◌, ◌≤◌, ◌<◌, ◌^◌, ◌%◌, Bool, true, false, cond, not, ◌&&◌, ◌==◌, refl, List, [], ◌∷◌, ◌++◌, length, filter, inl, inr, arith}
 use Rattle.std.specs.List.{sum_by}
 use Rattle.std.proofs.Math.Nat.{mod-eq_of_lt}
 use Rattle.std.proofs.lemmas.Bool.{cases_Bool}
@@ -9,9 +9,8 @@ use Rattle.als_record.specs.declared.record.Body.{Body}
 use Rattle.als_record.specs.declared.record.Body.TheVariants.{Update, Compensation, Commit, Rollback, End, BeginCheckpoint, EndCheckpoint}
 use Rattle.als_record.specs.declared.record.Record.{Record}
 use Rattle.als_record.specs.declared.key.Key.{Key}
-use Rattle.als_record.specs.Spelling.{Image, image_len, record_len}
+use Rattle.als_record.specs.Spelling.{Image, record_len}
 use Rattle.als_record.specs.LogText.{end_of}
-use Rattle.als_record.specs.Images.{image_before}
 use Rattle.als_record.specs.Transactions.{is_transactional, is_among, is_loser, is_unended, transactions, unended, without_newest, survivors_after, all_surviving}
 use Rattle.als_record.specs.Tail.{losing, undo_len, tail_len, reserve_of}
 use Rattle.als_record.proofs.Survivors.{log_induction, all_surviving-push, all_surviving-nil}
