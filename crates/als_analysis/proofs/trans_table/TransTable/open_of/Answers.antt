@@ -1,6 +1,6 @@
 use Rattle.std.proofs.Common.{◌≡◌, ◌<◌, [], length, get_or, sym, ap, ◌∙◌, arith}
 use Rattle.std.proofs.lemmas.List.{get_or-map, length-map}
-use Rattle.als_analysis.specs.Open.{Open, rows_of, left_of}
+use Rattle.als_analysis.specs.Open.{Open, rows_of}
 use Rattle.als_analysis.specs.Noted.{Table}
 use Rattle.als_analysis.proofs.LogSteps.{Found, row-found, row-absent}
 use Rattle.als_analysis.proofs.trans_table.TransTable.open_of.Goals as goal
