@@ -2,10 +2,12 @@
 use Rattle.std.proofs.Common.{◌≡◌, ◌+◌, true, List, [], ◌∷◌, None, refl}
 use Rattle.als_record.specs.declared.record.Body.TheVariants.{Update, Commit, Rollback, End}
 use Rattle.als_record.specs.declared.record.Record.{Record}
+use Rattle.als_record.specs.declared.transaction_state.TransactionState.TheVariants.{Active, Committed, RollingBack}
 use Rattle.als_record.specs.LogText.{end_of}
+use Rattle.als_record.specs.Table.{table_of}
 use Rattle.als_record.specs.Validity.{is_valid}
 use Rattle.als_record.specs.Tail.{tail_of, reserve_of}
-use Rattle.als_record.proofs.Worked.{definitions, at, key, one, clr}
+use Rattle.als_record.proofs.Worked.{definitions, at, key, one, clr, row}
 
 -- ---- two losers whose updates interleave, one of them over a value of its own
 
@@ -61,6 +63,11 @@ three =
 three-valid : is_valid three ≡ true
 unfolding definitions
 three-valid = refl
+
+three-table : table_of three
+    ≡ (row 1 RollingBack 404 225 ∷ row 2 Active 368 368 ∷ row 3 Active 304 304 ∷ row 4 Committed 160 124 ∷ row 5 RollingBack 340 0 ∷ [])
+unfolding definitions
+three-table = refl
 
 -- ended at once: the fourth and the fifth; then undone at 368, 304, 225, 88, 52, 16
 three-tail : tail_of three ≡ ((at 432 160 4 End)
