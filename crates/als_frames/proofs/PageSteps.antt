@@ -218,7 +218,7 @@ module _ (log : List Record) (page below : ℕ) where
       }
 
   -- the block spells the page_LSN of the image last synced
-  oldest_image : (synced : ℕ) (sure : Bool) (slot : Slot) (o : Option Framed) → IsPageAt log page below synced sure slot o
+  pub oldest_image : (synced : ℕ) (sure : Bool) (slot : Slot) (o : Option Framed) → IsPageAt log page below synced sure slot o
       → (synced_content slot ≡ image_of log page synced) × IsStable log page below synced
   oldest_image synced sure slot None h = (ap synced_content h.settled, h.stable)
   oldest_image synced sure slot (Some f) h = (ap (λ cs. get_or cs 0 []) h.oldest, h.last)

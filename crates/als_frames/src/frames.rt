@@ -157,6 +157,7 @@ impl<D: BlockDisk> Frames<D> {
         ensures number { IfOk result (λ found. id_of found ≡ page) }
         ensures ok { IfOk result (λ found. IsFetched self.old.paged page end.0 (state_of found)) }
         ensures same { OnOk result (self.new.paged ≡ self.old.paged) }
+        ensures spare { self.new.spare ≡ self.old.spare }
         ensures err { IfErr result (λ e. RefusesFetch e self.old.paged self.new.paged page end.0) }
         ensures full { IsFull self.old.paged page → IsErrOf result IsPoolFull }
         // For every log that the pages are of, they stay so, and the page that is found is the log's.
@@ -287,6 +288,7 @@ impl<D: BlockDisk> Frames<D> {
         ensures number { IfOk result (λ found. id_of found ≡ page) }
         ensures ok { IfOk result (λ found. IsFetched self.old.paged page end.0 (state_of found)) }
         ensures same { OnOk result (self.new.paged ≡ self.old.paged) }
+        ensures spare { self.new.spare ≡ self.old.spare }
         ensures err { IfErr result (λ e. RefusesFetch e self.old.paged self.new.paged page end.0) }
     {
         let place = table::place(&self.frames, self.most, self.hand)?;
