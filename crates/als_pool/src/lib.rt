@@ -15,7 +15,10 @@ mod pool;
 mod laws;
 
 pub use fault::Fault;
-pub use laws::{change_can_be_routed, each_row_is_exact, each_row_is_sound, mark_changes_nothing, other_records_pass};
+pub use laws::{
+    change_can_be_routed, each_row_is_exact, each_row_is_sound, mark_changes_nothing,
+    other_records_pass,
+};
 pub use pool::Pool;
 pub use unformatted::Unformatted;
 

@@ -2,7 +2,6 @@ use Rattle.std.proofs.Common.{◌<◌, sym, subst}
 use Rattle.std.proofs.lemmas.Result.{err_from_is_err_and}
 use Rattle.als_disk.specs.Slot.{Slot}
 use Rattle.als_page.specs.Page.{state_of}
-
 use Rattle.als_frames.specs.Frames.{Holding, Paged, slots_from}
 use Rattle.als_frames.specs.Outcomes.{IsFound, FailsToRead}
 use Rattle.als_frames.proofs.SlotsLaws.{slot_at, slots_from-all}

@@ -1,4 +1,3 @@
-
 use Rattle.als_frames.specs.Frames.{Paged, slots_from}
 use Rattle.als_frames.specs.Outcomes.{Syncs}
 use Rattle.als_frames.proofs.LoadLaws.{paged}

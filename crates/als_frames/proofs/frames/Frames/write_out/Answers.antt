@@ -2,7 +2,6 @@ use Rattle.std.proofs.Common.{◌≡◌, Some, false, sym, ap, ap₂, subst, ◌
 use Rattle.als_disk.specs.Slot.{written, FailsToWrite}
 use Rattle.als_page.specs.Block.{block_of}
 use Rattle.als_page.specs.Page.{id_of}
-
 use Rattle.als_frames.specs.Frames.{Paged, frame_of, slots_from}
 use Rattle.als_frames.specs.Outcomes.{Writes, WriteFails}
 use Rattle.als_frames.proofs.LoadLaws.{paged}
