@@ -7,3 +7,4 @@ pub mod PoolSteps
 pub mod Keeping
 pub mod Lsns
 pub mod PoolLaws
+pub mod Reading

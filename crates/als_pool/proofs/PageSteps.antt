@@ -67,7 +67,7 @@ module _ (log : List Record) (r : Record) (placed : r.lsn.0 ≡ end_of log) wher
   more_waits p lsn w lt is =
       ap (λ (cs : List Change). cs ++ changes_on p (r ∷ [])) is ∙ sym (changes_above-push log r p lsn (omega (arith, lt, placed)))
 
-  pushed-row : (c : Change) (from : Lsn) (e : DirtyPage) (w : List Change) → (e.synced ≡ Some from) ⊎ (e.synced ≡ first_lsn w)
+  pub pushed-row : (c : Change) (from : Lsn) (e : DirtyPage) (w : List Change) → (e.synced ≡ Some from) ⊎ (e.synced ≡ first_lsn w)
       → (first_of e.synced c.lsn ≡ Some from) ⊎ (first_of e.synced c.lsn ≡ first_lsn (w ++ c ∷ []))
   pushed-row c from e w (inl is) = inl (ap (λ (n : Option Lsn). first_of n c.lsn) is)
   pushed-row c from e w (inr is) = inr (ap (λ (n : Option Lsn). first_of n c.lsn) is ∙ sym (first_lsn-push w c))

@@ -1,8 +1,8 @@
 -- What a change of one queue makes of all.
-use Rattle.std.proofs.Common.{◌≡◌, ℕ, zero, suc, ◌+◌, ◌-◌, ◌<◌, ◌≤◌, Bool, false, List, [], ◌∷◌, length, get_or, map, take, drop, replicate, refl, sym, ap, ap₂, ◌∙◌, subst, length-set, inl, inr, arith}
+use Rattle.std.proofs.Common.{◌≡◌, ℕ, zero, suc, ◌+◌, ◌-◌, ◌<◌, ◌≤◌, Bool, true, false, List, [], ◌∷◌, length, get_or, map, take, drop, replicate, refl, sym, ap, ap₂, ◌∙◌, subst, length-set, inl, inr, arith}
 use Rattle.std.specs.Prelude.{slice_set, min, nat_le}
 use Rattle.std.proofs.lemmas.Bool.{cases_lt, cond-true, cond-false, lt-leb, le-leb}
-use Rattle.std.proofs.lemmas.List.{map-set, length-map, set-get_or, drop_all, take_min, length-replicate}
+use Rattle.std.proofs.lemmas.List.{map-set, length-map, get_or-set_same, set-get_or, drop_all, take_min, length-replicate}
 use Rattle.als_record.specs.declared.lsn.Lsn.{Lsn}
 use Rattle.als_record.specs.declared.change.Change.{Change}
 use Rattle.als_pool.specs.Queues.{Queue, Waiting, empty_queue, pending_of, has_place, total_waiting, count_up_to}
@@ -118,3 +118,8 @@ pub shows-new : (queues : List Queue) (n count : ℕ) → queues ≡ replicate n
 shows-new queues n count is all =
     let make : List (List Change) → List Bool → Waiting = λ w p. record { waits = w; places = p } in
     ap₂ make (ap waits_in is ∙ map-empty n ∙ ap (λ (k : ℕ). replicate k []) all) (ap places_in is ∙ map-no_place n ∙ ap (λ (k : ℕ). replicate k false) all)
+
+pub place-set : (queues : List Queue) (page : ℕ) (q : Queue) → page < length queues → q.has_room ≡ true → has_place (places_in (slice_set queues page q)) page ≡ true
+place-set queues page q lt is =
+    ap (λ (bs : List Bool). has_place bs page) (places-set queues page q true is)
+    ∙ get_or-set_same (places_in queues) page true false (omega (arith, lt, length-map queues (λ (x : Queue). x.has_room)))

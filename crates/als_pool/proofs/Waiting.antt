@@ -120,3 +120,12 @@ next_behind page lsn (c ∷ front) rest h = next_behind page c.lsn.0 front rest 
 pub next_front : (page lsn : ℕ) (front rest : List Change) → AreNext page lsn (front ++ rest) → AreNext page lsn front
 next_front page lsn [] rest h = tt
 next_front page lsn (c ∷ front) rest h = (h.0, h.1, h.2, h.3, next_front page c.lsn.0 front rest h.4)
+
+-- a last change that is not above an LSN
+pub above-last : (lsn : ℕ) (cs : List Change) (c : Change) → c.lsn.0 ≤ lsn → above lsn (cs ++ c ∷ []) ≡ above lsn cs
+above-last lsn [] c le = above-out lsn c [] le
+above-last lsn (d ∷ cs) c le =
+    elim (cases_lt lsn d.lsn.0) [
+      | inl lt ↦ above-in lsn d (cs ++ c ∷ []) lt ∙ ap (λ (ds : List Change). d ∷ ds) (above-last lsn cs c le) ∙ sym (above-in lsn d cs lt)
+      | inr ge ↦ above-out lsn d (cs ++ c ∷ []) ge ∙ above-last lsn cs c le ∙ sym (above-out lsn d cs ge)
+    ]

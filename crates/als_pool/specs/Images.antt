@@ -68,3 +68,35 @@ pub record IsRowExact (log : List Record) (page : ℕ) (rec_lsn : Option Lsn) (c
   pub own : (page_at log page lsn).lsn ≡ lsn
   pub spelled : content ≡ image_of log page lsn
   pub exact : rec_lsn ≡ first_lsn (changes_above log page lsn)
+
+-- ---- while a log is read at a restart
+
+-- A page of which the first records of a log were read: of an unread page the changes among them from its LSN on wait, and its row is
+-- the one that a checkpoint gave it, with this LSN, or else the first change that waits.
+pub record IsQueueOf (front : List Record) (page : ℕ) (e : DirtyPage) (waits : List Change) (from : Lsn) : Type 0 where
+  pub first : 16 ≤ from.0
+  pub wait : waits ≡ changes_above front page (from.0 - 1)
+  pub row : (e.synced ≡ Some from) ⊎ (e.synced ≡ first_lsn waits)
+  pub one : e.written ≡ e.synced
+
+-- So it is with each page, none of which was read yet.
+pub record QueuesOf (front : List Record) (v : Pooled) : Type 0 where
+  pub tabled : length v.dirty ≡ length v.waits
+  pub each : (page : ℕ) → page < length v.waits → MatchOption (unread_of v.unread page) ⊥ (λ from. IsQueueOf front page (entry_of v.dirty page) (pending_of v.waits page) from)
+
+-- a change of an unread page stands at or above the LSN from which on its changes wait, or below it
+abbrev pub IsFromOn : Pooled → Change → Type 0
+IsFromOn v change = MatchOption (unread_of v.unread change.key.page) ⊥ (λ from. from.0 ≤ change.lsn.0)
+
+abbrev pub IsBelow : Pooled → Change → Type 0
+IsBelow v change = MatchOption (unread_of v.unread change.key.page) ⊥ (λ from. change.lsn.0 < from.0)
+
+-- A page's block has one image of it, at a stable page_LSN, and all changes of the log above that stand at or above an LSN; it has no
+-- frame.
+pub record LacksFrom (log : List Record) (page : ℕ) (frame : Option Framed) (synced : ℕ) (from : Lsn) : Type 0 where
+  pub absent : frame ≡ None
+  pub reached : from.0 ≤ end_of log
+  pub lacks : AllByRecursion (λ c. from.0 ≤ c.lsn.0) (changes_above log page synced)
+
+abbrev pub AllLackFrom : List Record → Pooled → Type 0
+AllLackFrom log v = (page : ℕ) → page < length v.waits → MatchOption (unread_of v.unread page) ⊥ (λ from. LacksFrom log page (frame_of v.frames page) (synced_lsn v.frames page) from)

@@ -4,12 +4,12 @@ ghost use Rattle.als_record.specs.declared.record.Record.{Record as AnyRecord};
 ghost use Rattle.als_record.specs.LogText.{end_of, IsLog};
 ghost use Rattle.als_record.specs.Pages.{change_of};
 ghost use Rattle.als_frames.specs.Frames.{slot_of};
-ghost use Rattle.als_frames.specs.Images.{synced_content};
+ghost use Rattle.als_frames.specs.Images.{synced_content, synced_lsn, AreFramesOf};
 ghost use Rattle.als_dirty.specs.Rows.{rec_lsn_of};
 ghost use Rattle.als_pool.specs.Queues.{total_waiting};
 ghost use Rattle.als_pool.specs.Pooled.{Pooled, unread_of};
 ghost use Rattle.als_pool.specs.Outcomes.{CanRoute};
-ghost use Rattle.als_pool.specs.Images.{IsPoolOf, IsRowSound, IsRowExact};
+ghost use Rattle.als_pool.specs.Images.{IsPoolOf, IsRowSound, IsRowExact, QueuesOf, IsBelow, AllLackFrom};
 
 /// A law, the meaning of RecLSN: whatever a crash leaves in the block of a page is an image of it from below the offset up to
 /// which the log survives, which lacks no record of the log below the page's RecLSN, and none where the page has no row.
@@ -41,4 +41,21 @@ pub fn other_records_pass()
 /// A law: the pool stays that of the log where more of the log survives each crash.
 pub fn mark_changes_nothing()
     ensures { (log : List AnyRecord) (below more : ℕ) (pool : Pooled) → below ≤ more → IsPoolOf log below pool → IsPoolOf log more pool }
+{}
+
+/// A law, for a restart: a record that changes no page, and one whose change is below the LSN from which on its page's changes wait,
+/// wait nowhere.
+pub fn other_records_wait_nowhere()
+    ensures none { (front : List AnyRecord) (r : AnyRecord) (pool : Pooled) → r.lsn.0 ≡ end_of front → change_of r ≡ None
+        → QueuesOf front pool → QueuesOf (front ++ r ∷ []) pool }
+    ensures before { (front : List AnyRecord) (r : AnyRecord) (change : AnyChange) (pool : Pooled) → r.lsn.0 ≡ end_of front → change_of r ≡ Some change
+        → IsBelow pool change → QueuesOf front pool → QueuesOf (front ++ r ∷ []) pool }
+{}
+
+/// A law, for a restart: where the whole log was read, and each block has one image that lacks no change below the LSN from which on
+/// its page's changes wait, the pool is that of the log.
+pub fn queues_join_images()
+    ensures { (log : List AnyRecord) (below : ℕ) (pool : Pooled) → pool.frames.pages ≡ length pool.waits
+        → length pool.unread ≡ length pool.waits → AreFramesOf log (synced_lsn pool.frames) below pool.frames → QueuesOf log pool → AllLackFrom log pool
+        → IsPoolOf log below pool }
 {}

@@ -14,9 +14,9 @@ ghost use Rattle.als_dirty.specs.Rows.{rec_lsn_of, rows_of, IsNextRow};
 ghost use Rattle.als_dirty.specs.Images.{first_lsn};
 ghost use Rattle.als_pool.specs.declared.fault.Fault.TheVariants.{PoolFull as IsPoolFull, Device as DeviceFailed};
 ghost use Rattle.als_pool.specs.Queues.{pending_of, total_waiting, WaitsFirst};
-ghost use Rattle.als_pool.specs.Pooled.{Pooled, PageView, view_of, unread_of, new_pool, SameLsns, SameLsnsBut, Grows};
+ghost use Rattle.als_pool.specs.Pooled.{Pooled, unread_of, new_pool, SameLsns, SameLsnsBut, Grows};
 ghost use Rattle.als_pool.specs.Outcomes.{HasPlace, with_place, without_place, CanRoute, with_change, Loads, MakesResident, RefusesLoad, Redoes, Applies, RefusesApply, IsDueAt, StoresPage, Flushes, RefusesFlush, SyncsPages, SyncPagesFails, IsPageNow, RefusesPage, RefusesFormat};
-ghost use Rattle.als_pool.specs.Images.{IsPoolOf, IsRowSound};
+ghost use Rattle.als_pool.specs.Images.{IsPoolOf, IsRowSound, QueuesOf, IsFromOn};
 
 use crate::fault::Fault;
 use crate::queues::Queues;
@@ -119,6 +119,7 @@ impl<D: BlockDisk> Pool<D> {
         requires { page < length self.old.pool.waits }
         ensures same { self.new.pool ≡ self.old.pool }
         ensures ok { OnOk result (self.new.room ≡ with_place self.old.room page) }
+        ensures place { OnOk result (HasPlace self.new.room page) }
         ensures err { OnErr result (self.new.room ≡ self.old.room) }
         ensures reserved { HasPlace self.old.room page → IsOk result }
     {
@@ -135,6 +136,9 @@ impl<D: BlockDisk> Pool<D> {
         // For every log that the pool is of, it is that of the log with a record which makes the change.
         ensures keeps { (log : List AnyRecord) (below : ℕ) (r : AnyRecord) → IsPoolOf log below self.old.pool → IsLog self.old.pool.frames.pages (log ++ r ∷ [])
             → r.lsn.0 ≡ end_of log → change_of r ≡ Some change → IsPoolOf (log ++ r ∷ []) below self.new.pool }
+        // While a log is read at a restart: for every front of it whose changes wait as they should, they do so with a record more.
+        ensures reads { (front : List AnyRecord) (r : AnyRecord) → QueuesOf front self.old.pool → r.lsn.0 ≡ end_of front → change_of r ≡ Some change
+            → IsFromOn self.old.pool change → QueuesOf (front ++ r ∷ []) self.new.pool }
     {
         self.add(change);
     }

@@ -83,6 +83,7 @@ impl Queues {
     pub fn reserve(&mut self, page: u32) -> Result<(), AllocError>
         requires { page < length self.old.waits }
         ensures ok { OnOk result (self.new ≡ record self.old { places = slice_set self.old.places page true }) }
+        ensures place { OnOk result (has_place self.new.places page ≡ true) }
         ensures err { OnErr result (self.new ≡ self.old) }
         ensures reserved { has_place self.old.places page ≡ true → IsOk result }
     {

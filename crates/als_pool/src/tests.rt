@@ -1,11 +1,11 @@
 ghost use Rattle.std.specs.Prelude.{◌≡◌, ◌≢◌, ◌<◌, ◌≤◌, ℕ, [], None, length, IfOk};
 ghost use Rattle.als_pool.specs.Queues.{pending_of};
 ghost use Rattle.als_frames.specs.Frames.{frame_of};
-ghost use Rattle.als_pool.specs.Outcomes.{with_place};
+ghost use Rattle.als_pool.specs.Outcomes.{HasPlace};
 
 use crate::{
     Fault, Pool, change_can_be_routed, each_row_is_exact, each_row_is_sound, mark_changes_nothing,
-    other_records_pass,
+    other_records_pass, other_records_wait_nowhere, queues_join_images,
 };
 use als_disk::{BlockDisk, FailingDisk, Fuse, MemDisk};
 use als_record::{Change, Image, Key, LoggedPage, Lsn, PageRows, Value};
@@ -40,7 +40,7 @@ fn one_byte(byte: u8) -> Image {
 fn reserve<D: BlockDisk>(rt: &impl Abort, pool: &mut Pool<D>, page: u32)
     requires { page < length pool.old.pool.waits }
     ensures same { pool.new.pool ≡ pool.old.pool }
-    ensures room { pool.new.room ≡ with_place pool.old.room page }
+    ensures place { HasPlace pool.new.room page }
 {
     if let Ok(()) = pool.reserve(page) {
         return;
@@ -251,6 +251,8 @@ fn laws_take_nothing() {
     change_can_be_routed();
     other_records_pass();
     mark_changes_nothing();
+    other_records_wait_nowhere();
+    queues_join_images();
 }
 
 fn can_be_sent<T: Send + Drop>(_: T) {}
