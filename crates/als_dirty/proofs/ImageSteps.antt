@@ -8,9 +8,8 @@ use Rattle.als_record.specs.declared.record.Record.{Record}
 use Rattle.als_record.specs.LogText.{end_of, follow_from}
 use Rattle.als_record.specs.Pages.{change_of, changes_on, changes_above, IsChangeAbove}
 use Rattle.als_record.proofs.PageLaws.{end_of-push, changes_on-append, changes_on-same, changes_above-push, changes_above-cons, changes_above-each}
-use Rattle.als_dirty.specs.declared.stored_image.StoredImage.{StoredImage}
-use Rattle.als_dirty.specs.Entries.{first_of, with_record}
-use Rattle.als_dirty.specs.Images.{first_lsn, IsImageOf}
+use Rattle.als_dirty.specs.Entries.{first_of}
+use Rattle.als_dirty.specs.Images.{first_lsn, IsFirstLacked}
 
 first_lsn-push : (cs : List Change) (c : Change) → first_lsn (cs ++ c ∷ []) ≡ first_of (first_lsn cs) c.lsn
 first_lsn-push [] c = refl
@@ -20,29 +19,28 @@ reached-push : (log : List Record) (r : Record) (lsn : ℕ) → lsn < end_of log
 reached-push log r lsn lt = omega (arith, end_of-push log r, lt)
 
 -- a record that changes the page, at the log's end
-pub image-push : (log : List Record) (r : Record) (c : Change) (image : StoredImage) → r.lsn.0 ≡ end_of log → change_of r ≡ Some c
-    → IsImageOf log c.key.page image → IsImageOf (log ++ r ∷ []) c.key.page (with_record image c.lsn)
-image-push log r c image at is h =
-    let lt : image.lsn.0 < r.lsn.0 = omega (arith, h.reached, at) in
-    let before : List Change = changes_above log c.key.page image.lsn.0 in
+pub lacked-push : (log : List Record) (r : Record) (c : Change) (lsn : ℕ) (next : Option Lsn) → r.lsn.0 ≡ end_of log → change_of r ≡ Some c
+    → IsFirstLacked log c.key.page lsn next → IsFirstLacked (log ++ r ∷ []) c.key.page lsn (first_of next c.lsn)
+lacked-push log r c lsn next at is h =
+    let lt : lsn < r.lsn.0 = omega (arith, h.reached, at) in
     record {
-      reached = reached-push log r image.lsn.0 h.reached;
-      first = ap (λ (n : Option Lsn). first_of n c.lsn) h.first ∙ sym (first_lsn-push (changes_above log c.key.page image.lsn.0) c)
-          ∙ ap first_lsn (sym (changes_above-push log r c.key.page image.lsn.0 lt ∙ ap (λ (cs : List Change). changes_above log c.key.page image.lsn.0 ++ cs) (changes_on-same c.key.page r c is refl)));
+      reached = reached-push log r lsn h.reached;
+      first = ap (λ (n : Option Lsn). first_of n c.lsn) h.first ∙ sym (first_lsn-push (changes_above log c.key.page lsn) c)
+          ∙ ap first_lsn (sym (changes_above-push log r c.key.page lsn lt ∙ ap (λ (cs : List Change). changes_above log c.key.page lsn ++ cs) (changes_on-same c.key.page r c is refl)));
     }
 
-changes_above-other : (log : List Record) (r : Record) (page lsn : ℕ) → changes_on page (r ∷ []) ≡ [] → changes_above (log ++ r ∷ []) page lsn ≡ changes_above log page lsn
+pub changes_above-other : (log : List Record) (r : Record) (page lsn : ℕ) → changes_on page (r ∷ []) ≡ [] → changes_above (log ++ r ∷ []) page lsn ≡ changes_above log page lsn
 unfolding changes_above
 changes_above-other log r page lsn none =
     ap (λ (cs : List Change). filter (λ change. nat_lt lsn change.lsn.0) cs)
     (changes_on-append page log (r ∷ []) ∙ ap (λ (cs : List Change). changes_on page log ++ cs) none ∙ append-nil (changes_on page log))
 
 -- a record that does not change the page
-pub image-other : (log : List Record) (r : Record) (page : ℕ) (image : StoredImage) → changes_on page (r ∷ []) ≡ []
-    → IsImageOf log page image → IsImageOf (log ++ r ∷ []) page image
-image-other log r page image none h = record {
-  reached = reached-push log r image.lsn.0 h.reached;
-  first = h.first ∙ ap first_lsn (sym (changes_above-other log r page image.lsn.0 none));
+pub lacked-other : (log : List Record) (r : Record) (page lsn : ℕ) (next : Option Lsn) → changes_on page (r ∷ []) ≡ []
+    → IsFirstLacked log page lsn next → IsFirstLacked (log ++ r ∷ []) page lsn next
+lacked-other log r page lsn next none h = record {
+  reached = reached-push log r lsn h.reached;
+  first = h.first ∙ ap first_lsn (sym (changes_above-other log r page lsn none));
 }
 
 -- ---- later images lack no more
@@ -69,7 +67,7 @@ later P low lsn (c ∷ cs) le h =
           ])
     ]
 
-changes_above-later : (P : Change → Type 0) (log : List Record) (page low lsn : ℕ) → low ≤ lsn → AllByRecursion P (changes_above log page low) → AllByRecursion P (changes_above log page lsn)
+pub changes_above-later : (P : Change → Type 0) (log : List Record) (page low lsn : ℕ) → low ≤ lsn → AllByRecursion P (changes_above log page low) → AllByRecursion P (changes_above log page lsn)
 unfolding changes_above
 changes_above-later P log page low lsn le h = later P low lsn (changes_on page log) le h
 

@@ -1,4 +1,5 @@
 pub mod RowLists
 pub mod ImageSteps
 pub mod TableSteps
+pub mod ListSteps
 mod WorkedRows

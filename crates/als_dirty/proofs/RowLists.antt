@@ -1,14 +1,12 @@
 -- The rows of the first pages.
-use Rattle.std.proofs.Common.{◌≡◌, ℕ, zero, suc, ◌+◌, ◌<◌, ◌≤◌, List, [], ◌∷◌, ◌++◌, length, get_or, take, drop, map, Option, Some, None, refl, sym, ap, ◌∙◌, arith, length-append, append-nil}
-use Rattle.std.proofs.lemmas.List.{take_all, drop_all, take_at, length-map}
-use Rattle.std.specs.Prelude.{slice_set}
+use Rattle.std.proofs.Common.{◌≡◌, ℕ, zero, suc, ◌+◌, ◌<◌, ◌≤◌, List, [], ◌∷◌, ◌++◌, length, get_or, take, Option, Some, None, refl, sym, ap, ◌∙◌, arith, length-append, append-nil}
 use Rattle.std.specs.List.{cons_option, enumerate_from, filter_map}
 use Rattle.std.specs.Option.{option_map}
 use Rattle.als_record.specs.declared.lsn.Lsn.{Lsn}
 use Rattle.als_record.specs.declared.rows.LoggedPage.{LoggedPage}
 use Rattle.als_dirty.specs.declared.dirty_page.DirtyPage.{DirtyPage}
 use Rattle.als_dirty.specs.Rows.{row_of, rows_of}
-use Rattle.als_dirty.specs.Entries.{untouched_page, entry_of, after_sync}
+use Rattle.als_dirty.specs.Entries.{untouched_page, entry_of}
 
 -- these are the rows of so many pages
 pub record IsFront (pages : List DirtyPage) (count : ℕ) (rows : List LoggedPage) : Type 0 where
@@ -49,36 +47,16 @@ front_more pages count e rows more lt is more-is h =
     at_most_one (Some row) = omega arith
 
 pub front_some : (pages : List DirtyPage) (count : ℕ) (e : DirtyPage) (rows more : List LoggedPage) (lsn : Lsn) → count < length pages → entry_of pages count ≡ e
-    → e.synced.next ≡ Some lsn → more ≡ rows ++ record { page = count; rec_lsn = lsn } ∷ [] → IsFront pages count rows → IsFront pages (count + 1) more
+    → e.synced ≡ Some lsn → more ≡ rows ++ record { page = count; rec_lsn = lsn } ∷ [] → IsFront pages count rows → IsFront pages (count + 1) more
 front_some pages count e rows more lsn lt is has more-is h =
     front_more pages count e rows more lt is
     (more-is ∙ ap (λ (n : Option Lsn). rows ++ cons_option (option_map (λ l. record { page = count; rec_lsn = l }) n) []) (sym has)) h
 
 pub front_none : (pages : List DirtyPage) (count : ℕ) (e : DirtyPage) (rows more : List LoggedPage) → count < length pages → entry_of pages count ≡ e
-    → e.synced.next ≡ None → more ≡ rows → IsFront pages count rows → IsFront pages (count + 1) more
+    → e.synced ≡ None → more ≡ rows → IsFront pages count rows → IsFront pages (count + 1) more
 front_none pages count e rows more lt is has more-is h =
     front_more pages count e rows more lt is
     (more-is ∙ sym (append-nil rows) ∙ ap (λ (n : Option Lsn). rows ++ cons_option (option_map (λ l. record { page = count; rec_lsn = l }) n) []) (sym has)) h
-
--- one page more in the middle of a sync
-set_synced : (pages : List DirtyPage) (i : ℕ) (d : DirtyPage) → i < length pages
-    → slice_set (map after_sync (take i pages) ++ drop i pages) i (after_sync (get_or (map after_sync (take i pages) ++ drop i pages) i d)) ≡ map after_sync (take (suc i) pages) ++ drop (suc i) pages
-set_synced [] i d lt = absurd (omega arith)
-set_synced (x ∷ pages) zero d lt = refl
-set_synced (x ∷ pages) (suc i) d lt = let below : i < length pages = omega arith in ap (λ (es : List DirtyPage). after_sync x ∷ es) (set_synced pages i d below)
-
-pub synced_more : (all items : List DirtyPage) (i : ℕ) (d : DirtyPage) → i < length all → items ≡ map after_sync (take i all) ++ drop i all
-    → slice_set items i (after_sync (get_or items i d)) ≡ map after_sync (take (i + 1) all) ++ drop (i + 1) all
-synced_more all items i d lt is = let one : suc i ≡ i + 1 = omega arith in
-    rw is (set_synced all i d lt ∙ ap (λ (k : ℕ). map after_sync (take k all) ++ drop k all) one)
-
--- the end of a sync: all pages were gone over
-pub synced_all : (all items rest : List DirtyPage) (i n : ℕ) → n ≡ length all → length all ≤ i → items ≡ map after_sync (take i all) ++ drop i all
-    → take n (items ++ rest) ≡ map after_sync all
-synced_all all items rest i n len le is =
-    let whole : items ≡ map after_sync all = is ∙ ap (λ (es : List DirtyPage). map after_sync es ++ drop i all) (take_all i all le) ∙ ap (λ (es : List DirtyPage). map after_sync all ++ es) (drop_all i all le) ∙ append-nil (map after_sync all) in
-    let size : length items ≡ n = ap length whole ∙ length-map all after_sync ∙ sym len in
-    take_at items rest n size ∙ whole
 
 pub none_from : (o : Option Lsn) → ((lsn : Lsn) → o ≡ Some lsn → ⊥) → o ≡ None
 none_from None h = refl

@@ -25,8 +25,8 @@ row page n = record { page = page; rec_lsn = lsn n }
 abbrev routed : ℕ → ℕ → List DirtyPage → List DirtyPage
 routed page n pages = slice_set pages page (after_record (entry_of pages page) (lsn n))
 
-abbrev written : ℕ → ℕ → Option Lsn → List DirtyPage → List DirtyPage
-written page n next pages = slice_set pages page (after_write (entry_of pages page) (lsn n) next)
+abbrev written : ℕ → Option Lsn → List DirtyPage → List DirtyPage
+written page next pages = slice_set pages page (after_write (entry_of pages page) next)
 
 abbrev synced : List DirtyPage → List DirtyPage
 synced pages = map after_sync pages
@@ -47,7 +47,7 @@ changed-rows = refl
 
 -- a write alone moves no row: a crash may still leave the empty image
 abbrev flushed : List DirtyPage
-flushed = written 0 16 None changed
+flushed = written 0 None changed
 
 flushed-rows : rows_of flushed ≡ row 0 16 ∷ []
 flushed-rows = refl
@@ -66,7 +66,7 @@ synced_early-rows = refl
 -- ---- an image that lacks records by the time of the sync
 
 -- written with one record above it
-lagging-rows : rows_of (synced (written 0 16 (Some (lsn 80)) (routed 0 80 changed))) ≡ row 0 80 ∷ []
+lagging-rows : rows_of (synced (written 0 (Some (lsn 80)) (routed 0 80 changed))) ≡ row 0 80 ∷ []
 lagging-rows = refl
 
 -- records that came between the write and the sync
@@ -74,7 +74,7 @@ between-rows : rows_of (synced (routed 0 116 (routed 0 80 flushed))) ≡ row 0 8
 between-rows = refl
 
 -- the second of two images written since the sync counts
-newest-rows : rows_of (synced (written 0 80 None (written 0 16 (Some (lsn 80)) (routed 0 80 changed)))) ≡ []
+newest-rows : rows_of (synced (written 0 None (written 0 (Some (lsn 80)) (routed 0 80 changed)))) ≡ []
 newest-rows = refl
 
 -- ---- two pages: rows in rising page, each by itself
@@ -82,7 +82,7 @@ newest-rows = refl
 both-rows : rows_of (routed 0 80 (routed 1 16 two_pages)) ≡ row 0 80 ∷ row 1 16 ∷ []
 both-rows = refl
 
-one_stored-rows : rows_of (synced (written 0 80 None (routed 0 80 (routed 1 16 two_pages)))) ≡ row 1 16 ∷ []
+one_stored-rows : rows_of (synced (written 0 None (routed 0 80 (routed 1 16 two_pages)))) ≡ row 1 16 ∷ []
 one_stored-rows = refl
 
 -- ---- what the log has above an image

@@ -9,11 +9,11 @@ use Rattle.als_dirty.specs.Entries.{entry_of}
 
 -- a page's RecLSN: the first record that its synced image lacks; it has no row where that lacks none
 abbrev pub rec_lsn_of : List DirtyPage → ℕ → Option Lsn
-rec_lsn_of pages page = (entry_of pages page).synced.next
+rec_lsn_of pages page = (entry_of pages page).synced
 
 -- the row of a page with a number, if it has one
 abbrev pub row_of : ℕ × DirtyPage → Option LoggedPage
-row_of numbered = option_map (λ lsn. record { page = numbered.0; rec_lsn = lsn }) numbered.1.synced.next
+row_of numbered = option_map (λ lsn. record { page = numbered.0; rec_lsn = lsn }) numbered.1.synced
 
 -- all rows, in rising page
 abbrev pub rows_of : List DirtyPage → List LoggedPage

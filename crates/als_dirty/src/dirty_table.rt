@@ -1,7 +1,8 @@
-ghost use Rattle.std.specs.Prelude.{◌≡◌, ◌<◌, ◌≤◌, ◌++◌, ◌∷◌, [], List, Some, length, map, replicate, slice_set, IfOk};
+ghost use Rattle.std.specs.Prelude.{◌≡◌, ◌<◌, ◌≤◌, ◌++◌, ◌∷◌, [], ℕ, List, Some, length, map, replicate, slice_set, IfOk, false};
+ghost use Rattle.std.specs.Vec.{vec_len, vec_capacity};
+ghost use Rattle.als_dirty.specs.Listed.{is_on, Lists};
 
 use crate::dirty_page::DirtyPage;
-use crate::stored_image::StoredImage;
 use als_record::{LoggedPage, Lsn, PageRows};
 use std::alloc::{AllocError, Global};
 use std::marker::Model;
@@ -11,17 +12,22 @@ use std::marker::Model;
 #[derive(Drop)]
 pub struct DirtyTable {
     pages: Vec<DirtyPage>,
+    // Whether a page is on the list of those written since the last sync.
+    is_listed: Vec<bool>,
+    listed: Vec<u32>,
 }
 
 impl Model for DirtyTable {
-    ghost use Rattle.std.specs.Prelude.{List, length, ◌≤◌};
+    ghost use Rattle.std.specs.Prelude.{List};
+    ghost use Rattle.std.specs.Vec.{vec_capacity};
     ghost use Rattle.als_dirty.specs.declared.dirty_page.DirtyPage.{DirtyPage};
+    ghost use Rattle.als_dirty.specs.Listed.{IsListed};
 
     ghost Value = { List DirtyPage };
 
     ghost view = { λ t. t.pages.items };
 
-    ghost invariant = { λ t. length t.pages.items ≤ 4096 };
+    ghost invariant = { λ t. IsListed t.pages.items t.is_listed.items t.listed.items (vec_capacity t.listed) };
 }
 
 impl DirtyTable {
@@ -29,83 +35,93 @@ impl DirtyTable {
     ghost use Rattle.als_record.specs.declared.record.Record.{Record as AnyRecord};
     ghost use Rattle.als_record.specs.LogText.{end_of};
     ghost use Rattle.als_record.specs.Pages.{change_of, changes_above};
-    ghost use Rattle.als_dirty.specs.Entries.{untouched_page, entry_of, after_record, after_write, after_sync};
+    ghost use Rattle.als_dirty.specs.Entries.{untouched_page, entry_of, after_record, after_write, after_sync, after_load};
     ghost use Rattle.als_dirty.specs.Rows.{rec_lsn_of, rows_of, IsNextRow};
-    ghost use Rattle.als_dirty.specs.Images.{first_lsn, IsNextImage, AreDirtyPagesOf};
+    ghost use Rattle.als_dirty.specs.Images.{first_lsn, IsFirstLacked, IsDirtyPageOf, AreDirtyPagesOf};
 
     /// The table of a database with so many pages, numbered from 0 on, at most 4,096: the device has the empty image of
     /// each, synced, and there is no row. No other call but `rows` takes memory.
     pub fn new(alloc: Global, pages: u32) -> Result<DirtyTable, AllocError>
         requires { pages ≤ 4096 }
         ensures value { IfOk result (λ t. t ≡ replicate pages untouched_page) }
-        ensures empty_log { IfOk result (λ t. AreDirtyPagesOf [] t) }
+        ensures empty_log { IfOk result (λ t. AreDirtyPagesOf [] (λ _. 0) (λ _. 0) t) }
     {
         let mut entries = Vec::with_capacity(alloc, pages as usize)?;
+        let mut flags = Vec::with_capacity(alloc, pages as usize)?;
+        let listed = Vec::with_capacity(alloc, pages as usize)?;
         for _page in 0..pages {
-            entries.push(DirtyPage::EMPTY)?;
+            entries.push(DirtyPage::UNTOUCHED)?;
+            flags.push(false)?;
         }
-        Ok(DirtyTable { pages: entries })
+        Ok(DirtyTable {
+            pages: entries,
+            is_listed: flags,
+            listed,
+        })
     }
 
     /// A record of the log, at its end, changes a page: an image that lacked none lacks it from now on. So the page has a
     /// row from now on, with this RecLSN if it had none.
     #[inline]
-    pub fn routed(&mut self, page: u32, lsn: Lsn)
+    pub fn note_change(&mut self, page: u32, lsn: Lsn)
         requires { page < length self.old }
         ensures value { self.new ≡ slice_set self.old page (after_record (entry_of self.old page) lsn) }
-        ensures kept { (log : List AnyRecord) (r : AnyRecord) (c : AnyChange) → AreDirtyPagesOf log self.old → r.lsn.0 ≡ end_of log
-            → change_of r ≡ Some c → c.key.page ≡ page → c.lsn ≡ lsn → AreDirtyPagesOf (log ++ r ∷ []) self.new }
+        ensures kept { (log : List AnyRecord) (r : AnyRecord) (c : AnyChange) (synced written : ℕ → ℕ) → AreDirtyPagesOf log synced written self.old
+            → r.lsn.0 ≡ end_of log → change_of r ≡ Some c → c.key.page ≡ page → c.lsn ≡ lsn
+            → AreDirtyPagesOf (log ++ r ∷ []) synced written self.new }
     {
-        self.pages[page as usize].note(lsn);
+        self.pages[page as usize].note_change(lsn);
     }
 
-    /// An image of a page with this page_LSN was written, and `next` is the first record of the log on the page above it.
-    /// Rows do not move: a crash may still leave the image last synced.
-    pub fn written(&mut self, page: u32, lsn: Lsn, next: Option<Lsn>)
+    /// An image of a page was written, and `next` is the first record of the log that it lacks. Rows do not move: a crash may
+    /// still leave the image last synced.
+    pub fn note_write(&mut self, page: u32, next: Option<Lsn>)
         requires { page < length self.old }
-        ensures value { self.new ≡ slice_set self.old page (after_write (entry_of self.old page) lsn next) }
-        ensures kept { (log : List AnyRecord) → AreDirtyPagesOf log self.old → IsNextImage log page (entry_of self.old page) lsn next
-            → AreDirtyPagesOf log self.new }
+        ensures value { self.new ≡ slice_set self.old page (after_write (entry_of self.old page) next) }
+        // Where the image's page_LSN is `lsn`, and that of the page's image last written was not above it.
+        ensures kept { (log : List AnyRecord) (synced written lsn : ℕ) → IsDirtyPageOf log page synced written (entry_of self.old page) → written ≤ lsn
+            → IsFirstLacked log page lsn next → IsDirtyPageOf log page synced lsn (entry_of self.new page) }
     {
-        let entry = &mut self.pages[page as usize];
-        entry.written = StoredImage { lsn, next };
+        list(&mut self.is_listed, &mut self.listed, page);
+        self.pages[page as usize].written = next;
     }
 
-    /// The device was synced: of each page it has the image last written alone. A row moves to the first record above that
-    /// image, or goes where there is none.
-    pub fn synced(&mut self)
+    /// The device was synced: of each page it has the image last written alone. A row moves to the first record that this image
+    /// lacks, or goes where it lacks none. It costs by the pages that were written since the last sync.
+    pub fn note_sync(&mut self)
         ensures value { self.new ≡ map after_sync self.old }
-        ensures kept { (log : List AnyRecord) → AreDirtyPagesOf log self.old → AreDirtyPagesOf log self.new }
+        ensures kept { (log : List AnyRecord) (synced written : ℕ → ℕ) → AreDirtyPagesOf log synced written self.old → AreDirtyPagesOf log written written self.new }
     {
-        for entry in self.pages.iter_mut() {
-            entry.synced = entry.written;
+        for i in 0..self.listed.len() {
+            let page = self.listed[i] as usize;
+            self.pages[page].note_sync();
+            self.is_listed[page] = false;
         }
+        self.listed.clear();
+    }
+
+    /// The only image of a page was read, and `next` is the first record of the log that it lacks. So a row that was taken from
+    /// a checkpoint becomes exact.
+    pub fn loaded(&mut self, page: u32, next: Option<Lsn>)
+        requires { page < length self.old }
+        ensures value { self.new ≡ slice_set self.old page (after_load next) }
+        ensures kept { (log : List AnyRecord) (lsn : ℕ) → IsFirstLacked log page lsn next → IsDirtyPageOf log page lsn lsn (entry_of self.new page) }
+    {
+        let written = next;
+        self.pages[page as usize] = DirtyPage {
+            synced: next,
+            written,
+        };
     }
 
     /// The RecLSN of a page's row, if it has one.
     pub fn rec_lsn(&self, page: u32) -> Option<Lsn>
         requires { page < length self.now }
         ensures value { result ≡ rec_lsn_of self.now page }
-        ensures first { (log : List AnyRecord) → AreDirtyPagesOf log self.now
-            → result ≡ first_lsn (changes_above log page (entry_of self.now page).synced.lsn.0) }
+        ensures first { (log : List AnyRecord) (synced written : ℕ) → IsDirtyPageOf log page synced written (entry_of self.now page)
+            → result ≡ first_lsn (changes_above log page synced) }
     {
-        self.pages[page as usize].synced.next
-    }
-
-    /// The page_LSN of the image last written.
-    pub fn written_lsn(&self, page: u32) -> Lsn
-        requires { page < length self.now }
-        ensures { result ≡ (entry_of self.now page).written.lsn }
-    {
-        self.pages[page as usize].written.lsn
-    }
-
-    /// The page_LSN of the image last synced.
-    pub fn synced_lsn(&self, page: u32) -> Lsn
-        requires { page < length self.now }
-        ensures { result ≡ (entry_of self.now page).synced.lsn }
-    {
-        self.pages[page as usize].synced.lsn
+        self.pages[page as usize].synced
     }
 
     /// The first row from a page on.
@@ -113,7 +129,7 @@ impl DirtyTable {
         ensures { IsNextRow self.now from result }
     {
         for page in from as usize..self.pages.len() {
-            if let Some(rec_lsn) = self.pages[page].synced.next {
+            if let Some(rec_lsn) = self.pages[page].synced {
                 return Some(LoggedPage {
                     page: page as u32,
                     rec_lsn,
@@ -129,11 +145,24 @@ impl DirtyTable {
     {
         let mut rows = PageRows::new(alloc);
         for page in 0..self.pages.len() {
-            if let Some(rec_lsn) = self.pages[page].synced.next {
+            if let Some(rec_lsn) = self.pages[page].synced {
                 let page = page as u32;
                 rows.push(LoggedPage { page, rec_lsn })?;
             }
         }
         Ok(rows)
+    }
+}
+
+// Puts a page on the list of those written since the last sync, if it is not on it.
+fn list(is_listed: &mut Vec<bool>, listed: &mut Vec<u32>, page: u32)
+    requires inside { page < length is_listed.old.items }
+    requires room { is_on is_listed.old.items page ≡ false → vec_len listed.old < vec_capacity listed.old }
+    ensures lists { Lists is_listed.old.items is_listed.new.items listed.old.items listed.new.items page }
+    ensures capacity { vec_capacity listed.new ≡ vec_capacity listed.old }
+{
+    if !is_listed[page as usize] {
+        is_listed[page as usize] = true;
+        listed.push_reserved(page);
     }
 }

@@ -35,21 +35,49 @@ fn row(page: u32, lsn: u64) -> LoggedPage {
 #[test]
 fn a_row_moves_at_the_sync(rt: HostRuntime) -> Result<(), Fail> {
     let mut table = fresh(rt.alloc(), 2)?;
-    table.routed(0, Lsn(16));
-    table.routed(0, Lsn(80));
+    table.note_change(0, Lsn(16));
+    table.note_change(0, Lsn(80));
     assert_eq!(rt; table.rec_lsn(0), Some(Lsn(16)));
-    table.written(0, Lsn(16), Some(Lsn(80)));
+    table.note_write(0, Some(Lsn(80)));
     assert_eq!(rt; table.rec_lsn(0), Some(Lsn(16)));
-    assert_eq!(rt; table.written_lsn(0), Lsn(16));
-    assert_eq!(rt; table.synced_lsn(0), Lsn(0));
-    table.synced();
+    table.note_sync();
     assert_eq!(rt; table.rec_lsn(0), Some(Lsn(80)));
-    assert_eq!(rt; table.synced_lsn(0), Lsn(16));
-    table.written(0, Lsn(80), None);
-    table.synced();
+    table.note_write(0, None);
+    table.note_sync();
     assert_eq!(rt; table.rec_lsn(0), None);
-    table.routed(0, Lsn(116));
+    table.note_change(0, Lsn(116));
     assert_eq!(rt; table.rec_lsn(0), Some(Lsn(116)));
+    Ok(())
+}
+
+#[test]
+fn a_row_is_exact_once_the_image_is_read(rt: HostRuntime) -> Result<(), Fail> {
+    let mut table = fresh(rt.alloc(), 3)?;
+    table.loaded(2, Some(Lsn(16)));
+    assert_eq!(rt; table.rec_lsn(2), Some(Lsn(16)));
+    table.note_change(2, Lsn(80));
+    table.loaded(2, Some(Lsn(80)));
+    assert_eq!(rt; table.next_row(0), Some(row(2, 80)));
+    table.loaded(2, None);
+    assert_eq!(rt; table.next_row(0), None);
+    Ok(())
+}
+
+#[test]
+fn a_page_that_is_written_often_is_listed_once(rt: HostRuntime) -> Result<(), Fail> {
+    let mut table = fresh(rt.alloc(), 2)?;
+    table.note_change(0, Lsn(16));
+    table.note_change(1, Lsn(52));
+    table.note_write(1, Some(Lsn(80)));
+    table.note_write(0, None);
+    table.note_write(1, Some(Lsn(80)));
+    table.note_write(0, None);
+    table.note_write(1, Some(Lsn(80)));
+    table.note_sync();
+    assert_eq!(rt; table.next_row(0), Some(row(1, 80)));
+    table.note_write(1, None);
+    table.note_sync();
+    assert_eq!(rt; table.next_row(0), None);
     Ok(())
 }
 
@@ -58,9 +86,9 @@ fn rows_stand_in_rising_page(rt: HostRuntime) -> Result<(), Fail> {
     let mut table = fresh(rt.alloc(), 4096)?;
     assert_eq!(rt; table.next_row(0), None);
     assert!(rt; rows_of(&table, rt.alloc())?.as_slice().is_empty());
-    table.routed(4095, Lsn(16));
-    table.routed(3, Lsn(52));
-    table.routed(7, Lsn(88));
+    table.note_change(4095, Lsn(16));
+    table.note_change(3, Lsn(52));
+    table.note_change(7, Lsn(88));
     let rows = rows_of(&table, rt.alloc())?;
     assert_eq!(rt;
         rows.as_slice(),

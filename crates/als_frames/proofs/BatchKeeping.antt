@@ -2,7 +2,6 @@
 use Rattle.std.proofs.Common.{◌≡◌, ℕ, ◌<◌, Bool, List, [], ◌∷◌, ◌++◌, Option, Some, fold, inl, inr, sym, ap, subst, ◌∙◌, arith}
 use Rattle.std.proofs.lemmas.Bool.Decides.{eqb_tells}
 use Rattle.als_record.specs.declared.change.Change.{Change}
-use Rattle.als_record.specs.declared.lsn.Lsn.{Lsn}
 use Rattle.als_record.specs.declared.record.Record.{Record}
 use Rattle.als_record.specs.LogText.{IsLog}
 use Rattle.als_record.specs.Pages.{redone, changes_above}
@@ -10,7 +9,7 @@ use Rattle.als_record.proofs.PageLaws.{changes_above-cons}
 use Rattle.als_disk.specs.Slot.{Slot}
 use Rattle.als_frames.specs.Frames.{Framed, Paged, frame_of, slot_of}
 use Rattle.als_frames.specs.Images.{IsFramedAt, IsPageAt, AreFramesOf}
-use Rattle.als_frames.specs.Batch.{RedoesBatch}
+use Rattle.als_frames.specs.Batch.{Redoes, redone_frame}
 use Rattle.als_frames.proofs.PageSteps.{redone_page}
 
 module _ (log : List Record) (page below : ℕ) where
@@ -24,11 +23,11 @@ module _ (log : List Record) (page below : ℕ) where
       batch_page pages synced sure slot (record f { content = redone f.content c }) cs rest is_log passed.changes_then
       (redone_page log page below pages synced sure slot f c (cs ++ rest) is_log next h)
 
--- the first changes that wait for a page are redone, where all that the log has for it waits
-pub keeps_batch : (log : List Record) (synced : ℕ → ℕ) (below : ℕ) (old new : Paged) (page : ℕ) (waits left : List Change) (lsn : Lsn) → RedoesBatch old new page waits left lsn
-    → ((f : Framed) → frame_of old page ≡ Some f → waits ≡ changes_above log page f.content.lsn)
+-- changes of a page are redone, which are its next ones in the log
+pub keeps_redo : (log : List Record) (synced : ℕ → ℕ) (below : ℕ) (old new : Paged) (page : ℕ) (changes rest : List Change) → Redoes old new page changes
+    → ((f : Framed) → frame_of old page ≡ Some f → changes_above log page f.content.lsn ≡ changes ++ rest)
     → AreFramesOf log synced below old → AreFramesOf log synced below new
-keeps_batch log synced below old new page waits left lsn done next h = record { is_log = subst (λ n. IsLog n log) (sym pages) h.is_log; each = each }
+keeps_redo log synced below old new page changes rest done next h = record { is_log = subst (λ n. IsLog n log) (sym pages) h.is_log; each = each }
   where
     pages : new.pages ≡ old.pages
     pages = ap (λ (v : Paged). v.pages) done.same
@@ -42,14 +41,9 @@ keeps_batch log synced below old new page waits left lsn done next h = record { 
 
     resident : page < old.pages → IsPageAt log page below (synced page) new.sure (slot_of new page) (frame_of new page)
     resident lt =
-        let r = done.redoes in
-        let front = r.front ++ r.last ∷ [] in
         let before : IsFramedAt log page below (synced page) old.sure (slot_of old page) done.f = subst (IsPageAt log page below (synced page) old.sure (slot_of old page)) done.resident (h.each page lt) in
-        let waited : changes_above log page done.f.content.lsn ≡ front ++ left = sym (next done.f done.resident) ∙ r.waited in
-        let after : IsFramedAt log page below (synced page) old.sure (slot_of old page) done.f'
-        = subst (λ (f : Framed). IsFramedAt log page below (synced page) old.sure (slot_of old page) f) (sym r.after)
-        (batch_page log page below old.pages (synced page) old.sure (slot_of old page) done.f front left h.is_log waited before) in
-        now page (Some done.f') done.sets.frame after
+        let after = batch_page log page below old.pages (synced page) old.sure (slot_of old page) done.f changes rest h.is_log (next done.f done.resident) before in
+        now page (Some (redone_frame done.f changes)) done.sets.frame after
 
     each : (p : ℕ) → p < new.pages → IsPageAt log p below (synced p) new.sure (slot_of new p) (frame_of new p)
     each p lt =

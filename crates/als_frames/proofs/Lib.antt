@@ -1,10 +1,10 @@
 pub mod TableLaws
 pub mod BlockLaws
 pub mod SlotsLaws
+pub mod PageBlocks
 pub mod LoadLaws
 pub mod ChangeLaws
-mod Batching
-pub mod PageBlocks
+mod Redoing
 pub mod PageSteps
 pub mod Keeping
 pub mod BatchKeeping

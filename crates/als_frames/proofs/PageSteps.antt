@@ -1,6 +1,6 @@
 -- What each call leaves of one page, for a log.
 use Rattle.std.proofs.Common.{◌≡◌, ◌≢◌, ◌⊎◌, ℕ, ◌<◌, ◌≤◌, Bool, false, IsTrue, List, [], ◌∷◌, ◌++◌, Option, Some, None, inl, inr, refl, sym, ap, subst, ◌∙◌, arith, true≢false}
-use Rattle.std.specs.Prelude.{Contains, unwrap_or}
+use Rattle.std.specs.Prelude.{Contains, get_or}
 use Rattle.std.specs.Option.{option_map}
 use Rattle.als_record.specs.declared.change.Change.{Change}
 use Rattle.als_record.specs.declared.record.Record.{Record}
@@ -10,9 +10,10 @@ use Rattle.als_record.proofs.PageLaws.{page_at-push, changes_above-cons, changes
 use Rattle.als_disk.specs.Slot.{Slot, only, written, FailsToWrite, KeepsReadable}
 use Rattle.als_disk.specs.SlotLaws.{Contains-one, candidates-write, readable-write, candidates-fail}
 use Rattle.als_page.specs.Block.{block_of}
+use Rattle.als_page.proofs.BlockLaws.{big_number-block_of}
 use Rattle.als_frames.specs.Frames.{Framed, IsClean, clean_frame}
-use Rattle.als_frames.specs.Images.{image_of, IsStable, IsImageOf, IsStoredAt, IsFramedAt, IsPageAt}
-use Rattle.als_frames.specs.Outcomes.{IsFound, IsBad, synced_frame}
+use Rattle.als_frames.specs.Images.{image_of, IsStable, IsImageOf, IsStoredAt, IsFramedAt, IsPageAt, spelled_lsn, synced_content, written_or}
+use Rattle.als_frames.specs.Outcomes.{IsFound, IsBadBelow, IsBad, synced_frame}
 use Rattle.als_frames.proofs.PageBlocks.{block_of-injective}
 
 module _ (log : List Record) (page below : ℕ) where
@@ -51,29 +52,36 @@ module _ (log : List Record) (page below : ℕ) where
   }
 
   -- a read of a page with no frame gives it as the log has it at the page_LSN last synced
-  pub found_content : (pages synced end : ℕ) (slot : Slot) (content : PageState) → IsLog pages log → IsStoredAt log page below synced slot → IsFound slot page end content
+  pub found_content : (pages synced : ℕ) (slot : Slot) (content : PageState) → IsLog pages log → IsStoredAt log page below synced slot → IsFound slot page content
       → content ≡ page_at log page synced
-  found_content pages synced end slot content is_log h found =
+  found_content pages synced slot content is_log h found =
       block_of-injective page content (page_at log page synced) found.possible (IsPageState-page_at pages log page synced is_log)
       (sym (one_readable slot (image_of log page synced) (block_of page content) h.settled found.given))
 
   -- and it is a page of the log
-  pub not_bad : (pages synced end : ℕ) (slot : Slot) → IsLog pages log → end_of log ≤ end → IsStoredAt log page below synced slot → IsBad slot page end → ⊥
-  not_bad pages synced end slot is_log le h bad =
+  pub not_bad : (pages synced : ℕ) (slot : Slot) → IsLog pages log → IsStoredAt log page below synced slot → IsBad slot page → ⊥
+  not_bad pages synced slot is_log h bad =
+      let is : bad.block ≡ image_of log page synced = sym (one_readable slot (image_of log page synced) bad.block h.settled bad.given) in
+      bad.no_page (page_at log page synced) (IsPageState-page_at pages log page synced is_log) is
+
+  pub not_bad_below : (pages synced end : ℕ) (slot : Slot) → IsLog pages log → end_of log ≤ end → IsStoredAt log page below synced slot → IsBadBelow slot page end → ⊥
+  not_bad_below pages synced end slot is_log le h bad =
       let is : bad.block ≡ image_of log page synced = sym (one_readable slot (image_of log page synced) bad.block h.settled bad.given) in
       let past : end ≤ (page_at log page synced).lsn = bad.no_page (page_at log page synced) (IsPageState-page_at pages log page synced is_log) is in
       omega (arith, past, le, h.stable.own, h.stable.inside)
 
   -- a page is made resident
-  pub loaded_page : (pages synced end : ℕ) (sure : Bool) (slot : Slot) (content : PageState) → IsLog pages log → IsStoredAt log page below synced slot → IsFound slot page end content
+  pub loaded_page : (synced : ℕ) (sure : Bool) (slot : Slot) (content : PageState) → content ≡ page_at log page synced → IsStoredAt log page below synced slot
       → IsFramedAt log page below synced sure slot (clean_frame page content)
-  loaded_page pages synced end sure slot content is_log h found =
-      let is : content ≡ page_at log page synced = found_content pages synced end slot content is_log h found in
+  loaded_page synced sure slot content is h =
       let lsn : content.lsn ≡ synced = ap (λ (p : PageState). p.lsn) is ∙ h.stable.own in
       let image : image_of log page synced ≡ image_of log page content.lsn = ap (image_of log page) (sym lsn) in
       let from : synced ≤ synced = omega arith in
       record {
         synced_is = lsn;
+        last = h.stable;
+        since = [];
+        oldest = ap (λ (s : Slot). s.candidates) h.settled;
         from = omega (arith, lsn);
         order = omega arith;
         inside = omega (arith, lsn, h.stable.inside);
@@ -93,6 +101,9 @@ module _ (log : List Record) (page below : ℕ) where
       let above : IsChangeAbove page f.content.lsn (end_of log) change = changes_above-head log page f.content.lsn change rest is_log.laid_out next in
       record {
         synced_is = h.synced_is;
+        last = h.last;
+        since = h.since;
+        oldest = h.oldest;
         from = h.from;
         order = omega (arith, h.order, passed.rises);
         inside = above.last;
@@ -126,6 +137,9 @@ module _ (log : List Record) (page below : ℕ) where
       → IsFramedAt log page below synced sure old f → IsFramedAt log page below synced sure new (record f { written = f.content.lsn })
   written_page synced sure old new f lt due is h = record {
     synced_is = h.synced_is;
+    last = h.last;
+    since = h.since ++ block_of page f.content ∷ [];
+    oldest = ap (λ (s : Slot). s.candidates) is ∙ ap (λ cs. cs ++ block_of page f.content ∷ []) h.oldest;
     from = omega (arith, h.from, h.order);
     order = omega arith;
     inside = h.inside;
@@ -136,11 +150,21 @@ module _ (log : List Record) (page below : ℕ) where
     readable = λ _ x has. sym (readable-write old new (block_of page f.content) x is has) ∙ ap (block_of page) h.content;
   }
 
+  -- a failed write leaves the oldest candidate
+  kept_oldest : (old new : Slot) (content first : List ℕ) (since : List (List ℕ)) → FailsToWrite old new content → old.candidates ≡ first ∷ since
+      → (since' : List (List ℕ)) × (new.candidates ≡ first ∷ since')
+  kept_oldest old new content first since (inl same) is = (since, ap (λ (s : Slot). s.candidates) same ∙ is)
+  kept_oldest old new content first since (inr (inl in_doubt)) is = (since ++ content ∷ [], ap (λ (s : Slot). s.candidates) in_doubt ∙ ap (λ cs. cs ++ content ∷ []) is)
+  kept_oldest old new content first since (inr (inr done)) is = (since ++ content ∷ [], ap (λ (s : Slot). s.candidates) done ∙ ap (λ cs. cs ++ content ∷ []) is)
+
   -- a write of a page has failed
   pub unwritten_page : (synced : ℕ) (sure : Bool) (old new : Slot) (f : Framed) → f.content.lsn < below → f.written ≢ f.content.lsn → FailsToWrite old new (block_of page f.content)
       → IsFramedAt log page below synced sure old f → IsFramedAt log page below synced false new f
   unwritten_page synced sure old new f lt due fails h = record {
     synced_is = h.synced_is;
+    last = h.last;
+    since = (kept_oldest old new (block_of page f.content) (image_of log page synced) h.since fails h.oldest).0;
+    oldest = (kept_oldest old new (block_of page f.content) (image_of log page synced) h.since fails h.oldest).1;
     from = h.from;
     order = h.order;
     inside = h.inside;
@@ -156,6 +180,9 @@ module _ (log : List Record) (page below : ℕ) where
   unsure_page synced sure slot None h = record { stable = h.stable; settled = h.settled }
   unsure_page synced sure slot (Some f) h = record {
     synced_is = h.synced_is;
+    last = h.last;
+    since = h.since;
+    oldest = h.oldest;
     from = h.from;
     order = h.order;
     inside = h.inside;
@@ -168,7 +195,7 @@ module _ (log : List Record) (page below : ℕ) where
 
   -- the device was synced
   pub synced_page : (synced : ℕ) (sure : Bool) (old new : Slot) (o : Option Framed) → IsTrue sure → KeepsReadable old new → IsPageAt log page below synced sure old o
-      → IsPageAt log page below (unwrap_or (option_map (λ f. f.written) o) synced) sure new (option_map synced_frame o)
+      → IsPageAt log page below (written_or o synced) sure new (option_map synced_frame o)
   synced_page synced sure old new None yes' keeps h =
       let is : keeps.content ≡ image_of log page synced = sym (one_readable old (image_of log page synced) keeps.content h.settled keeps.was_readable) in
       record { stable = h.stable; settled = keeps.left ∙ ap only is }
@@ -177,6 +204,9 @@ module _ (log : List Record) (page below : ℕ) where
       let from : f.written ≤ f.written = omega arith in
       record {
         synced_is = refl;
+        last = h.stable;
+        since = [];
+        oldest = ap (λ (s : Slot). s.candidates) left;
         from = from;
         order = h.order;
         inside = h.inside;
@@ -186,6 +216,18 @@ module _ (log : List Record) (page below : ℕ) where
         settled = λ _. left;
         readable = λ _ x has. sym (one_readable new (image_of log page f.written) x left has);
       }
+
+  -- the block spells the page_LSN of the image last synced
+  pub oldest_image : (synced : ℕ) (sure : Bool) (slot : Slot) (o : Option Framed) → IsPageAt log page below synced sure slot o
+      → (synced_content slot ≡ image_of log page synced) × IsStable log page below synced
+  oldest_image synced sure slot None h = (ap synced_content h.settled, h.stable)
+  oldest_image synced sure slot (Some f) h = (ap (λ cs. get_or cs 0 []) h.oldest, h.last)
+
+  pub spelled : (pages synced : ℕ) (sure : Bool) (slot : Slot) (o : Option Framed) → IsLog pages log → IsPageAt log page below synced sure slot o → spelled_lsn (synced_content slot) ≡ synced
+  unfolding spelled_lsn
+  spelled pages synced sure slot o is_log h =
+      let (is, stable) = oldest_image synced sure slot o h in
+      ap spelled_lsn is ∙ big_number-block_of page (page_at log page synced) (IsPageState-page_at pages log page synced is_log) ∙ stable.own
 
 -- ---- more of the log
 
@@ -218,6 +260,9 @@ module _ (log : List Record) (r : Record) (page : ℕ) (placed : r.lsn.0 ≡ end
       let low : synced < end_of log = omega (arith, h.from, h.stable.inside) in
       record {
         synced_is = h.synced_is;
+        last = pushed_stable below synced h.last;
+        since = h.since;
+        oldest = h.oldest ∙ ap (λ p. block_of page p ∷ h.since) (same_image synced low);
         from = h.from;
         order = h.order;
         inside = omega (arith, h.inside, longer);
@@ -245,6 +290,9 @@ module _ (log : List Record) (page below more : ℕ) (le : below ≤ more) where
   raised_page synced sure slot None h = record { stable = raised_stable synced h.stable; settled = h.settled }
   raised_page synced sure slot (Some f) h = record {
     synced_is = h.synced_is;
+    last = raised_stable synced h.last;
+    since = h.since;
+    oldest = h.oldest;
     from = h.from;
     order = h.order;
     inside = h.inside;

@@ -4,33 +4,33 @@ use Rattle.std.proofs.lemmas.Bool.{eqb-true, cases_Bool, cases_lt}
 use Rattle.std.proofs.lemmas.Map.Entries.{place_from_lookup}
 use Rattle.std.proofs.lemmas.Option.{slice_get_within}
 use Rattle.std.specs.Map.{lookup}
-use Rattle.als_frames.specs.Frames.{Framed, IsClean}
+use Rattle.als_frames.specs.Frames.{Framed, IsFree}
 use Rattle.als_frames.specs.Outcomes.{IsReplaced}
-use Rattle.als_frames.specs.Table.{IsCleanAt, NoneIsClean, Puts, Replaces}
+use Rattle.als_frames.specs.Table.{IsFreeAt, NoneIsFree, Puts, Replaces}
 
 -- a clean frame has a place
-pub place_of_clean : (frames : List (ℕ × Framed)) (page : ℕ) (f : Framed) → lookup (nat_eq page) frames ≡ Some f → IsClean f
-    → (i : ℕ) × (i < length frames) × IsCleanAt frames i
-place_of_clean frames page f found clean =
+pub place_of_free : (frames : List (ℕ × Framed)) (page : ℕ) (f : Framed) → lookup (nat_eq page) frames ≡ Some f → IsFree f
+    → (i : ℕ) × (i < length frames) × IsFreeAt frames i
+place_of_free frames page f found clean =
     let (i, k, here, same) = place_from_lookup (nat_eq page) frames f found in
     let is : page ≡ k = eqb-true page k same in (
       i,
       slice_get_within frames i (k, f) here,
-      record { page = k; f = f; here = here; found = subst (λ p. lookup (nat_eq p) frames ≡ Some f) is found; clean = clean },
+      record { page = k; f = f; here = here; found = subst (λ p. lookup (nat_eq p) frames ≡ Some f) is found; free = clean },
     )
 
 -- where no place has a clean frame, none is clean
-pub none_clean : (frames : List (ℕ × Framed)) (hand : ℕ) → ((i : ℕ) → hand ≤ i → i < length frames → IsCleanAt frames i → ⊥)
-    → ((i : ℕ) → i < hand → IsCleanAt frames i → ⊥) → NoneIsClean frames
-none_clean frames hand above below page f found clean =
-    let (i, within, at) = place_of_clean frames page f found clean in
+pub none_free : (frames : List (ℕ × Framed)) (hand : ℕ) → ((i : ℕ) → hand ≤ i → i < length frames → IsFreeAt frames i → ⊥)
+    → ((i : ℕ) → i < hand → IsFreeAt frames i → ⊥) → NoneIsFree frames
+none_free frames hand above below page f found clean =
+    let (i, within, at) = place_of_free frames page f found clean in
     elim (cases_lt i hand) [
       | inl lt ↦ below i lt at
       | inr le ↦ above i le within at
     ]
 
 -- one clean frame goes, and one is put
-pub replaced : (old mid new : List (ℕ × Framed)) (page gone : ℕ) (f frame : Framed) → lookup (nat_eq gone) old ≡ Some f → IsClean f
+pub replaced : (old mid new : List (ℕ × Framed)) (page gone : ℕ) (f frame : Framed) → lookup (nat_eq gone) old ≡ Some f → IsFree f
     → ((other : ℕ) → lookup (nat_eq other) mid ≡ cond (nat_eq gone other) None (lookup (nat_eq other) old)) → Puts mid new page frame
     → Replaces old new page frame
 replaced old mid new page gone f frame found clean left puts = record { frame = puts.frame; others = others }

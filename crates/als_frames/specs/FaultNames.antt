@@ -1,18 +1,12 @@
--- The numbers and names of faults, as programs print them.
-use Rattle.std.specs.Prelude.{ℕ, List, codes}
+-- Which of the faults of all crates each fault of this one is.
+use Rattle.als_fault.specs.declared.fault_kind.FaultKind.{FaultKind}
+use Rattle.als_fault.specs.declared.fault_kind.FaultKind.TheVariants as kind
 use Rattle.als_frames.specs.declared.fault.Fault.{Fault}
-use Rattle.als_frames.specs.declared.fault.Fault.TheVariants.{PoolFull, NothingToDo, Device, Memory, BadPage}
+use Rattle.als_frames.specs.declared.fault.Fault.TheVariants as fault
 
-abbrev pub number_of : Fault → ℕ
-number_of PoolFull = 24
-number_of NothingToDo = 27
-number_of Device = 30
-number_of Memory = 32
-number_of (BadPage page) = 33
-
-abbrev pub name_of : Fault → List ℕ
-name_of PoolFull = codes "PoolFull"
-name_of NothingToDo = codes "NothingToDo"
-name_of Device = codes "Device"
-name_of Memory = codes "Memory"
-name_of (BadPage page) = codes "BadPage"
+abbrev pub kind_of : Fault → FaultKind
+kind_of fault.PoolFull = kind.PoolFull
+kind_of fault.NothingToDo = kind.NothingToDo
+kind_of fault.Device = kind.Device
+kind_of fault.Memory = kind.Memory
+kind_of (fault.BadPage page) = kind.BadPage page

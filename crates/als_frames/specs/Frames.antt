@@ -11,9 +11,13 @@ pub record Framed : Type 0 where
   pub written : ℕ
   pub synced : ℕ
 
--- the page is the image last synced, so its frame may be replaced
+-- the page is the image last synced
 abbrev pub IsClean : Framed → Type 0
 IsClean f = f.content.lsn ≡ f.synced
+
+-- a frame may be taken from its page
+abbrev pub IsFree : Framed → Type 0
+IsFree f = IsClean f
 
 -- the frame of a page as its block has it
 abbrev pub clean_frame : ℕ → PageState → Framed
@@ -21,7 +25,7 @@ clean_frame page content = record { id = page; content = content; written = cont
 
 -- The database's page count; how many frames there may be, and those that there are, by the numbers of their pages; what
 -- stands in the block of each page; how many blocks the device has, how often it has failed, and how often it was called to
--- write or to sync; whether no write has failed; for how many more frames there is room with no memory.
+-- write or to sync; whether no write has failed.
 pub record Paged : Type 0 where
   pub pages : ℕ
   pub most : ℕ
@@ -31,7 +35,11 @@ pub record Paged : Type 0 where
   pub failures : ℕ
   pub attempts : ℕ
   pub sure : Bool
-  pub room : ℕ
+
+-- the pages, and beside them for how many more frames there is room with no memory
+pub record Holding : Type 0 where
+  pub paged : Paged
+  pub spare : ℕ
 
 -- the frame of a page, if it has one
 abbrev pub frame_of : Paged → ℕ → Option Framed
@@ -61,7 +69,6 @@ without_frames pages most slot blocks failures attempts = record {
   failures = failures;
   attempts = attempts;
   sure = true;
-  room = 0;
 }
 
 -- What always holds: each page has a block, a frame is that of its page, and there are no more frames than there may be.

@@ -1,12 +1,40 @@
 -- What the pages, in frames and on the device, are of a log: history repeated.
-use Rattle.std.specs.Prelude.{◌≡◌, ◌⊎◌, ℕ, ◌<◌, ◌≤◌, Bool, IsTrue, List, Contains, Option, Some, None, unwrap_or}
-use Rattle.std.specs.Option.{option_map}
+use Rattle.std.specs.Prelude.{◌≡◌, ◌⊎◌, ℕ, ◌<◌, ◌≤◌, Bool, IsTrue, List, [], ◌∷◌, Contains, get_or, Option, Some, None}
+use Rattle.byteorder.specs.Endian.{big_number}
 use Rattle.als_record.specs.declared.record.Record.{Record}
 use Rattle.als_record.specs.LogText.{end_of, IsLog}
 use Rattle.als_record.specs.Pages.{page_at}
 use Rattle.als_disk.specs.Slot.{Slot, only}
 use Rattle.als_page.specs.Block.{block_of}
 use Rattle.als_frames.specs.Frames.{Framed, IsClean, Paged, frame_of, slot_of}
+
+-- the content of a block at the last sync
+abbrev pub synced_content : Slot → List ℕ
+synced_content slot = get_or slot.candidates 0 []
+
+-- the page_LSN that a block spells: its first 8 bytes
+unfoldable pub spelled_lsn : List ℕ → ℕ
+spelled_lsn content = big_number 8 content
+
+-- the page_LSN of a page's image last synced, as its block spells it
+abbrev pub synced_lsn : Paged → ℕ → ℕ
+synced_lsn v page = spelled_lsn (synced_content (slot_of v page))
+
+-- the page_LSN of a page as it is now: in its frame, or else as its block spells it
+abbrev pub lsn_or : Option Framed → ℕ → ℕ
+lsn_or None lsn = lsn
+lsn_or (Some f) lsn = f.content.lsn
+
+abbrev pub lsn_now : Paged → ℕ → ℕ
+lsn_now v page = lsn_or (frame_of v page) (synced_lsn v page)
+
+-- the page_LSN of a page's image last written
+abbrev pub written_or : Option Framed → ℕ → ℕ
+written_or None lsn = lsn
+written_or (Some f) lsn = f.written
+
+abbrev pub written_lsn : Paged → ℕ → ℕ
+written_lsn v page = written_or (frame_of v page) (synced_lsn v page)
 
 -- the block of a page as a log has it at an LSN
 abbrev pub image_of : List Record → ℕ → ℕ → List ℕ
@@ -31,10 +59,13 @@ pub record IsStoredAt (log : List Record) (page below synced : ℕ) (slot : Slot
   pub settled : slot ≡ only (image_of log page synced)
 
 -- A page in a frame: the frame has it as history repeated up to its page_LSN, which is at or above that last written, and
--- that at or above the one last synced. Whatever a crash leaves in its block is a stable image not below the one last synced;
--- of a clean frame it is that one, and it is settled. Unless a write has failed, a read gives the image last written.
+-- that at or above the one last synced. Whatever a crash leaves in its block is a stable image not below the one last synced,
+-- which is the oldest of them; of a clean frame it is that one, and it is settled. Unless a write has failed, a read gives the image last written.
 pub record IsFramedAt (log : List Record) (page below synced : ℕ) (sure : Bool) (slot : Slot) (f : Framed) : Type 0 where
   pub synced_is : f.synced ≡ synced
+  pub last : IsStable log page below synced
+  pub since : List (List ℕ)
+  pub oldest : slot.candidates ≡ image_of log page synced ∷ since
   pub from : synced ≤ f.written
   pub order : f.written ≤ f.content.lsn
   pub inside : f.content.lsn < end_of log
@@ -48,10 +79,6 @@ pub record IsFramedAt (log : List Record) (page below synced : ℕ) (sure : Bool
 abbrev pub IsPageAt : List Record → ℕ → ℕ → ℕ → Bool → Slot → Option Framed → Type 0
 IsPageAt log page below synced sure slot None = IsStoredAt log page below synced slot
 IsPageAt log page below synced sure slot (Some f) = IsFramedAt log page below synced sure slot f
-
--- the page_LSN of a page's image last synced, after a sync: that of the image last written of its frame
-abbrev pub synced_after : Paged → (ℕ → ℕ) → ℕ → ℕ
-synced_after v synced page = unwrap_or (option_map (λ f. f.written) (frame_of v page)) (synced page)
 
 -- So it is with every page, where `synced` gives the page_LSN of each page's image last synced, and the log below an offset
 -- survives each crash.

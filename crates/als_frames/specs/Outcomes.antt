@@ -1,13 +1,12 @@
 -- What each call does, and when it is refused.
 use Rattle.std.specs.Prelude.{◌≡◌, ◌≢◌, ◌⊎◌, ℕ, ◌<◌, ◌≤◌, ◌+◌, min, false, List, length, Contains, Option, Some, None}
 use Rattle.std.specs.Option.{option_map}
-use Rattle.als_record.specs.declared.change.Change.{Change}
-use Rattle.als_record.specs.Pages.{PageState, IsPageState, redone}
+use Rattle.als_record.specs.Pages.{PageState, IsPageState}
 use Rattle.als_disk.specs.Slot.{Slot, written, FailsToWrite, KeepsReadable}
 use Rattle.als_page.specs.Block.{block_of}
 use Rattle.als_frames.specs.declared.fault.Fault.{Fault}
 use Rattle.als_frames.specs.declared.fault.Fault.TheVariants.{PoolFull, NothingToDo, Device, Memory, BadPage}
-use Rattle.als_frames.specs.Frames.{Framed, IsClean, clean_frame, Paged, frame_of, slot_of}
+use Rattle.als_frames.specs.Frames.{Framed, IsFree, clean_frame, Paged, frame_of, slot_of}
 
 -- a read of the device has failed, and nothing else has changed
 pub record ReadFails (old new : Paged) : Type 0 where
@@ -16,64 +15,72 @@ pub record ReadFails (old new : Paged) : Type 0 where
 
 -- ---- reading a page
 
--- a read may give the block of this page, and its page_LSN is below the log's end
-pub record IsFound (slot : Slot) (page end : ℕ) (content : PageState) : Type 0 where
+-- a read may give the block of this page
+pub record IsFound (slot : Slot) (page : ℕ) (content : PageState) : Type 0 where
   pub given : Contains slot.readable (block_of page content)
   pub possible : IsPageState content
-  pub below : content.lsn < end
 
--- a read may give what is the block of no page whose page_LSN is below the log's end
-pub record IsBad (slot : Slot) (page end : ℕ) : Type 0 where
+-- a read may give what is the block of no page with this number and a page_LSN below an end
+pub record IsBadBelow (slot : Slot) (page end : ℕ) : Type 0 where
   pub block : List ℕ
   pub given : Contains slot.readable block
   pub no_page : (content : PageState) → IsPageState content → block ≡ block_of page content → end ≤ content.lsn
 
+-- a read may give what is the block of no page with this number
+pub record IsBad (slot : Slot) (page : ℕ) : Type 0 where
+  pub block : List ℕ
+  pub given : Contains slot.readable block
+  pub no_page : (content : PageState) → IsPageState content → block ≡ block_of page content → ⊥
+
 -- by the device's failures: a page could not be read
-abbrev pub FailsToRead : Fault → Slot → ℕ → ℕ → ℕ → ℕ → Type 0
-FailsToRead Device slot page end before now = before < now
-FailsToRead (BadPage p) slot page end before now = (p ≡ page) × IsBad slot page end × (now ≡ before)
-FailsToRead PoolFull slot page end before now = ⊥
-FailsToRead NothingToDo slot page end before now = ⊥
-FailsToRead Memory slot page end before now = ⊥
+abbrev pub FailsToRead : Fault → Slot → ℕ → ℕ → ℕ → Type 0
+FailsToRead Device slot page before now = before < now
+FailsToRead (BadPage p) slot page before now = (p ≡ page) × IsBad slot page × (now ≡ before)
+FailsToRead PoolFull slot page before now = ⊥
+FailsToRead NothingToDo slot page before now = ⊥
+FailsToRead Memory slot page before now = ⊥
 
 -- a page was not read: the device failed, or the block is no page's
-abbrev pub RefusesReading : Fault → Paged → Paged → ℕ → ℕ → Type 0
-RefusesReading Device old new page end = ReadFails old new
-RefusesReading (BadPage p) old new page end = (p ≡ page) × IsBad (slot_of old page) page end × (new ≡ old)
-RefusesReading PoolFull old new page end = ⊥
-RefusesReading NothingToDo old new page end = ⊥
-RefusesReading Memory old new page end = ⊥
+abbrev pub RefusesReading : Fault → Paged → Paged → ℕ → Type 0
+RefusesReading Device old new page = ReadFails old new
+RefusesReading (BadPage p) old new page = (p ≡ page) × IsBad (slot_of old page) page × (new ≡ old)
+RefusesReading PoolFull old new page = ⊥
+RefusesReading NothingToDo old new page = ⊥
+RefusesReading Memory old new page = ⊥
 
 -- ---- making a page resident
 
--- the page has no frame, all frames are used, and none of them is clean
+-- the page has no frame, all frames are used, and none of them is free
 pub record IsFull (v : Paged) (page : ℕ) : Type 0 where
   pub absent : frame_of v page ≡ None
   pub used : v.most ≤ length v.frames
-  pub dirty : (other : ℕ) (f : Framed) → frame_of v other ≡ Some f → IsClean f → ⊥
+  pub dirty : (other : ℕ) (f : Framed) → frame_of v other ≡ Some f → IsFree f → ⊥
 
--- a clean frame is taken from its page
+-- a page is read for a frame of its own, which there is
+pub record IsFetched (v : Paged) (page end : ℕ) (content : PageState) : Type 0 where
+  pub can : IsFull v page → ⊥
+  pub found : IsFound (slot_of v page) page content
+  pub below : content.lsn < end
+
+-- a page was not read for a frame: there is none for it, or the device failed, or the block is that of no page below the end
+abbrev pub RefusesFetch : Fault → Paged → Paged → ℕ → ℕ → Type 0
+RefusesFetch PoolFull old new page end = IsFull old page × (new ≡ old)
+RefusesFetch Device old new page end = (IsFull old page → ⊥) × ReadFails old new
+RefusesFetch (BadPage p) old new page end = (IsFull old page → ⊥) × (p ≡ page) × IsBadBelow (slot_of old page) page end × (new ≡ old)
+RefusesFetch Memory old new page end = ⊥
+RefusesFetch NothingToDo old new page end = ⊥
+
+-- a free frame is taken from its page
 abbrev pub IsReplaced : Option Framed → Option Framed → Type 0
-IsReplaced old new = (f : Framed) × (old ≡ Some f) × IsClean f × (new ≡ None)
+IsReplaced old new = (f : Framed) × (old ≡ Some f) × IsFree f × (new ≡ None)
 
--- The page is read into a frame of its own: one that is free, or else a clean one of another page.
-pub record Loads (old new : Paged) (page end : ℕ) : Type 0 where
-  pub can : IsFull old page → ⊥
-  pub content : PageState
-  pub found : IsFound (slot_of old page) page end content
+-- A page that was read is put into a frame of its own: a new one, or else a free one of another page.
+pub record PutsIn (old new : Paged) (page : ℕ) (content : PageState) : Type 0 where
   pub frame : frame_of new page ≡ Some (clean_frame page content)
   pub others : (other : ℕ) → other ≢ page → (frame_of new other ≡ frame_of old other) ⊎ IsReplaced (frame_of old other) (frame_of new other)
   pub free : length old.frames < old.most → (other : ℕ) → other ≢ page → frame_of new other ≡ frame_of old other
   pub used : length new.frames ≡ min (length old.frames + 1) old.most
-  pub same : new ≡ record old { frames = new.frames; room = new.room }
-
--- a page was not made resident: there is no frame for it, or it could not be read, or else there is no memory for its frame
-abbrev pub RefusesLoad : Fault → Paged → Paged → ℕ → ℕ → Type 0
-RefusesLoad PoolFull old new page end = IsFull old page × (new ≡ old)
-RefusesLoad Device old new page end = (frame_of old page ≡ None) × (IsFull old page → ⊥) × ReadFails old new
-RefusesLoad (BadPage p) old new page end = (frame_of old page ≡ None) × (IsFull old page → ⊥) × (p ≡ page) × IsBad (slot_of old page) page end × (new ≡ old)
-RefusesLoad Memory old new page end = (frame_of old page ≡ None) × (IsFull old page → ⊥) × (old.room ≡ 0) × (new ≡ record old { room = new.room }) × (content : PageState) × IsFound (slot_of old page) page end content
-RefusesLoad NothingToDo old new page end = ⊥
+  pub same : new ≡ record old { frames = new.frames }
 
 -- ---- changing a resident page
 
@@ -82,19 +89,6 @@ pub record SetsFrame (old new : Paged) (page : ℕ) (f : Framed) : Type 0 where
   pub frame : frame_of new page ≡ Some f
   pub others : (other : ℕ) → other ≢ page → frame_of new other ≡ frame_of old other
   pub used : length new.frames ≡ length old.frames
-
--- a page is resident, and a change is above its page_LSN
-pub record CanRedo (v : Paged) (change : Change) : Type 0 where
-  pub f : Framed
-  pub resident : frame_of v change.key.page ≡ Some f
-  pub above : f.content.lsn < change.lsn.0
-
--- a change of a resident page is redone
-pub record Redoes (old new : Paged) (change : Change) : Type 0 where
-  pub f : Framed
-  pub resident : frame_of old change.key.page ≡ Some f
-  pub sets : SetsFrame old new change.key.page (record f { content = redone f.content change })
-  pub same : new ≡ record old { frames = new.frames }
 
 -- ---- writing a page
 
@@ -146,8 +140,7 @@ pub record Syncs (old new : Paged) : Type 0 where
   pub frames : (page : ℕ) → frame_of new page ≡ option_map synced_frame (frame_of old page)
   pub used : length new.frames ≡ length old.frames
   pub slots : (page : ℕ) → page < old.pages → KeepsReadable (slot_of old page) (slot_of new page)
-  pub room : old.room ≤ new.room
-  pub same : new ≡ record old { frames = new.frames; slots = new.slots; attempts = old.attempts + 1; room = new.room }
+  pub same : new ≡ record old { frames = new.frames; slots = new.slots; attempts = old.attempts + 1 }
 
 -- the one sync that was made has failed, and nothing else has changed
 pub record SyncFails (old new : Paged) : Type 0 where

@@ -10,7 +10,6 @@ ghost use Rattle.als_frames.specs.Outcomes.{IsFound, FailsToRead};
 use crate::fault::Fault;
 use als_disk::{BlockDisk, DeviceError};
 use als_page::Page;
-use als_record::Lsn;
 
 /// Makes a block of zeros the one content of each of the first blocks.
 pub(crate) fn lay_out<D: BlockDisk>(disk: &mut D, pages: u32) -> Result<(), DeviceError>
@@ -27,13 +26,13 @@ pub(crate) fn lay_out<D: BlockDisk>(disk: &mut D, pages: u32) -> Result<(), Devi
     Ok(())
 }
 
-/// The page that a block has, with a page_LSN below an end.
-pub(crate) fn read_page<D: BlockDisk>(disk: &mut D, page: u32, end: Lsn) -> Result<Page, Fault>
+/// The page that a block has.
+pub(crate) fn read_page<D: BlockDisk>(disk: &mut D, page: u32) -> Result<Page, Fault>
     requires { page < D.block_count disk.old }
     ensures number { IfOk result (λ found. id_of found ≡ page) }
-    ensures ok { IfOk result (λ found. IsFound (D.slot disk.old page) page end.0 (state_of found)) }
+    ensures ok { IfOk result (λ found. IsFound (D.slot disk.old page) page (state_of found)) }
     ensures done { OnOk result (D.failures disk.new ≡ D.failures disk.old) }
-    ensures err { IfErr result (λ e. FailsToRead e (D.slot disk.old page) page end.0 (D.failures disk.old) (D.failures disk.new)) }
+    ensures err { IfErr result (λ e. FailsToRead e (D.slot disk.old page) page (D.failures disk.old) (D.failures disk.new)) }
     ensures same { SameBlocks (D.slot disk.old) (D.slot disk.new) }
     ensures count { D.block_count disk.new ≡ D.block_count disk.old }
     ensures attempts { D.attempts disk.new ≡ D.attempts disk.old }
@@ -41,8 +40,8 @@ pub(crate) fn read_page<D: BlockDisk>(disk: &mut D, page: u32, end: Lsn) -> Resu
     let mut block = [0; 512];
     disk.read(u64::from(page), &mut block)?;
     match Page::read_block(page, &block) {
-        Ok(found) if found.lsn().0 < end.0 => Ok(found),
-        _ => Err(Fault::BadPage { page }),
+        Ok(found) => Ok(found),
+        Err(_) => Err(Fault::BadPage { page }),
     }
 }
 

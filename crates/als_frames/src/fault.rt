@@ -1,58 +1,67 @@
-ghost use Rattle.std.specs.Prelude.{◌≡◌};
+ghost use Rattle.std.specs.Prelude.{◌≡◌, Some};
+ghost use Rattle.als_fault.specs.Kinds.{number_of, name_of, text_of};
 ghost use Rattle.als_frames.specs.declared.fault.Fault.TheVariants.{Device as DeviceFailed, Memory as OutOfMemory, BadPage as IsBadPage};
-ghost use Rattle.als_frames.specs.FaultNames.{number_of, name_of};
+ghost use Rattle.als_frames.specs.FaultNames.{kind_of};
 
+use als_fault::FaultKind;
 use als_disk::DeviceError;
 use std::alloc::{AllocError, AllocFailed};
-use thiserror::Error;
+use std::fmt;
 
 /// Why a call is refused. The numbers are common to all crates.
-#[derive(Clone, Copy, Debug, PartialEq, Eq, Error)]
+#[derive(Clone, Copy, Debug, PartialEq, Eq)]
 pub enum Fault {
     /// All frames are used, and none is clean.
-    #[error("24 PoolFull")]
     PoolFull,
     /// The page is not resident, or it is written as it is now.
-    #[error("27 NothingToDo")]
     NothingToDo,
     /// The device failed.
-    #[error("30 Device")]
     Device,
     /// A growth was refused.
-    #[error("32 Memory")]
     Memory,
     /// The block of this page holds no page with its number and a page_LSN of the log.
-    #[error("33 BadPage {page}")]
     BadPage { page: u32 },
 }
 
 impl Fault {
-    /// The fault's number.
-    pub fn number(self) -> u32
-        ensures { result ≡ number_of self }
+    /// Which of the faults of all crates it is.
+    pub fn kind(self) -> FaultKind
+        ensures { result ≡ kind_of self }
     {
         match self {
-            Fault::PoolFull => 24,
-            Fault::NothingToDo => 27,
-            Fault::Device => 30,
-            Fault::Memory => 32,
-            Fault::BadPage { page: _ } => 33,
+            Fault::PoolFull => FaultKind::PoolFull,
+            Fault::NothingToDo => FaultKind::NothingToDo,
+            Fault::Device => FaultKind::Device,
+            Fault::Memory => FaultKind::Memory,
+            Fault::BadPage { page } => FaultKind::BadPage { page },
         }
+    }
+
+    /// The fault's number.
+    pub fn number(self) -> u32
+        ensures { result ≡ number_of (kind_of self) }
+    {
+        self.kind().number()
     }
 
     /// The fault's name, as programs print it.
     pub fn name(self) -> &'static str
-        ensures { result.now ≡ name_of self }
+        ensures { result.now ≡ name_of (kind_of self) }
     {
-        match self {
-            Fault::PoolFull => "PoolFull",
-            Fault::NothingToDo => "NothingToDo",
-            Fault::Device => "Device",
-            Fault::Memory => "Memory",
-            Fault::BadPage { page: _ } => "BadPage",
-        }
+        self.kind().name()
     }
 }
+
+impl fmt::Display for Fault {
+    ghost output = { λ fault. Some (text_of (kind_of fault)) };
+
+    fn fmt<W: fmt::Write>(&self, f: &mut fmt::Formatter<W>) -> fmt::Result {
+        let kind = self.kind();
+        write!(f, "{kind}")
+    }
+}
+
+impl std::error::Error for Fault {}
 
 impl From<DeviceError> for Fault {
     ghost from_gives = { λ _ e. e ≡ DeviceFailed };

@@ -1,19 +1,13 @@
-ghost use Rattle.std.specs.Prelude.{◌≡◌, ◌<◌, ◌≤◌, ◌↔◌, [], IsTrue, IfSome, IfNone};
-ghost use Rattle.std.specs.VecDeque.{deque_capacity};
-ghost use Rattle.als_record.specs.Pages.{redone};
+ghost use Rattle.std.specs.Prelude.{◌≡◌, ◌↔◌, IsTrue};
 ghost use Rattle.als_page.specs.Page.{id_of, state_of};
-ghost use Rattle.als_frames.specs.Frames.{IsClean, clean_frame};
+ghost use Rattle.als_frames.specs.Frames.{IsFree, clean_frame};
 ghost use Rattle.als_frames.specs.Outcomes.{synced_frame};
-ghost use Rattle.als_frames.specs.Batch.{AreNext, RedoesOne, RedoesFirst};
+ghost use Rattle.als_frames.specs.Batch.{AreNext, redone_frame};
 
 use crate::lsns::Lsns;
 use als_page::Page;
 use als_record::{Change, Lsn};
-use std::collections::VecDeque;
 use std::marker::Model;
-
-/// How many changes one batch redoes at most.
-const BATCH: usize = 64;
 
 /// A page in memory, and the page_LSNs of its images last written and last synced.
 #[derive(Drop)]
@@ -66,9 +60,9 @@ impl Frame {
         }
     }
 
-    /// Whether the page is the image last synced.
-    pub fn is_clean(&self) -> bool
-        ensures { IsTrue result ↔ IsClean self.now }
+    /// Whether the frame may be taken from its page: the page is the image last synced.
+    pub fn is_free(&self) -> bool
+        ensures { IsTrue result ↔ IsFree self.now }
     {
         self.page.lsn().0 == self.synced.0
     }
@@ -80,44 +74,14 @@ impl Frame {
         self.written.0 == self.page.lsn().0
     }
 
-    /// Redoes a change of the page.
-    pub fn redo(&mut self, change: &Change)
-        requires page { change.now.key.page ≡ self.old.id }
-        requires slot { change.now.key.slot ≤ 14 }
-        requires first { 16 ≤ change.now.lsn.0 }
-        requires above { self.old.content.lsn < change.now.lsn.0 }
-        ensures { self.new ≡ record self.old { content = redone self.old.content change.now } }
+    /// Redoes changes of the page, one after another.
+    pub fn redo(&mut self, changes: &[Change])
+        requires { AreNext self.old.id self.old.content.lsn changes.now }
+        ensures { self.new ≡ redone_frame self.old changes.now }
     {
-        self.page.redo(change);
-    }
-
-    /// Redoes the first changes that wait for the page, at most 64, and answers the page_LSN. `None`: nothing waits.
-    pub fn redo_first(&mut self, waits: &mut VecDeque<Change>) -> Option<Lsn>
-        requires { AreNext self.old.id self.old.content.lsn waits.old.items }
-        ensures some { IfSome result (λ lsn. RedoesFirst self.old self.new waits.old.items waits.new.items lsn) }
-        ensures none { IfNone result (waits.old.items ≡ []) }
-        ensures room { deque_capacity waits.new ≡ deque_capacity waits.old }
-    {
-        let mut last = None;
-        for _ in 0..BATCH {
-            match self.redo_next(waits) {
-                Some(lsn) => last = Some(lsn),
-                None => break,
-            }
+        for change in changes {
+            self.page.redo(change);
         }
-        last
-    }
-
-    fn redo_next(&mut self, waits: &mut VecDeque<Change>) -> Option<Lsn>
-        requires { AreNext self.old.id self.old.content.lsn waits.old.items }
-        ensures some { IfSome result (λ lsn. RedoesOne self.old self.new waits.old.items waits.new.items lsn) }
-        ensures none { IfNone result ((waits.old.items ≡ []) × (waits.new.items ≡ []) × (self.new ≡ self.old)) }
-        ensures next { AreNext self.new.id self.new.content.lsn waits.new.items }
-        ensures room { deque_capacity waits.new ≡ deque_capacity waits.old }
-    {
-        let change = waits.pop_front()?;
-        self.redo(&change);
-        Some(change.lsn)
     }
 
     /// Notes that the page was written as it is now.

@@ -1,18 +1,17 @@
-ghost use Rattle.std.specs.Prelude.{List, ◌∷◌, Contains, IsTrue, ◌≡◌, ◌≢◌, ◌<◌, ◌≤◌, ◌+◌, ℕ, [], true, false, IsSome, IfSome, IsOk, IfOk, IfErr, OnOk, OnErr, Some, None, option_map, length};
+ghost use Rattle.std.specs.Prelude.{List, ◌++◌, Contains, IsTrue, ◌≡◌, ◌<◌, ◌≤◌, ◌+◌, ℕ, [], IsSome, IsOk, IfSome, IfOk, IfErr, OnOk, OnErr, Some, None, option_map, ◌↔◌};
 ghost use Rattle.std.specs.Result.{IsErrOf};
 ghost use Rattle.als_disk.specs.Slot.{only};
 ghost use Rattle.als_disk.specs.Store.{zeros};
 ghost use Rattle.als_page.specs.Page.{id_of, state_of};
 ghost use Rattle.als_frames.specs.declared.fault.Fault.TheVariants.{PoolFull as IsPoolFull, Memory as OutOfMemory};
 ghost use Rattle.als_frames.specs.Frames.{Framed, Paged, IsPaged, frame_of, slot_of, without_frames};
-ghost use Rattle.std.specs.VecDeque.{deque_capacity};
-ghost use Rattle.als_frames.specs.Batch.{CanRedoFirst, RedoesBatch};
+ghost use Rattle.als_frames.specs.Batch.{CanRedo, Redoes};
 ghost use Rattle.als_record.specs.declared.change.Change.{Change as AnyChange};
 ghost use Rattle.als_record.specs.declared.record.Record.{Record as AnyRecord};
 ghost use Rattle.als_record.specs.LogText.{end_of, IsLog};
 ghost use Rattle.als_record.specs.Pages.{page_at, changes_above};
-ghost use Rattle.als_frames.specs.Images.{AreFramesOf, IsStoredAt, IsImageOf, synced_after};
-ghost use Rattle.als_frames.specs.Outcomes.{Loads, RefusesLoad, IsFull, IsFound, ReadFails, RefusesReading, CanRedo, Redoes, Writes, RefusesWrite, Syncs, SyncFails};
+ghost use Rattle.als_frames.specs.Images.{AreFramesOf, IsStoredAt, IsImageOf, written_or};
+ghost use Rattle.als_frames.specs.Outcomes.{IsFull, IsFetched, RefusesFetch, PutsIn, IsFound, RefusesReading, Writes, RefusesWrite, Syncs, SyncFails};
 
 use crate::fault::Fault;
 use crate::frame::Frame;
@@ -24,13 +23,12 @@ use als_page::Page;
 use als_record::{Change, Lsn};
 use indexmap::IndexMap;
 use std::alloc::Global;
-use std::collections::VecDeque;
 use std::marker::Model;
 
 /// The pages of a database on a block device, page p in block p, and some of them in memory in frames.
 ///
 /// A page that is changed has a frame. Its image reaches the device by a write, and is certain to survive a crash from the
-/// next sync on. A frame is clean where its page is the image last synced; clean frames alone are replaced.
+/// next sync on. A frame is free where its page is the image last synced; free frames alone are taken from their pages.
 #[derive(Drop)]
 pub struct Frames<D: BlockDisk> {
     disk: D,
@@ -45,21 +43,23 @@ pub struct Frames<D: BlockDisk> {
 
 impl<D: BlockDisk> Model for Frames<D> {
     ghost use Rattle.indexmap.specs.IndexMap.{spare};
-    ghost use Rattle.als_frames.specs.Frames.{Paged, slots_from};
+    ghost use Rattle.als_frames.specs.Frames.{Holding, slots_from};
     ghost use Rattle.als_frames.specs.Kept.{IsKept};
 
-    ghost Value = { Paged };
+    ghost Value = { Holding };
 
     ghost view = { λ f. record {
-      pages = f.pages;
-      most = f.most;
-      frames = f.frames.entries;
-      slots = slots_from 0 f.pages (D.slot f.disk);
-      blocks = D.block_count f.disk;
-      failures = D.failures f.disk;
-      attempts = D.attempts f.disk;
-      sure = f.sure;
-      room = spare f.frames;
+      paged = record {
+        pages = f.pages;
+        most = f.most;
+        frames = f.frames.entries;
+        slots = slots_from 0 f.pages (D.slot f.disk);
+        blocks = D.block_count f.disk;
+        failures = D.failures f.disk;
+        attempts = D.attempts f.disk;
+        sure = f.sure;
+      };
+      spare = spare f.frames;
     } };
 
     ghost invariant = { λ f. IsKept f.pages f.most (D.block_count f.disk) f.frames.entries };
@@ -77,8 +77,8 @@ impl<D: BlockDisk> Frames<D> {
         most: usize,
     ) -> Result<Frames<D>, Unformatted<D>>
         requires { pages ≤ D.block_count disk }
-        ensures ok { IfOk result (λ f. f ≡ record (without_frames pages most (λ _. only zeros) (D.block_count disk) (D.failures disk) (D.attempts disk + pages + 1)) { room = f.room }) }
-        ensures keeps { IfOk result (λ f. (below : ℕ) → AreFramesOf [] (λ _. 0) below f) }
+        ensures ok { IfOk result (λ f. f.paged ≡ without_frames pages most (λ _. only zeros) (D.block_count disk) (D.failures disk) (D.attempts disk + pages + 1)) }
+        ensures keeps { IfOk result (λ f. (below : ℕ) → AreFramesOf [] (λ _. 0) below f.paged) }
         ensures err { IfErr result (λ u. (u.fault ≡ Fault.Device) × (D.failures disk < D.failures u.disk) × (D.block_count u.disk ≡ D.block_count disk)) }
     {
         let mut disk = disk;
@@ -94,11 +94,11 @@ impl<D: BlockDisk> Frames<D> {
     /// The pages of a database that was laid out before, none of them resident. It neither reads nor takes memory.
     pub fn open(alloc: Global, disk: D, pages: u32, most: usize) -> Frames<D>
         requires { pages ≤ D.block_count disk }
-        ensures shows { result ≡ record (without_frames pages most (D.slot disk) (D.block_count disk) (D.failures disk) (D.attempts disk)) { room = result.room } }
+        ensures shows { result.paged ≡ without_frames pages most (D.slot disk) (D.block_count disk) (D.failures disk) (D.attempts disk) }
         // For every log of whose pages each block has one stable image, the pages are that log's.
         ensures keeps { (log : List AnyRecord) (synced : ℕ → ℕ) (below : ℕ) → IsLog pages log
             → ((page : ℕ) → page < pages → IsStoredAt log page below (synced page) (D.slot disk page))
-            → AreFramesOf log synced below result }
+            → AreFramesOf log synced below result.paged }
     {
         Frames {
             disk,
@@ -112,10 +112,10 @@ impl<D: BlockDisk> Frames<D> {
 
     /// The page, if it is resident.
     pub fn frame(&self, page: u32) -> Option<&Page>
-        ensures content { option_map (λ p. state_of p.now) result ≡ option_map (λ f. f.content) (frame_of self.now page) }
+        ensures content { option_map (λ p. state_of p.now) result ≡ option_map (λ f. f.content) (frame_of self.now.paged page) }
         ensures number { IfSome result (λ p. id_of p.now ≡ page) }
         // For every log that the pages are of, it is history repeated up to its page_LSN.
-        ensures history { IfSome result (λ p. (log : List AnyRecord) (synced : ℕ → ℕ) (below : ℕ) → AreFramesOf log synced below self.now
+        ensures history { IfSome result (λ p. (log : List AnyRecord) (synced : ℕ → ℕ) (below : ℕ) → AreFramesOf log synced below self.now.paged
             → state_of p.now ≡ page_at log page (state_of p.now).lsn) }
     {
         let frame = self.frames.get(&page)?;
@@ -124,9 +124,9 @@ impl<D: BlockDisk> Frames<D> {
 
     /// The page_LSNs of the page, if it is resident.
     pub fn lsns(&self, page: u32) -> Option<Lsns>
-        ensures now { option_map (λ l. l.now.0) result ≡ option_map (λ f. f.content.lsn) (frame_of self.now page) }
-        ensures written { option_map (λ l. l.written.0) result ≡ option_map (λ f. f.written) (frame_of self.now page) }
-        ensures synced { option_map (λ l. l.synced.0) result ≡ option_map (λ f. f.synced) (frame_of self.now page) }
+        ensures now { option_map (λ l. l.now.0) result ≡ option_map (λ f. f.content.lsn) (frame_of self.now.paged page) }
+        ensures written { option_map (λ l. l.written.0) result ≡ option_map (λ f. f.written) (frame_of self.now.paged page) }
+        ensures synced { option_map (λ l. l.synced.0) result ≡ option_map (λ f. f.synced) (frame_of self.now.paged page) }
     {
         let frame = self.frames.get(&page)?;
         Some(frame.lsns())
@@ -134,76 +134,80 @@ impl<D: BlockDisk> Frames<D> {
 
     /// How many pages there are.
     pub fn pages(&self) -> u32
-        ensures pages { result ≡ self.now.pages }
-        ensures facts { IsPaged self.now }
+        ensures pages { result ≡ self.now.paged.pages }
+        ensures facts { IsPaged self.now.paged }
     {
         self.pages
     }
 
-    /// Makes room for one more frame: the next page is then made resident without memory. An `Err` (Memory) changes nothing
-    /// but the room.
+    /// Whether the page is resident.
+    pub fn is_resident(&self, page: u32) -> bool
+        ensures { IsTrue result ↔ IsSome (frame_of self.now.paged page) }
+    {
+        self.frames.contains_key(&page)
+    }
+
+    /// Reads a page that has no frame, for `put`, and changes no frame. `end` is the end of the log.
+    ///
+    /// `PoolFull`: all frames are used, and none is free. `Device`: the device failed. `BadPage`: the block is not that of
+    /// this page with a page_LSN below `end`. They come in this order.
+    pub fn fetch(&mut self, page: u32, end: Lsn) -> Result<Page, Fault>
+        requires in_range { page < self.old.paged.pages }
+        requires absent { frame_of self.old.paged page ≡ None }
+        ensures number { IfOk result (λ found. id_of found ≡ page) }
+        ensures ok { IfOk result (λ found. IsFetched self.old.paged page end.0 (state_of found)) }
+        ensures same { OnOk result (self.new.paged ≡ self.old.paged) }
+        ensures spare { self.new.spare ≡ self.old.spare }
+        ensures err { IfErr result (λ e. RefusesFetch e self.old.paged self.new.paged page end.0) }
+        ensures full { IsFull self.old.paged page → IsErrOf result IsPoolFull }
+        // For every log that the pages are of, they stay so, and the page that is found is the log's.
+        ensures keeps { (log : List AnyRecord) (synced : ℕ → ℕ) (below : ℕ) → AreFramesOf log synced below self.old.paged
+            → AreFramesOf log synced below self.new.paged }
+        ensures history { IfOk result (λ found. (log : List AnyRecord) (synced : ℕ → ℕ) (below : ℕ) → AreFramesOf log synced below self.old.paged
+            → state_of found ≡ page_at log page (synced page)) }
+        ensures sound { (log : List AnyRecord) (synced : ℕ → ℕ) (below : ℕ) → AreFramesOf log synced below self.old.paged
+            → end_of log ≤ end.0 → IsErrOf result (Fault.BadPage page) → ⊥ }
+    {
+        self.fetch_in(page, end)
+    }
+
+    /// Makes room for one more frame: the next `put` takes no memory. An `Err` (Memory) changes nothing but the room.
     pub fn reserve(&mut self) -> Result<(), Fault>
-        ensures ok { OnOk result ((self.new ≡ record self.old { room = self.new.room }) × (0 < self.new.room)) }
-        ensures err { OnErr result (self.new ≡ record self.old { room = self.new.room }) }
+        ensures same { self.new.paged ≡ self.old.paged }
+        ensures ok { OnOk result (0 < self.new.spare) }
         ensures memory { IfErr result (λ e. e ≡ OutOfMemory) }
-        ensures reserved { 0 < self.old.room → IsOk result }
+        ensures reserved { 0 < self.old.spare → IsOk result }
     {
         self.frames.reserve(1)?;
         Ok(())
     }
 
-    /// Makes a page resident: it is read into a free frame, or else into a clean one, which its page loses. A page that is
-    /// resident stays as it is. `end` is the end of the log.
-    ///
-    /// `PoolFull`: all frames are used, and none is clean. `Device`: the device failed. `BadPage`: the block is not that of
-    /// this page with a page_LSN below `end`. `Memory`: there was none for a frame, which does not come where `reserve` has
-    /// made the room. They come in this order, and change no page.
-    pub fn load(&mut self, page: u32, end: Lsn) -> Result<(), Fault>
-        requires { page < self.old.pages }
-        ensures resident { IsSome (frame_of self.old page) → IsOk result × (self.new ≡ self.old) }
-        ensures ok { frame_of self.old page ≡ None → OnOk result (Loads self.old self.new page end.0) }
-        ensures err { IfErr result (λ e. RefusesLoad e self.old self.new page end.0) }
-        ensures full { IsFull self.old page → IsErrOf result IsPoolFull }
-        ensures reserved { 0 < self.old.room → IsErrOf result OutOfMemory → ⊥ }
-        // For every log that the pages are of, they stay so, and the block is that of a page.
-        ensures keeps { (log : List AnyRecord) (synced : ℕ → ℕ) (below : ℕ) → AreFramesOf log synced below self.old
-            → AreFramesOf log synced below self.new }
-        ensures sound { (log : List AnyRecord) (synced : ℕ → ℕ) (below : ℕ) → AreFramesOf log synced below self.old
-            → end_of log ≤ end.0 → IsErrOf result (Fault.BadPage page) → ⊥ }
+    /// Makes a page resident that has no frame, as its block has it: in a new frame, or else in a free one, which its page loses.
+    /// It takes no memory and always succeeds.
+    pub fn put(&mut self, found: Page)
+        requires in_range { id_of found < self.old.paged.pages }
+        requires absent { frame_of self.old.paged (id_of found) ≡ None }
+        requires can { IsFull self.old.paged (id_of found) → ⊥ }
+        requires room { 0 < self.old.spare }
+        ensures puts { PutsIn self.old.paged self.new.paged (id_of found) (state_of found) }
+        // For every log that the pages are of, they stay so, where the page is the log's.
+        ensures keeps { (log : List AnyRecord) (synced : ℕ → ℕ) (below : ℕ) → state_of found ≡ page_at log (id_of found) (synced (id_of found))
+            → AreFramesOf log synced below self.old.paged → AreFramesOf log synced below self.new.paged }
     {
-        if self.frames.contains_key(&page) {
-            return Ok(());
-        }
-        self.read_in(page, end)
+        self.put_in(found);
     }
 
-    /// Redoes a change of a resident page: its next one above its page_LSN. It takes no memory and always succeeds.
-    pub fn redo(&mut self, change: &Change)
-        requires resident { CanRedo self.old change.now }
-        requires slot { change.now.key.slot ≤ 14 }
-        requires first { 16 ≤ change.now.lsn.0 }
-        ensures ok { Redoes self.old self.new change.now }
-        // For every log that the pages are of, they stay so, where the change is the page's next one in the log.
-        ensures keeps { (log : List AnyRecord) (synced : ℕ → ℕ) (below : ℕ)
-            → ((f : Framed) → frame_of self.old change.now.key.page ≡ Some f
-            → (rest : List AnyChange) × (changes_above log change.now.key.page f.content.lsn ≡ change.now ∷ rest))
-            → AreFramesOf log synced below self.old → AreFramesOf log synced below self.new }
+    /// Redoes changes of a resident page, one after another. It takes no memory and always succeeds.
+    pub fn redo(&mut self, page: u32, changes: &[Change])
+        requires { CanRedo self.old.paged page changes.now }
+        ensures redoes { Redoes self.old.paged self.new.paged page changes.now }
+        ensures spare { self.new.spare ≡ self.old.spare }
+        // For every log that the pages are of, they stay so, where the changes are the page's next ones in the log.
+        ensures keeps { (log : List AnyRecord) (synced : ℕ → ℕ) (below : ℕ) (rest : List AnyChange)
+            → ((f : Framed) → frame_of self.old.paged page ≡ Some f → changes_above log page f.content.lsn ≡ changes.now ++ rest)
+            → AreFramesOf log synced below self.old.paged → AreFramesOf log synced below self.new.paged }
     {
-        self.redo_in(change);
-    }
-
-    /// Redoes the first changes that wait for a resident page, at most 64, takes them out, and answers the page_LSN. It takes
-    /// no memory and always succeeds.
-    pub fn redo_first(&mut self, page: u32, waits: &mut VecDeque<Change>) -> Lsn
-        requires { CanRedoFirst self.old page waits.old.items }
-        ensures redoes { RedoesBatch self.old self.new page waits.old.items waits.new.items result }
-        ensures room { deque_capacity waits.new ≡ deque_capacity waits.old }
-        // For every log that the pages are of, they stay so, where all that the log has for the page waits.
-        ensures keeps { (log : List AnyRecord) (synced : ℕ → ℕ) (below : ℕ)
-            → ((f : Framed) → frame_of self.old page ≡ Some f → waits.old.items ≡ changes_above log page f.content.lsn)
-            → AreFramesOf log synced below self.old → AreFramesOf log synced below self.new }
-    {
-        self.redo_batch(page, waits)
+        self.redo_in(page, changes);
     }
 
     /// Writes a resident page to its block, by one write of the device. It takes no memory.
@@ -211,12 +215,13 @@ impl<D: BlockDisk> Frames<D> {
     /// `NothingToDo`: the page is not resident, or its image last written is the page as it is now; the device is not called.
     /// `Device`: the device failed, and the image may have been written or not.
     pub fn write(&mut self, page: u32) -> Result<(), Fault>
-        ensures ok { OnOk result (Writes self.old self.new page) }
-        ensures err { IfErr result (λ e. RefusesWrite e self.old self.new page) }
+        ensures ok { OnOk result (Writes self.old.paged self.new.paged page) }
+        ensures spare { self.new.spare ≡ self.old.spare }
+        ensures err { IfErr result (λ e. RefusesWrite e self.old.paged self.new.paged page) }
         // For every log that the pages are of, they stay so, where the log up to the page's page_LSN survives each crash.
         ensures keeps { (log : List AnyRecord) (synced : ℕ → ℕ) (below : ℕ)
-            → ((f : Framed) → frame_of self.old page ≡ Some f → f.content.lsn < below)
-            → AreFramesOf log synced below self.old → AreFramesOf log synced below self.new }
+            → ((f : Framed) → frame_of self.old.paged page ≡ Some f → f.content.lsn < below)
+            → AreFramesOf log synced below self.old.paged → AreFramesOf log synced below self.new.paged }
     {
         self.write_out(page)
     }
@@ -225,92 +230,102 @@ impl<D: BlockDisk> Frames<D> {
     ///
     /// `Device`: the device failed, and no page has changed.
     pub fn sync(&mut self) -> Result<(), Fault>
-        ensures ok { OnOk result (Syncs self.old self.new) }
+        ensures ok { OnOk result (Syncs self.old.paged self.new.paged) }
+        ensures spare { self.old.spare ≤ self.new.spare }
         ensures fault { IfErr result (λ e. e ≡ Fault.Device) }
-        ensures err { OnErr result (SyncFails self.old self.new) }
+        ensures err { OnErr result (SyncFails self.old.paged self.new.paged) }
         // For every log that the pages are of, they stay so: with the images last written as those last synced, unless a
         // write has failed.
-        ensures keeps { OnOk result ((log : List AnyRecord) (synced : ℕ → ℕ) (below : ℕ) → IsTrue self.old.sure
-            → AreFramesOf log synced below self.old → AreFramesOf log (synced_after self.old synced) below self.new) }
+        ensures keeps { OnOk result ((log : List AnyRecord) (synced : ℕ → ℕ) (below : ℕ) → IsTrue self.old.paged.sure
+            → AreFramesOf log synced below self.old.paged → AreFramesOf log (λ page. written_or (frame_of self.old.paged page) (synced page)) below self.new.paged) }
         ensures keeps_err { OnErr result ((log : List AnyRecord) (synced : ℕ → ℕ) (below : ℕ)
-            → AreFramesOf log synced below self.old → AreFramesOf log synced below self.new) }
+            → AreFramesOf log synced below self.old.paged → AreFramesOf log synced below self.new.paged) }
     {
         self.sync_all()
     }
 
     /// The page that a page with no frame has in its block. It takes no memory, and the page does not become resident.
     ///
-    /// `Device`: the device failed. `BadPage`: the block is not that of this page with a page_LSN below `end`.
-    pub fn stored(&mut self, page: u32, end: Lsn) -> Result<Page, Fault>
-        requires { page < self.old.pages }
+    /// `Device`: the device failed. `BadPage`: the block is not that of this page.
+    pub fn stored(&mut self, page: u32) -> Result<Page, Fault>
+        requires { page < self.old.paged.pages }
         ensures number { IfOk result (λ found. id_of found ≡ page) }
-        ensures ok { IfOk result (λ found. IsFound (slot_of self.old page) page end.0 (state_of found)) }
+        ensures ok { IfOk result (λ found. IsFound (slot_of self.old.paged page) page (state_of found)) }
         ensures same { OnOk result (self.new ≡ self.old) }
-        ensures err { IfErr result (λ e. RefusesReading e self.old self.new page end.0) }
+        ensures spare { self.new.spare ≡ self.old.spare }
+        ensures err { IfErr result (λ e. RefusesReading e self.old.paged self.new.paged page) }
         // For every log that the pages are of, they stay so, and the page that is found is the log's.
-        ensures keeps { (log : List AnyRecord) (synced : ℕ → ℕ) (below : ℕ) → AreFramesOf log synced below self.old
-            → AreFramesOf log synced below self.new }
-        ensures history { IfOk result (λ found. (log : List AnyRecord) (synced : ℕ → ℕ) (below : ℕ) → AreFramesOf log synced below self.old
-            → frame_of self.old page ≡ None → state_of found ≡ page_at log page (synced page)) }
-        ensures sound { (log : List AnyRecord) (synced : ℕ → ℕ) (below : ℕ) → AreFramesOf log synced below self.old
-            → frame_of self.old page ≡ None → end_of log ≤ end.0 → IsErrOf result (Fault.BadPage page) → ⊥ }
+        ensures keeps { (log : List AnyRecord) (synced : ℕ → ℕ) (below : ℕ) → AreFramesOf log synced below self.old.paged
+            → AreFramesOf log synced below self.new.paged }
+        ensures history { IfOk result (λ found. (log : List AnyRecord) (synced : ℕ → ℕ) (below : ℕ) → AreFramesOf log synced below self.old.paged
+            → frame_of self.old.paged page ≡ None → state_of found ≡ page_at log page (synced page)) }
+        ensures sound { (log : List AnyRecord) (synced : ℕ → ℕ) (below : ℕ) → AreFramesOf log synced below self.old.paged
+            → frame_of self.old.paged page ≡ None → IsErrOf result (Fault.BadPage page) → ⊥ }
     {
-        self.read_stored(page, end)
+        self.read_stored(page)
     }
 
     /// The device, with what stands in the block of each page.
     pub fn into_disk(self) -> D
-        ensures slots { (page : ℕ) → page < self.pages → D.slot result page ≡ slot_of self page }
-        ensures count { D.block_count result ≡ self.blocks }
-        ensures failures { D.failures result ≡ self.failures }
-        ensures attempts { D.attempts result ≡ self.attempts }
-        ensures facts { IsPaged self }
+        ensures slots { (page : ℕ) → page < self.paged.pages → D.slot result page ≡ slot_of self.paged page }
+        ensures count { D.block_count result ≡ self.paged.blocks }
+        ensures failures { D.failures result ≡ self.paged.failures }
+        ensures attempts { D.attempts result ≡ self.paged.attempts }
+        ensures facts { IsPaged self.paged }
         // For every log that the pages are of: whatever a crash leaves in a page's block is a stable image of it.
-        ensures images { (log : List AnyRecord) (synced : ℕ → ℕ) (below : ℕ) → AreFramesOf log synced below self
-            → (page : ℕ) (content : List ℕ) → page < self.pages → Contains (D.slot result page).candidates content
+        ensures images { (log : List AnyRecord) (synced : ℕ → ℕ) (below : ℕ) → AreFramesOf log synced below self.paged
+            → (page : ℕ) (content : List ℕ) → page < self.paged.pages → Contains (D.slot result page).candidates content
             → IsImageOf log page below (synced page) content }
     {
         let Frames { disk, .. } = self;
         disk
     }
 
-    fn read_in(&mut self, page: u32, end: Lsn) -> Result<(), Fault>
-        requires in_range { page < self.old.pages }
-        requires absent { frame_of self.old page ≡ None }
-        ensures ok { OnOk result (Loads self.old self.new page end.0) }
-        ensures err { IfErr result (λ e. RefusesLoad e self.old self.new page end.0) }
+    // The private twins below carry what a call does; what it keeps for every log follows from that at the public call.
+    fn fetch_in(&mut self, page: u32, end: Lsn) -> Result<Page, Fault>
+        requires in_range { page < self.old.paged.pages }
+        requires absent { frame_of self.old.paged page ≡ None }
+        ensures number { IfOk result (λ found. id_of found ≡ page) }
+        ensures ok { IfOk result (λ found. IsFetched self.old.paged page end.0 (state_of found)) }
+        ensures same { OnOk result (self.new.paged ≡ self.old.paged) }
+        ensures spare { self.new.spare ≡ self.old.spare }
+        ensures err { IfErr result (λ e. RefusesFetch e self.old.paged self.new.paged page end.0) }
     {
         let place = table::place(&self.frames, self.most, self.hand)?;
-        let found = blocks::read_page(&mut self.disk, page, end)?;
-        self.frames.reserve(1)?;
-        table::put(&mut self.frames, self.most, place, page, Frame::of(found));
-        self.hand = match place {
-            Some(i) => i + 1,
-            None => self.hand,
-        };
-        Ok(())
+        let found = blocks::read_page(&mut self.disk, page)?;
+        if end.0 <= found.lsn().0 {
+            return Err(Fault::BadPage { page });
+        }
+        self.hand = place.unwrap_or(self.hand);
+        Ok(found)
     }
 
-    fn redo_in(&mut self, change: &Change)
-        requires resident { CanRedo self.old change.now }
-        requires slot { change.now.key.slot ≤ 14 }
-        requires first { 16 ≤ change.now.lsn.0 }
-        ensures ok { Redoes self.old self.new change.now }
+    fn put_in(&mut self, found: Page)
+        requires in_range { id_of found < self.old.paged.pages }
+        requires absent { frame_of self.old.paged (id_of found) ≡ None }
+        requires can { IsFull self.old.paged (id_of found) → ⊥ }
+        requires room { 0 < self.old.spare }
+        ensures { PutsIn self.old.paged self.new.paged (id_of found) (state_of found) }
     {
-        table::redo(&mut self.frames, change);
+        let page = found.id();
+        match table::place(&self.frames, self.most, self.hand) {
+            Ok(place) => table::put(&mut self.frames, self.most, place, page, Frame::of(found)),
+            Err(_) => unreachable!(),
+        }
     }
 
-    fn redo_batch(&mut self, page: u32, waits: &mut VecDeque<Change>) -> Lsn
-        requires { CanRedoFirst self.old page waits.old.items }
-        ensures redoes { RedoesBatch self.old self.new page waits.old.items waits.new.items result }
-        ensures room { deque_capacity waits.new ≡ deque_capacity waits.old }
+    fn redo_in(&mut self, page: u32, changes: &[Change])
+        requires { CanRedo self.old.paged page changes.now }
+        ensures redoes { Redoes self.old.paged self.new.paged page changes.now }
+        ensures spare { self.new.spare ≡ self.old.spare }
     {
-        table::redo_first(&mut self.frames, page, waits)
+        table::redo(&mut self.frames, page, changes);
     }
 
     fn write_out(&mut self, page: u32) -> Result<(), Fault>
-        ensures ok { OnOk result (Writes self.old self.new page) }
-        ensures err { IfErr result (λ e. RefusesWrite e self.old self.new page) }
+        ensures ok { OnOk result (Writes self.old.paged self.new.paged page) }
+        ensures spare { self.new.spare ≡ self.old.spare }
+        ensures err { IfErr result (λ e. RefusesWrite e self.old.paged self.new.paged page) }
     {
         let Some(frame) = self.frames.get(&page) else {
             return Err(Fault::NothingToDo);
@@ -331,23 +346,25 @@ impl<D: BlockDisk> Frames<D> {
     }
 
     fn sync_all(&mut self) -> Result<(), Fault>
-        ensures ok { OnOk result (Syncs self.old self.new) }
+        ensures ok { OnOk result (Syncs self.old.paged self.new.paged) }
+        ensures spare { self.old.spare ≤ self.new.spare }
         ensures fault { IfErr result (λ e. e ≡ Fault.Device) }
-        ensures err { OnErr result (SyncFails self.old self.new) }
+        ensures err { OnErr result (SyncFails self.old.paged self.new.paged) }
     {
         self.disk.sync()?;
         table::note_synced(&mut self.frames);
         Ok(())
     }
 
-    fn read_stored(&mut self, page: u32, end: Lsn) -> Result<Page, Fault>
-        requires { page < self.old.pages }
+    fn read_stored(&mut self, page: u32) -> Result<Page, Fault>
+        requires { page < self.old.paged.pages }
         ensures number { IfOk result (λ found. id_of found ≡ page) }
-        ensures ok { IfOk result (λ found. IsFound (slot_of self.old page) page end.0 (state_of found)) }
+        ensures ok { IfOk result (λ found. IsFound (slot_of self.old.paged page) page (state_of found)) }
         ensures same { OnOk result (self.new ≡ self.old) }
-        ensures err { IfErr result (λ e. RefusesReading e self.old self.new page end.0) }
+        ensures spare { self.new.spare ≡ self.old.spare }
+        ensures err { IfErr result (λ e. RefusesReading e self.old.paged self.new.paged page) }
     {
-        let found = blocks::read_page(&mut self.disk, page, end)?;
+        let found = blocks::read_page(&mut self.disk, page)?;
         Ok(found)
     }
 }

@@ -22,6 +22,6 @@ mod tests;
 
 pub use fault::Fault;
 pub use frames::Frames;
-pub use laws::{mark_changes_no_page, record_changes_no_page};
+pub use laws::{mark_changes_no_page, record_changes_no_page, synced_lsn_is_spelled};
 pub use lsns::Lsns;
 pub use unformatted::Unformatted;

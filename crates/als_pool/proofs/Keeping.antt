@@ -1,52 +1,40 @@
 -- Each call keeps the pool that of a log, by its answer.
-use Rattle.std.proofs.Common.{◌≡◌, ℕ, ◌<◌, ◌≤◌, IsTrue, List, [], ◌∷◌, ◌++◌, length, Option, Some, None, refl, sym, ap, subst, ◌∙◌, arith}
-use Rattle.std.specs.Prelude.{Contains, slice_set, MatchOption, Result, Ok, Err, IfOk, IfErr, OnOk, OnErr}
+use Rattle.std.proofs.Common.{◌≡◌, ◌≢◌, ◌⊎◌, ℕ, ◌<◌, ◌≤◌, IsTrue, List, [], ◌∷◌, ◌++◌, length, take, drop, Option, Some, None, inl, inr, refl, sym, ap, subst, ◌∙◌, arith}
+use Rattle.std.specs.Prelude.{Contains, MatchOption, Result, Ok, Err, IfOk, IfErr, OnOk, OnErr}
 use Rattle.std.specs.Result.{IsErrOf}
 use Rattle.std.proofs.lemmas.Option.{same_Some}
+use Rattle.std.proofs.lemmas.List.{take-append-drop}
 use Rattle.als_record.specs.declared.lsn.Lsn.{Lsn}
 use Rattle.als_record.specs.declared.change.Change.{Change}
 use Rattle.als_record.specs.declared.record.Record.{Record}
 use Rattle.als_record.specs.LogText.{end_of, IsLog}
 use Rattle.als_record.specs.Pages.{PageState, page_at, change_of, changes_above}
-use Rattle.als_record.proofs.PageLaws.{IsPageState-page_at, changes_above-head, lsn-fold, lsn_after-last}
-use Rattle.als_disk.specs.Slot.{Slot}
-use Rattle.als_disk.specs.SlotLaws.{Contains-one}
 use Rattle.als_frames.specs.declared.fault.Fault.{Fault as FramesFault}
 use Rattle.als_frames.specs.declared.fault.Fault.TheVariants.{PoolFull as FullFrames, NothingToDo as NoFrame, Device as DiskFailed, Memory as NoRoom, BadPage as NoPage}
 use Rattle.als_frames.specs.Frames.{Framed, Paged, frame_of, slot_of}
-use Rattle.als_frames.specs.Images.{image_of, IsStoredAt, IsPageAt}
-use Rattle.als_frames.specs.Outcomes.{IsFound, IsBad, Loads, RefusesLoad}
-use Rattle.als_frames.proofs.Keeping.{reads, never_bad as bad_frame, keeps_load, keeps_refused_load, keeps_write, keeps_failed_write, keeps_sync, keeps_failed_sync, keeps_record, keeps_mark}
-use Rattle.als_frames.proofs.BatchKeeping.{keeps_batch}
-use Rattle.als_dirty.specs.declared.dirty_page.DirtyPage.{DirtyPage}
-use Rattle.als_dirty.specs.Entries.{entry_of, after_write}
-use Rattle.als_dirty.specs.Images.{first_lsn, AreDirtyPagesOf, IsNextImage}
-use Rattle.als_dirty.proofs.TableSteps.{set_kept, routed_kept, other_kept, synced_kept}
+use Rattle.als_frames.specs.Images.{synced_lsn, lsn_now, lsn_or, written_or, AreFramesOf}
+use Rattle.als_frames.specs.Outcomes.{IsFound, RefusesFetch, WriteFails}
+use Rattle.als_frames.proofs.Keeping.{reads, never_bad as bad_frame, never_bad_below, keeps_put, keeps_refused_fetch, keeps_write, keeps_failed_write, keeps_sync, keeps_failed_sync, keeps_record, keeps_mark, synced_is}
+use Rattle.als_frames.proofs.BatchKeeping.{keeps_redo}
+use Rattle.als_dirty.specs.Entries.{entry_of}
 use Rattle.als_pool.specs.declared.fault.Fault.{Fault}
 use Rattle.als_pool.specs.declared.fault.Fault.TheVariants.{LogBehind, PoolFull, NothingToDo, Device, Memory, BadPage}
 use Rattle.als_pool.specs.Queues.{pending_of}
-use Rattle.als_pool.specs.Pooled.{Pooled, lsn_or, lsn_now}
-use Rattle.als_pool.specs.Outcomes.{with_change, Redoes, Applies, LoadFails, RefusesApply, IsDueAt, StoresPage, Flushes, FlushFails, RefusesFlush, SyncsPages, SyncPagesFails, IsPageNow, ReadRefused, RefusesPage}
-use Rattle.als_pool.specs.Images.{synced_of, IsPoolOf}
-use Rattle.als_pool.proofs.QueueLists.{waits_inside}
-use Rattle.als_pool.proofs.PoolSteps.{framed, pool-frames, pool-loads, pool-redoes}
-use Rattle.als_pool.proofs.RowSteps.{next_image, pool-stores, pool-syncs, pool-other, pool-change, pool-raised}
+use Rattle.als_pool.specs.Pooled.{Pooled, Held, unread_of}
+use Rattle.als_pool.specs.Outcomes.{with_change, Loads, MakesResident, Redoes, Applies, NotFetched, RefusesLoad, RefusesApply, IsDueAt, StoresPage, Flushes, FlushFails, RefusesFlush, SyncsPages, SyncPagesFails, IsPageNow, ReadRefused, RefusesPage}
+use Rattle.als_pool.specs.Images.{IsPageOf, IsPoolOf}
+use Rattle.als_pool.proofs.QueueLists.{some_inside}
+use Rattle.als_pool.proofs.PageSteps.{read-it}
+use Rattle.als_pool.proofs.PoolSteps.{framed, pool-frames, pool-loads, pool-redoes, pool-stores, pool-syncs, pool-raised, pool-other, pool-change}
 
--- a page that was not made resident leaves the frames as they were
-pub load_refused : (e : FramesFault) (old new : Paged) (page end : ℕ) → RefusesLoad e old new page end → (new.pages ≡ old.pages) × ((p : ℕ) → frame_of new p ≡ frame_of old p)
-load_refused FullFrames old new page end r = (ap (λ (v : Paged). v.pages) r.1, λ p. ap (λ (v : Paged). frame_of v p) r.1)
-load_refused DiskFailed old new page end r = (ap (λ (v : Paged). v.pages) r.2.same, λ p. ap (λ (v : Paged). frame_of v p) r.2.same)
-load_refused (NoPage q) old new page end r = (ap (λ (v : Paged). v.pages) r.4, λ p. ap (λ (v : Paged). frame_of v p) r.4)
-load_refused NoRoom old new page end r = (ap (λ (v : Paged). v.pages) r.3, λ p. ap (λ (v : Paged). frame_of v p) r.3)
-load_refused NoFrame old new page end r = absurd r
-
--- the page_LSN that a redo answers
-pub redoes_lsn : (old new : Pooled) (page : ℕ) (lsn : Lsn) → Redoes old new page lsn → lsn.0 ≡ lsn_now new page
-redoes_lsn old new page lsn done =
-    let b = done.redoes in
-    let r = b.redoes in
-    let now : b.f'.content.lsn ≡ r.last.lsn.0 = ap (λ (x : Framed). x.content.lsn) r.after ∙ lsn-fold b.f.content (r.front ++ r.last ∷ []) ∙ lsn_after-last b.f.content.lsn r.front r.last in
-    ap (λ (l : Lsn). l.0) r.lsn_is ∙ sym now ∙ ap (λ (o : Option Framed). lsn_or o (synced_of new.dirty page)) (sym b.sets.frame)
+-- a page that was not fetched leaves the frames and the blocks as they were
+pub fetch_refused : (e : FramesFault) (old new : Paged) (page end : ℕ) → RefusesFetch e old new page end
+    → (new.pages ≡ old.pages) × ((p : ℕ) → frame_of new p ≡ frame_of old p) × ((p : ℕ) → synced_lsn new p ≡ synced_lsn old p)
+fetch_refused FullFrames old new page end r = (ap (λ (v : Paged). v.pages) r.1, λ p. ap (λ (v : Paged). frame_of v p) r.1, λ p. ap (λ (v : Paged). synced_lsn v p) r.1)
+fetch_refused DiskFailed old new page end r = (ap (λ (v : Paged). v.pages) r.1.same, λ p. ap (λ (v : Paged). frame_of v p) r.1.same, λ p. ap (λ (v : Paged). synced_lsn v p) r.1.same)
+fetch_refused (NoPage q) old new page end r = (ap (λ (v : Paged). v.pages) r.3, λ p. ap (λ (v : Paged). frame_of v p) r.3, λ p. ap (λ (v : Paged). synced_lsn v p) r.3)
+fetch_refused NoRoom old new page end r = absurd r
+fetch_refused NoFrame old new page end r = absurd r
 
 module _ (log : List Record) (below : ℕ) where
   keeps_same : (old new : Pooled) → new ≡ old → IsPoolOf log below old → IsPoolOf log below new
@@ -54,74 +42,60 @@ module _ (log : List Record) (below : ℕ) where
 
   -- ---- redo
 
-  keeps_resident : (old new : Pooled) (page : ℕ) (first : Lsn) (o : Option Framed) → page < length old.queues → frame_of old.frames page ≡ o
-      → MatchOption o (Loads old.frames new.frames page first.0 × (new ≡ record old { frames = new.frames })) (λ f. new ≡ old) → IsPoolOf log below old → IsPoolOf log below new
-  keeps_resident old new page first None inside is made h =
-      keeps_same (record old { frames = new.frames }) new made.1
-      (pool-loads log below old new.frames page first.0 inside is made.0 (keeps_load log (synced_of old.dirty) below old.frames new.frames page first.0 is made.0 h.frames) h)
-  keeps_resident old new page first (Some f) inside is made h = keeps_same old new made h
+  keeps_loads : (old new : Pooled) (page end : ℕ) → page < length old.waits → Loads old new page end → IsPoolOf log below old → IsPoolOf log below new
+  keeps_loads old new page end inside loads h =
+      let is : loads.content ≡ page_at log page (synced_lsn old.frames page)
+      = reads log (synced_lsn old.frames) below old.frames page loads.content (omega (arith, inside, h.paged)) loads.absent loads.fetched.found h.frames in
+      pool-loads log below old new page end inside loads is
+      (keeps_put log (synced_lsn old.frames) below old.frames new.frames page loads.content loads.absent is loads.puts h.frames) h
 
-  -- no queue has changed, and no row
-  same_queues : (old new : Pooled) (page : ℕ) (first : Lsn) (o : Option Framed)
-      → MatchOption o (Loads old.frames new.frames page first.0 × (new ≡ record old { frames = new.frames })) (λ f. new ≡ old) → new.queues ≡ old.queues
-  same_queues old new page first None made = ap (λ (v : Pooled). v.queues) made.1
-  same_queues old new page first (Some f) made = ap (λ (v : Pooled). v.queues) made
-
-  keeps_redoes : (old new : Pooled) (page : ℕ) (lsn : Lsn) → page < length old.queues → Redoes old new page lsn → IsPoolOf log below old → IsPoolOf log below new
-  keeps_redoes old new page lsn inside done h =
-      pool-redoes log below old new page lsn inside done
-      (keeps_batch log (synced_of old.dirty) below old.frames new.frames page (pending_of old.queues page) done.left lsn done.redoes
-      (λ f is. h.waits page inside ∙ ap (λ (o : Option Framed). changes_above log page (lsn_or o (synced_of old.dirty page))) is) h.frames) h
-
-  keeps_applies : (old new : Pooled) (page : ℕ) (lsn : Lsn) → Applies old new page lsn → IsPoolOf log below old → IsPoolOf log below new
-  keeps_applies old new page lsn done h =
-      let inside : page < length old.queues = waits_inside old.queues page done.first done.waits in
-      let queues = same_queues old done.loaded page done.first (frame_of old.frames page) done.resident in
-      keeps_redoes done.loaded new page lsn (omega (arith, inside, ap length queues)) done.redoes
-      (keeps_resident old done.loaded page done.first (frame_of old.frames page) inside refl done.resident h)
-
-  keeps_load_fails : (e : FramesFault) (old new : Pooled) (page : ℕ) → LoadFails e old new page → IsPoolOf log below old → IsPoolOf log below new
-  keeps_load_fails e old new page fails h =
-      let same = load_refused e old.frames new.frames page fails.first.0 fails.refuses in
-      keeps_same (record old { frames = new.frames }) new fails.same
-      (pool-frames log below old new.frames (keeps_refused_load log (synced_of old.dirty) below e old.frames new.frames page fails.first.0 fails.refuses h.frames) same.0 same.1 h)
-
-  keeps_refused_apply : (e : Fault) (old new : Pooled) (page : ℕ) → RefusesApply e old new page → IsPoolOf log below old → IsPoolOf log below new
-  keeps_refused_apply NothingToDo old new page r h = keeps_same old new r.1 h
-  keeps_refused_apply PoolFull old new page r h = keeps_load_fails FullFrames old new page r h
-  keeps_refused_apply Device old new page r h = keeps_load_fails DiskFailed old new page r h
-  keeps_refused_apply Memory old new page r h = keeps_load_fails NoRoom old new page r h
-  keeps_refused_apply (BadPage p) old new page r h = keeps_load_fails (NoPage p) old new page r h
-  keeps_refused_apply LogBehind old new page r h = absurd r
-
-  pub keeps_apply : (r : Result Lsn Fault) (old new : Pooled) (page : ℕ) → IfOk r (λ lsn. Applies old new page lsn) → IfErr r (λ e. RefusesApply e old new page)
+  keeps_resident : (old new : Pooled) (page end : ℕ) (o : Option Framed) → page < length old.waits → MatchOption o (Loads old new page end) (λ f. new ≡ old)
       → IsPoolOf log below old → IsPoolOf log below new
-  keeps_apply (Ok lsn) old new page ok err h = keeps_applies old new page lsn ok h
-  keeps_apply (Err e) old new page ok err h = keeps_refused_apply e old new page err h
+  keeps_resident old new page end None inside made h = keeps_loads old new page end inside made h
+  keeps_resident old new page end (Some f) inside made h = keeps_same old new made h
+
+  keeps_redoes : (old new : Pooled) (page : ℕ) (lsn : Lsn) → Redoes old new page lsn → IsPoolOf log below old → IsPoolOf log below new
+  keeps_redoes old new page lsn done h =
+      let inside : page < length old.waits = some_inside old.waits page done.some in
+      pool-redoes log below old new page lsn inside done
+      (keeps_redo log (synced_lsn old.frames) below old.frames new.frames page (take 64 (pending_of old.waits page)) (drop 64 (pending_of old.waits page)) done.redoes
+      (λ f is.
+      let at : IsPageOf log page (Some f) (synced_lsn old.frames page) (entry_of old.dirty page) (pending_of old.waits page) (unread_of old.unread page)
+      = subst (λ (o : Option Framed). IsPageOf log page o (synced_lsn old.frames page) (entry_of old.dirty page) (pending_of old.waits page) (unread_of old.unread page)) is (h.each page inside) in
+      let it = (read-it log page f (synced_lsn old.frames page) (entry_of old.dirty page) (pending_of old.waits page) (unread_of old.unread page) at).1 in
+      sym it.wait ∙ sym (take-append-drop 64 (pending_of old.waits page))) h.frames) h
+
+  keeps_applies : (old new : Pooled) (page end : ℕ) (lsn : Lsn) → Applies old new page end lsn → IsPoolOf log below old → IsPoolOf log below new
+  keeps_applies old new page end lsn done h =
+      keeps_redoes done.loaded new page lsn done.redoes
+      (keeps_resident old done.loaded page end (frame_of old.frames page) (some_inside old.waits page done.some) done.resident h)
+
+  keeps_not_fetched : (e : FramesFault) (old new : Pooled) (page end : ℕ) → NotFetched e old new page end → IsPoolOf log below old → IsPoolOf log below new
+  keeps_not_fetched e old new page end fails h =
+      let same = fetch_refused e old.frames new.frames page end fails.refuses in
+      keeps_same (record old { frames = new.frames }) new fails.same
+      (pool-frames log below old new.frames (keeps_refused_fetch log (synced_lsn old.frames) below e old.frames new.frames page end fails.refuses h.frames) same.0 same.1 h)
+
+  keeps_refused_apply : (e : Fault) (old new : Held) (page end : ℕ) → RefusesApply e old new page end → IsPoolOf log below old.pool → IsPoolOf log below new.pool
+  keeps_refused_apply NothingToDo old new page end (inl r) h = keeps_same old.pool new.pool (ap (λ (v : Held). v.pool) r.1) h
+  keeps_refused_apply NothingToDo old new page end (inr r) h = keeps_loads old.pool new.pool page end (some_inside old.pool.waits page r.some) r.loads h
+  keeps_refused_apply PoolFull old new page end r h = keeps_not_fetched FullFrames old.pool new.pool page end r.1 h
+  keeps_refused_apply Device old new page end r h = keeps_not_fetched DiskFailed old.pool new.pool page end r.1 h
+  keeps_refused_apply Memory old new page end r h = keeps_same old.pool new.pool r.1.same h
+  keeps_refused_apply (BadPage p) old new page end r h = keeps_not_fetched (NoPage p) old.pool new.pool page end r.1 h
+  keeps_refused_apply LogBehind old new page end r h = absurd r
+
+  pub keeps_apply : (r : Result Lsn Fault) (old new : Held) (page end : ℕ) → IfOk r (λ lsn. Applies old.pool new.pool page end lsn) → IfErr r (λ e. RefusesApply e old new page end)
+      → IsPoolOf log below old.pool → IsPoolOf log below new.pool
+  keeps_apply (Ok lsn) old new page end ok err h = keeps_applies old.pool new.pool page end lsn ok h
+  keeps_apply (Err e) old new page end ok err h = keeps_refused_apply e old new page end err h
 
   -- the block of a page that changes wait for is never bad
-  pub never_bad : (r : Result Lsn Fault) (old new : Pooled) (page p : ℕ) → IfErr r (λ e. RefusesApply e old new page) → IsPoolOf log below old → IsErrOf r (BadPage p) → ⊥
-  never_bad r old new page p err h is =
-      let fails : LoadFails (NoPage p) old new page = subst (λ (r' : Result Lsn Fault). IfErr r' (λ e. RefusesApply e old new page)) is err in
-      let inside : page < length old.queues = waits_inside old.queues page fails.first fails.waits in
-      let absent : frame_of old.frames page ≡ None = fails.refuses.0 in
-      let bad : IsBad (slot_of old.frames page) page fails.first.0 = fails.refuses.3 in
-      let synced = synced_of old.dirty page in
-      let stored : IsStoredAt log page below synced (slot_of old.frames page)
-      = subst (IsPageAt log page below synced old.frames.sure (slot_of old.frames page)) absent (h.frames.each page (omega (arith, inside, h.paged))) in
-      let image : bad.block ≡ image_of log page synced = sym (Contains-one (subst (λ (s : Slot). Contains s.readable bad.block) stored.settled bad.given)) in
-      let past : fails.first.0 ≤ (page_at log page synced).lsn = bad.no_page (page_at log page synced) (IsPageState-page_at old.frames.pages log page synced h.frames.is_log) image in
-      let waits : first_lsn (changes_above log page synced) ≡ Some fails.first
-      = ap first_lsn (ap (λ (o : Option Framed). changes_above log page (lsn_or o synced)) (sym absent) ∙ sym (h.waits page inside)) ∙ fails.waits in
-      above (changes_above log page synced) synced fails.first refl waits past stored.stable.own
-    where
-      above : (cs : List Change) (synced : ℕ) (first : Lsn) → changes_above log page synced ≡ cs → first_lsn cs ≡ Some first → first.0 ≤ (page_at log page synced).lsn
-          → (page_at log page synced).lsn ≡ synced → ⊥
-      above [] synced first is' none past own = absurd cc
-      above (c ∷ cs) synced first is' some past own =
-          let head = changes_above-head log page synced c cs h.frames.is_log.laid_out is' in
-          let same : c.lsn ≡ first = cc some in
-          omega (arith, head.above, past, own, ap (λ (l : Lsn). l.0) same)
+  pub never_bad : (r : Result Lsn Fault) (old new : Held) (page end p : ℕ) → end_of log ≤ end → IfErr r (λ e. RefusesApply e old new page end) → IsPoolOf log below old.pool → IsErrOf r (BadPage p) → ⊥
+  never_bad r old new page end p le err h is =
+      let refused : RefusesApply (BadPage p) old new page end = subst (λ (r' : Result Lsn Fault). IfErr r' (λ e. RefusesApply e old new page end)) is err in
+      let inside : page < length old.pool.waits = some_inside old.pool.waits page refused.0 in
+      never_bad_below log (synced_lsn old.pool.frames) below old.pool.frames page end (omega (arith, inside, h.paged)) refused.1.absent le h.frames refused.1.refuses.2
 
   -- ---- images
 
@@ -131,24 +105,20 @@ module _ (log : List Record) (below : ℕ) where
       let same : due.f ≡ f = same_Some due.f f (sym due.due.resident ∙ is) in
       subst (λ (x : Framed). x.content.lsn < below) same (omega (arith, due.lsn_is, logged, le))
 
-  keeps_stores : (old new : Pooled) (page : ℕ) (lsn acknowledged : Lsn) → IsDueAt old page lsn → lsn.0 < acknowledged.0 → acknowledged.0 ≤ below → StoresPage old new page lsn
-      → IsPoolOf log below old → IsPoolOf log below new
-  keeps_stores old new page lsn acknowledged due logged le done h =
-      let inside : page < length old.dirty = omega (arith, due.in_range, h.rowed) in
-      let next : IsNextImage log page (entry_of old.dirty page) lsn (first_lsn (pending_of old.queues page)) = next_image log below old page lsn due h in
-      let e : DirtyPage = after_write (entry_of old.dirty page) lsn (first_lsn (pending_of old.queues page)) in
-      let row = h.dirty page inside in
-      let rows : AreDirtyPagesOf log (slice_set old.dirty page e) = set_kept log old.dirty page e inside (λ p lt ne. h.dirty p lt)
-      (record { synced = row.synced; written = next.image; order = omega (arith, row.order, next.order) }) in
-      pool-stores log below old new page lsn due done
-      (keeps_write log (synced_of old.dirty) below old.frames new.frames page (stable_frame old page lsn acknowledged due logged le) done.writes h.frames)
-      (subst (λ (v : Pooled). AreDirtyPagesOf log v.dirty) (sym done.same) rows) h
+  stored-frames : (old new : Pooled) (page : ℕ) (lsn acknowledged : Lsn) → IsDueAt old page lsn → lsn.0 < acknowledged.0 → acknowledged.0 ≤ below → StoresPage old new page lsn
+      → IsPoolOf log below old → AreFramesOf log (synced_lsn old.frames) below new.frames
+  stored-frames old new page lsn acknowledged due logged le done h =
+      keeps_write log (synced_lsn old.frames) below old.frames new.frames page (stable_frame old page lsn acknowledged due logged le) done.writes h.frames
+
+  failed-frames : (old new : Pooled) (page : ℕ) (acknowledged : Lsn) → acknowledged.0 ≤ below → FlushFails old new page acknowledged → IsPoolOf log below old
+      → AreFramesOf log (synced_lsn old.frames) below new.frames
+  failed-frames old new page acknowledged le fails h =
+      keeps_failed_write log (synced_lsn old.frames) below old.frames new.frames page (stable_frame old page fails.lsn acknowledged fails.due fails.logged le) fails.fails h.frames
 
   keeps_flush_fails : (old new : Pooled) (page : ℕ) (acknowledged : Lsn) → acknowledged.0 ≤ below → FlushFails old new page acknowledged → IsPoolOf log below old → IsPoolOf log below new
   keeps_flush_fails old new page acknowledged le fails h =
       keeps_same (record old { frames = new.frames }) new fails.same
-      (pool-frames log below old new.frames
-      (keeps_failed_write log (synced_of old.dirty) below old.frames new.frames page (stable_frame old page fails.lsn acknowledged fails.due fails.logged le) fails.fails h.frames)
+      (pool-frames log below old new.frames (failed-frames old new page acknowledged le fails h)
       (ap (λ (v : Paged). v.pages) fails.fails.same) (λ p. ap (λ (v : Paged). frame_of v p) fails.fails.same) h)
 
   keeps_refused_flush : (e : Fault) (old new : Pooled) (page : ℕ) (acknowledged : Lsn) → acknowledged.0 ≤ below → RefusesFlush e old new page acknowledged → IsPoolOf log below old → IsPoolOf log below new
@@ -161,54 +131,101 @@ module _ (log : List Record) (below : ℕ) where
 
   pub keeps_flush : (r : Result (Unit {0}) Fault) (old new : Pooled) (page : ℕ) (acknowledged : Lsn) → OnOk r (Flushes old new page acknowledged)
       → IfErr r (λ e. RefusesFlush e old new page acknowledged) → acknowledged.0 ≤ below → IsPoolOf log below old → IsPoolOf log below new
-  keeps_flush (Ok x) old new page acknowledged ok err le h = keeps_stores old new page ok.lsn acknowledged ok.due ok.logged le ok.stores h
+  keeps_flush (Ok x) old new page acknowledged ok err le h =
+      pool-stores log below old new page ok.lsn ok.due ok.stores (stored-frames old new page ok.lsn acknowledged ok.due ok.logged le ok.stores h) h
   keeps_flush (Err e) old new page acknowledged ok err le h = keeps_refused_flush e old new page acknowledged le err h
 
-  pub keeps_syncs : (old new : Pooled) → IsTrue old.frames.sure → SyncsPages old new → IsPoolOf log below old → IsPoolOf log below new
-  keeps_syncs old new sure done h =
-      pool-syncs log below old new done (keeps_sync log (synced_of old.dirty) below old.frames new.frames sure done.syncs h.frames)
-      (synced_kept log old.dirty new.dirty (ap (λ (v : Pooled). v.dirty) done.same) h.dirty) h
+  pub synced-frames : (old new : Pooled) → IsTrue old.frames.sure → SyncsPages old new → IsPoolOf log below old
+      → AreFramesOf log (λ p. written_or (frame_of old.frames p) (synced_lsn old.frames p)) below new.frames
+  synced-frames old new sure done h = keeps_sync log (synced_lsn old.frames) below old.frames new.frames sure done.syncs h.frames
 
-  pub keeps_sync_fails : (old new : Pooled) → SyncPagesFails old new → IsPoolOf log below old → IsPoolOf log below new
+  keeps_sync_fails : (old new : Pooled) → SyncPagesFails old new → IsPoolOf log below old → IsPoolOf log below new
   keeps_sync_fails old new fails h =
       keeps_same (record old { frames = new.frames }) new fails.same
-      (pool-frames log below old new.frames (keeps_failed_sync log (synced_of old.dirty) below old.frames new.frames fails.fails h.frames)
+      (pool-frames log below old new.frames (keeps_failed_sync log (synced_lsn old.frames) below old.frames new.frames fails.fails h.frames)
       (ap (λ (v : Paged). v.pages) fails.fails.same) (λ p. ap (λ (v : Paged). frame_of v p) fails.fails.same) h)
+
+  pub keeps_sync_pages : (r : Result (Unit {0}) Fault) (old new : Pooled) → OnOk r (SyncsPages old new) → OnErr r (SyncPagesFails old new) → IsTrue old.frames.sure
+      → IsPoolOf log below old → IsPoolOf log below new
+  keeps_sync_pages (Ok x) old new ok err sure h = pool-syncs log below old new ok (synced-frames old new sure ok h) h
+  keeps_sync_pages (Err e) old new ok err sure h = keeps_sync_fails old new err h
+
+  -- ---- the page_LSNs last synced never fall
+
+  flushed-lsns : (old new : Pooled) (p : ℕ) → p < length old.waits → new.frames.pages ≡ old.frames.pages → AreFramesOf log (synced_lsn old.frames) below new.frames → IsPoolOf log below old
+      → synced_lsn old.frames p ≤ synced_lsn new.frames p
+  flushed-lsns old new p lt pages are h =
+      let is : synced_lsn new.frames p ≡ synced_lsn old.frames p = synced_is log (synced_lsn old.frames) below new.frames p (omega (arith, lt, pages, h.paged)) are in
+      omega (arith, is)
+
+  same-grows : (old new : Pooled) (p : ℕ) → new ≡ old → synced_lsn old.frames p ≤ synced_lsn new.frames p
+  same-grows old new p is = let same : synced_lsn new.frames p ≡ synced_lsn old.frames p = ap (λ (v : Pooled). synced_lsn v.frames p) is in omega (arith, same)
+
+  refused_flush_grows : (e : Fault) (old new : Pooled) (page p : ℕ) (acknowledged : Lsn) → p < length old.waits → RefusesFlush e old new page acknowledged → acknowledged.0 ≤ below → IsPoolOf log below old
+      → synced_lsn old.frames p ≤ synced_lsn new.frames p
+  refused_flush_grows NothingToDo old new page p acknowledged lt r le h = same-grows old new p r.1
+  refused_flush_grows LogBehind old new page p acknowledged lt r le h = same-grows old new p r.1
+  refused_flush_grows Device old new page p acknowledged lt r le h =
+      flushed-lsns old new p lt (ap (λ (v : Paged). v.pages) r.fails.same) (failed-frames old new page acknowledged le r h) h
+  refused_flush_grows PoolFull old new page p acknowledged lt r le h = absurd r
+  refused_flush_grows Memory old new page p acknowledged lt r le h = absurd r
+  refused_flush_grows (BadPage q) old new page p acknowledged lt r le h = absurd r
+
+  pub flush_grows : (r : Result (Unit {0}) Fault) (old new : Pooled) (page p : ℕ) (acknowledged : Lsn) → p < length old.waits → OnOk r (Flushes old new page acknowledged)
+      → IfErr r (λ e. RefusesFlush e old new page acknowledged) → acknowledged.0 ≤ below → IsPoolOf log below old → synced_lsn old.frames p ≤ synced_lsn new.frames p
+  flush_grows (Ok x) old new page p acknowledged lt ok err le h =
+      flushed-lsns old new p lt (ap (λ (v : Paged). v.pages) ok.stores.writes.same) (stored-frames old new page ok.lsn acknowledged ok.due ok.logged le ok.stores h) h
+  flush_grows (Err e) old new page p acknowledged lt ok err le h = refused_flush_grows e old new page p acknowledged lt err le h
 
   -- ---- more of the log
 
   pub keeps_mark_raised : (v : Pooled) (more : ℕ) → below ≤ more → IsPoolOf log below v → IsPoolOf log more v
-  keeps_mark_raised v more le h = pool-raised log below v more (keeps_mark log (synced_of v.dirty) below v.frames more le h.frames) h
+  keeps_mark_raised v more le h = pool-raised log below v more (keeps_mark log (synced_lsn v.frames) below v.frames more le h.frames) h
 
   pub keeps_other : (v : Pooled) (r : Record) → IsLog v.frames.pages (log ++ r ∷ []) → r.lsn.0 ≡ end_of log → change_of r ≡ None → IsPoolOf log below v → IsPoolOf (log ++ r ∷ []) below v
-  keeps_other v r is_log placed none h =
-      pool-other log below r placed v none (keeps_record log (synced_of v.dirty) below v.frames r is_log placed h.frames) (other_kept log r v.dirty none h.dirty) h
+  keeps_other v r is_log placed none h = pool-other log below r placed v none (keeps_record log (synced_lsn v.frames) below v.frames r is_log placed h.frames) h
 
-  pub keeps_route : (v : Pooled) (r : Record) (c : Change) → c.key.page < length v.queues → IsLog v.frames.pages (log ++ r ∷ []) → r.lsn.0 ≡ end_of log → change_of r ≡ Some c
+  pub keeps_route : (v : Pooled) (r : Record) (c : Change) → c.key.page < length v.waits → IsLog v.frames.pages (log ++ r ∷ []) → r.lsn.0 ≡ end_of log → change_of r ≡ Some c
       → IsPoolOf log below v → IsPoolOf (log ++ r ∷ []) below (with_change v c)
   keeps_route v r c inside is_log placed is h =
-      pool-change log below r placed v c inside is (keeps_record log (synced_of v.dirty) below v.frames r is_log placed h.frames)
-      (routed_kept log r c v.dirty c.key.page _ (omega (arith, inside, h.rowed)) h.dirty placed is refl refl) h
-
-  pub keeps_sync_pages : (r : Result (Unit {0}) Fault) (old new : Pooled) → OnOk r (SyncsPages old new) → OnErr r (SyncPagesFails old new) → IsTrue old.frames.sure
-      → IsPoolOf log below old → IsPoolOf log below new
-  keeps_sync_pages (Ok x) old new ok err sure h = keeps_syncs old new sure ok h
-  keeps_sync_pages (Err e) old new ok err sure h = keeps_sync_fails old new err h
+      pool-change log below r placed v c inside is (keeps_record log (synced_lsn v.frames) below v.frames r is_log placed h.frames) h
 
   -- ---- queries
 
-  now_history : (v : Pooled) (page end : ℕ) (content : PageState) (o : Option Framed) → page < length v.queues → frame_of v.frames page ≡ o
-      → MatchOption o (IsFound (slot_of v.frames page) page end content) (λ f. content ≡ f.content) → IsPoolOf log below v → content ≡ page_at log page (lsn_or o (synced_of v.dirty page))
-  now_history v page end content None inside is found h = reads log (synced_of v.dirty) below v.frames page end content (omega (arith, inside, h.paged)) is found h.frames
-  now_history v page end content (Some f) inside is same h =
-      same ∙ (framed log below v page f inside is h).content
+  now_history : (v : Pooled) (page : ℕ) (content : PageState) (o : Option Framed) → page < length v.waits → frame_of v.frames page ≡ o
+      → MatchOption o (IsFound (slot_of v.frames page) page content) (λ f. content ≡ f.content) → IsPoolOf log below v → content ≡ page_at log page (lsn_or o (synced_lsn v.frames page))
+  now_history v page content None inside is found h = reads log (synced_lsn v.frames) below v.frames page content (omega (arith, inside, h.paged)) is found h.frames
+  now_history v page content (Some f) inside is same h = same ∙ (framed log below v page f inside is h).content
 
   -- a page as it is now is history repeated
-  pub page_history : (v : Pooled) (page end : ℕ) (content : PageState) → page < length v.queues → IsPageNow v page end content → IsPoolOf log below v → content ≡ page_at log page (lsn_now v page)
-  page_history v page end content inside now h = now_history v page end content (frame_of v.frames page) inside refl now h
+  pub page_history : (v : Pooled) (page : ℕ) (content : PageState) → page < length v.waits → IsPageNow v page content → IsPoolOf log below v → content ≡ page_at log page (lsn_now v.frames page)
+  page_history v page content inside now h = now_history v page content (frame_of v.frames page) inside refl now h
 
-  pub page_sound : {T : Type 0} (r : Result T Fault) (old new : Pooled) (page end p : ℕ) → page < length old.queues → end_of log ≤ end → IfErr r (λ e. RefusesPage e old new page end)
+  pub page_sound : {T : Type 0} (r : Result T Fault) (old new : Pooled) (page p : ℕ) → page < length old.waits → IfErr r (λ e. RefusesPage e old new page)
       → IsPoolOf log below old → IsErrOf r (BadPage p) → ⊥
-  page_sound r old new page end p inside le err h is =
-      let refused : ReadRefused (NoPage p) old new page end = subst (λ r'. IfErr r' (λ e. RefusesPage e old new page end)) is err in
-      bad_frame log (synced_of old.dirty) below old.frames page end (omega (arith, inside, h.paged)) refused.absent le h.frames refused.refuses.1
+  page_sound r old new page p inside err h is =
+      let refused : ReadRefused (NoPage p) old new page = subst (λ r'. IfErr r' (λ e. RefusesPage e old new page)) is err in
+      bad_frame log (synced_lsn old.frames) below old.frames page (omega (arith, inside, h.paged)) refused.absent h.frames refused.refuses.1
+
+  read_frames : (e : FramesFault) (old new : Pooled) (page : ℕ) → ReadRefused e old new page → IsPoolOf log below old → IsPoolOf log below new
+  read_frames DiskFailed old new page r h =
+      keeps_same (record old { frames = new.frames }) new r.same
+      (pool-frames log below old new.frames (subst (AreFramesOf log (synced_lsn old.frames) below) (sym r.refuses.same) (record { is_log = h.frames.is_log; each = h.frames.each }))
+      (ap (λ (v : Paged). v.pages) r.refuses.same) (λ p. ap (λ (v : Paged). frame_of v p) r.refuses.same) h)
+  read_frames (NoPage q) old new page r h = keeps_same old new (r.same ∙ ap (λ (f : Paged). record old { frames = f }) r.refuses.2) h
+  read_frames FullFrames old new page r h = absurd r.refuses
+  read_frames NoRoom old new page r h = absurd r.refuses
+  read_frames NoFrame old new page r h = absurd r.refuses
+
+  refused_page : (e : Fault) (old new : Pooled) (page : ℕ) → RefusesPage e old new page → IsPoolOf log below old → IsPoolOf log below new
+  refused_page Device old new page r h = read_frames DiskFailed old new page r h
+  refused_page (BadPage p) old new page r h = read_frames (NoPage p) old new page r h
+  refused_page LogBehind old new page r h = absurd r
+  refused_page PoolFull old new page r h = absurd r
+  refused_page NothingToDo old new page r h = absurd r
+  refused_page Memory old new page r h = absurd r
+
+  pub keeps_page : {T : Type 0} (r : Result T Fault) (old new : Held) (page : ℕ) → OnOk r (new ≡ old) → IfErr r (λ e. RefusesPage e old.pool new.pool page)
+      → IsPoolOf log below old.pool → IsPoolOf log below new.pool
+  keeps_page (Ok x) old new page ok err h = keeps_same old.pool new.pool (ap (λ (v : Held). v.pool) ok) h
+  keeps_page (Err e) old new page ok err h = refused_page e old.pool new.pool page err h

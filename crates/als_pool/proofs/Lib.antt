@@ -1,7 +1,10 @@
 pub mod QueueLists
+pub mod QueueSteps
+pub mod Waiting
 pub mod Ordering
+pub mod PageSteps
 pub mod PoolSteps
-pub mod RowSteps
 pub mod Keeping
 pub mod Lsns
 pub mod PoolLaws
+pub mod Reading

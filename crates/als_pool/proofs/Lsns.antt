@@ -1,125 +1,165 @@
 -- Which pages' page_LSNs a call leaves as they were.
-use Rattle.std.proofs.Common.{◌≡◌, ◌⊎◌, ℕ, ◌<◌, List, length, map, Option, Some, None, inl, inr, refl, sym, ap, subst, ◌∙◌, arith}
+use Rattle.std.proofs.Common.{◌≡◌, ◌≢◌, ◌⊎◌, ℕ, ◌<◌, ◌≤◌, IsTrue, List, length, Option, Some, None, inl, inr, refl, sym, ap, subst, ◌∙◌, arith}
 use Rattle.std.specs.Prelude.{MatchOption, Result, Ok, Err, IfOk, IfErr, OnOk, OnErr}
 use Rattle.std.specs.Option.{option_map}
 use Rattle.std.proofs.lemmas.Bool.{cases_eq}
-use Rattle.std.proofs.lemmas.List.{get_or-map}
 use Rattle.als_record.specs.declared.lsn.Lsn.{Lsn}
-use Rattle.als_record.specs.declared.change.Change.{Change}
 use Rattle.als_record.specs.declared.record.Record.{Record}
 use Rattle.als_frames.specs.declared.fault.Fault.{Fault as FramesFault}
-use Rattle.als_frames.specs.declared.fault.Fault.TheVariants.{PoolFull as FullFrames, Device as DiskFailed, Memory as NoRoom, BadPage as NoPage}
-use Rattle.als_frames.specs.Frames.{Framed, Paged, frame_of}
-use Rattle.als_frames.specs.Outcomes.{IsReplaced, Loads, synced_frame}
-use Rattle.als_dirty.specs.declared.stored_image.StoredImage.{StoredImage}
+use Rattle.als_frames.specs.declared.fault.Fault.TheVariants.{PoolFull as FullFrames, Device as DiskFailed, BadPage as NoPage}
+use Rattle.als_frames.specs.Frames.{Framed, Paged, frame_of, slot_of}
+use Rattle.als_frames.specs.Images.{synced_lsn, lsn_now, lsn_or, written_or, spelled_lsn, synced_content}
+use Rattle.als_frames.specs.Outcomes.{IsReplaced, synced_frame, Writes, WriteFails}
+use Rattle.als_disk.specs.Slot.{Slot}
+use Rattle.als_frames.proofs.Keeping.{synced_is}
 use Rattle.als_dirty.specs.declared.dirty_page.DirtyPage.{DirtyPage}
-use Rattle.als_dirty.specs.Entries.{untouched_page, entry_of, after_record, after_write, after_sync}
-use Rattle.als_dirty.specs.Images.{first_lsn}
+use Rattle.als_dirty.specs.Entries.{entry_of}
+use Rattle.als_record.specs.declared.change.Change.{Change}
 use Rattle.als_pool.specs.declared.fault.Fault.{Fault}
 use Rattle.als_pool.specs.declared.fault.Fault.TheVariants.{LogBehind, PoolFull, NothingToDo, Device, Memory, BadPage}
 use Rattle.als_pool.specs.Queues.{pending_of}
-use Rattle.als_pool.specs.Pooled.{Pooled, lsn_or, lsn_now, SameLsns, SameLsnsBut}
-use Rattle.als_pool.specs.Outcomes.{with_change, Applies, LoadFails, RefusesApply, StoresPage, Flushes, RefusesFlush, SyncsPages, SyncPagesFails}
-use Rattle.als_pool.specs.Images.{synced_of, IsTabled, IsPoolOf}
+use Rattle.als_pool.specs.Pooled.{Pooled, Held, SameLsns, SameLsnsBut, unread_of}
+use Rattle.als_pool.specs.Outcomes.{Loads, Redoes, Applies, NotFetched, RefusesApply, StoresPage, Flushes, RefusesFlush, SyncsPages, SyncPagesFails}
+use Rattle.als_pool.specs.Images.{IsPageOf, IsPoolOf}
 use Rattle.als_pool.proofs.PoolSteps.{framed}
-use Rattle.als_pool.proofs.RowSteps.{synced-set}
-use Rattle.als_pool.proofs.Keeping.{load_refused}
-
--- no frame has changed, and nothing else
-lsns-frames : (old new : Pooled) → new ≡ record old { frames = new.frames } → ((p : ℕ) → frame_of new.frames p ≡ frame_of old.frames p) → SameLsns old new
-lsns-frames old new is same p lt =
-    ap (λ (v : Pooled). lsn_now v p) is ∙ ap (λ (o : Option Framed). lsn_or o (synced_of old.dirty p)) (same p)
+use Rattle.als_pool.proofs.Keeping.{fetch_refused, synced-frames}
 
 -- nothing has changed
 lsns-same : (old new : Pooled) → new ≡ old → SameLsns old new
-lsns-same old new is p lt = ap (λ (v : Pooled). lsn_now v p) is
+lsns-same old new is p lt = ap (λ (v : Pooled). lsn_now v.frames p) is
+
+-- the page_LSN of a page of which neither the frame nor what its block spells has changed
+lsn-now : (old new : Paged) (p : ℕ) → frame_of new p ≡ frame_of old p → synced_lsn new p ≡ synced_lsn old p → lsn_now new p ≡ lsn_now old p
+lsn-now old new p fe se = ap (λ (o : Option Framed). lsn_or o (synced_lsn new p)) fe ∙ ap (λ (n : ℕ). lsn_or (frame_of old p) n) se
 
 -- ---- redo
 
+not-fetched : (e : FramesFault) (old new : Pooled) (page end p : ℕ) → NotFetched e old new page end → (lsn_now new.frames p ≡ lsn_now old.frames p) × (synced_lsn new.frames p ≡ synced_lsn old.frames p)
+not-fetched e old new page end p fails =
+    let same = fetch_refused e old.frames new.frames page end fails.refuses in
+    (lsn-now old.frames new.frames p (same.1 p) (same.2 p), same.2 p)
+
+loads-spelled : (old new : Pooled) (page end p : ℕ) → Loads old new page end → synced_lsn new.frames p ≡ synced_lsn old.frames p
+loads-spelled old new page end p loads = ap (λ (v : Paged). synced_lsn v p) loads.puts.same
+
+resident-spelled : (old new : Pooled) (page end p : ℕ) (o : Option Framed) → MatchOption o (Loads old new page end) (λ f. new ≡ old) → synced_lsn new.frames p ≡ synced_lsn old.frames p
+resident-spelled old new page end p None made = loads-spelled old new page end p made
+resident-spelled old new page end p (Some f) made = ap (λ (v : Pooled). synced_lsn v.frames p) made
+
+applied-spelled : (old new : Pooled) (page end p : ℕ) (lsn : Lsn) → Applies old new page end lsn → synced_lsn new.frames p ≡ synced_lsn old.frames p
+applied-spelled old new page end p lsn done =
+    ap (λ (v : Paged). synced_lsn v p) done.redoes.redoes.same ∙ resident-spelled old done.loaded page end p (frame_of old.frames page) done.resident
+
+refused-spelled : (e : Fault) (old new : Held) (page end p : ℕ) → RefusesApply e old new page end → synced_lsn new.pool.frames p ≡ synced_lsn old.pool.frames p
+refused-spelled NothingToDo old new page end p (inl r) = ap (λ (v : Held). synced_lsn v.pool.frames p) r.1
+refused-spelled NothingToDo old new page end p (inr r) = loads-spelled old.pool new.pool page end p r.loads
+refused-spelled PoolFull old new page end p r = (not-fetched FullFrames old.pool new.pool page end p r.1).1
+refused-spelled Device old new page end p r = (not-fetched DiskFailed old.pool new.pool page end p r.1).1
+refused-spelled Memory old new page end p r = ap (λ (v : Pooled). synced_lsn v.frames p) r.1.same
+refused-spelled (BadPage q) old new page end p r = (not-fetched (NoPage q) old.pool new.pool page end p r.1).1
+refused-spelled LogBehind old new page end p r = absurd r
+
+pub apply-spelled : (r : Result Lsn Fault) (old new : Held) (page end p : ℕ) → IfOk r (λ lsn. Applies old.pool new.pool page end lsn) → IfErr r (λ e. RefusesApply e old new page end)
+    → synced_lsn new.pool.frames p ≡ synced_lsn old.pool.frames p
+apply-spelled (Ok lsn) old new page end p ok err = applied-spelled old.pool new.pool page end p lsn ok
+apply-spelled (Err e) old new page end p ok err = refused-spelled e old new page end p err
+
 module _ (log : List Record) (below : ℕ) where
-  other_loaded : (old : Pooled) (p : ℕ) (o : Option Framed) → p < length old.queues → IsPoolOf log below old → (o ≡ frame_of old.frames p) ⊎ IsReplaced (frame_of old.frames p) o
-      → lsn_or o (synced_of old.dirty p) ≡ lsn_now old p
-  other_loaded old p o lt h (inl same) = ap (λ (x : Option Framed). lsn_or x (synced_of old.dirty p)) same
-  other_loaded old p o lt h (inr (f, was, clean, gone)) =
-      let at = framed log below old p f lt was h in
-      let now : f.content.lsn ≡ synced_of old.dirty p = omega (arith, clean, at.synced_is) in
-      ap (λ (x : Option Framed). lsn_or x (synced_of old.dirty p)) gone ∙ sym now ∙ ap (λ (x : Option Framed). lsn_or x (synced_of old.dirty p)) (sym was)
+  other_loaded : (old new : Pooled) (page end p : ℕ) → p < length old.waits → p ≢ page → Loads old new page end → IsPoolOf log below old → lsn_now new.frames p ≡ lsn_now old.frames p
+  other_loaded old new page end p lt ne loads h = one (loads.puts.others p ne)
+    where
+      one : (frame_of new.frames p ≡ frame_of old.frames p) ⊎ IsReplaced (frame_of old.frames p) (frame_of new.frames p) → lsn_now new.frames p ≡ lsn_now old.frames p
+      one (inl same) = lsn-now old.frames new.frames p same (loads-spelled old new page end p loads)
+      one (inr (f, was, clean, gone)) =
+          let at = framed log below old p f lt was h in
+          let now : f.content.lsn ≡ synced_lsn old.frames p = omega (arith, clean, at.synced_is) in
+          ap (λ (x : Option Framed). lsn_or x (synced_lsn new.frames p)) gone ∙ loads-spelled old new page end p loads ∙ sym now ∙ ap (λ (x : Option Framed). lsn_or x (synced_lsn old.frames p)) (sym was)
 
-  others_resident : (old new : Pooled) (page : ℕ) (first : Lsn) (o : Option Framed)
-      → MatchOption o (Loads old.frames new.frames page first.0 × (new ≡ record old { frames = new.frames })) (λ f. new ≡ old) → IsPoolOf log below old → SameLsnsBut page old new
-  others_resident old new page first None made h p lt ne =
-      ap (λ (v : Pooled). lsn_now v p) made.1 ∙ other_loaded old p (frame_of new.frames p) lt h (made.0.others p ne)
-  others_resident old new page first (Some f) made h p lt ne = lsns-same old new made p lt
+  others_resident : (old new : Pooled) (page end p : ℕ) (o : Option Framed) → p < length old.waits → p ≢ page → MatchOption o (Loads old new page end) (λ f. new ≡ old) → IsPoolOf log below old
+      → lsn_now new.frames p ≡ lsn_now old.frames p
+  others_resident old new page end p None lt ne made h = other_loaded old new page end p lt ne made h
+  others_resident old new page end p (Some f) lt ne made h = lsns-same old new made p lt
 
-  others_applied : (old new : Pooled) (page : ℕ) (lsn : Lsn) → Applies old new page lsn → IsPoolOf log below old → SameLsnsBut page old new
-  others_applied old new page lsn done h p lt ne =
-      ap (λ (v : Pooled). lsn_now v p) done.redoes.same ∙ ap (λ (o : Option Framed). lsn_or o (synced_of done.loaded.dirty p)) (done.redoes.redoes.sets.others p ne)
-      ∙ others_resident old done.loaded page done.first (frame_of old.frames page) done.resident h p lt ne
+  others_applied : (old new : Pooled) (page end : ℕ) (lsn : Lsn) → Applies old new page end lsn → IsPoolOf log below old → SameLsnsBut page old new
+  others_applied old new page end lsn done h p lt ne =
+      lsn-now done.loaded.frames new.frames p (done.redoes.redoes.sets.others p ne) (ap (λ (v : Paged). synced_lsn v p) done.redoes.redoes.same)
+      ∙ others_resident old done.loaded page end p (frame_of old.frames page) lt ne done.resident h
 
-lsns-load_fails : (e : FramesFault) (old new : Pooled) (page : ℕ) → LoadFails e old new page → SameLsns old new
-lsns-load_fails e old new page fails = lsns-frames old new fails.same (load_refused e old.frames new.frames page fails.first.0 fails.refuses).1
+  others_refused : (e : Fault) (old new : Held) (page end : ℕ) → RefusesApply e old new page end → IsPoolOf log below old.pool → SameLsnsBut page old.pool new.pool
+  others_refused NothingToDo old new page end (inl r) h p lt ne = lsns-same old.pool new.pool (ap (λ (v : Held). v.pool) r.1) p lt
+  others_refused NothingToDo old new page end (inr r) h p lt ne = other_loaded old.pool new.pool page end p lt ne r.loads h
+  others_refused PoolFull old new page end r h p lt ne = (not-fetched FullFrames old.pool new.pool page end p r.1).0
+  others_refused Device old new page end r h p lt ne = (not-fetched DiskFailed old.pool new.pool page end p r.1).0
+  others_refused Memory old new page end r h p lt ne = lsns-same old.pool new.pool r.1.same p lt
+  others_refused (BadPage q) old new page end r h p lt ne = (not-fetched (NoPage q) old.pool new.pool page end p r.1).0
+  others_refused LogBehind old new page end r h p lt ne = absurd r
 
-lsns-refused : (e : Fault) (old new : Pooled) (page : ℕ) → RefusesApply e old new page → SameLsns old new
-lsns-refused NothingToDo old new page r = lsns-same old new r.1
-lsns-refused PoolFull old new page r = lsns-load_fails FullFrames old new page r
-lsns-refused Device old new page r = lsns-load_fails DiskFailed old new page r
-lsns-refused Memory old new page r = lsns-load_fails NoRoom old new page r
-lsns-refused (BadPage p) old new page r = lsns-load_fails (NoPage p) old new page r
-lsns-refused LogBehind old new page r = absurd r
-
-pub lsns_apply : (r : Result Lsn Fault) (old new : Pooled) (page : ℕ) → IfErr r (λ e. RefusesApply e old new page) → OnErr r (SameLsns old new)
-lsns_apply (Ok lsn) old new page err = tt
-lsns_apply (Err e) old new page err = lsns-refused e old new page err
-
-pub others_apply : (log : List Record) (below : ℕ) (r : Result Lsn Fault) (old new : Pooled) (page : ℕ) → IfOk r (λ lsn. Applies old new page lsn) → IfErr r (λ e. RefusesApply e old new page)
-    → IsPoolOf log below old → SameLsnsBut page old new
-others_apply log below (Ok lsn) old new page ok err h = others_applied log below old new page lsn ok h
-others_apply log below (Err e) old new page ok err h = λ p lt ne. lsns-refused e old new page err p lt
+  pub others_apply : (r : Result Lsn Fault) (old new : Held) (page end : ℕ) → IfOk r (λ lsn. Applies old.pool new.pool page end lsn) → IfErr r (λ e. RefusesApply e old new page end)
+      → IsPoolOf log below old.pool → SameLsnsBut page old.pool new.pool
+  others_apply (Ok lsn) old new page end ok err h = others_applied old.pool new.pool page end lsn ok h
+  others_apply (Err e) old new page end ok err h = others_refused e old new page end err h
 
 -- ---- images
 
-lsns-stores : (old new : Pooled) (page : ℕ) (lsn : Lsn) → page < length old.dirty → StoresPage old new page lsn → SameLsns old new
-lsns-stores old new page lsn inside done p lt =
-    let e : DirtyPage = after_write (entry_of old.dirty page) lsn (first_lsn (pending_of old.queues page)) in
-    ap (λ (v : Pooled). lsn_now v p) done.same ∙ ap (λ (n : ℕ). lsn_or (frame_of new.frames p) n) (synced-set old.dirty page e inside refl p)
-    ∙ elim (cases_eq p page) [
-      | inl is ↦ subst (λ (k : ℕ). lsn_or (frame_of new.frames k) (synced_of old.dirty k) ≡ lsn_now old k) (sym is)
-          (ap (λ (o : Option Framed). lsn_or o (synced_of old.dirty page)) done.writes.sets.frame ∙ ap (λ (o : Option Framed). lsn_or o (synced_of old.dirty page)) (sym done.writes.due.resident))
-      | inr ne ↦ ap (λ (o : Option Framed). lsn_or o (synced_of old.dirty p)) (done.writes.sets.others p ne)
+slot-spelled : (old new : Paged) (p : ℕ) → slot_of new p ≡ slot_of old p → synced_lsn new p ≡ synced_lsn old p
+slot-spelled old new p is = ap (λ (s : Slot). spelled_lsn (synced_content s)) is
+
+lsns-stores : (old new : Pooled) (page : ℕ) (lsn : Lsn) → StoresPage old new page lsn → SameLsns old new
+lsns-stores old new page lsn done p lt =
+    elim (cases_eq p page) [
+      | inl is ↦ subst (λ (k : ℕ). lsn_now new.frames k ≡ lsn_now old.frames k) (sym is)
+          (ap (λ (o : Option Framed). lsn_or o (synced_lsn new.frames page)) done.writes.sets.frame ∙ ap (λ (o : Option Framed). lsn_or o (synced_lsn old.frames page)) (sym done.writes.due.resident))
+      | inr ne ↦ lsn-now old.frames new.frames p (done.writes.sets.others p ne) (slot-spelled old.frames new.frames p (done.writes.slots.1 p ne))
+    ]
+
+lsns-failed : (old new : Paged) (page p : ℕ) → WriteFails old new page → lsn_now new p ≡ lsn_now old p
+lsns-failed old new page p fails =
+    elim (cases_eq p page) [
+      | inl is ↦ subst (λ (k : ℕ). lsn_now new k ≡ lsn_now old k) (sym is)
+          (ap (λ (o : Option Framed). lsn_or o (synced_lsn new page)) (ap (λ (v : Paged). frame_of v page) fails.same ∙ fails.due.resident) ∙ ap (λ (o : Option Framed). lsn_or o (synced_lsn old page)) (sym fails.due.resident))
+      | inr ne ↦ lsn-now old new p (ap (λ (v : Paged). frame_of v p) fails.same) (slot-spelled old new p (fails.slots.1 p ne))
     ]
 
 lsns-refused_flush : (e : Fault) (old new : Pooled) (page : ℕ) (acknowledged : Lsn) → RefusesFlush e old new page acknowledged → SameLsns old new
 lsns-refused_flush NothingToDo old new page acknowledged r = lsns-same old new r.1
 lsns-refused_flush LogBehind old new page acknowledged r = lsns-same old new r.1
-lsns-refused_flush Device old new page acknowledged r = lsns-frames old new r.same (λ p. ap (λ (v : Paged). frame_of v p) r.fails.same)
+lsns-refused_flush Device old new page acknowledged r = λ p lt. lsns-failed old.frames new.frames page p r.fails
 lsns-refused_flush PoolFull old new page acknowledged r = absurd r
 lsns-refused_flush Memory old new page acknowledged r = absurd r
 lsns-refused_flush (BadPage p) old new page acknowledged r = absurd r
 
-pub lsns_flush : (log : List Record) (below : ℕ) (r : Result (Unit {0}) Fault) (old new : Pooled) (page : ℕ) (acknowledged : Lsn) → OnOk r (Flushes old new page acknowledged)
-    → IfErr r (λ e. RefusesFlush e old new page acknowledged) → IsPoolOf log below old → SameLsns old new
-lsns_flush log below (Ok x) old new page acknowledged ok err h = lsns-stores old new page ok.lsn (omega (arith, ok.due.in_range, h.rowed)) ok.stores
-lsns_flush log below (Err e) old new page acknowledged ok err h = lsns-refused_flush e old new page acknowledged err
+pub lsns_flush : (r : Result (Unit {0}) Fault) (old new : Pooled) (page : ℕ) (acknowledged : Lsn) → OnOk r (Flushes old new page acknowledged)
+    → IfErr r (λ e. RefusesFlush e old new page acknowledged) → SameLsns old new
+lsns_flush (Ok x) old new page acknowledged ok err = lsns-stores old new page ok.lsn ok.stores
+lsns_flush (Err e) old new page acknowledged ok err = lsns-refused_flush e old new page acknowledged err
 
-lsn-synced : (o : Option Framed) (e : DirtyPage) → IsTabled o e → lsn_or (option_map synced_frame o) e.written.lsn.0 ≡ lsn_or o e.synced.lsn.0
-lsn-synced None e one = ap (λ (i : StoredImage). i.lsn.0) one
-lsn-synced (Some f) e is = refl
+-- the device is synced
+lsn-synced : (o : Option Framed) (s s' : ℕ) → s' ≡ written_or o s → lsn_or (option_map synced_frame o) s' ≡ lsn_or o s
+lsn-synced None s s' is = is
+lsn-synced (Some f) s s' is = refl
 
-lsns-syncs : (log : List Record) (below : ℕ) (old new : Pooled) → SyncsPages old new → IsPoolOf log below old → SameLsns old new
-lsns-syncs log below old new done h p lt =
-    let entry : entry_of (map after_sync old.dirty) p ≡ after_sync (entry_of old.dirty p) = get_or-map after_sync old.dirty p untouched_page untouched_page (omega (arith, lt, h.rowed)) in
-    ap (λ (v : Pooled). lsn_now v p) done.same
-    ∙ ap (λ (e : DirtyPage). lsn_or (frame_of new.frames p) e.synced.lsn.0) entry
-    ∙ ap (λ (o : Option Framed). lsn_or o (entry_of old.dirty p).written.lsn.0) (done.syncs.frames p)
-    ∙ lsn-synced (frame_of old.frames p) (entry_of old.dirty p) (h.tabled p lt)
+synced-least : (log : List Record) (p : ℕ) (o : Option Framed) (s : ℕ) (e : DirtyPage) (w : List Change) (u : Option Lsn) → IsPageOf log p o s e w u → s ≤ written_or o s
+synced-least log p o s e w None h = h.row.order
+synced-least log p o s e w (Some from) h = let is : written_or o s ≡ s = ap (λ (x : Option Framed). written_or x s) h.absent in omega (arith, is)
 
-pub lsns_sync : (log : List Record) (below : ℕ) (r : Result (Unit {0}) Fault) (old new : Pooled) → OnOk r (SyncsPages old new) → OnErr r (SyncPagesFails old new) → IsPoolOf log below old → SameLsns old new
-lsns_sync log below (Ok x) old new ok err h = lsns-syncs log below old new ok h
-lsns_sync log below (Err e) old new ok err h = lsns-frames old new err.same (λ p. ap (λ (v : Paged). frame_of v p) err.fails.same)
+module _ (log : List Record) (below : ℕ) where
+  synced-now : (old new : Pooled) (p : ℕ) → p < length old.waits → IsTrue old.frames.sure → SyncsPages old new → IsPoolOf log below old
+      → synced_lsn new.frames p ≡ written_or (frame_of old.frames p) (synced_lsn old.frames p)
+  synced-now old new p lt sure done h =
+      let pages : new.frames.pages ≡ old.frames.pages = ap (λ (v : Paged). v.pages) done.syncs.same in
+      synced_is log (λ q. written_or (frame_of old.frames q) (synced_lsn old.frames q)) below new.frames p (omega (arith, lt, pages, h.paged)) (synced-frames log below old new sure done h)
 
--- ---- a change more
+  failed-sync : (old new : Pooled) (p : ℕ) → SyncPagesFails old new → (lsn_now new.frames p ≡ lsn_now old.frames p) × (synced_lsn new.frames p ≡ synced_lsn old.frames p)
+  failed-sync old new p fails = (ap (λ (v : Paged). lsn_now v p) fails.fails.same, ap (λ (v : Paged). synced_lsn v p) fails.fails.same)
 
-pub lsns_change : (log : List Record) (below : ℕ) (old new : Pooled) (c : Change) → c.key.page < length old.queues → new ≡ with_change old c → IsPoolOf log below old → SameLsns old new
-lsns_change log below old new c inside is h p lt =
-    ap (λ (v : Pooled). lsn_now v p) is
-    ∙ ap (λ (n : ℕ). lsn_or (frame_of old.frames p) n) (synced-set old.dirty c.key.page (after_record (entry_of old.dirty c.key.page) c.lsn) (omega (arith, inside, h.rowed)) refl p)
+  pub lsns_sync : (r : Result (Unit {0}) Fault) (old new : Pooled) → OnOk r (SyncsPages old new) → OnErr r (SyncPagesFails old new) → IsTrue old.frames.sure → IsPoolOf log below old → SameLsns old new
+  lsns_sync (Ok x) old new ok err sure h p lt =
+      ap (λ (o : Option Framed). lsn_or o (synced_lsn new.frames p)) (ok.syncs.frames p) ∙ lsn-synced (frame_of old.frames p) (synced_lsn old.frames p) (synced_lsn new.frames p) (synced-now old new p lt sure ok h)
+  lsns_sync (Err e) old new ok err sure h p lt = (failed-sync old new p err).0
+
+  pub sync_grows : (r : Result (Unit {0}) Fault) (old new : Pooled) (p : ℕ) → p < length old.waits → OnOk r (SyncsPages old new) → OnErr r (SyncPagesFails old new) → IsTrue old.frames.sure
+      → IsPoolOf log below old → synced_lsn old.frames p ≤ synced_lsn new.frames p
+  sync_grows (Ok x) old new p lt ok err sure h =
+      let least = synced-least log p (frame_of old.frames p) (synced_lsn old.frames p) (entry_of old.dirty p) (pending_of old.waits p) (unread_of old.unread p) (h.each p lt) in
+      omega (arith, least, synced-now old new p lt sure ok h)
+  sync_grows (Err e) old new p lt ok err sure h = let same = (failed-sync old new p err).1 in omega (arith, same)

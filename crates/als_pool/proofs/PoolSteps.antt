@@ -1,24 +1,31 @@
 -- What each call leaves of the pool, for a log.
-use Rattle.std.proofs.Common.{◌≡◌, ◌⊎◌, ℕ, ◌<◌, true, List, [], ◌∷◌, ◌++◌, length, Option, Some, None, inl, inr, sym, ap, ap₂, subst, ◌∙◌, length-set, arith}
-use Rattle.std.specs.Prelude.{slice_set}
+use Rattle.std.proofs.Common.{◌≡◌, ◌≢◌, ◌⊎◌, ℕ, ◌<◌, ◌≤◌, IsTrue, List, [], ◌∷◌, ◌++◌, length, replicate, map, take, drop, Option, Some, None, inl, inr, refl, sym, ap, subst, ◌∙◌, length-set, arith}
+use Rattle.std.specs.Prelude.{slice_set, nat_eq}
+use Rattle.std.specs.Map.{lookup}
+use Rattle.std.specs.Option.{option_map}
 use Rattle.std.proofs.lemmas.Bool.{cases_eq}
-use Rattle.std.proofs.lemmas.List.{get_or-set_same, get_or-set_other}
+use Rattle.std.proofs.lemmas.List.{get_or-set_same, get_or-set_other, get_or-map, get_or-replicate, length-map, length-replicate, take-append-drop}
 use Rattle.als_record.specs.declared.lsn.Lsn.{Lsn}
 use Rattle.als_record.specs.declared.change.Change.{Change}
 use Rattle.als_record.specs.declared.record.Record.{Record}
-use Rattle.als_record.specs.Pages.{changes_above, lsn_after}
-use Rattle.als_record.proofs.PageLaws.{changes_above-front, lsn-fold}
-use Rattle.als_frames.specs.Frames.{Framed, Paged, IsClean, clean_frame, frame_of, slot_of}
-use Rattle.als_frames.specs.Images.{IsFramedAt, IsPageAt, AreFramesOf}
-use Rattle.als_frames.specs.Outcomes.{Loads, IsReplaced}
-use Rattle.als_dirty.specs.declared.stored_image.StoredImage.{StoredImage}
+use Rattle.als_record.specs.LogText.{end_of, IsLog}
+use Rattle.als_record.specs.Pages.{PageState, page_at, change_of, changes_on, changes_above}
+use Rattle.als_record.proofs.LogLaws.{end_of_is}
+use Rattle.als_record.proofs.PageLaws.{changes_on-none, changes_on-other, changes_above-nil}
+use Rattle.als_frames.specs.Frames.{Framed, Paged, frame_of, slot_of}
+use Rattle.als_frames.specs.Images.{synced_lsn, lsn_or, written_or, IsStable, IsFramedAt, IsStoredAt, IsPageAt, AreFramesOf}
+use Rattle.als_frames.specs.Outcomes.{PutsIn, IsReplaced, Writes, synced_frame}
+use Rattle.als_frames.specs.Batch.{redone_frame}
+use Rattle.als_frames.proofs.Keeping.{synced_is}
 use Rattle.als_dirty.specs.declared.dirty_page.DirtyPage.{DirtyPage}
-use Rattle.als_dirty.specs.Entries.{entry_of}
-use Rattle.als_dirty.specs.Images.{first_lsn, IsImageOf, IsDirtyPageOf}
-use Rattle.als_pool.specs.Queues.{Queue, empty_queue, queue_of, pending_of}
-use Rattle.als_pool.specs.Pooled.{Pooled, lsn_or}
-use Rattle.als_pool.specs.Outcomes.{with_place, Redoes}
-use Rattle.als_pool.specs.Images.{synced_of, IsTabled, IsPoolOf}
+use Rattle.als_dirty.specs.Entries.{untouched_page, entry_of, after_record, after_write, after_sync, after_load}
+use Rattle.als_dirty.specs.Images.{first_lsn}
+use Rattle.als_dirty.proofs.TableSteps.{page-load}
+use Rattle.als_pool.specs.Queues.{pending_of, above}
+use Rattle.als_pool.specs.Pooled.{Pooled, unread_of, new_pool}
+use Rattle.als_pool.specs.Outcomes.{with_change, Loads, Redoes, IsDueAt, StoresPage, SyncsPages}
+use Rattle.als_pool.specs.Images.{IsPageOf, IsPooledPageOf, IsPoolOf}
+use Rattle.als_pool.proofs.PageSteps.{page-cong, pushed, passed, redone-page, stored-page, synced-page, loaded-page, replaced-page}
 
 -- the same pages, by another function of the page_LSNs last synced
 pub frames-cong : (log : List Record) (s s' : ℕ → ℕ) (below : ℕ) (v : Paged) → ((p : ℕ) → p < v.pages → s p ≡ s' p) → AreFramesOf log s below v → AreFramesOf log s' below v
@@ -27,149 +34,282 @@ frames-cong log s s' below v same h = record {
   each = λ p lt. subst (λ (n : ℕ). IsPageAt log p below n v.sure (slot_of v p) (frame_of v p)) (same p lt) (h.each p lt);
 }
 
--- two images of a page at one page_LSN
-same_image : (log : List Record) (page : ℕ) (a b : StoredImage) → a.lsn.0 ≡ b.lsn.0 → IsImageOf log page a → IsImageOf log page b → a ≡ b
-same_image log page a b same ha hb =
-    let next : a.next ≡ b.next = ha.first ∙ ap (λ (n : ℕ). first_lsn (changes_above log page n)) same ∙ sym hb.first in
-    ap₂ (λ (n : ℕ) (m : Option Lsn). record { lsn = record { 0 = n }; next = m }) same next
+-- by what their blocks spell
+pub respelled : (log : List Record) (s : ℕ → ℕ) (below : ℕ) (v : Paged) → AreFramesOf log s below v → AreFramesOf log (synced_lsn v) below v
+respelled log s below v h = frames-cong log s (synced_lsn v) below v (λ p lt. sym (synced_is log s below v p lt h)) h
 
--- a page with this frame, row and changes that wait is the log's
-abbrev pub IsAt : List Record → ℕ → Option Framed → DirtyPage → List Change → Type 0
-IsAt log p o e waits = IsTabled o e × (waits ≡ changes_above log p (lsn_or o e.synced.lsn.0))
-
--- ---- pages in frames
-
+-- the page_LSNs that a page's images last synced, and the page as it is now, have are ones that the log has reached
 module _ (log : List Record) (below : ℕ) where
+  at-reached : (p s : ℕ) (v : Paged) (o : Option Framed) → IsPageAt log p below s v.sure (slot_of v p) o → (s < end_of log) × (lsn_or o s < end_of log)
+  at-reached p s v None h = (h.stable.inside, h.stable.inside)
+  at-reached p s v (Some f) h = (h.last.inside, h.inside)
+
+  pub reached : (v : Pooled) (p : ℕ) → p < length v.waits → IsPoolOf log below v → (synced_lsn v.frames p < end_of log) × (lsn_or (frame_of v.frames p) (synced_lsn v.frames p) < end_of log)
+  reached v p lt h = at-reached p (synced_lsn v.frames p) v.frames (frame_of v.frames p) (h.frames.each p (omega (arith, lt, h.paged)))
+
   -- a page in a frame, as the log has it
-  pub framed : (v : Pooled) (p : ℕ) (f : Framed) → p < length v.queues → frame_of v.frames p ≡ Some f → IsPoolOf log below v
-      → IsFramedAt log p below (synced_of v.dirty p) v.frames.sure (slot_of v.frames p) f
+  pub framed : (v : Pooled) (p : ℕ) (f : Framed) → p < length v.waits → frame_of v.frames p ≡ Some f → IsPoolOf log below v
+      → IsFramedAt log p below (synced_lsn v.frames p) v.frames.sure (slot_of v.frames p) f
   framed v p f lt is h =
       let lt' : p < v.frames.pages = omega (arith, lt, h.paged) in
-      subst (IsPageAt log p below (synced_of v.dirty p) v.frames.sure (slot_of v.frames p)) is (h.frames.each p lt')
+      subst (IsPageAt log p below (synced_lsn v.frames p) v.frames.sure (slot_of v.frames p)) is (h.frames.each p lt')
 
-  pub tabled : (v : Pooled) (p : ℕ) (o : Option Framed) → p < length v.queues → frame_of v.frames p ≡ o → IsPoolOf log below v → IsTabled o (entry_of v.dirty p)
-  tabled v p o lt is h = subst (λ (x : Option Framed). IsTabled x (entry_of v.dirty p)) is (h.tabled p lt)
+  -- a page that was not touched by a call
+  pub same-page : (old : Pooled) (frames : Paged) (p : ℕ) → frame_of frames p ≡ frame_of old.frames p → synced_lsn frames p ≡ synced_lsn old.frames p → IsPooledPageOf log old p
+      → IsPageOf log p (frame_of frames p) (synced_lsn frames p) (entry_of old.dirty p) (pending_of old.waits p) (unread_of old.unread p)
+  same-page old frames p fe se h =
+      page-cong log p (frame_of old.frames p) (frame_of frames p) (synced_lsn old.frames p) (synced_lsn frames p) (entry_of old.dirty p) (entry_of old.dirty p) (pending_of old.waits p) (pending_of old.waits p)
+      (unread_of old.unread p) (unread_of old.unread p) fe se refl refl refl h
 
   -- no frame has changed
-  pub pool-frames : (old : Pooled) (frames : Paged) → AreFramesOf log (synced_of old.dirty) below frames → frames.pages ≡ old.frames.pages
+  pub pool-frames : (old : Pooled) (frames : Paged) → AreFramesOf log (synced_lsn old.frames) below frames → frames.pages ≡ old.frames.pages
       → ((p : ℕ) → frame_of frames p ≡ frame_of old.frames p) → IsPoolOf log below old → IsPoolOf log below (record old { frames = frames })
   pool-frames old frames are pages same h = record {
     paged = pages ∙ h.paged;
-    rowed = h.rowed;
-    frames = are;
-    dirty = h.dirty;
-    tabled = λ p lt. subst (λ (o : Option Framed). IsTabled o (entry_of old.dirty p)) (sym (same p)) (h.tabled p lt);
-    waits = λ p lt. h.waits p lt ∙ ap (λ (o : Option Framed). changes_above log p (lsn_or o (synced_of old.dirty p))) (sym (same p));
+    tabled = h.tabled;
+    told = h.told;
+    frames = respelled log (synced_lsn old.frames) below frames are;
+    each = λ p lt. same-page old frames p (same p) (synced_is log (synced_lsn old.frames) below frames p (omega (arith, lt, pages, h.paged)) are) (h.each p lt);
   }
-
-  -- a clean frame is taken from its page
-  pool-replaced : (v : Pooled) (p : ℕ) (f : Framed) → p < length v.queues → frame_of v.frames p ≡ Some f → IsClean f → IsPoolOf log below v
-      → IsTabled None (entry_of v.dirty p) × (pending_of v.queues p ≡ changes_above log p (synced_of v.dirty p))
-  pool-replaced v p f lt was clean h =
-      let at = framed v p f lt was h in
-      let e = entry_of v.dirty p in
-      let inside : p < length v.dirty = omega (arith, lt, h.rowed) in
-      let row : IsDirtyPageOf log p e = h.dirty p inside in
-      let here : f.written ≡ e.written.lsn.0 = tabled v p (Some f) lt was h in
-      let lsn : e.written.lsn.0 ≡ e.synced.lsn.0 = omega (arith, here, clean, at.synced_is, at.from, at.order) in
-      let now : f.content.lsn ≡ e.synced.lsn.0 = omega (arith, clean, at.synced_is) in (
-        same_image log p e.written e.synced lsn row.written row.synced,
-        h.waits p lt ∙ ap (λ (o : Option Framed). changes_above log p (lsn_or o (synced_of v.dirty p))) was ∙ ap (λ (n : ℕ). changes_above log p n) now,
-      )
 
   -- a page is read in
-  pub pool-loads : (old : Pooled) (frames : Paged) (page end : ℕ) → page < length old.queues → frame_of old.frames page ≡ None → Loads old.frames frames page end
-      → AreFramesOf log (synced_of old.dirty) below frames → IsPoolOf log below old → IsPoolOf log below (record old { frames = frames })
-  pool-loads old frames page end inside absent loads are h = record {
-    paged = pages ∙ h.paged;
-    rowed = h.rowed;
-    frames = are;
-    dirty = h.dirty;
-    tabled = λ p lt. (at p lt).0;
-    waits = λ p lt. (at p lt).1;
-  }
+  pub pool-loads : (old new : Pooled) (page end : ℕ) → page < length old.waits → (loads : Loads old new page end) → loads.content ≡ page_at log page (synced_lsn old.frames page)
+      → AreFramesOf log (synced_lsn old.frames) below new.frames → IsPoolOf log below old → IsPoolOf log below new
+  pool-loads old new page end inside loads is are h = subst (λ (v : Pooled). IsPoolOf log below v) (sym loads.same) (record {
+    paged = pages ∙ h.paged ∙ sym (length-set old.waits page left);
+    tabled = length-set old.dirty page (after_load (first_lsn left)) ∙ h.tabled ∙ sym (length-set old.waits page left);
+    told = length-set old.unread page None ∙ h.told ∙ sym (length-set old.waits page left);
+    frames = respelled log (synced_lsn old.frames) below new.frames are;
+    each = λ p lt. at p (omega (arith, length-set old.waits page left, lt));
+  })
     where
-      pages : frames.pages ≡ old.frames.pages
-      pages = ap (λ (v : Paged). v.pages) loads.same
+      left : List Change
+      left = above loads.content.lsn (pending_of old.waits page)
 
-      new_frame : page < length old.queues → IsAt log page (Some (clean_frame page loads.content)) (entry_of old.dirty page) (pending_of old.queues page)
-      new_frame lt =
-          let lt' : page < frames.pages = omega (arith, lt, pages, h.paged) in
-          let f : IsFramedAt log page below (synced_of old.dirty page) frames.sure (slot_of frames page) (clean_frame page loads.content)
-          = subst (IsPageAt log page below (synced_of old.dirty page) frames.sure (slot_of frames page)) loads.frame (are.each page lt') in
-          let lsn : loads.content.lsn ≡ synced_of old.dirty page = f.synced_is in
-          let one : (entry_of old.dirty page).written ≡ (entry_of old.dirty page).synced = tabled old page None lt absent h in (
-            lsn ∙ ap (λ (i : StoredImage). i.lsn.0) (sym one),
-            h.waits page lt ∙ ap (λ (o : Option Framed). changes_above log page (lsn_or o (synced_of old.dirty page))) absent ∙ ap (λ (n : ℕ). changes_above log page n) (sym lsn),
-          )
+      pages : new.frames.pages ≡ old.frames.pages
+      pages = ap (λ (v : Paged). v.pages) loads.puts.same
 
-      other : (p : ℕ) → p < length old.queues → (frame_of frames p ≡ frame_of old.frames p) ⊎ IsReplaced (frame_of old.frames p) (frame_of frames p) → IsAt log p (frame_of frames p) (entry_of old.dirty p) (pending_of old.queues p)
-      other p lt (inl same) = subst (λ (o : Option Framed). IsAt log p o (entry_of old.dirty p) (pending_of old.queues p)) (sym same) (h.tabled p lt, h.waits p lt)
-      other p lt (inr (f, was, clean, gone)) = subst (λ (o : Option Framed). IsAt log p o (entry_of old.dirty p) (pending_of old.queues p)) (sym gone) (pool-replaced old p f lt was clean h)
+      spelled : (p : ℕ) → synced_lsn new.frames p ≡ synced_lsn old.frames p
+      spelled p = ap (λ (v : Paged). synced_lsn v p) loads.puts.same
 
-      at : (p : ℕ) → p < length old.queues → IsAt log p (frame_of frames p) (entry_of old.dirty p) (pending_of old.queues p)
+      lsn : loads.content.lsn ≡ synced_lsn old.frames page
+      lsn =
+          let stored : IsStoredAt log page below (synced_lsn old.frames page) (slot_of old.frames page)
+          = subst (IsPageAt log page below (synced_lsn old.frames page) old.frames.sure (slot_of old.frames page)) loads.absent (h.frames.each page (omega (arith, inside, h.paged))) in
+          ap (λ (s : PageState). s.lsn) is ∙ stored.stable.own
+
+      other : (p : ℕ) → p < length old.waits → (frame_of new.frames p ≡ frame_of old.frames p) ⊎ IsReplaced (frame_of old.frames p) (frame_of new.frames p)
+          → IsPageOf log p (frame_of new.frames p) (synced_lsn new.frames p) (entry_of old.dirty p) (pending_of old.waits p) (unread_of old.unread p)
+      other p lt (inl same) = same-page old new.frames p same (spelled p) (h.each p lt)
+      other p lt (inr (f, was, clean, gone)) =
+          let f-at = framed old p f lt was h in
+          let before : IsPageOf log p (Some f) (synced_lsn old.frames p) (entry_of old.dirty p) (pending_of old.waits p) (unread_of old.unread p)
+          = subst (λ (o : Option Framed). IsPageOf log p o (synced_lsn old.frames p) (entry_of old.dirty p) (pending_of old.waits p) (unread_of old.unread p)) was (h.each p lt) in
+          page-cong log p None (frame_of new.frames p) (synced_lsn old.frames p) (synced_lsn new.frames p) (entry_of old.dirty p) (entry_of old.dirty p) (pending_of old.waits p) (pending_of old.waits p)
+          (unread_of old.unread p) (unread_of old.unread p) gone (spelled p) refl refl refl
+          (replaced-page log p f (synced_lsn old.frames p) (entry_of old.dirty p) (pending_of old.waits p) (unread_of old.unread p)
+          (omega (arith, f-at.synced_is, f-at.from, f-at.order, clean)) (omega (arith, f-at.synced_is, clean)) before)
+
+      e' : DirtyPage
+      e' = after_load (first_lsn left)
+
+      at : (p : ℕ) → p < length old.waits
+          → IsPageOf log p (frame_of new.frames p) (synced_lsn new.frames p) (entry_of (slice_set old.dirty page e') p) (pending_of (slice_set old.waits page left) p) (unread_of (slice_set old.unread page None) p)
       at p lt =
           elim (cases_eq p page) [
-            | inl is ↦ subst (λ (q : ℕ). IsAt log q (frame_of frames q) (entry_of old.dirty q) (pending_of old.queues q)) (sym is) (subst (λ (o : Option Framed). IsAt log page o (entry_of old.dirty page) (pending_of old.queues page)) (sym loads.frame) (new_frame inside))
-            | inr ne ↦ other p lt (loads.others p ne)
+            | inl same ↦
+                let inside' : page < length old.dirty = omega (arith, inside, h.tabled) in
+                let inside'' : page < length old.unread = omega (arith, inside, h.told) in
+                subst (λ (k : ℕ). IsPageOf log k (frame_of new.frames k) (synced_lsn new.frames k) (entry_of (slice_set old.dirty page e') k) (pending_of (slice_set old.waits page left) k) (unread_of (slice_set old.unread page None) k)) (sym same)
+                (page-cong log page _ (frame_of new.frames page) (synced_lsn old.frames page) (synced_lsn new.frames page) e' (entry_of (slice_set old.dirty page e') page) left (pending_of (slice_set old.waits page left) page)
+                None (unread_of (slice_set old.unread page None) page) loads.puts.frame (spelled page) (get_or-set_same old.dirty page e' untouched_page inside') (get_or-set_same old.waits page left [] inside)
+                (get_or-set_same {A = Option Lsn} old.unread page None None inside'')
+                (loaded-page log page (frame_of old.frames page) (synced_lsn old.frames page) (entry_of old.dirty page) (pending_of old.waits page) (unread_of old.unread page) loads.content loads.absent lsn
+                (reached old page inside h).0 (h.each page inside)))
+            | inr ne ↦
+                page-cong log p (frame_of new.frames p) (frame_of new.frames p) (synced_lsn new.frames p) (synced_lsn new.frames p) (entry_of old.dirty p) (entry_of (slice_set old.dirty page e') p)
+                (pending_of old.waits p) (pending_of (slice_set old.waits page left) p) (unread_of old.unread p) (unread_of (slice_set old.unread page None) p) refl refl
+                (get_or-set_other old.dirty page p e' untouched_page ne) (get_or-set_other old.waits page p left [] ne) (get_or-set_other {A = Option Lsn} old.unread page p None None ne)
+                (other p lt (loads.puts.others p ne))
           ]
 
   -- the first changes that wait for a page are redone
-  pub pool-redoes : (old new : Pooled) (page : ℕ) (lsn : Lsn) → page < length old.queues → Redoes old new page lsn
-      → AreFramesOf log (synced_of old.dirty) below new.frames → IsPoolOf log below old → IsPoolOf log below new
+  pub pool-redoes : (old new : Pooled) (page : ℕ) (lsn : Lsn) → page < length old.waits → Redoes old new page lsn
+      → AreFramesOf log (synced_lsn old.frames) below new.frames → IsPoolOf log below old → IsPoolOf log below new
   pool-redoes old new page lsn inside done are h = subst (λ (v : Pooled). IsPoolOf log below v) (sym done.same) (record {
-    paged = ap (λ (v : Paged). v.pages) done.redoes.same ∙ h.paged ∙ sym (length-set old.queues page q);
-    rowed = h.rowed ∙ sym (length-set old.queues page q);
-    frames = are;
-    dirty = h.dirty;
-    tabled = λ p lt. (at p (omega (arith, length-set old.queues page q, lt))).0;
-    waits = λ p lt. (at p (omega (arith, length-set old.queues page q, lt))).1;
+    paged = ap (λ (v : Paged). v.pages) done.redoes.same ∙ h.paged ∙ sym (length-set old.waits page left);
+    tabled = h.tabled ∙ sym (length-set old.waits page left);
+    told = h.told ∙ sym (length-set old.waits page left);
+    frames = respelled log (synced_lsn old.frames) below new.frames are;
+    each = λ p lt. at p (omega (arith, length-set old.waits page left, lt));
   })
     where
-      q : Queue
-      q = record (queue_of old.queues page) { pending = done.left }
+      left : List Change
+      left = drop 64 (pending_of old.waits page)
 
-      batched : IsAt log page (Some done.redoes.f') (entry_of old.dirty page) done.left
-      batched =
-          let r = done.redoes.redoes in
-          let front = r.front ++ r.last ∷ [] in
-          let f = done.redoes.f in
-          let waited : changes_above log page f.content.lsn ≡ front ++ done.left
-          = ap (λ (o : Option Framed). changes_above log page (lsn_or o (synced_of old.dirty page))) (sym done.redoes.resident) ∙ sym (h.waits page inside) ∙ r.waited in
-          let passes = changes_above-front log page f.content.lsn front done.left h.frames.is_log.laid_out waited in
-          let lsn-is : lsn_after f.content.lsn front ≡ done.redoes.f'.content.lsn = sym (ap (λ (x : Framed). x.content.lsn) r.after ∙ lsn-fold f.content front) in (
-            ap (λ (x : Framed). x.written) r.after ∙ tabled old page (Some f) inside done.redoes.resident h,
-            sym passes.changes_then ∙ ap (λ (n : ℕ). changes_above log page n) lsn-is,
-          )
+      spelled : (p : ℕ) → synced_lsn new.frames p ≡ synced_lsn old.frames p
+      spelled p = ap (λ (v : Paged). synced_lsn v p) done.redoes.same
 
-      at : (p : ℕ) → p < length old.queues → IsAt log p (frame_of new.frames p) (entry_of old.dirty p) (pending_of (slice_set old.queues page q) p)
+      at : (p : ℕ) → p < length old.waits
+          → IsPageOf log p (frame_of new.frames p) (synced_lsn new.frames p) (entry_of old.dirty p) (pending_of (slice_set old.waits page left) p) (unread_of old.unread p)
       at p lt =
           elim (cases_eq p page) [
-            | inl is ↦ subst (λ (k : ℕ). IsAt log k (frame_of new.frames k) (entry_of old.dirty k) (pending_of (slice_set old.queues page q) k)) (sym is)
-                (subst (λ (o : Option Framed). IsAt log page o (entry_of old.dirty page) (pending_of (slice_set old.queues page q) page)) (sym done.redoes.sets.frame)
-                (subst (λ (x : Queue). IsAt log page (Some done.redoes.f') (entry_of old.dirty page) x.pending) (sym (get_or-set_same old.queues page q empty_queue inside)) batched))
+            | inl same ↦
+                let f = done.redoes.f in
+                let before : IsPageOf log page (Some f) (synced_lsn old.frames page) (entry_of old.dirty page) (pending_of old.waits page) (unread_of old.unread page)
+                = subst (λ (o : Option Framed). IsPageOf log page o (synced_lsn old.frames page) (entry_of old.dirty page) (pending_of old.waits page) (unread_of old.unread page)) done.redoes.resident (h.each page inside) in
+                subst (λ (k : ℕ). IsPageOf log k (frame_of new.frames k) (synced_lsn new.frames k) (entry_of old.dirty k) (pending_of (slice_set old.waits page left) k) (unread_of old.unread k)) (sym same)
+                (page-cong log page (Some (redone_frame f (take 64 (pending_of old.waits page)))) (frame_of new.frames page) (synced_lsn old.frames page) (synced_lsn new.frames page) (entry_of old.dirty page) (entry_of old.dirty page)
+                left (pending_of (slice_set old.waits page left) page) (unread_of old.unread page) (unread_of old.unread page) done.redoes.sets.frame (spelled page) refl (get_or-set_same old.waits page left [] inside) refl
+                (redone-page log page f (synced_lsn old.frames page) (entry_of old.dirty page) (pending_of old.waits page) (take 64 (pending_of old.waits page)) left (unread_of old.unread page) old.frames.pages h.frames.is_log
+                (sym (take-append-drop 64 (pending_of old.waits page))) before))
             | inr ne ↦
-                subst (λ (x : Queue). IsAt log p (frame_of new.frames p) (entry_of old.dirty p) x.pending) (sym (get_or-set_other old.queues page p q empty_queue ne))
-                (subst (λ (o : Option Framed). IsAt log p o (entry_of old.dirty p) (pending_of old.queues p)) (sym (done.redoes.sets.others p ne)) (h.tabled p lt, h.waits p lt))
+                page-cong log p (frame_of old.frames p) (frame_of new.frames p) (synced_lsn old.frames p) (synced_lsn new.frames p) (entry_of old.dirty p) (entry_of old.dirty p)
+                (pending_of old.waits p) (pending_of (slice_set old.waits page left) p) (unread_of old.unread p) (unread_of old.unread p) (done.redoes.sets.others p ne) (spelled p) refl
+                (get_or-set_other old.waits page p left [] ne) refl (h.each p lt)
           ]
 
-  -- room for one more change
-  pub pool-place : (old : Pooled) (page : ℕ) → page < length old.queues → IsPoolOf log below old → IsPoolOf log below (with_place old page)
-  pool-place old page inside h = record {
-    paged = h.paged ∙ sym (length-set old.queues page q);
-    rowed = h.rowed ∙ sym (length-set old.queues page q);
-    frames = h.frames;
-    dirty = h.dirty;
-    tabled = λ p lt. h.tabled p (omega (arith, length-set old.queues page q, lt));
-    waits = λ p lt. same p ∙ h.waits p (omega (arith, length-set old.queues page q, lt));
+  -- a page is written
+  pub pool-stores : (old new : Pooled) (page : ℕ) (lsn : Lsn) → IsDueAt old page lsn → StoresPage old new page lsn
+      → AreFramesOf log (synced_lsn old.frames) below new.frames → IsPoolOf log below old → IsPoolOf log below new
+  pool-stores old new page lsn due done are h = subst (λ (v : Pooled). IsPoolOf log below v) (sym done.same) (record {
+    paged = pages ∙ h.paged;
+    tabled = length-set old.dirty page e' ∙ h.tabled;
+    told = h.told;
+    frames = respelled log (synced_lsn old.frames) below new.frames are;
+    each = at;
+  })
+    where
+      e' : DirtyPage
+      e' = after_write (entry_of old.dirty page) (first_lsn (pending_of old.waits page))
+
+      pages : new.frames.pages ≡ old.frames.pages
+      pages = ap (λ (v : Paged). v.pages) done.writes.same
+
+      spelled : (p : ℕ) → p < length old.waits → synced_lsn new.frames p ≡ synced_lsn old.frames p
+      spelled p lt = synced_is log (synced_lsn old.frames) below new.frames p (omega (arith, lt, pages, h.paged)) are
+
+      f : Framed
+      f = done.writes.f
+
+      at : (p : ℕ) → p < length old.waits → IsPageOf log p (frame_of new.frames p) (synced_lsn new.frames p) (entry_of (slice_set old.dirty page e') p) (pending_of old.waits p) (unread_of old.unread p)
+      at p lt =
+          elim (cases_eq p page) [
+            | inl same ↦
+                let before : IsPageOf log page (Some f) (synced_lsn old.frames page) (entry_of old.dirty page) (pending_of old.waits page) (unread_of old.unread page)
+                = subst (λ (o : Option Framed). IsPageOf log page o (synced_lsn old.frames page) (entry_of old.dirty page) (pending_of old.waits page) (unread_of old.unread page)) done.writes.due.resident (h.each page due.in_range) in
+                let f-at = framed old page f due.in_range done.writes.due.resident h in
+                subst (λ (k : ℕ). IsPageOf log k (frame_of new.frames k) (synced_lsn new.frames k) (entry_of (slice_set old.dirty page e') k) (pending_of old.waits k) (unread_of old.unread k)) (sym same)
+                (page-cong log page (Some (record f { written = f.content.lsn })) (frame_of new.frames page) (synced_lsn old.frames page) (synced_lsn new.frames page) e' (entry_of (slice_set old.dirty page e') page)
+                (pending_of old.waits page) (pending_of old.waits page) (unread_of old.unread page) (unread_of old.unread page) done.writes.sets.frame (spelled page due.in_range)
+                (get_or-set_same old.dirty page e' untouched_page (omega (arith, due.in_range, h.tabled))) refl refl
+                (stored-page log page f (synced_lsn old.frames page) (entry_of old.dirty page) (pending_of old.waits page) (unread_of old.unread page) f-at.order f-at.inside before))
+            | inr ne ↦
+                page-cong log p (frame_of old.frames p) (frame_of new.frames p) (synced_lsn old.frames p) (synced_lsn new.frames p) (entry_of old.dirty p) (entry_of (slice_set old.dirty page e') p)
+                (pending_of old.waits p) (pending_of old.waits p) (unread_of old.unread p) (unread_of old.unread p) (done.writes.sets.others p ne) (spelled p lt) (get_or-set_other old.dirty page p e' untouched_page ne) refl refl (h.each p lt)
+          ]
+
+  -- the device is synced
+  pub pool-syncs : (old new : Pooled) → SyncsPages old new → AreFramesOf log (λ p. written_or (frame_of old.frames p) (synced_lsn old.frames p)) below new.frames
+      → IsPoolOf log below old → IsPoolOf log below new
+  pool-syncs old new done are h = subst (λ (v : Pooled). IsPoolOf log below v) (sym done.same) (record {
+    paged = pages ∙ h.paged;
+    tabled = length-map old.dirty after_sync ∙ h.tabled;
+    told = h.told;
+    frames = respelled log (λ p. written_or (frame_of old.frames p) (synced_lsn old.frames p)) below new.frames are;
+    each = at;
+  })
+    where
+      pages : new.frames.pages ≡ old.frames.pages
+      pages = ap (λ (v : Paged). v.pages) done.syncs.same
+
+      at : (p : ℕ) → p < length old.waits → IsPageOf log p (frame_of new.frames p) (synced_lsn new.frames p) (entry_of (map after_sync old.dirty) p) (pending_of old.waits p) (unread_of old.unread p)
+      at p lt =
+          page-cong log p (option_map synced_frame (frame_of old.frames p)) (frame_of new.frames p) (written_or (frame_of old.frames p) (synced_lsn old.frames p)) (synced_lsn new.frames p)
+          (after_sync (entry_of old.dirty p)) (entry_of (map after_sync old.dirty) p) (pending_of old.waits p) (pending_of old.waits p) (unread_of old.unread p) (unread_of old.unread p)
+          (done.syncs.frames p) (synced_is log (λ q. written_or (frame_of old.frames q) (synced_lsn old.frames q)) below new.frames p (omega (arith, lt, pages, h.paged)) are)
+          (get_or-map after_sync old.dirty p untouched_page untouched_page (omega (arith, lt, h.tabled))) refl refl
+          (synced-page log p (frame_of old.frames p) (synced_lsn old.frames p) (entry_of old.dirty p) (pending_of old.waits p) (unread_of old.unread p) (h.each p lt))
+
+  -- more of the log survives each crash
+  pub pool-raised : (v : Pooled) (more : ℕ) → AreFramesOf log (synced_lsn v.frames) more v.frames → IsPoolOf log below v → IsPoolOf log more v
+  pool-raised v more are h = record { paged = h.paged; tabled = h.tabled; told = h.told; frames = are; each = h.each }
+
+-- ---- a record more
+
+module _ (log : List Record) (below : ℕ) (r : Record) (placed : r.lsn.0 ≡ end_of log) where
+  -- that changes no page
+  pub pool-other : (v : Pooled) → change_of r ≡ None → AreFramesOf (log ++ r ∷ []) (synced_lsn v.frames) below v.frames → IsPoolOf log below v → IsPoolOf (log ++ r ∷ []) below v
+  pool-other v none are h = record {
+    paged = h.paged;
+    tabled = h.tabled;
+    told = h.told;
+    frames = are;
+    each = λ p lt. passed log r placed p (frame_of v.frames p) (synced_lsn v.frames p) (entry_of v.dirty p) (pending_of v.waits p) (unread_of v.unread p) (changes_on-none p r none) (h.each p lt);
+  }
+
+  -- that changes one
+  pub pool-change : (old : Pooled) (c : Change) → c.key.page < length old.waits → change_of r ≡ Some c → AreFramesOf (log ++ r ∷ []) (synced_lsn old.frames) below old.frames
+      → IsPoolOf log below old → IsPoolOf (log ++ r ∷ []) below (with_change old c)
+  pool-change old c inside is are h = record {
+    paged = h.paged ∙ sym (length-set old.waits c.key.page w');
+    tabled = length-set old.dirty c.key.page e' ∙ h.tabled ∙ sym (length-set old.waits c.key.page w');
+    told = h.told ∙ sym (length-set old.waits c.key.page w');
+    frames = are;
+    each = λ p lt. at p (omega (arith, length-set old.waits c.key.page w', lt));
   }
     where
-      q : Queue
-      q = record (queue_of old.queues page) { has_room = true }
+      e' : DirtyPage
+      e' = after_record (entry_of old.dirty c.key.page) c.lsn
 
-      same : (p : ℕ) → pending_of (slice_set old.queues page q) p ≡ pending_of old.queues p
-      same p =
-          elim (cases_eq p page) [
-            | inl is ↦ subst (λ (k : ℕ). pending_of (slice_set old.queues page q) k ≡ pending_of old.queues k) (sym is) (ap (λ (x : Queue). x.pending) (get_or-set_same old.queues page q empty_queue inside))
-            | inr ne ↦ ap (λ (x : Queue). x.pending) (get_or-set_other old.queues page p q empty_queue ne)
+      w' : List Change
+      w' = pending_of old.waits c.key.page ++ c ∷ []
+
+      at : (p : ℕ) → p < length old.waits
+          → IsPageOf (log ++ r ∷ []) p (frame_of old.frames p) (synced_lsn old.frames p) (entry_of (slice_set old.dirty c.key.page e') p) (pending_of (slice_set old.waits c.key.page w') p) (unread_of old.unread p)
+      at p lt =
+          elim (cases_eq p c.key.page) [
+            | inl same ↦
+                let far = reached log below old c.key.page inside h in
+                subst (λ (k : ℕ). IsPageOf (log ++ r ∷ []) k (frame_of old.frames k) (synced_lsn old.frames k) (entry_of (slice_set old.dirty c.key.page e') k) (pending_of (slice_set old.waits c.key.page w') k) (unread_of old.unread k)) (sym same)
+                (page-cong (log ++ r ∷ []) c.key.page (frame_of old.frames c.key.page) (frame_of old.frames c.key.page) (synced_lsn old.frames c.key.page) (synced_lsn old.frames c.key.page)
+                e' (entry_of (slice_set old.dirty c.key.page e') c.key.page) w' (pending_of (slice_set old.waits c.key.page w') c.key.page) (unread_of old.unread c.key.page) (unread_of old.unread c.key.page)
+                refl refl (get_or-set_same old.dirty c.key.page e' untouched_page (omega (arith, inside, h.tabled))) (get_or-set_same old.waits c.key.page w' [] inside) refl
+                (pushed log r placed c (frame_of old.frames c.key.page) (synced_lsn old.frames c.key.page) (entry_of old.dirty c.key.page) (pending_of old.waits c.key.page) (unread_of old.unread c.key.page)
+                is far.0 far.1 (h.each c.key.page inside)))
+            | inr ne ↦
+                let apart : c.key.page ≡ p → ⊥ = λ (is' : c.key.page ≡ p). ne (sym is') in
+                page-cong (log ++ r ∷ []) p (frame_of old.frames p) (frame_of old.frames p) (synced_lsn old.frames p) (synced_lsn old.frames p) (entry_of old.dirty p) (entry_of (slice_set old.dirty c.key.page e') p)
+                (pending_of old.waits p) (pending_of (slice_set old.waits c.key.page w') p) (unread_of old.unread p) (unread_of old.unread p) refl refl
+                (get_or-set_other old.dirty c.key.page p e' untouched_page ne) (get_or-set_other old.waits c.key.page p w' [] ne) refl
+                (passed log r placed p (frame_of old.frames p) (synced_lsn old.frames p) (entry_of old.dirty p) (pending_of old.waits p) (unread_of old.unread p) (changes_on-other p r c is apart) (h.each p lt))
           ]
+
+-- ---- the empty log
+
+no_frame : (v : Paged) (p : ℕ) → v.frames ≡ [] → frame_of v p ≡ None
+no_frame v p none = ap (λ (fs : List (ℕ × Framed)). lookup (nat_eq p) fs) none
+
+-- empty pages, of which none is in a frame
+pub pool_of_empty : (frames : Paged) (pages below : ℕ) → frames.pages ≡ pages → frames.frames ≡ []
+    → AreFramesOf [] (λ _. 0) below frames → IsPoolOf [] below (new_pool frames pages)
+pool_of_empty frames pages below count none are = record {
+  paged = count ∙ sym len;
+  tabled = length-replicate pages untouched_page ∙ sym len;
+  told = length-replicate {A = Option Lsn} pages None ∙ sym len;
+  frames = respelled [] (λ _. 0) below frames are;
+  each = λ p lt. one p (omega (arith, lt, len));
+}
+  where
+    len : length (replicate {A = List Change} pages []) ≡ pages
+    len = length-replicate pages []
+
+    one : (p : ℕ) → p < pages → IsPooledPageOf [] (new_pool frames pages) p
+    one p lt =
+        page-cong [] p None (frame_of frames p) 0 (synced_lsn frames p) untouched_page (entry_of (replicate pages untouched_page) p) [] (pending_of (replicate pages []) p) None (unread_of (replicate pages None) p)
+        (no_frame frames p none) (synced_is [] (λ _. 0) below frames p (omega (arith, lt, count)) are) (get_or-replicate pages p untouched_page untouched_page lt) (get_or-replicate {A = List Change} pages p [] [] lt)
+        (get_or-replicate {A = Option Lsn} pages p None None lt)
+        (record {
+          row = page-load [] p 0 None (record { reached = omega (arith, end_of_is []); first = ap first_lsn (sym (changes_above-nil p 0)) });
+          wait = sym (changes_above-nil p 0);
+        })

@@ -1,79 +1,118 @@
 -- What each call does, and when it is refused.
-use Rattle.std.specs.Prelude.{◌≡◌, ℕ, ◌<◌, ◌≤◌, ◌+◌, ◌^◌, true, false, List, [], ◌∷◌, ◌++◌, length, Some, None, MatchOption, map, slice_set}
+use Rattle.std.specs.Prelude.{◌≡◌, ◌≢◌, ◌⊎◌, ℕ, ◌<◌, ◌≤◌, ◌+◌, ◌^◌, true, false, List, [], ◌∷◌, ◌++◌, length, take, drop, Some, None, MatchOption, map, slice_set}
 use Rattle.als_record.specs.declared.change.Change.{Change}
 use Rattle.als_record.specs.declared.lsn.Lsn.{Lsn}
 use Rattle.als_record.specs.Pages.{PageState}
 use Rattle.als_frames.specs.Frames.{Framed, frame_of, slot_of}
-use Rattle.als_frames.specs.Outcomes.{Loads, RefusesLoad, IsFound, RefusesReading, IsDue, NothingIsDue, Writes, WriteFails, Syncs, SyncFails}
-use Rattle.als_frames.specs.Batch.{RedoesBatch}
+use Rattle.als_frames.specs.Images.{lsn_now}
+use Rattle.als_frames.specs.Outcomes.{IsFetched, RefusesFetch, PutsIn, IsFound, RefusesReading, IsDue, NothingIsDue, Writes, WriteFails, Syncs, SyncFails}
+use Rattle.als_frames.specs.Batch.{Redoes as FrameRedoes}
 use Rattle.als_frames.specs.declared.fault.Fault.{Fault as FramesFault}
-use Rattle.als_frames.specs.declared.fault.Fault.TheVariants.{PoolFull as FullFrames, Device as DiskFailed, Memory as NoRoom, BadPage as NoPage}
-use Rattle.als_dirty.specs.Entries.{entry_of, after_record, after_write, after_sync}
+use Rattle.als_frames.specs.declared.fault.Fault.TheVariants.{PoolFull as FullFrames, Device as DiskFailed, BadPage as NoPage}
+use Rattle.als_dirty.specs.Entries.{entry_of, after_record, after_write, after_sync, after_load}
 use Rattle.als_dirty.specs.Images.{first_lsn}
 use Rattle.als_pool.specs.declared.fault.Fault.{Fault}
 use Rattle.als_pool.specs.declared.fault.Fault.TheVariants.{LogBehind, PoolFull, NothingToDo, Device, Memory, BadPage}
-use Rattle.als_pool.specs.Queues.{queue_of, pending_of, total_waiting}
-use Rattle.als_pool.specs.Pooled.{Pooled, WaitsInOrder}
+use Rattle.als_pool.specs.Queues.{pending_of, has_place, total_waiting, above}
+use Rattle.als_pool.specs.Pooled.{Pooled, Room, Held, WaitsInOrder}
 
 -- ---- a record more
 
 -- there is room for one more change of a page
-abbrev pub HasPlace : Pooled → ℕ → Type 0
-HasPlace v page = (queue_of v.queues page).has_room ≡ true
+abbrev pub HasPlace : Room → ℕ → Type 0
+HasPlace room page = has_place room.places page ≡ true
 
--- room is made for one more change of a page
-abbrev pub with_place : Pooled → ℕ → Pooled
-with_place v page = record v { queues = slice_set v.queues page (record (queue_of v.queues page) { has_room = true }) }
+-- room is made for one more change of a page, or taken
+abbrev pub with_place : Room → ℕ → Room
+with_place room page = record room { places = slice_set room.places page true }
+
+abbrev pub without_place : Room → ℕ → Room
+without_place room page = record room { places = slice_set room.places page false }
 
 -- a change can go behind those that its page waits for
 pub record CanRoute (v : Pooled) (change : Change) : Type 0 where
-  pub in_range : change.key.page < length v.queues
-  pub next : WaitsInOrder v.frames change.key.page (pending_of v.queues change.key.page ++ change ∷ [])
-  pub count : total_waiting v.queues + 1 < 2 ^ 64
+  pub in_range : change.key.page < length v.waits
+  pub next : WaitsInOrder v.frames change.key.page (pending_of v.waits change.key.page ++ change ∷ [])
+  pub count : total_waiting v.waits + 1 < 2 ^ 64
 
 -- a change goes behind those that its page waits for, and the page lacks it from now on
 abbrev pub with_change : Pooled → Change → Pooled
 with_change v change = record v {
   dirty = slice_set v.dirty change.key.page (after_record (entry_of v.dirty change.key.page) change.lsn);
-  queues = slice_set v.queues change.key.page (record { pending = pending_of v.queues change.key.page ++ change ∷ []; has_room = false });
+  waits = slice_set v.waits change.key.page (pending_of v.waits change.key.page ++ change ∷ []);
 }
 
 -- ---- redo
 
--- The first changes that wait for a resident page are redone.
+-- A page that has no frame is read into one. What waits for it and is in the page goes, its row becomes exact, and it counts as
+-- read from now on.
+pub record Loads (old new : Pooled) (page end : ℕ) : Type 0 where
+  pub content : PageState
+  pub absent : frame_of old.frames page ≡ None
+  pub fetched : IsFetched old.frames page end content
+  pub puts : PutsIn old.frames new.frames page content
+  pub same : new ≡ record {
+    frames = new.frames;
+    dirty = slice_set old.dirty page (after_load (first_lsn (above content.lsn (pending_of old.waits page))));
+    waits = slice_set old.waits page (above content.lsn (pending_of old.waits page));
+    unread = slice_set old.unread page None;
+  }
+
+-- a page is resident, as it was or by a read of its block
+abbrev pub MakesResident : Pooled → Pooled → ℕ → ℕ → Type 0
+MakesResident old new page end = MatchOption (frame_of old.frames page) (Loads old new page end) (λ f. new ≡ old)
+
+-- The first changes that wait for a resident page are redone, at most 64.
 pub record Redoes (old new : Pooled) (page : ℕ) (lsn : Lsn) : Type 0 where
-  pub left : List Change
-  pub redoes : RedoesBatch old.frames new.frames page (pending_of old.queues page) left lsn
-  pub same : new ≡ record { frames = new.frames; dirty = old.dirty; queues = slice_set old.queues page (record (queue_of old.queues page) { pending = left }) }
+  pub some : pending_of old.waits page ≢ []
+  pub redoes : FrameRedoes old.frames new.frames page (take 64 (pending_of old.waits page))
+  pub lsn_is : lsn.0 ≡ lsn_now new.frames page
+  pub same : new ≡ record { frames = new.frames; dirty = old.dirty; waits = slice_set old.waits page (drop 64 (pending_of old.waits page)); unread = old.unread }
 
--- a page is resident, as it was or by a read of its block, which has an image with a page_LSN below another LSN
-abbrev pub MakesResident : Pooled → Pooled → ℕ → Lsn → Type 0
-MakesResident old new page lsn = MatchOption (frame_of old.frames page) (Loads old.frames new.frames page lsn.0 × (new ≡ record old { frames = new.frames })) (λ f. new ≡ old)
-
--- A page that changes wait for is made resident, from an image older than the first of them, and the first of them are
--- redone.
-pub record Applies (old new : Pooled) (page : ℕ) (lsn : Lsn) : Type 0 where
-  pub first : Lsn
+-- A page that changes wait for is made resident, and the first of those that it lacks are redone.
+pub record Applies (old new : Pooled) (page end : ℕ) (lsn : Lsn) : Type 0 where
+  pub some : pending_of old.waits page ≢ []
   pub loaded : Pooled
-  pub waits : first_lsn (pending_of old.queues page) ≡ Some first
-  pub resident : MakesResident old loaded page first
+  pub resident : MakesResident old loaded page end
   pub redoes : Redoes loaded new page lsn
 
--- changes wait for a page, which was not made resident
-pub record LoadFails (fault : FramesFault) (old new : Pooled) (page : ℕ) : Type 0 where
-  pub first : Lsn
-  pub waits : first_lsn (pending_of old.queues page) ≡ Some first
-  pub refuses : RefusesLoad fault old.frames new.frames page first.0
+-- all that waited for a page is in it: it was made resident, and nothing is left to be redone
+pub record HasAll (old new : Pooled) (page end : ℕ) : Type 0 where
+  pub some : pending_of old.waits page ≢ []
+  pub loads : Loads old new page end
+  pub none_left : pending_of new.waits page ≡ []
+
+-- a page that has no frame was not read
+pub record NotFetched (fault : FramesFault) (old new : Pooled) (page end : ℕ) : Type 0 where
+  pub absent : frame_of old.frames page ≡ None
+  pub refuses : RefusesFetch fault old.frames new.frames page end
   pub same : new ≡ record old { frames = new.frames }
 
--- nothing was redone: nothing waits, as for no page, or the page was not made resident
-abbrev pub RefusesApply : Fault → Pooled → Pooled → ℕ → Type 0
-RefusesApply NothingToDo old new page = (pending_of old.queues page ≡ []) × (new ≡ old)
-RefusesApply PoolFull old new page = LoadFails FullFrames old new page
-RefusesApply Device old new page = LoadFails DiskFailed old new page
-RefusesApply Memory old new page = LoadFails NoRoom old new page
-RefusesApply (BadPage p) old new page = LoadFails (NoPage p) old new page
-RefusesApply LogBehind old new page = ⊥
+-- a page was read, and there is no room for its frame
+pub record HasNoRoom (old new : Held) (page end : ℕ) : Type 0 where
+  pub content : PageState
+  pub absent : frame_of old.pool.frames page ≡ None
+  pub fetched : IsFetched old.pool.frames page end content
+  pub none : old.room.frames ≡ 0
+  pub same : new.pool ≡ old.pool
+
+-- a page was not made resident
+abbrev pub RefusesLoad : Fault → Held → Held → ℕ → ℕ → Type 0
+RefusesLoad PoolFull old new page end = NotFetched FullFrames old.pool new.pool page end
+RefusesLoad Device old new page end = NotFetched DiskFailed old.pool new.pool page end
+RefusesLoad (BadPage p) old new page end = NotFetched (NoPage p) old.pool new.pool page end
+RefusesLoad Memory old new page end = HasNoRoom old new page end
+RefusesLoad LogBehind old new page end = ⊥
+RefusesLoad NothingToDo old new page end = ⊥
+
+-- nothing was redone: nothing waits, as for no page, or the page has all that waited; or else it was not made resident
+abbrev pub RefusesApply : Fault → Held → Held → ℕ → ℕ → Type 0
+RefusesApply NothingToDo old new page end = ((pending_of old.pool.waits page ≡ []) × (new ≡ old)) ⊎ HasAll old.pool new.pool page end
+RefusesApply PoolFull old new page end = (pending_of old.pool.waits page ≢ []) × RefusesLoad PoolFull old new page end
+RefusesApply Device old new page end = (pending_of old.pool.waits page ≢ []) × RefusesLoad Device old new page end
+RefusesApply Memory old new page end = (pending_of old.pool.waits page ≢ []) × RefusesLoad Memory old new page end
+RefusesApply (BadPage p) old new page end = (pending_of old.pool.waits page ≢ []) × RefusesLoad (BadPage p) old new page end
+RefusesApply LogBehind old new page end = ⊥
 
 -- ---- images
 
@@ -82,15 +121,14 @@ pub record IsDueAt (v : Pooled) (page : ℕ) (lsn : Lsn) : Type 0 where
   pub f : Framed
   pub due : IsDue v.frames page f
   pub lsn_is : lsn.0 ≡ f.content.lsn
-  pub in_range : page < length v.queues
+  pub in_range : page < length v.waits
 
 -- a page with this page_LSN is written to its block, and the first change that waits for it is the first above the image
 pub record StoresPage (old new : Pooled) (page : ℕ) (lsn : Lsn) : Type 0 where
   pub writes : Writes old.frames new.frames page
-  pub same : new ≡ record {
+  pub same : new ≡ record old {
     frames = new.frames;
-    dirty = slice_set old.dirty page (after_write (entry_of old.dirty page) lsn (first_lsn (pending_of old.queues page)));
-    queues = old.queues;
+    dirty = slice_set old.dirty page (after_write (entry_of old.dirty page) (first_lsn (pending_of old.waits page)));
   }
 
 -- the log is acknowledged past the page_LSN of a page, which is written
@@ -126,7 +164,7 @@ RefusesFlush (BadPage p) old new page acknowledged = ⊥
 -- the device is synced, and the rows move
 pub record SyncsPages (old new : Pooled) : Type 0 where
   pub syncs : Syncs old.frames new.frames
-  pub same : new ≡ record { frames = new.frames; dirty = map after_sync old.dirty; queues = old.queues }
+  pub same : new ≡ record old { frames = new.frames; dirty = map after_sync old.dirty }
 
 -- the sync has failed
 pub record SyncPagesFails (old new : Pooled) : Type 0 where
@@ -136,22 +174,22 @@ pub record SyncPagesFails (old new : Pooled) : Type 0 where
 -- ---- queries
 
 -- the content of a page: that of its frame, or what a read of its block may give
-abbrev pub IsPageNow : Pooled → ℕ → ℕ → PageState → Type 0
-IsPageNow v page end content = MatchOption (frame_of v.frames page) (IsFound (slot_of v.frames page) page end content) (λ f. content ≡ f.content)
+abbrev pub IsPageNow : Pooled → ℕ → PageState → Type 0
+IsPageNow v page content = MatchOption (frame_of v.frames page) (IsFound (slot_of v.frames page) page content) (λ f. content ≡ f.content)
 
 -- a page that has no frame could not be read
-pub record ReadRefused (fault : FramesFault) (old new : Pooled) (page end : ℕ) : Type 0 where
+pub record ReadRefused (fault : FramesFault) (old new : Pooled) (page : ℕ) : Type 0 where
   pub absent : frame_of old.frames page ≡ None
-  pub refuses : RefusesReading fault old.frames new.frames page end
+  pub refuses : RefusesReading fault old.frames new.frames page
   pub same : new ≡ record old { frames = new.frames }
 
-abbrev pub RefusesPage : Fault → Pooled → Pooled → ℕ → ℕ → Type 0
-RefusesPage Device old new page end = ReadRefused DiskFailed old new page end
-RefusesPage (BadPage p) old new page end = ReadRefused (NoPage p) old new page end
-RefusesPage LogBehind old new page end = ⊥
-RefusesPage PoolFull old new page end = ⊥
-RefusesPage NothingToDo old new page end = ⊥
-RefusesPage Memory old new page end = ⊥
+abbrev pub RefusesPage : Fault → Pooled → Pooled → ℕ → Type 0
+RefusesPage Device old new page = ReadRefused DiskFailed old new page
+RefusesPage (BadPage p) old new page = ReadRefused (NoPage p) old new page
+RefusesPage LogBehind old new page = ⊥
+RefusesPage PoolFull old new page = ⊥
+RefusesPage NothingToDo old new page = ⊥
+RefusesPage Memory old new page = ⊥
 
 -- a device was not laid out: it failed, or a growth was refused before it was called
 abbrev pub RefusesFormat : Fault → ℕ → ℕ → Type 0

@@ -1,46 +1,77 @@
 -- The pages of a database: on their device and in frames, with what the log has for them.
-use Rattle.std.specs.Prelude.{◌≡◌, ◌≢◌, ℕ, ◌<◌, ◌≤◌, List, length, replicate, Option, Some, None}
+use Rattle.std.specs.Prelude.{◌≡◌, ◌≢◌, ℕ, ◌<◌, ◌≤◌, Bool, is_some, List, [], length, replicate, slice_index_or, Option, Some, None}
 use Rattle.als_record.specs.declared.change.Change.{Change}
-use Rattle.als_frames.specs.Frames.{Framed, Paged, frame_of}
+use Rattle.als_record.specs.declared.lsn.Lsn.{Lsn}
+use Rattle.als_frames.specs.Frames.{Paged, frame_of}
+use Rattle.als_frames.specs.Images.{lsn_or, lsn_now, written_lsn, synced_lsn}
 use Rattle.als_frames.specs.Batch.{AreNext}
 use Rattle.als_dirty.specs.declared.dirty_page.DirtyPage.{DirtyPage}
-use Rattle.als_dirty.specs.Entries.{untouched_page, entry_of}
-use Rattle.als_pool.specs.Queues.{Queue, empty_queue, pending_of, total_waiting}
+use Rattle.als_dirty.specs.Entries.{untouched_page}
+use Rattle.als_dirty.specs.Rows.{rec_lsn_of}
+use Rattle.als_pool.specs.Queues.{pending_of}
 
--- the pages in frames and on their device, the dirty page table, and what waits for each page
+-- The pages in frames and on their device, the dirty page table, what waits for each page, and which pages were not read since
+-- a restart: of these with the first LSN from which on changes wait.
 pub record Pooled : Type 0 where
   pub frames : Paged
   pub dirty : List DirtyPage
-  pub queues : List Queue
+  pub waits : List (List Change)
+  pub unread : List (Option Lsn)
 
--- the page_LSN of a page in a frame, or else another LSN
-abbrev pub lsn_or : Option Framed → ℕ → ℕ
-lsn_or None lsn = lsn
-lsn_or (Some f) lsn = f.content.lsn
+-- for how many more frames there is room with no memory, and for which pages there is room for one more change
+pub record Room : Type 0 where
+  pub frames : ℕ
+  pub places : List Bool
 
--- the page_LSN of a page as it is now: in its frame, or else as last synced
-abbrev pub lsn_now : Pooled → ℕ → ℕ
-lsn_now v page = lsn_or (frame_of v.frames page) (entry_of v.dirty page).synced.lsn.0
+-- the pages, and the room beside them
+pub record Held : Type 0 where
+  pub pool : Pooled
+  pub room : Room
+
+-- the LSN from which on changes of an unread page wait
+abbrev pub unread_of : List (Option Lsn) → ℕ → Option Lsn
+unread_of unread page = slice_index_or unread page None
+
+-- a page in short: whether it is resident; the page_LSNs of the page as it is now and of its images last written and last
+-- synced; and the RecLSN of its row, if it has one
+pub record PageView : Type 0 where
+  pub resident : Bool
+  pub now : ℕ
+  pub written : ℕ
+  pub synced : ℕ
+  pub row : Option Lsn
+
+abbrev pub view_of : Pooled → ℕ → PageView
+view_of v page = record {
+  resident = is_some (frame_of v.frames page);
+  now = lsn_now v.frames page;
+  written = written_lsn v.frames page;
+  synced = synced_lsn v.frames page;
+  row = rec_lsn_of v.dirty page;
+}
 
 -- what waits for a resident page stands above its page_LSN, and can be redone one after another
 abbrev pub WaitsInOrder : Paged → ℕ → List Change → Type 0
 WaitsInOrder frames page waits = AreNext page (lsn_or (frame_of frames page) 0) waits
 
--- What always holds: each page has a row and a queue, the count of what waits is right, and what waits can be redone.
-pub record IsPooled (frames : Paged) (dirty : List DirtyPage) (queues : List Queue) (waiting : ℕ) : Type 0 where
-  pub paged : frames.pages ≡ length queues
-  pub tabled : length dirty ≡ length queues
-  pub few : length queues ≤ 4096
-  pub counted : waiting ≡ total_waiting queues
-  pub ordered : (page : ℕ) → page < length queues → WaitsInOrder frames page (pending_of queues page)
+-- What always holds: each page has a row and a queue, and what waits can be redone.
+pub record IsPooled (v : Pooled) : Type 0 where
+  pub paged : v.frames.pages ≡ length v.waits
+  pub tabled : length v.dirty ≡ length v.waits
+  pub told : length v.unread ≡ length v.waits
+  pub ordered : (page : ℕ) → page < length v.waits → WaitsInOrder v.frames page (pending_of v.waits page)
 
 -- so many empty pages, of which nothing waits
 abbrev pub new_pool : Paged → ℕ → Pooled
-new_pool frames pages = record { frames = frames; dirty = replicate pages untouched_page; queues = replicate pages empty_queue }
+new_pool frames pages = record { frames = frames; dirty = replicate pages untouched_page; waits = replicate pages []; unread = replicate pages None }
 
 -- each page's page_LSN is what it was, or each but one page's
 abbrev pub SameLsns : Pooled → Pooled → Type 0
-SameLsns old new = (page : ℕ) → page < length old.queues → lsn_now new page ≡ lsn_now old page
+SameLsns old new = (page : ℕ) → page < length old.waits → lsn_now new.frames page ≡ lsn_now old.frames page
 
 abbrev pub SameLsnsBut : ℕ → Pooled → Pooled → Type 0
-SameLsnsBut page old new = (other : ℕ) → other < length old.queues → other ≢ page → lsn_now new other ≡ lsn_now old other
+SameLsnsBut page old new = (other : ℕ) → other < length old.waits → other ≢ page → lsn_now new.frames other ≡ lsn_now old.frames other
+
+-- the page_LSN of each page's image last synced is not below what it was
+abbrev pub Grows : Pooled → Pooled → Type 0
+Grows old new = (page : ℕ) → page < length old.waits → synced_lsn old.frames page ≤ synced_lsn new.frames page

@@ -1,7 +1,8 @@
 -- The changes that wait for pages.
-use Rattle.std.specs.Prelude.{◌≡◌, ℕ, ◌<◌, ◌≤◌, Bool, false, List, [], length, slice_index_or, Option, Some, None}
+use Rattle.std.specs.Prelude.{◌≡◌, ℕ, zero, suc, ◌<◌, ◌≤◌, Bool, true, false, List, [], ◌∷◌, length, drop, nat_le, nat_lt, if◌then◌else◌, slice_index_or, filter, Option, Some, None}
 use Rattle.std.specs.List.{sum_by}
 use Rattle.als_record.specs.declared.change.Change.{Change}
+use Rattle.als_record.specs.declared.lsn.Lsn.{Lsn}
 
 -- the changes of a page that are not redone yet, in order, and whether there is room for one more
 pub record Queue : Type 0 where
@@ -12,20 +13,34 @@ pub record Queue : Type 0 where
 abbrev pub empty_queue : Queue
 empty_queue = record { pending = []; has_room = false }
 
--- the queue of a page
-abbrev pub queue_of : List Queue → ℕ → Queue
-queue_of queues page = slice_index_or queues page empty_queue
+-- what waits for each page, and for which pages there is room for one more change
+pub record Waiting : Type 0 where
+  pub waits : List (List Change)
+  pub places : List Bool
 
 -- what waits for a page
-abbrev pub pending_of : List Queue → ℕ → List Change
-pending_of queues page = (queue_of queues page).pending
+abbrev pub pending_of : List (List Change) → ℕ → List Change
+pending_of waits page = slice_index_or waits page []
+
+-- there is room for one more change of a page
+abbrev pub has_place : List Bool → ℕ → Bool
+has_place places page = slice_index_or places page false
 
 -- how many changes wait, over all pages
-abbrev pub total_waiting : List Queue → ℕ
-total_waiting queues = sum_by (λ q. length q.pending) queues
+abbrev pub total_waiting : List (List Change) → ℕ
+total_waiting waits = sum_by (λ changes. length changes) waits
 
 -- the first page from a number on for which changes wait
-abbrev pub WaitsFirst : List Queue → ℕ → Option ℕ → Type 0
-WaitsFirst queues from None = (page : ℕ) → from ≤ page → pending_of queues page ≡ []
-WaitsFirst queues from (Some page) = (from ≤ page) × (page < length queues) × (pending_of queues page ≡ [] → ⊥)
-    × ((other : ℕ) → from ≤ other → other < page → pending_of queues other ≡ [])
+abbrev pub WaitsFirst : List (List Change) → ℕ → Option ℕ → Type 0
+WaitsFirst waits from None = (page : ℕ) → from ≤ page → pending_of waits page ≡ []
+WaitsFirst waits from (Some page) = (from ≤ page) × (page < length waits) × (pending_of waits page ≡ [] → ⊥)
+    × ((other : ℕ) → from ≤ other → other < page → pending_of waits other ≡ [])
+
+-- how many of the first changes stand at or below an LSN, up to the first above it
+abbrev pub count_up_to : Lsn → List Change → ℕ
+count_up_to lsn [] = 0
+count_up_to lsn (c ∷ rest) = if nat_le c.lsn.0 lsn.0 then suc (count_up_to lsn rest) else 0
+
+-- the changes above an LSN
+abbrev pub above : ℕ → List Change → List Change
+above lsn changes = filter (λ change. nat_lt lsn change.lsn.0) changes

@@ -4,23 +4,31 @@ ghost use Rattle.als_record.specs.declared.record.Record.{Record as AnyRecord};
 ghost use Rattle.als_record.specs.LogText.{end_of, IsLog};
 ghost use Rattle.als_record.specs.Pages.{change_of};
 ghost use Rattle.als_frames.specs.Frames.{slot_of};
+ghost use Rattle.als_frames.specs.Images.{synced_content, synced_lsn, AreFramesOf};
 ghost use Rattle.als_dirty.specs.Rows.{rec_lsn_of};
 ghost use Rattle.als_pool.specs.Queues.{total_waiting};
-ghost use Rattle.als_pool.specs.Pooled.{Pooled};
+ghost use Rattle.als_pool.specs.Pooled.{Pooled, unread_of};
 ghost use Rattle.als_pool.specs.Outcomes.{CanRoute};
-ghost use Rattle.als_pool.specs.Images.{IsPoolOf, IsRowSound};
+ghost use Rattle.als_pool.specs.Images.{IsPoolOf, IsRowSound, IsRowExact, QueuesOf, IsBelow, AllLackFrom};
 
 /// A law, the meaning of RecLSN: whatever a crash leaves in the block of a page is an image of it from below the offset up to
 /// which the log survives, which lacks no record of the log below the page's RecLSN, and none where the page has no row.
 pub fn each_row_is_sound()
-    ensures { (log : List AnyRecord) (below : ℕ) (pool : Pooled) (page : ℕ) (content : List ℕ) → IsPoolOf log below pool → page < length pool.queues
+    ensures { (log : List AnyRecord) (below : ℕ) (pool : Pooled) (page : ℕ) (content : List ℕ) → IsPoolOf log below pool → page < length pool.waits
         → Contains (slot_of pool.frames page).candidates content → IsRowSound log page below (rec_lsn_of pool.dirty page) content }
+{}
+
+/// A law: a page that was read has as its row exactly the first record of the log above the image last synced, which is the
+/// oldest content that a crash may leave in its block; where there is none it has no row.
+pub fn each_row_is_exact()
+    ensures { (log : List AnyRecord) (below : ℕ) (pool : Pooled) (page : ℕ) → IsPoolOf log below pool → page < length pool.waits
+        → unread_of pool.unread page ≡ None → IsRowExact log page (rec_lsn_of pool.dirty page) (synced_content (slot_of pool.frames page)) }
 {}
 
 /// A law: the change of a record at the log's end can go behind those that its page waits for.
 pub fn change_can_be_routed()
     ensures { (log : List AnyRecord) (below : ℕ) (pool : Pooled) (r : AnyRecord) (change : AnyChange) → IsPoolOf log below pool
-        → IsLog pool.frames.pages (log ++ r ∷ []) → r.lsn.0 ≡ end_of log → change_of r ≡ Some change → total_waiting pool.queues + 1 < 2 ^ 64
+        → IsLog pool.frames.pages (log ++ r ∷ []) → r.lsn.0 ≡ end_of log → change_of r ≡ Some change → total_waiting pool.waits + 1 < 2 ^ 64
         → CanRoute pool change }
 {}
 
@@ -33,4 +41,21 @@ pub fn other_records_pass()
 /// A law: the pool stays that of the log where more of the log survives each crash.
 pub fn mark_changes_nothing()
     ensures { (log : List AnyRecord) (below more : ℕ) (pool : Pooled) → below ≤ more → IsPoolOf log below pool → IsPoolOf log more pool }
+{}
+
+/// A law, for a restart: a record that changes no page, and one whose change is below the LSN from which on its page's changes wait,
+/// wait nowhere.
+pub fn other_records_wait_nowhere()
+    ensures none { (front : List AnyRecord) (r : AnyRecord) (pool : Pooled) → r.lsn.0 ≡ end_of front → change_of r ≡ None
+        → QueuesOf front pool → QueuesOf (front ++ r ∷ []) pool }
+    ensures before { (front : List AnyRecord) (r : AnyRecord) (change : AnyChange) (pool : Pooled) → r.lsn.0 ≡ end_of front → change_of r ≡ Some change
+        → IsBelow pool change → QueuesOf front pool → QueuesOf (front ++ r ∷ []) pool }
+{}
+
+/// A law, for a restart: where the whole log was read, and each block has one image that lacks no change below the LSN from which on
+/// its page's changes wait, the pool is that of the log.
+pub fn queues_join_images()
+    ensures { (log : List AnyRecord) (below : ℕ) (pool : Pooled) → pool.frames.pages ≡ length pool.waits
+        → length pool.unread ≡ length pool.waits → AreFramesOf log (synced_lsn pool.frames) below pool.frames → QueuesOf log pool → AllLackFrom log pool
+        → IsPoolOf log below pool }
 {}

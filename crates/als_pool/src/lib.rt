@@ -5,6 +5,8 @@
 mod fault;
 // What waits for a page.
 mod page_queue;
+// What waits for each page.
+mod queues;
 // A device that could not be laid out.
 mod unformatted;
 // All pages.
@@ -13,7 +15,10 @@ mod pool;
 mod laws;
 
 pub use fault::Fault;
-pub use laws::{change_can_be_routed, each_row_is_sound, mark_changes_nothing, other_records_pass};
+pub use laws::{
+    change_can_be_routed, each_row_is_exact, each_row_is_sound, mark_changes_nothing, other_records_pass,
+    other_records_wait_nowhere, queues_join_images,
+};
 pub use pool::Pool;
 pub use unformatted::Unformatted;
 

@@ -1,33 +1,38 @@
-ghost use Rattle.std.specs.Prelude.{◌≡◌, ℕ, ◌<◌, ◌++◌, ◌∷◌, [], true, false, length, IsOk, OnOk, OnErr};
+ghost use Rattle.std.specs.Prelude.{◌≡◌, ◌<◌, ◌≤◌, ◌++◌, ◌∷◌, [], true, false, length, drop, IsOk, OnOk, OnErr};
+ghost use Rattle.std.specs.Vec.{vec_len, vec_capacity};
 ghost use Rattle.als_dirty.specs.Images.{first_lsn};
-ghost use Rattle.als_frames.specs.Batch.{CanRedoFirst, RedoesBatch};
-ghost use Rattle.als_pool.specs.Queues.{empty_queue};
+ghost use Rattle.als_pool.specs.Queues.{empty_queue, count_up_to};
 
-use als_disk::BlockDisk;
-use als_frames::Frames;
 use als_record::{Change, Lsn};
 use std::alloc::{AllocError, Global};
-use std::collections::VecDeque;
 use std::marker::Model;
+
+// A queue that had room for more changes than this gives memory back once nothing waits.
+const LARGE: usize = 1024;
+
+// And keeps room for so many.
+const SMALL: usize = 64;
 
 /// The changes of a page that are not redone yet.
 #[derive(Drop)]
 pub struct PageQueue {
-    pending: VecDeque<Change>,
+    changes: Vec<Change>,
+    // So many of the first ones are redone already.
+    taken: usize,
     // The queue has a place for one more change.
     has_room: bool,
 }
 
 impl Model for PageQueue {
-    ghost use Rattle.std.specs.Prelude.{◌≡◌, ◌<◌, true};
-    ghost use Rattle.std.specs.VecDeque.{deque_len, deque_capacity};
+    ghost use Rattle.std.specs.Prelude.{◌≡◌, ◌<◌, ◌≤◌, true, drop};
+    ghost use Rattle.std.specs.Vec.{vec_len, vec_capacity};
     ghost use Rattle.als_pool.specs.Queues.{Queue};
 
     ghost Value = { Queue };
 
-    ghost view = { λ q. record { pending = q.pending.items; has_room = q.has_room } };
+    ghost view = { λ q. record { pending = drop q.taken q.changes.items; has_room = q.has_room } };
 
-    ghost invariant = { λ q. q.has_room ≡ true → deque_len q.pending < deque_capacity q.pending };
+    ghost invariant = { λ q. (q.taken ≤ vec_len q.changes) × (q.has_room ≡ true → vec_len q.changes < vec_capacity q.changes) };
 }
 
 impl PageQueue {
@@ -36,29 +41,50 @@ impl PageQueue {
         ensures { result ≡ empty_queue }
     {
         PageQueue {
-            pending: VecDeque::new(alloc),
+            changes: Vec::new(alloc),
+            taken: 0,
             has_room: false,
         }
+    }
+
+    /// The changes that wait.
+    pub fn waiting(&self) -> &[Change]
+        ensures { result.now ≡ self.now.pending }
+    {
+        &self.changes[self.taken..]
     }
 
     /// How many changes wait.
     pub fn len(&self) -> usize
         ensures { result ≡ length self.now.pending }
     {
-        self.pending.len()
+        self.changes.len() - self.taken
     }
 
     /// The LSN of the first change that waits.
     pub fn first(&self) -> Option<Lsn>
         ensures { result ≡ first_lsn self.now.pending }
     {
-        match self.pending.front() {
+        match self.waiting().first() {
             Some(change) => Some(change.lsn),
             None => None,
         }
     }
 
-    /// Makes room for one more change: the next `route` takes no memory. An `Err` changes nothing.
+    /// How many of the first changes that wait stand at or below an LSN.
+    pub fn count_up_to(&self, lsn: Lsn) -> usize
+        ensures { result ≡ count_up_to lsn self.now.pending }
+    {
+        let waiting = self.waiting();
+        for i in 0..waiting.len() {
+            if lsn.0 < waiting[i].lsn.0 {
+                return i;
+            }
+        }
+        waiting.len()
+    }
+
+    /// Makes room for one more change: the next `push` takes no memory. An `Err` changes nothing.
     pub fn reserve(&mut self) -> Result<(), AllocError>
         ensures ok { OnOk result (self.new ≡ record self.old { has_room = true }) }
         ensures err { OnErr result (self.new ≡ self.old) }
@@ -67,26 +93,58 @@ impl PageQueue {
         if self.has_room {
             return Ok(());
         }
-        self.pending.reserve(1)?;
+        self.changes.reserve(1)?;
         self.has_room = true;
         Ok(())
     }
 
     /// Adds a change behind those that wait. It takes no memory.
-    pub fn route(&mut self, change: Change)
+    pub fn push(&mut self, change: Change)
         requires room { self.old.has_room ≡ true }
         ensures { self.new ≡ record { pending = self.old.pending ++ change ∷ []; has_room = false } }
     {
-        self.pending.push_back_reserved(change);
+        self.changes.push_reserved(change);
         self.has_room = false;
     }
 
-    /// Redoes the first changes that wait for a resident page, at most 64, and answers its page_LSN.
-    pub fn redo<D: BlockDisk>(&mut self, page: u32, frames: &mut Frames<D>) -> Lsn
-        requires { CanRedoFirst frames.old page self.old.pending }
-        ensures redoes { RedoesBatch frames.old frames.new page self.old.pending self.new.pending result }
-        ensures room { self.new.has_room ≡ self.old.has_room }
+    /// Takes out so many of the first changes. It takes no memory.
+    pub fn drop_front(&mut self, count: usize)
+        requires { count ≤ length self.old.pending }
+        ensures { self.new ≡ record self.old { pending = drop count self.old.pending } }
     {
-        frames.redo_first(page, &mut self.pending)
+        let taken = self.taken + count;
+        self.taken = compact(&mut self.changes, taken);
+    }
+}
+
+// Lets go of the first changes, once they are more than half of all, and answers how many of those left are taken.
+fn compact(changes: &mut Vec<Change>, taken: usize) -> usize
+    requires { taken ≤ vec_len changes.old }
+    ensures left { drop result changes.new.items ≡ drop taken changes.old.items }
+    ensures taken { result ≤ vec_len changes.new }
+    ensures room { vec_len changes.old < vec_capacity changes.old → vec_len changes.new < vec_capacity changes.new }
+{
+    let len = changes.len();
+    if taken == len {
+        empty(changes);
+        return 0;
+    }
+    if taken <= len / 2 {
+        return taken;
+    }
+    changes.rotate_left(taken);
+    changes.truncate(len - taken);
+    0
+}
+
+// Lets go of all changes, and of the memory of many.
+fn empty(changes: &mut Vec<Change>)
+    ensures items { changes.new.items ≡ [] }
+    ensures len { vec_len changes.new ≡ 0 }
+    ensures room { vec_len changes.old < vec_capacity changes.old → 0 < vec_capacity changes.new }
+{
+    changes.clear();
+    if LARGE < changes.capacity() {
+        changes.shrink_to(SMALL);
     }
 }

@@ -1,10 +1,11 @@
-ghost use Rattle.std.specs.Prelude.{◌≡◌, ◌≢◌, ◌<◌, ◌≤◌, ℕ, [], length, IfOk};
+ghost use Rattle.std.specs.Prelude.{◌≡◌, ◌≢◌, ◌<◌, ◌≤◌, ℕ, [], None, length, IfOk};
 ghost use Rattle.als_pool.specs.Queues.{pending_of};
-ghost use Rattle.als_pool.specs.Pooled.{Pooled, lsn_now};
-ghost use Rattle.als_pool.specs.Outcomes.{with_place};
+ghost use Rattle.als_frames.specs.Frames.{frame_of};
+ghost use Rattle.als_pool.specs.Outcomes.{HasPlace};
 
 use crate::{
-    Fault, Pool, change_can_be_routed, each_row_is_sound, mark_changes_nothing, other_records_pass,
+    Fault, Pool, change_can_be_routed, each_row_is_exact, each_row_is_sound, mark_changes_nothing,
+    other_records_pass, other_records_wait_nowhere, queues_join_images,
 };
 use als_disk::{BlockDisk, FailingDisk, Fuse, MemDisk};
 use als_record::{Change, Image, Key, LoggedPage, Lsn, PageRows, Value};
@@ -14,7 +15,7 @@ use std::test::Fail;
 
 // Two empty pages. A call that is refused once is made again.
 fn formatted<D: BlockDisk + Drop>(rt: &impl Abort, alloc: Global, disk: D, frames: usize) -> Pool<D>
-    ensures { (page : ℕ) → page < 2 → (pending_of result.queues page ≡ []) × (lsn_now result page ≡ 0) }
+    ensures { (page : ℕ) → page < 2 → (pending_of result.pool.waits page ≡ []) × (frame_of result.pool.frames page ≡ None) }
 {
     assert!(rt; 2 <= disk.blocks());
     match Pool::format(alloc, disk, 2, frames) {
@@ -37,8 +38,9 @@ fn one_byte(byte: u8) -> Image {
 
 // Makes room for one more change of a page.
 fn reserve<D: BlockDisk>(rt: &impl Abort, pool: &mut Pool<D>, page: u32)
-    requires { page < length pool.old.queues }
-    ensures { pool.new ≡ with_place pool.old page }
+    requires { page < length pool.old.pool.waits }
+    ensures same { pool.new.pool ≡ pool.old.pool }
+    ensures place { HasPlace pool.new.room page }
 {
     if let Ok(()) = pool.reserve(page) {
         return;
@@ -51,10 +53,10 @@ fn reserve<D: BlockDisk>(rt: &impl Abort, pool: &mut Pool<D>, page: u32)
 
 // A record at an offset changes slot 0 of a page that waits for nothing.
 fn route<D: BlockDisk>(rt: &impl Abort, pool: &mut Pool<D>, page: u32, at: u64)
-    requires next { lsn_now pool.old page < at }
+    requires absent { frame_of pool.old.pool.frames page ≡ None }
     requires first { 16 ≤ at }
-    requires none { pending_of pool.old.queues page ≡ [] }
-    ensures others { (p : ℕ) → p ≢ page → (pending_of pool.new.queues p ≡ pending_of pool.old.queues p) × (lsn_now pool.new p ≡ lsn_now pool.old p) }
+    requires none { pending_of pool.old.pool.waits page ≡ [] }
+    ensures others { (p : ℕ) → p ≢ page → (pending_of pool.new.pool.waits p ≡ pending_of pool.old.pool.waits p) × (frame_of pool.new.pool.frames p ≡ frame_of pool.old.pool.frames p) }
 {
     assert!(rt; page < pool.pages() && pool.waiting() < 1000);
     reserve(rt, pool, page);
@@ -85,8 +87,8 @@ fn in_memory(rt: &impl Abort, alloc: Global, frames: usize) -> Pool<MemDisk> {
 
 // Redoes what waits for a page, again where memory is refused once.
 fn apply<D: BlockDisk>(pool: &mut Pool<D>, page: u32) -> Result<Lsn, Fault> {
-    match pool.apply(page) {
-        Err(Fault::Memory) => pool.apply(page),
+    match pool.apply(page, Lsn(116)) {
+        Err(Fault::Memory) => pool.apply(page, Lsn(116)),
         answer => answer,
     }
 }
@@ -155,6 +157,14 @@ fn rows_move_at_the_sync(rt: HostRuntime) -> Result<(), Fail> {
 }
 
 #[test]
+fn a_page_past_the_end_is_refused(rt: HostRuntime) {
+    let mut pool = in_memory(&rt, rt.alloc(), 2);
+    assert_eq!(rt; pool.apply(1, Lsn(0)), Err(Fault::BadPage { page: 1 }));
+    assert_eq!(rt; pool.waiting(), 2);
+    assert_eq!(rt; apply(&mut pool, 1), Ok(Lsn(52)));
+}
+
+#[test]
 fn what_waits_is_redone_once(rt: HostRuntime) {
     let mut pool = in_memory(&rt, rt.alloc(), 2);
     assert_eq!(rt; pool.waiting(), 2);
@@ -171,10 +181,10 @@ fn a_page_is_shown_from_its_frame_or_its_block(rt: HostRuntime) -> Result<(), Fa
     let mut pool = in_memory(&rt, rt.alloc(), 1);
     assert_eq!(rt; apply(&mut pool, 0), Ok(Lsn(16)));
     assert!(rt; 1 < pool.pages());
-    let framed = pool.page_now(0, Lsn(116))?;
+    let framed = pool.page_now(0)?;
     assert_eq!(rt; framed.lsn(), Lsn(16));
     assert!(rt; *framed.image(0) == one_byte(0xaa));
-    let stored = pool.page_now(1, Lsn(116))?;
+    let stored = pool.page_now(1)?;
     assert_eq!(rt; stored.lsn(), Lsn(0));
     assert_eq!(rt; stored.id(), 1);
     Ok(())
@@ -237,9 +247,12 @@ fn faults_have_names(rt: HostRuntime) {
 #[test]
 fn laws_take_nothing() {
     each_row_is_sound();
+    each_row_is_exact();
     change_can_be_routed();
     other_records_pass();
     mark_changes_nothing();
+    other_records_wait_nowhere();
+    queues_join_images();
 }
 
 fn can_be_sent<T: Send + Drop>(_: T) {}

@@ -15,5 +15,5 @@ loop-page-preserved c =
       | in-Some+in_ok-push w ↦
           front_some pages page c.index.result.now c.loop-page.rows c.match-index.rows w.in-Some.rec_lsn inside there w.in-Some.is (w.rows-is ∙ w.in_ok-push.ensures.ok) c.loop-page.invariant
       | in_default w ↦
-          front_none pages page c.index.result.now c.loop-page.rows c.match-index.rows inside there (none_from c.index.result.now.synced.next w.in_default.not-Some) w.rows-is c.loop-page.invariant
+          front_none pages page c.index.result.now c.loop-page.rows c.match-index.rows inside there (none_from c.index.result.now.synced w.in_default.not-Some) w.rows-is c.loop-page.invariant
     ]

@@ -10,7 +10,7 @@ pub returns-in-Ok-clause-ok : goal.returns-in-Ok-clause-ok
 returns-in-Ok-clause-ok g c =
     let slots = slots_from-same 0 c.args.pages (λ _. only zeros) (g.D.BlockDisk.slot c.lay_out.new.disk) (λ k from below. c.in-Ok.ensures.ok k (omega (arith, below))) in
     let disk = c.lay_out.new.disk in
-    let shown : Paged = record (without_frames c.args.pages c.args.most (g.D.BlockDisk.slot disk) (g.D.BlockDisk.block_count disk) (g.D.BlockDisk.failures disk) (g.D.BlockDisk.attempts disk)) { room = c.open.result.room } in
+    let shown : Paged = without_frames c.args.pages c.args.most (g.D.BlockDisk.slot disk) (g.D.BlockDisk.block_count disk) (g.D.BlockDisk.failures disk) (g.D.BlockDisk.attempts disk) in
     ◌∙◌ {b = shown} c.open.ensures.shows (λ j. record shown {
       pages = c.args.pages;
       most = c.args.most;

@@ -1,4 +1,3 @@
-use Rattle.indexmap.specs.IndexMap.{spare}
 use Rattle.als_frames.proofs.Keeping.{opened}
 use Rattle.als_frames.proofs.frames.Frames.open.Goals as goal
 
@@ -6,4 +5,4 @@ pub returns-clause-keeps : goal.returns-clause-keeps
 returns-clause-keeps g c log synced below is_log stored =
     let disk = c.args.disk in
     rw c.new.ensures.empty
-    (opened log synced below c.args.pages c.args.most (g.D.BlockDisk.block_count disk) (g.D.BlockDisk.failures disk) (g.D.BlockDisk.attempts disk) (spare c.new.result) (g.D.BlockDisk.slot disk) is_log stored)
+    (opened log synced below c.args.pages c.args.most (g.D.BlockDisk.block_count disk) (g.D.BlockDisk.failures disk) (g.D.BlockDisk.attempts disk) (g.D.BlockDisk.slot disk) is_log stored)

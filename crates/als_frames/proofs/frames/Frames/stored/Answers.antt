@@ -5,8 +5,8 @@ use Rattle.als_frames.proofs.frames.Frames.stored.Goals as goal
 pub returns-clause-history : goal.returns-clause-history
 returns-clause-history g c =
     IfOk-so c.read_stored.result c.read_stored.ensures.ok
-    (λ found is log synced below h absent. reads log synced below c.args.self.now c.args.page c.args.end.0 (state_of found) c.requires absent is h)
+    (λ found is log synced below h absent. reads log synced below c.args.self.now.paged c.args.page (state_of found) c.requires absent is h)
 
 pub returns-clause-sound : goal.returns-clause-sound
-returns-clause-sound g c log synced below h absent le is =
-    read_sound log synced below c.read_stored.result c.args.self.now c.read_stored.new.self c.args.page c.args.end.0 c.requires absent le c.read_stored.ensures.err h is
+returns-clause-sound g c log synced below h absent is =
+    read_sound log synced below c.read_stored.result c.args.self.now.paged c.read_stored.new.self.paged c.args.page c.requires absent c.read_stored.ensures.err h is

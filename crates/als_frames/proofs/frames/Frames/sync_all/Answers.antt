@@ -1,4 +1,3 @@
-use Rattle.indexmap.specs.IndexMap.{spare}
 use Rattle.als_frames.specs.Frames.{Paged, slots_from}
 use Rattle.als_frames.specs.Outcomes.{Syncs}
 use Rattle.als_frames.proofs.LoadLaws.{paged}
@@ -10,13 +9,12 @@ returns-clause-ok g c =
     let s = c.self.inside in
     let disk = c.sync.new.self in
     let slot = g.D.BlockDisk.slot s.disk in
-    let old : Paged = paged s.pages s.most s.frames.entries (slots_from 0 s.pages slot) (g.D.BlockDisk.block_count s.disk) (g.D.BlockDisk.failures s.disk) (g.D.BlockDisk.attempts s.disk) s.sure (spare s.frames) in
-    let new : Paged = paged s.pages s.most c.note_synced.new.frames.entries (slots_from 0 s.pages (g.D.BlockDisk.slot disk)) (g.D.BlockDisk.block_count disk) (g.D.BlockDisk.failures disk) (g.D.BlockDisk.attempts disk) s.sure (spare c.note_synced.new.frames) in
+    let old : Paged = paged s.pages s.most s.frames.entries (slots_from 0 s.pages slot) (g.D.BlockDisk.block_count s.disk) (g.D.BlockDisk.failures s.disk) (g.D.BlockDisk.attempts s.disk) s.sure in
+    let new : Paged = paged s.pages s.most c.note_synced.new.frames.entries (slots_from 0 s.pages (g.D.BlockDisk.slot disk)) (g.D.BlockDisk.block_count disk) (g.D.BlockDisk.failures disk) (g.D.BlockDisk.attempts disk) s.sure in
     let done : Syncs old new = record {
       frames = c.note_synced.ensures.frames;
       used = c.note_synced.ensures.len;
       slots = λ page lt. keeps_slot s.pages page slot (g.D.BlockDisk.slot disk) lt (c.in_ok-sync.ensures.ok page);
-      room = c.note_synced.ensures.room;
       same = λ j. record new { blocks = c.in_ok-sync.ensures.count j; failures = c.in_ok-sync.ensures.failures j; attempts = c.in_ok-sync.ensures.attempts j };
     } in
     rw (← c.self.view_is) done

@@ -2,7 +2,6 @@ use Rattle.std.proofs.Common.{◌≡◌, Some, false, sym, ap, ap₂, subst, ◌
 use Rattle.als_disk.specs.Slot.{written, FailsToWrite}
 use Rattle.als_page.specs.Block.{block_of}
 use Rattle.als_page.specs.Page.{id_of}
-use Rattle.indexmap.specs.IndexMap.{spare}
 use Rattle.als_frames.specs.Frames.{Paged, frame_of, slots_from}
 use Rattle.als_frames.specs.Outcomes.{Writes, WriteFails}
 use Rattle.als_frames.proofs.LoadLaws.{paged}
@@ -16,8 +15,8 @@ returns-in-Ok-clause-ok g c =
     let slot = g.D.BlockDisk.slot s.disk in
     let frame = c.in-Some.frame.now in
     let page = c.page.result.now in
-    let old : Paged = paged s.pages s.most s.frames.entries (slots_from 0 s.pages slot) (g.D.BlockDisk.block_count s.disk) (g.D.BlockDisk.failures s.disk) (g.D.BlockDisk.attempts s.disk) s.sure (spare s.frames) in
-    let new : Paged = paged s.pages s.most c.note_written.new.frames.entries (slots_from 0 s.pages (g.D.BlockDisk.slot disk)) (g.D.BlockDisk.block_count disk) (g.D.BlockDisk.failures disk) (g.D.BlockDisk.attempts disk) s.sure (spare c.note_written.new.frames) in
+    let old : Paged = paged s.pages s.most s.frames.entries (slots_from 0 s.pages slot) (g.D.BlockDisk.block_count s.disk) (g.D.BlockDisk.failures s.disk) (g.D.BlockDisk.attempts s.disk) s.sure in
+    let new : Paged = paged s.pages s.most c.note_written.new.frames.entries (slots_from 0 s.pages (g.D.BlockDisk.slot disk)) (g.D.BlockDisk.block_count disk) (g.D.BlockDisk.failures disk) (g.D.BlockDisk.attempts disk) s.sure in
     let resident : frame_of old c.args.page ≡ Some frame = sym c.in-Some.ensures.value in
     let numbered = c.self.invariant.numbered c.args.page frame resident in
     let is : id_of page ≡ c.args.page = c.page.ensures.number ∙ numbered.0 in
@@ -29,7 +28,7 @@ returns-in-Ok-clause-ok g c =
       due = record { resident = resident; due = λ e. true≢false (sym (c.is_written.ensures.1 e) ∙ c.if-is_written.false) };
       sets = sets old new c.args.page (record frame { written = frame.content.lsn }) (c.note_written.ensures.puts frame resident) c.note_written.ensures.len;
       slots = changes_slot s.pages c.args.page (id_of page) slot (g.D.BlockDisk.slot disk) (λ before after. after ≡ written before block) is numbered.1 out c.in-Ok.ensures.others;
-      same = λ j. record new { blocks = c.in-Ok.ensures.count j; failures = c.in-Ok.ensures.failures j; attempts = c.in-Ok.ensures.attempts j; room = c.note_written.ensures.room j };
+      same = λ j. record new { blocks = c.in-Ok.ensures.count j; failures = c.in-Ok.ensures.failures j; attempts = c.in-Ok.ensures.attempts j };
     } in
     rw (← c.self.view_is) done
 
@@ -40,8 +39,8 @@ returns-in-Err-clause-err g c =
     let slot = g.D.BlockDisk.slot s.disk in
     let frame = c.in-Some.frame.now in
     let page = c.page.result.now in
-    let old : Paged = paged s.pages s.most s.frames.entries (slots_from 0 s.pages slot) (g.D.BlockDisk.block_count s.disk) (g.D.BlockDisk.failures s.disk) (g.D.BlockDisk.attempts s.disk) s.sure (spare s.frames) in
-    let new : Paged = paged s.pages s.most s.frames.entries (slots_from 0 s.pages (g.D.BlockDisk.slot disk)) (g.D.BlockDisk.block_count disk) (g.D.BlockDisk.failures disk) (g.D.BlockDisk.attempts disk) false (spare s.frames) in
+    let old : Paged = paged s.pages s.most s.frames.entries (slots_from 0 s.pages slot) (g.D.BlockDisk.block_count s.disk) (g.D.BlockDisk.failures s.disk) (g.D.BlockDisk.attempts s.disk) s.sure in
+    let new : Paged = paged s.pages s.most s.frames.entries (slots_from 0 s.pages (g.D.BlockDisk.slot disk)) (g.D.BlockDisk.block_count disk) (g.D.BlockDisk.failures disk) (g.D.BlockDisk.attempts disk) false in
     let resident : frame_of old c.args.page ≡ Some frame = sym c.in-Some.ensures.value in
     let numbered = c.self.invariant.numbered c.args.page frame resident in
     let is : id_of page ≡ c.args.page = c.page.ensures.number ∙ numbered.0 in

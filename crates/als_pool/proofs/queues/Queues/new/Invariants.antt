@@ -1,0 +1,6 @@
+use Rattle.std.proofs.Common.{◌≡◌, replicate}
+use Rattle.als_pool.specs.Queues.{empty_queue}
+use Rattle.als_pool.proofs.queues.Queues.new.Given as goal
+
+abbrev pub invariant-loop-page : goal.invariant-loop-page
+invariant-loop-page l = l.queues.items ≡ replicate l._page empty_queue
