@@ -1,6 +1,6 @@
 -- Each call keeps the pool that of a log, by its answer.
-use Rattle.std.proofs.Common.{◌≡◌, ◌≢◌, ◌⊎◌, ℕ, ◌<◌, ◌≤◌, IsTrue, List, [], ◌∷◌, ◌++◌, length, take, drop, Option, Some, None, inl, inr, refl, sym, ap, subst, ◌∙◌, arith}
-use Rattle.std.specs.Prelude.{Contains, MatchOption, Result, Ok, Err, IfOk, IfErr, OnOk, OnErr}
+use Rattle.std.proofs.Common.{◌≡◌, ℕ, ◌<◌, ◌≤◌, IsTrue, List, [], ◌∷◌, ◌++◌, length, take, drop, Option, Some, None, inl, inr, refl, sym, ap, subst, ◌∙◌, arith}
+use Rattle.std.specs.Prelude.{MatchOption, Result, Ok, Err, IfOk, IfErr, OnOk, OnErr}
 use Rattle.std.specs.Result.{IsErrOf}
 use Rattle.std.proofs.lemmas.Option.{same_Some}
 use Rattle.std.proofs.lemmas.List.{take-append-drop}
@@ -8,12 +8,12 @@ use Rattle.als_record.specs.declared.lsn.Lsn.{Lsn}
 use Rattle.als_record.specs.declared.change.Change.{Change}
 use Rattle.als_record.specs.declared.record.Record.{Record}
 use Rattle.als_record.specs.LogText.{end_of, IsLog}
-use Rattle.als_record.specs.Pages.{PageState, page_at, change_of, changes_above}
+use Rattle.als_record.specs.Pages.{PageState, page_at, change_of}
 use Rattle.als_frames.specs.declared.fault.Fault.{Fault as FramesFault}
 use Rattle.als_frames.specs.declared.fault.Fault.TheVariants.{PoolFull as FullFrames, NothingToDo as NoFrame, Device as DiskFailed, Memory as NoRoom, BadPage as NoPage}
 use Rattle.als_frames.specs.Frames.{Framed, Paged, frame_of, slot_of}
 use Rattle.als_frames.specs.Images.{synced_lsn, lsn_now, lsn_or, written_or, AreFramesOf}
-use Rattle.als_frames.specs.Outcomes.{IsFound, RefusesFetch, WriteFails}
+use Rattle.als_frames.specs.Outcomes.{IsFound, RefusesFetch}
 use Rattle.als_frames.proofs.Keeping.{reads, never_bad as bad_frame, never_bad_below, keeps_put, keeps_refused_fetch, keeps_write, keeps_failed_write, keeps_sync, keeps_failed_sync, keeps_record, keeps_mark, synced_is}
 use Rattle.als_frames.proofs.BatchKeeping.{keeps_redo}
 use Rattle.als_dirty.specs.Entries.{entry_of}
@@ -21,7 +21,7 @@ use Rattle.als_pool.specs.declared.fault.Fault.{Fault}
 use Rattle.als_pool.specs.declared.fault.Fault.TheVariants.{LogBehind, PoolFull, NothingToDo, Device, Memory, BadPage}
 use Rattle.als_pool.specs.Queues.{pending_of}
 use Rattle.als_pool.specs.Pooled.{Pooled, Held, unread_of}
-use Rattle.als_pool.specs.Outcomes.{with_change, Loads, MakesResident, Redoes, Applies, NotFetched, RefusesLoad, RefusesApply, IsDueAt, StoresPage, Flushes, FlushFails, RefusesFlush, SyncsPages, SyncPagesFails, IsPageNow, ReadRefused, RefusesPage}
+use Rattle.als_pool.specs.Outcomes.{with_change, Loads, Redoes, Applies, NotFetched, RefusesApply, IsDueAt, StoresPage, Flushes, FlushFails, RefusesFlush, SyncsPages, SyncPagesFails, IsPageNow, ReadRefused, RefusesPage}
 use Rattle.als_pool.specs.Images.{IsPageOf, IsPoolOf}
 use Rattle.als_pool.proofs.QueueLists.{some_inside}
 use Rattle.als_pool.proofs.PageSteps.{read-it}

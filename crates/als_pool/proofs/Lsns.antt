@@ -9,7 +9,7 @@ use Rattle.als_frames.specs.declared.fault.Fault.{Fault as FramesFault}
 use Rattle.als_frames.specs.declared.fault.Fault.TheVariants.{PoolFull as FullFrames, Device as DiskFailed, BadPage as NoPage}
 use Rattle.als_frames.specs.Frames.{Framed, Paged, frame_of, slot_of}
 use Rattle.als_frames.specs.Images.{synced_lsn, lsn_now, lsn_or, written_or, spelled_lsn, synced_content}
-use Rattle.als_frames.specs.Outcomes.{IsReplaced, synced_frame, Writes, WriteFails}
+use Rattle.als_frames.specs.Outcomes.{IsReplaced, synced_frame, WriteFails}
 use Rattle.als_disk.specs.Slot.{Slot}
 use Rattle.als_frames.proofs.Keeping.{synced_is}
 use Rattle.als_dirty.specs.declared.dirty_page.DirtyPage.{DirtyPage}
@@ -19,7 +19,7 @@ use Rattle.als_pool.specs.declared.fault.Fault.{Fault}
 use Rattle.als_pool.specs.declared.fault.Fault.TheVariants.{LogBehind, PoolFull, NothingToDo, Device, Memory, BadPage}
 use Rattle.als_pool.specs.Queues.{pending_of}
 use Rattle.als_pool.specs.Pooled.{Pooled, Held, SameLsns, SameLsnsBut, unread_of}
-use Rattle.als_pool.specs.Outcomes.{Loads, Redoes, Applies, NotFetched, RefusesApply, StoresPage, Flushes, RefusesFlush, SyncsPages, SyncPagesFails}
+use Rattle.als_pool.specs.Outcomes.{Loads, Applies, NotFetched, RefusesApply, StoresPage, Flushes, RefusesFlush, SyncsPages, SyncPagesFails}
 use Rattle.als_pool.specs.Images.{IsPageOf, IsPoolOf}
 use Rattle.als_pool.proofs.PoolSteps.{framed}
 use Rattle.als_pool.proofs.Keeping.{fetch_refused, synced-frames}

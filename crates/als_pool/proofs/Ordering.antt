@@ -11,14 +11,11 @@ use Rattle.als_record.specs.Pages.{PageState, lsn_after}
 use Rattle.als_record.proofs.PageLaws.{lsn-fold}
 use Rattle.als_frames.specs.Frames.{Framed, Paged, frame_of}
 use Rattle.als_frames.specs.Images.{lsn_or, lsn_now, synced_lsn}
-use Rattle.als_frames.specs.Outcomes.{IsFetched, PutsIn, IsReplaced}
+use Rattle.als_frames.specs.Outcomes.{PutsIn, IsReplaced}
 use Rattle.als_frames.specs.Batch.{AreNext, CanRedo, Redoes as FrameRedoes}
 use Rattle.als_dirty.specs.declared.dirty_page.DirtyPage.{DirtyPage}
-use Rattle.als_dirty.specs.Entries.{after_load}
-use Rattle.als_dirty.specs.Images.{first_lsn}
 use Rattle.als_pool.specs.Queues.{pending_of, above, count_up_to}
 use Rattle.als_pool.specs.Pooled.{Pooled, WaitsInOrder, IsPooled}
-use Rattle.als_pool.specs.Outcomes.{Loads, Redoes}
 use Rattle.als_pool.proofs.Waiting.{drop-above, next-above, next_lower, next_behind, next_front}
 
 -- a page is in a frame, or in none

@@ -1,6 +1,5 @@
 -- What each call leaves of one page, for a log.
-use Rattle.std.proofs.Common.{◌≡◌, ◌⊎◌, ℕ, ◌-◌, ◌<◌, ◌≤◌, List, [], ◌∷◌, ◌++◌, Option, Some, None, inl, inr, refl, sym, ap, subst, ◌∙◌, append-nil, arith}
-use Rattle.std.specs.Prelude.{unwrap_or}
+use Rattle.std.proofs.Common.{◌≡◌, ◌⊎◌, ℕ, ◌-◌, ◌<◌, ◌≤◌, List, [], ◌∷◌, ◌++◌, Option, Some, None, inl, inr, refl, sym, ap, subst, ◌∙◌, arith}
 use Rattle.std.specs.List.{AllByRecursion}
 use Rattle.std.specs.Option.{option_map}
 use Rattle.std.proofs.lemmas.Option.{same_Some}
@@ -12,17 +11,17 @@ use Rattle.als_record.specs.declared.record.Record.{Record}
 use Rattle.als_record.specs.LogText.{end_of, IsLog}
 use Rattle.als_record.specs.Pages.{PageState, change_in, change_of, changes_on, changes_above, lsn_after}
 use Rattle.als_record.proofs.PageLaws.{end_of-push, changes_on-same, changes_above-push, changes_above-front, lsn-fold}
-use Rattle.als_frames.specs.Frames.{Framed, IsFree, clean_frame}
+use Rattle.als_frames.specs.Frames.{Framed, clean_frame}
 use Rattle.als_frames.specs.Images.{lsn_or, written_or}
 use Rattle.als_frames.specs.Outcomes.{synced_frame}
 use Rattle.als_frames.specs.Batch.{redone_frame}
 use Rattle.als_dirty.specs.declared.dirty_page.DirtyPage.{DirtyPage}
 use Rattle.als_dirty.specs.Entries.{first_of, after_record, after_write, after_sync, after_load}
-use Rattle.als_dirty.specs.Images.{first_lsn, IsFirstLacked, IsDirtyPageOf}
+use Rattle.als_dirty.specs.Images.{first_lsn, IsDirtyPageOf}
 use Rattle.als_dirty.proofs.ImageSteps.{changes_above-other}
 use Rattle.als_dirty.proofs.TableSteps.{page-push, page-other, page-write, page-sync, page-load}
 use Rattle.als_pool.specs.Queues.{above}
-use Rattle.als_pool.specs.Images.{IsRead, IsUnread, IsPageOf}
+use Rattle.als_pool.specs.Images.{IsRead, IsPageOf}
 use Rattle.als_pool.proofs.Waiting.{above-log, above-same, all-lower}
 
 -- a page by equal parts

@@ -1,5 +1,5 @@
 -- What holds of a pool for every log.
-use Rattle.std.proofs.Common.{◌≡◌, ◌⊎◌, ℕ, ◌+◌, ◌-◌, ◌<◌, ◌≤◌, ◌^◌, List, [], ◌∷◌, ◌++◌, length, get_or, Option, Some, None, inl, inr, refl, sym, ap, subst, ◌∙◌, IsTrue, arith}
+use Rattle.std.proofs.Common.{◌≡◌, ◌⊎◌, ℕ, ◌+◌, ◌-◌, ◌<◌, ◌≤◌, ◌^◌, List, [], ◌∷◌, ◌++◌, length, Option, Some, None, inl, inr, refl, sym, ap, subst, ◌∙◌, IsTrue, arith}
 use Rattle.std.specs.Prelude.{Contains}
 use Rattle.std.specs.List.{AllByRecursion}
 use Rattle.std.proofs.lemmas.Bool.{cases_lt}
@@ -7,12 +7,11 @@ use Rattle.als_record.specs.declared.lsn.Lsn.{Lsn}
 use Rattle.als_record.specs.declared.change.Change.{Change}
 use Rattle.als_record.specs.declared.record.Record.{Record}
 use Rattle.als_record.specs.LogText.{end_of, follow_from, IsLog}
-use Rattle.als_record.specs.Pages.{change_of, changes_on, changes_above, IsChangeAbove, IsFittingChange}
+use Rattle.als_record.specs.Pages.{change_of, changes_above, IsChangeAbove, IsFittingChange}
 use Rattle.als_record.proofs.PageLaws.{changes_on-same, changes_above-push, changes_above-fit, changes_above-cons, changes_above-head}
 use Rattle.als_frames.specs.Frames.{Framed, frame_of, slot_of}
-use Rattle.als_frames.specs.Images.{synced_lsn, synced_content, lsn_or, image_of, IsImageOf, IsStable, IsPageAt}
+use Rattle.als_frames.specs.Images.{synced_lsn, synced_content, lsn_or, IsImageOf}
 use Rattle.als_frames.specs.Batch.{AreNext}
-use Rattle.als_disk.specs.Slot.{Slot}
 use Rattle.als_frames.proofs.Keeping.{each_image}
 use Rattle.als_frames.proofs.PageSteps.{oldest_image}
 use Rattle.als_dirty.specs.declared.dirty_page.DirtyPage.{DirtyPage}
@@ -23,7 +22,7 @@ use Rattle.als_dirty.proofs.ImageSteps.{nothing_later, first_later, changes_abov
 use Rattle.als_pool.specs.Queues.{total_waiting, pending_of}
 use Rattle.als_pool.specs.Pooled.{Pooled, unread_of}
 use Rattle.als_pool.specs.Outcomes.{CanRoute}
-use Rattle.als_pool.specs.Images.{IsUnread, IsPageOf, IsPoolOf, IsCovered, IsRowSound, IsRowExact}
+use Rattle.als_pool.specs.Images.{IsPageOf, IsPoolOf, IsCovered, IsRowSound, IsRowExact}
 use Rattle.als_pool.proofs.Waiting.{next_lower, none-between, all-lower}
 use Rattle.als_pool.proofs.PageSteps.{more_waits}
 use Rattle.als_pool.proofs.PoolSteps.{reached}

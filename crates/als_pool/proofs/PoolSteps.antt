@@ -1,5 +1,5 @@
 -- What each call leaves of the pool, for a log.
-use Rattle.std.proofs.Common.{◌≡◌, ◌≢◌, ◌⊎◌, ℕ, ◌<◌, ◌≤◌, IsTrue, List, [], ◌∷◌, ◌++◌, length, replicate, map, take, drop, Option, Some, None, inl, inr, refl, sym, ap, subst, ◌∙◌, length-set, arith}
+use Rattle.std.proofs.Common.{◌≡◌, ◌⊎◌, ℕ, ◌<◌, List, [], ◌∷◌, ◌++◌, length, replicate, map, take, drop, Option, Some, None, inl, inr, refl, sym, ap, subst, ◌∙◌, length-set, arith}
 use Rattle.std.specs.Prelude.{slice_set, nat_eq}
 use Rattle.std.specs.Map.{lookup}
 use Rattle.std.specs.Option.{option_map}
@@ -8,13 +8,13 @@ use Rattle.std.proofs.lemmas.List.{get_or-set_same, get_or-set_other, get_or-map
 use Rattle.als_record.specs.declared.lsn.Lsn.{Lsn}
 use Rattle.als_record.specs.declared.change.Change.{Change}
 use Rattle.als_record.specs.declared.record.Record.{Record}
-use Rattle.als_record.specs.LogText.{end_of, IsLog}
-use Rattle.als_record.specs.Pages.{PageState, page_at, change_of, changes_on, changes_above}
+use Rattle.als_record.specs.LogText.{end_of}
+use Rattle.als_record.specs.Pages.{PageState, page_at, change_of}
 use Rattle.als_record.proofs.LogLaws.{end_of_is}
 use Rattle.als_record.proofs.PageLaws.{changes_on-none, changes_on-other, changes_above-nil}
 use Rattle.als_frames.specs.Frames.{Framed, Paged, frame_of, slot_of}
-use Rattle.als_frames.specs.Images.{synced_lsn, lsn_or, written_or, IsStable, IsFramedAt, IsStoredAt, IsPageAt, AreFramesOf}
-use Rattle.als_frames.specs.Outcomes.{PutsIn, IsReplaced, Writes, synced_frame}
+use Rattle.als_frames.specs.Images.{synced_lsn, lsn_or, written_or, IsFramedAt, IsStoredAt, IsPageAt, AreFramesOf}
+use Rattle.als_frames.specs.Outcomes.{IsReplaced, synced_frame}
 use Rattle.als_frames.specs.Batch.{redone_frame}
 use Rattle.als_frames.proofs.Keeping.{synced_is}
 use Rattle.als_dirty.specs.declared.dirty_page.DirtyPage.{DirtyPage}

@@ -1,11 +1,10 @@
 -- Lists of what waits: one of them changed, and how many changes wait over all.
-use Rattle.std.proofs.Common.{◌≡◌, ℕ, zero, suc, ◌+◌, ◌<◌, ◌≤◌, Bool, List, [], ◌∷◌, length, get_or, map, replicate, drop, Some, None, refl, sym, ap, ap₂, subst, ◌∙◌, arith, false, inl, inr}
+use Rattle.std.proofs.Common.{◌≡◌, ℕ, zero, suc, ◌+◌, ◌<◌, ◌≤◌, Bool, List, [], ◌∷◌, length, get_or, map, replicate, None, refl, ap, subst, ◌∙◌, arith, false, inl, inr}
 use Rattle.std.specs.Prelude.{slice_set}
 use Rattle.std.proofs.lemmas.Bool.{cases_lt}
 use Rattle.std.proofs.lemmas.Option.{slice_get_read, get_or_from_slice_get}
-use Rattle.std.proofs.lemmas.List.{map-set, get_or-map, length-map}
+use Rattle.std.proofs.lemmas.List.{get_or-map}
 use Rattle.std.proofs.lemmas.List.Sums.{sum_by-set, sum_by-cons}
-use Rattle.als_record.specs.declared.lsn.Lsn.{Lsn}
 use Rattle.als_record.specs.declared.change.Change.{Change}
 use Rattle.als_dirty.specs.Images.{first_lsn}
 use Rattle.als_pool.specs.Queues.{Queue, empty_queue, pending_of, total_waiting}

@@ -1,5 +1,5 @@
 -- What a change of one queue makes of all.
-use Rattle.std.proofs.Common.{◌≡◌, ℕ, zero, suc, ◌+◌, ◌-◌, ◌<◌, ◌≤◌, Bool, true, false, List, [], ◌∷◌, length, get_or, map, take, drop, replicate, refl, sym, ap, ap₂, ◌∙◌, subst, length-set, inl, inr, arith}
+use Rattle.std.proofs.Common.{◌≡◌, ℕ, zero, suc, ◌+◌, ◌<◌, ◌≤◌, Bool, true, false, List, [], ◌∷◌, length, get_or, map, take, drop, replicate, refl, sym, ap, ap₂, ◌∙◌, subst, length-set, inl, inr, arith}
 use Rattle.std.specs.Prelude.{slice_set, min, nat_le}
 use Rattle.std.proofs.lemmas.Bool.{cases_lt, cond-true, cond-false, lt-leb, le-leb}
 use Rattle.std.proofs.lemmas.List.{map-set, length-map, get_or-set_same, set-get_or, drop_all, take_min, length-replicate}

@@ -1,7 +1,7 @@
 -- What waits for pages as a log is read at a restart.
-use Rattle.std.proofs.Common.{◌≡◌, ◌⊎◌, ℕ, ◌-◌, ◌<◌, ◌≤◌, List, [], ◌∷◌, ◌++◌, length, Option, Some, None, inl, inr, refl, sym, ap, subst, ◌∙◌, append-nil, length-set, arith}
+use Rattle.std.proofs.Common.{◌≡◌, ℕ, ◌-◌, ◌<◌, ◌≤◌, List, [], ◌∷◌, ◌++◌, length, Option, Some, None, inl, inr, refl, sym, ap, subst, ◌∙◌, length-set, arith}
 use Rattle.std.specs.Prelude.{slice_set, MatchOption}
-use Rattle.std.proofs.lemmas.Bool.{cases_eq, cases_lt}
+use Rattle.std.proofs.lemmas.Bool.{cases_eq}
 use Rattle.std.proofs.lemmas.List.{get_or-set_same, get_or-set_other}
 use Rattle.als_record.specs.declared.lsn.Lsn.{Lsn}
 use Rattle.als_record.specs.declared.change.Change.{Change}
@@ -90,6 +90,7 @@ module _ (front : List Record) (r : Record) (placed : r.lsn.0 ≡ end_of front) 
             (get_or-set_other old.dirty c.key.page p e' untouched_page ne) (get_or-set_other old.waits c.key.page p w' [] ne)
             (other-queue p (entry_of old.dirty p) (pending_of old.waits p) (unread_of old.unread p) (changes_on-other p r c is apart) (h.each p lt))
       ]
+
   -- a record that waits nowhere
   pub reads-other : (v : Pooled) → change_of r ≡ None → QueuesOf front v → QueuesOf (front ++ r ∷ []) v
   reads-other v none h = record {

@@ -1,5 +1,5 @@
 -- The pages of a database: on their device and in frames, with what the log has for them.
-use Rattle.std.specs.Prelude.{◌≡◌, ◌≢◌, ℕ, ◌<◌, ◌≤◌, Bool, is_some, List, [], length, replicate, slice_index_or, Option, Some, None}
+use Rattle.std.specs.Prelude.{◌≡◌, ◌≢◌, ℕ, ◌<◌, ◌≤◌, Bool, is_some, List, [], length, replicate, slice_index_or, Option, None}
 use Rattle.als_record.specs.declared.change.Change.{Change}
 use Rattle.als_record.specs.declared.lsn.Lsn.{Lsn}
 use Rattle.als_frames.specs.Frames.{Paged, frame_of}

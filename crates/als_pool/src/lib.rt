@@ -16,8 +16,8 @@ mod laws;
 
 pub use fault::Fault;
 pub use laws::{
-    change_can_be_routed, each_row_is_exact, each_row_is_sound, mark_changes_nothing, other_records_pass,
-    other_records_wait_nowhere, queues_join_images,
+    change_can_be_routed, each_row_is_exact, each_row_is_sound, mark_changes_nothing,
+    other_records_pass, other_records_wait_nowhere, queues_join_images,
 };
 pub use pool::Pool;
 pub use unformatted::Unformatted;

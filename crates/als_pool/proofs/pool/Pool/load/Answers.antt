@@ -1,15 +1,15 @@
-use Rattle.std.proofs.Common.{◌≡◌, ◌<◌, ◌≤◌, ℕ, List, [], length, drop, None, true≢false, refl, sym, ap, subst, ◌∙◌, arith}
+use Rattle.std.proofs.Common.{◌≡◌, ◌<◌, ℕ, List, [], length, drop, None, true≢false, refl, sym, ap, subst, ◌∙◌}
 use Rattle.std.specs.Prelude.{slice_set}
 use Rattle.std.proofs.lemmas.List.{get_or-set_same}
 use Rattle.std.proofs.lemmas.Result.{err_from_is_err_and}
 use Rattle.als_record.specs.declared.change.Change.{Change}
 use Rattle.als_page.specs.Page.{state_of}
 use Rattle.als_frames.specs.Frames.{Paged, frame_of}
-use Rattle.als_frames.specs.Outcomes.{IsFetched, PutsIn}
+use Rattle.als_frames.specs.Outcomes.{PutsIn}
 use Rattle.als_dirty.specs.Entries.{after_load}
 use Rattle.als_dirty.specs.Images.{first_lsn}
-use Rattle.als_pool.specs.Queues.{pending_of, count_up_to, above}
-use Rattle.als_pool.specs.Pooled.{Held, Pooled, Room}
+use Rattle.als_pool.specs.Queues.{pending_of, above}
+use Rattle.als_pool.specs.Pooled.{Held, Pooled}
 use Rattle.als_pool.specs.Outcomes.{Loads, HasNoRoom}
 use Rattle.als_pool.proofs.QueueLists.{none_left}
 use Rattle.als_pool.proofs.QueueSteps.{count-fits}

@@ -1,8 +1,8 @@
-use Rattle.std.proofs.Common.{◌≡◌, ◌<◌, ◌≤◌, ◌+◌, ◌-◌, length, drop, ap, sym, subst, ◌∙◌, arith, List, length-drop}
+use Rattle.std.proofs.Common.{◌≡◌, ◌<◌, ◌-◌, length, drop, ap, sym, ◌∙◌, arith, List, length-drop}
 use Rattle.als_record.specs.declared.change.Change.{Change}
-use Rattle.als_pool.specs.Queues.{Queue, Waiting, pending_of, total_waiting}
-use Rattle.als_pool.proofs.QueueLists.{queue_at, total-set}
-use Rattle.als_pool.proofs.QueueSteps.{waits-set, places-same, kept-total, inside_of, fits_in, waits_in}
+use Rattle.als_pool.specs.Queues.{Queue}
+use Rattle.als_pool.proofs.QueueLists.{queue_at}
+use Rattle.als_pool.proofs.QueueSteps.{waits-set, places-same, kept-total, inside_of, fits_in}
 use Rattle.als_pool.proofs.queues.Queues.drop_front.Goals as goal
 
 pub invariant_of-self : goal.invariant_of-self

@@ -1,4 +1,4 @@
-use Rattle.std.proofs.Common.{◌≡◌, ◌<◌, ℕ, List, length, take, ap, sym, ◌∙◌}
+use Rattle.std.proofs.Common.{◌<◌, List, length, take, ap, sym, ◌∙◌}
 use Rattle.als_record.specs.declared.change.Change.{Change}
 use Rattle.als_pool.proofs.QueueLists.{queue_at}
 use Rattle.als_pool.proofs.QueueSteps.{inside_of, take-least}

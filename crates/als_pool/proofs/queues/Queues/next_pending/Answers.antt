@@ -1,4 +1,4 @@
-use Rattle.std.proofs.Common.{◌≡◌, ◌<◌, length, [], refl, sym, ap, subst, ◌∙◌, arith}
+use Rattle.std.proofs.Common.{◌≡◌, ◌<◌, length, [], sym, ap, ◌∙◌, arith}
 use Rattle.als_pool.specs.Queues.{Waiting, pending_of}
 use Rattle.als_pool.proofs.QueueLists.{queue_at, nothing_more, length_none}
 use Rattle.als_pool.proofs.queues.Queues.next_pending.Goals as goal

@@ -1,4 +1,4 @@
-use Rattle.std.proofs.Common.{◌≡◌, ◌<◌, length, true, ap, ap₂, sym, ◌∙◌, arith, refl, subst, List, Bool}
+use Rattle.std.proofs.Common.{◌≡◌, ◌<◌, length, true, ap, ap₂, arith, List, Bool}
 use Rattle.als_record.specs.declared.change.Change.{Change}
 use Rattle.als_pool.specs.Queues.{Queue, Waiting}
 use Rattle.als_pool.proofs.QueueSteps.{waits-same, places-set, kept-total, inside_of, place-set}
