@@ -2,6 +2,7 @@ ghost use Rattle.std.specs.Prelude.{◌≡◌};
 ghost use Rattle.als_cli.specs.Status.{status_of};
 ghost use Rattle.als_cli.specs.declared.failure.Failure.TheVariants.{Memory};
 
+use als_fault::FaultKind;
 use std::alloc::{AllocError, AllocFailed};
 use std::io;
 use std::io::{ErrorKind, Write};
@@ -17,10 +18,10 @@ pub enum Failure {
     #[error("line {0}: bad line")]
     BadLine(u64),
     /// A growth was refused.
-    #[error("als: refused 32 Memory")]
+    #[error("als: refused {kind}", kind = FaultKind::Memory)]
     Memory,
     /// Standard input or output fails, or standard input is too long.
-    #[error("als: refused 44 Stream")]
+    #[error("als: refused {kind}", kind = FaultKind::Stream)]
     Stream,
 }
 

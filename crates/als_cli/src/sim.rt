@@ -10,6 +10,8 @@ mod stepping;
 mod combined;
 // What a script's steps answered, as text.
 mod printing;
+// The line of a refusal.
+mod refusal_line;
 // What is there, as text.
 mod showing;
 // A held record as text.

@@ -1,3 +1,4 @@
+use super::refusal_line::RefusalLine;
 use als_engine::{Fault, Fed, FeedFault, Reply};
 use als_record::Lsn;
 use std::io;
@@ -19,15 +20,16 @@ pub fn reply<W: Write>(output: &mut W, reply: &Reply, end: Lsn) -> io::Result<()
                 records,
                 fault,
             },
-        ) => writeln!(
-            output,
-            "refused {fault} taken={taken} records={records} end={end}"
-        ),
+        ) => {
+            let line = RefusalLine(*fault);
+            writeln!(output, "{line} taken={taken} records={records} end={end}")
+        }
         Reply::Refused(fault) => refused(output, *fault),
     }
 }
 
-/// The line of a refusal: its number, its name, and the number that it carries, if any.
+/// The line of a refusal.
 pub fn refused<W: Write>(output: &mut W, fault: Fault) -> io::Result<()> {
-    writeln!(output, "refused {fault}")
+    let line = RefusalLine(fault);
+    writeln!(output, "{line}")
 }
