@@ -268,6 +268,7 @@ impl TransTable {
                 self.has_room = false;
                 remember(&mut self.places, logged.trans, self.tight);
             }
+            // Room for a record is a spare too.
             None => unreachable!(),
         }
     }

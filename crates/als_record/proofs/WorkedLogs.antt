@@ -72,6 +72,35 @@ overwritten-commits : commits_of overwritten ≡ (record { trans = record { 0 = 
 unfolding definitions
 overwritten-commits = refl
 
+-- ---- a transaction that wrote a key twice, committed and ended
+
+abbrev written : List Record
+written =
+    (at 16 0 1 (Update (key 0 0) None (one 0x11)))
+    ∷ (at 52 16 1 (Update (key 0 1) None (one 0x22)))
+    ∷ (at 88 52 1 (Update (key 0 0) (one 0x11) (one 0x33)))
+    ∷ (at 125 88 1 Commit)
+    ∷ (at 153 125 1 End)
+    ∷ []
+
+written-valid : is_valid written ≡ true
+unfolding definitions
+written-valid = refl
+
+written-table : table_of written ≡ []
+unfolding definitions
+written-table = refl
+
+written-tail : tail_of written ≡ []
+unfolding definitions
+written-tail = refl
+
+-- its writes stand in order
+written-commits : commits_of written
+    ≡ (record { trans = record { 0 = 1 }; lsn = record { 0 = 125 }; writes = record { key = key 0 0; after = one 0x11 } ∷ record { key = key 0 1; after = one 0x22 } ∷ record { key = key 0 0; after = one 0x33 } ∷ [] } ∷ [])
+unfolding definitions
+written-commits = refl
+
 -- ---- a rollback by compensations, and then another transaction at the same key
 
 -- the first transaction has compensated its update, and not ended

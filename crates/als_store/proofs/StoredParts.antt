@@ -39,6 +39,13 @@ unfolding end_of
 length-below_end [] = omega arith
 length-below_end (r ∷ rest) = omega (arith, sum_by-cons record_len r rest, record_len-least r, length-below_end rest)
 
+-- with one more record the log is far shorter than 2^62 bytes, so that its reserve is exact
+pub short-push : (pages : ℕ) (l : Local) (r : Record) → IsLocal l → IsRecord pages r → end_of (l.log ++ r ∷ []) < 2 ^ 62
+short-push pages l r h f =
+    let e : end_of (l.log ++ r ∷ []) ≡ end_of l.log + record_len r = end_of-push l.log r in
+    let n : record_len r ≤ 54560 = record_len-high pages r f in
+    omega (arith, h.fits, h.few)
+
 -- an end of records in front stays one as the log grows
 pub front-push : (log : List Record) (r : Record) (at : ℕ) → IsFrontEnd log at → IsFrontEnd (log ++ r ∷ []) at
 front-push log r at f = record { front = f.front; rest = f.rest ++ r ∷ []; parts = ap (λ (xs : List Record). xs ++ r ∷ []) f.parts ∙ append_assoc f.front f.rest (r ∷ []); ends = f.ends }
@@ -374,7 +381,3 @@ too_long s r len after len-is after-is none = elim (cases_lt (512 * s.blocks) (e
   | inl lt ↦ omega (arith, len-is, after-is, lt)
   | inr le ↦ let wrong : false ≡ true = none le in absurd cc
 ]
-
--- a log that the device has room for is far from the limit of what a reserve counts
-pub short_push : (pages blocks : ℕ) (log : List Record) (r : Record) → IsRecord pages r → end_of log ≤ 512 * blocks → blocks ≤ 4194304 → end_of (log ++ r ∷ []) < 2 ^ 62
-short_push pages blocks log r is fits few = omega (arith, end_of-push log r, record_len-high pages r is, fits, few)

@@ -102,7 +102,7 @@ impl Validator {
         })
     }
 
-    /// The first cause for which a record may not follow the log.
+    /// The first cause for which a record may not follow the log. `check` answers by it, in the words of this crate's faults.
     fn first_cause(&self, logged: &RecordView<'_>) -> Option<Cause>
         ensures { (pages : ℕ) (log : List Record) → IsValidatorOf pages self.now log → IsValidLog pages log → IsRecord pages (shown logged.now) → result ≡ first_bad log (shown logged.now) }
     {
@@ -170,6 +170,7 @@ impl Validator {
     {
         match self.table.note(logged) {
             Ok(()) => {}
+            // There is room, so no growth is asked for.
             Err(_) => unreachable!(),
         }
         note_change(self.keys.as_mut_slice(), logged);

@@ -9,7 +9,7 @@ use Rattle.als_store.specs.Stored.{Stored, with_log}
 use Rattle.als_store.specs.Spare.{Holding}
 use Rattle.als_store.specs.Parts.{stored_of}
 use Rattle.als_store.proofs.StoredViews.{valid_push, places_count}
-use Rattle.als_store.proofs.StoredParts.{can_route_change, stored-again, stored-room, stored-push, view-room, view-push, length-below_end, appended, too_long, not_too_long, short_push}
+use Rattle.als_store.proofs.StoredParts.{can_route_change, stored-again, stored-room, stored-push, view-room, view-push, length-below_end, appended, too_long, not_too_long, short-push}
 use Rattle.als_store.proofs.JudgingLaws.{good_from}
 use Rattle.als_store.proofs.store.Store.admit.Goals as goal
 
@@ -19,7 +19,7 @@ returns-then-not-fits-clause-cause g c =
     let fits = subst (λ (h : Holding). IsRecord h.stored.pages c.args.logged.now) (sym c.self.view_is) c.requires.fits in
     let at = subst (λ (h : Holding). c.args.logged.now.lsn.0 ≡ end_of h.stored.log) (sym c.self.view_is) c.requires.at in
     let good = good_from (first_bad s.log.log c.args.logged.now) c.judge.result c.in_ok-judge.was (c.judge.ensures s.pages s.log.log c.self.invariant.judged c.self.invariant.is_log fits at) in
-    let short = short_push s.pages s.log.blocks s.log.log c.args.logged.now fits c.end.ensures.facts.fits c.end.ensures.facts.few in
+    let short = short-push s.pages s.log c.args.logged.now c.end.ensures.facts fits in
     let seen = stored_of s.pages s.log s.control s.warm s.broken (g.D.BlockDisk.failures s.page_disk) (g.D.BlockDisk.attempts s.page_disk) in
     rw (← c.self.view_is)
     (inr (inl (
@@ -64,7 +64,7 @@ invariant_of-self-2 g c =
     let fits = subst (λ (h : Holding). IsRecord h.stored.pages r) (sym c.self.view_is) c.requires.fits in
     let at = subst (λ (h : Holding). r.lsn.0 ≡ end_of h.stored.log) (sym c.self.view_is) c.requires.at in
     let good = good_from (first_bad s.log.log r) c.judge.result c.in_ok-judge.was (c.judge.ensures s.pages s.log.log c.self.invariant.judged c.self.invariant.is_log fits at) in
-    let short = short_push s.pages s.log.blocks s.log.log r fits c.end.ensures.facts.fits c.end.ensures.facts.few in
+    let short = short-push s.pages s.log r c.end.ensures.facts fits in
     let left : end_of s.log.log + record_len r + reserve_of (s.log.log ++ r ∷ []) ≤ 512 * s.log.blocks =
     omega (arith, c.len_of-len.ensures, c.reserve_after-reserve_after.ensures s.pages s.log.log c.self.invariant.judged at good, c.if-not-fits.ensures.0 refl) in
     let judged-room = c.in_ok-make_room.ensures.validator s.pages s.log.log c.self.invariant.judged in
@@ -82,7 +82,6 @@ returns-clause-ok g c =
     let fits = subst (λ (h : Holding). IsRecord h.stored.pages r) (sym c.self.view_is) c.requires.fits in
     let at = subst (λ (h : Holding). r.lsn.0 ≡ end_of h.stored.log) (sym c.self.view_is) c.requires.at in
     let good = good_from (first_bad s.log.log r) c.judge.result c.in_ok-judge.was (c.judge.ensures s.pages s.log.log c.self.invariant.judged c.self.invariant.is_log fits at) in
-    let short = short_push s.pages s.log.blocks s.log.log r fits c.end.ensures.facts.fits c.end.ensures.facts.few in
     let judged-room = c.in_ok-make_room.ensures.validator s.pages s.log.log c.self.invariant.judged in
     let roomed = stored-room s.pages s.count s.log s.control s.warm s.validator s.broken c.self.invariant s.log c.make_room.new.warm c.make_room.new.validator (change_of r) refl judged-room c.in_ok-make_room.ensures.pages in
     let pushed = view-push s.pages s.count s.log s.control c.make_room.new.warm c.make_room.new.validator s.broken roomed failures attempts c.append.new.log r c.route_change.new.warm (change_of r)
@@ -98,7 +97,7 @@ returns-in_err-make_room-clause-full g c =
     let fits = subst (λ (h : Holding). IsRecord h.stored.pages r) (sym c.self.view_is) c.requires.fits in
     let at = subst (λ (h : Holding). r.lsn.0 ≡ end_of h.stored.log) (sym c.self.view_is) c.requires.at in
     let good = good_from (first_bad s.log.log r) c.judge.result c.in_ok-judge.was (c.judge.ensures s.pages s.log.log c.self.invariant.judged c.self.invariant.is_log fits at) in
-    let short = short_push s.pages s.log.blocks s.log.log r fits c.end.ensures.facts.fits c.end.ensures.facts.few in
+    let short = short-push s.pages s.log r c.end.ensures.facts fits in
     rw (← c.self.view_is)
     (λ none long. absurd (not_too_long seen r c.len_of-len.result c.reserve_after-reserve_after.result c.len_of-len.ensures
     (c.reserve_after-reserve_after.ensures s.pages s.log.log c.self.invariant.judged at good short) (c.if-not-fits.ensures.0 refl) long))
@@ -111,7 +110,7 @@ returns-clause-full g c =
     let fits = subst (λ (h : Holding). IsRecord h.stored.pages r) (sym c.self.view_is) c.requires.fits in
     let at = subst (λ (h : Holding). r.lsn.0 ≡ end_of h.stored.log) (sym c.self.view_is) c.requires.at in
     let good = good_from (first_bad s.log.log r) c.judge.result c.in_ok-judge.was (c.judge.ensures s.pages s.log.log c.self.invariant.judged c.self.invariant.is_log fits at) in
-    let short = short_push s.pages s.log.blocks s.log.log r fits c.end.ensures.facts.fits c.end.ensures.facts.few in
+    let short = short-push s.pages s.log r c.end.ensures.facts fits in
     rw (← c.self.view_is)
     (λ none long. absurd (not_too_long seen r c.len_of-len.result c.reserve_after-reserve_after.result c.len_of-len.ensures
     (c.reserve_after-reserve_after.ensures s.pages s.log.log c.self.invariant.judged at good short) (c.if-not-fits.ensures.0 refl) long))
@@ -123,5 +122,4 @@ returns-in_err-make_room-clause-wanted g c =
     let fits = subst (λ (h : Holding). IsRecord h.stored.pages r) (sym c.self.view_is) c.requires.fits in
     let at = subst (λ (h : Holding). r.lsn.0 ≡ end_of h.stored.log) (sym c.self.view_is) c.requires.at in
     let good = good_from (first_bad s.log.log r) c.judge.result c.in_ok-judge.was (c.judge.ensures s.pages s.log.log c.self.invariant.judged c.self.invariant.is_log fits at) in
-    let short = short_push s.pages s.log.blocks s.log.log r fits c.end.ensures.facts.fits c.end.ensures.facts.few in
     rw (← c.self.view_is) (λ _. good)
