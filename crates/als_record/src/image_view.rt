@@ -39,6 +39,7 @@ impl<'a> ImageView<'a> {
             None => None,
             Some(bytes) => match Value::try_from(bytes) {
                 Ok(value) => Some(value),
+                // It is at most 31 bytes long.
                 Err(_) => unreachable!(),
             },
         }
