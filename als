@@ -15,17 +15,48 @@ is_stale() {
     [[ -n $(find "$top/crates.txt" "$top"/crates/*/{src,specs,proofs} -newer "$stamp" -print -quit 2> /dev/null) ]]
 }
 
+# The crates that a crate stands on, and the crate itself, one a line.
+closure() {
+    local name=$1 dep
+    grep -qxF "$name" "$seen" && return
+    echo "$name" >> "$seen"
+    for dep in $(sed -n "s/^$name:\(.*\)/\1/p" "$top/crates.txt"); do
+        if [[ -d $top/crates/$dep ]]; then
+            closure "$dep"
+        fi
+    done
+}
+
+# Tells each crate as its proof begins: rt names it in its log.
+show_progress() {
+    local log=$1 total=$2 began=$SECONDS done=0 name
+    tail -n +1 -F "$log" --pid="$3" 2> /dev/null | sed -un 's/^rt: chose --jobs [0-9]* for \(.*\)$/\1/p' | while read -r name; do
+        done=$((done + 1))
+        echo "als: proving $name ($done of $total), minute $(((SECONDS - began) / 60))" >&2
+    done
+}
+
 build() {
     if ! command -v rt > /dev/null; then
         echo "als: rt, the command of the Rattle toolchain, is not on the PATH; it builds this program" >&2
         exit 1
     fi
-    echo "als: building crates/als_cli and what it stands on" >&2
+    echo "als: the program is proved and then built; the first time this takes about 20 minutes on 4 cores" >&2
+    echo "als: ./demo shows the first demonstration in a minute, without proofs" >&2
     mkdir -p "$crate/out"
-    local log="$crate/out/als.log" began
+    local log="$crate/out/als.log" began runner status=0
     began=$(mktemp "$crate/out/als.began.XXXXXX")
+    seen=$(mktemp)
+    closure als_cli
+    : > "$log"
     # rt builds by running the program once.
-    if ! (cd "$crate" && rt run -- --help) < /dev/null > "$log" 2>&1; then
+    (cd "$crate" && exec rt run -- --help) < /dev/null > "$log" 2>&1 &
+    runner=$!
+    show_progress "$log" "$(wc -l < "$seen")" "$runner" &
+    wait "$runner" || status=$?
+    wait || true
+    rm -f "$seen"
+    if [[ $status != 0 ]]; then
         rm -f "$began"
         cat "$log" >&2
         echo "als: the build failed" >&2

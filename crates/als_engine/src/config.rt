@@ -4,6 +4,12 @@ ghost use Rattle.als_engine.specs.Config.{IsConfig, IsWorld};
 use als_disk::BlockDisk;
 use als_store::Disks;
 
+/// The blocks of the largest log device.
+pub const LOG_BLOCK_LIMIT: u64 = 4_194_304;
+
+/// The blocks that a control device has at least: the control block's, and two checkpoint regions of 160.
+pub const CONTROL_BLOCKS: u64 = 321;
+
 /// What an engine is made with. Numbers out of range are refused when it is made.
 #[derive(Clone, Copy, Debug, PartialEq, Eq)]
 pub struct Config {
@@ -36,8 +42,8 @@ impl Config {
         ensures { IsTrue result ↔ IsWorld self.now (D.block_count disks.now.log) (D.block_count disks.now.control) (D.block_count disks.now.pages) }
     {
         self.is_valid()
-            && (1..=4_194_304).contains(&disks.log.blocks())
-            && disks.control.blocks() >= 321
+            && (1..=LOG_BLOCK_LIMIT).contains(&disks.log.blocks())
+            && disks.control.blocks() >= CONTROL_BLOCKS
             && disks.pages.blocks() >= self.pages
     }
 }

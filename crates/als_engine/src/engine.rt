@@ -25,7 +25,7 @@ use als_analysis::OpenTransaction;
 use als_disk::BlockDisk;
 use als_page::Page;
 use als_receiver::Receiver;
-use als_record::{Lsn, Record};
+use als_record::{FIRST_LSN, Lsn, Record};
 use als_store::{Disks, Store};
 use std::alloc::Global;
 use std::marker::Model;
@@ -95,7 +95,7 @@ impl<D: BlockDisk> Engine<D> {
             Ok(store) => Ok(Engine {
                 alloc,
                 store,
-                receiver: Receiver::new(alloc, Lsn(16), pages),
+                receiver: Receiver::new(alloc, FIRST_LSN, pages),
                 limit: config.pending as usize,
                 refused: None,
             }),
@@ -245,6 +245,7 @@ impl<D: BlockDisk> Engine<D> {
         // one write or sync of a device at most
         ensures attempts { self.new.machine.held.attempts ≤ self.old.machine.held.attempts + 1 }
     {
+        // For the prover alone: what always holds of the engine.
         let _ = &self.limit;
         match step {
             Step::Feed(piece) => match self.feed(piece) {

@@ -21,7 +21,7 @@ mod step;
 mod world;
 
 pub use als_store::Disks;
-pub use config::Config;
+pub use config::{CONTROL_BLOCKS, Config, LOG_BLOCK_LIMIT};
 pub use engine::Engine;
 pub use fault::Fault;
 pub use fed::{Fed, FeedFault};

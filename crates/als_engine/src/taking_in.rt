@@ -51,6 +51,7 @@ fn take_chunk<D: BlockDisk>(
     ensures err { IfErr result (TakesFront held.old.stored (receiver.old.kept ++ chunk.now) held.new.stored) }
     ensures reserved { length chunk.now ≤ receiver.old.room → HasRoomForBytes held.old.stored held.old.spare (receiver.old.kept ++ chunk.now) → IsErrOf result fault.Memory → ⊥ }
 {
+    // For the prover alone: what always holds of the store.
     let _ = held.end();
     receiver.push(chunk)?;
     take_records(alloc, held, receiver)

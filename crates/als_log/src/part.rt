@@ -1,10 +1,8 @@
 ghost use Rattle.std.specs.Prelude.{◌≡◌, ◌+◌, ◌≤◌, [], ◌++◌, length, IfOk};
 
+use als_record::RECORD_LIMIT;
 use std::alloc::{AllocError, Global};
 use std::marker::Model;
-
-/// The length of the longest record.
-const LONGEST: usize = 54_560;
 
 /// Bytes that were read back. Their room is made once, for the longest record, so that a reading takes no memory.
 #[derive(Drop)]
@@ -27,7 +25,7 @@ impl Part {
     pub(crate) fn new(alloc: Global) -> Result<Part, AllocError>
         ensures { IfOk result (λ p. p ≡ []) }
     {
-        let bytes = Vec::with_capacity(alloc, LONGEST)?;
+        let bytes = Vec::with_capacity(alloc, RECORD_LIMIT)?;
         Ok(Part { bytes })
     }
 

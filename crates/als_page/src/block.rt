@@ -4,19 +4,15 @@ ghost use Rattle.als_record.specs.Spelling.{Image as AnyImage, IsImage};
 ghost use Rattle.als_page.specs.Block.{slot_bytes, head_bytes};
 
 use crate::slot::{SLOT, read_slot, write_slot};
-use als_record::{Image, Lsn};
+use als_record::{BLOCK_LEN, Image, Lsn, SLOT_COUNT};
 
-/// How many bytes a block has, and how many stand before its slots.
-pub const BLOCK: usize = 512;
-
+/// How many bytes of a block stand before its slots.
 pub const HEAD: usize = 32;
 
-/// How many slots a page has.
-pub const SLOTS: usize = 15;
+// A block of zeros is the empty page.
+static ZEROS: [u8; BLOCK_LEN] = [0; BLOCK_LEN];
 
-// What follows a page's number in the head: version 1, and zeros.
-static ZEROS: [u8; BLOCK] = [0; BLOCK];
-
+/// What follows a page's number in the head: version 1, and zeros.
 const VERSION: [u8; 20] = [0, 1, 0, 0, 0, 0, 0, 0, 0, 0, 0, 0, 0, 0, 0, 0, 0, 0, 0, 0];
 
 /// Writes the head of a block.
@@ -44,7 +40,7 @@ pub fn write_slots(images: &[Image], into: &mut [u8])
 }
 
 /// The images whose slots have these bytes, if there are such.
-pub fn read_slots(bytes: &[u8]) -> Option<[Image; SLOTS]>
+pub fn read_slots(bytes: &[u8]) -> Option<[Image; SLOT_COUNT]>
     requires { length bytes.now ≡ 480 }
     ensures found { IfSome result (λ images. (bytes.now ≡ flat_map slot_bytes images) × (length images ≡ 15)
         × AllByRecursion IsImage images) }
@@ -52,14 +48,14 @@ pub fn read_slots(bytes: &[u8]) -> Option<[Image; SLOTS]>
         → bytes.now ≡ flat_map slot_bytes images → result ≡ Some images }
 {
     let mut images = no_images();
-    for i in 0..SLOTS {
+    for i in 0..SLOT_COUNT {
         images[i] = read_slot(&bytes[SLOT * i..SLOT * i + SLOT])?;
     }
     Some(images)
 }
 
 /// Slots of which none has a value.
-pub fn no_images() -> [Image; SLOTS]
+pub fn no_images() -> [Image; SLOT_COUNT]
     ensures { result ≡ replicate 15 None }
 {
     [
@@ -77,7 +73,7 @@ pub fn is_head(lsn: Lsn, id: u32, head: &[u8]) -> bool
 }
 
 /// Whether all bytes of a block are zero.
-pub fn is_zero(block: &[u8; BLOCK]) -> bool
+pub fn is_zero(block: &[u8; BLOCK_LEN]) -> bool
     ensures { IsTrue result ↔ (block.now ≡ replicate 512 0) }
 {
     block.as_slice() == ZEROS.as_slice()

@@ -2,11 +2,11 @@ ghost use Rattle.std.specs.Prelude.{◌≡◌, ◌<◌, ◌≤◌, List, ◌∷�
 ghost use Rattle.als_page.specs.Block.{is_page_lsn};
 
 use crate::block::{
-    BLOCK, HEAD, SLOTS, is_head, is_zero, no_images, read_slots, write_head, write_slots,
+    HEAD, is_head, is_zero, no_images, read_slots, write_head, write_slots,
 };
 use crate::fault::Fault;
 use crate::slot::copy_of;
-use als_record::{Change, Image, Lsn};
+use als_record::{BLOCK_LEN, Change, Image, Lsn, SLOT_COUNT};
 use byteorder::{BigEndian, ByteOrder};
 
 /// A page of the database: 15 slots of images, and its page_LSN, the LSN of the last record that changed it.
@@ -14,7 +14,7 @@ use byteorder::{BigEndian, ByteOrder};
 pub struct Page {
     id: u32,
     lsn: Lsn,
-    slots: [Image; SLOTS],
+    slots: [Image; SLOT_COUNT],
     ghost count: { length slots ≡ 15 },
     ghost written: { IsTrue (is_page_lsn lsn.0 slots) },
 }
@@ -87,7 +87,7 @@ impl Page {
         ensures state { state_of result ≡ state_of self.now }
     {
         let mut slots = no_images();
-        for i in 0..SLOTS {
+        for i in 0..SLOT_COUNT {
             slots[i] = copy_of(&self.slots[i]);
         }
         Page {
@@ -98,7 +98,7 @@ impl Page {
     }
 
     /// Writes the page's block.
-    pub fn write_block(&self, into: &mut [u8; BLOCK])
+    pub fn write_block(&self, into: &mut [u8; BLOCK_LEN])
         ensures written { into.new ≡ block_of (id_of self.now) (state_of self.now) }
         ensures fits { IsPageState (state_of self.now) }
     {
@@ -114,7 +114,7 @@ impl Page {
     /// The page with this number that a block holds. Refuses with 33 (BadPage) bytes that are not the block of a page
     /// with this number: a page_LSN below 16 where not all bytes are zero, another number, another version than 1, a
     /// slot's first byte above 32, a byte that must be zero and is not.
-    pub fn read_block(id: u32, block: &[u8; BLOCK]) -> Result<Page, Fault>
+    pub fn read_block(id: u32, block: &[u8; BLOCK_LEN]) -> Result<Page, Fault>
         // What is found has this block.
         ensures found { IfOk result (λ page. (id_of page ≡ id) × (block.now ≡ block_of id (state_of page)) × IsPageState (state_of page)) }
         // What has this block is found, so other bytes alone are refused.

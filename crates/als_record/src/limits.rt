@@ -12,6 +12,9 @@ pub const RECORD_LIMIT: usize = 54_560;
 /// The slots of a page: 0 to 14.
 pub const SLOT_COUNT: usize = 15;
 
+/// The bytes of a device's block, and so of a page's.
+pub const BLOCK_LEN: usize = 512;
+
 /// The bytes of the longest value.
 pub const VALUE_LIMIT: usize = 31;
 

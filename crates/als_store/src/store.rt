@@ -416,6 +416,7 @@ impl<D: BlockDisk> Store<D> {
         ensures wanted { IsErrOf result fault.Memory → first_bad self.old.stored.log logged.now ≡ None }
     {
         judge(&self.validator, logged)?;
+        // For the prover alone: what always holds of the log.
         let _ = self.log.end();
         let reserve_after = reserve_after(&self.validator, logged);
         let len = len_of(logged, bytes);
@@ -458,6 +459,7 @@ impl<D: BlockDisk> Store<D> {
         ensures ok { OnOk result (SyncsLog self.old.stored self.new.stored) }
         ensures err { IfErr result (λ f. (f ≡ fault.Device) × Breaks self.old.stored self.new.stored) }
     {
+        // For the prover alone: what always holds of the log.
         let _ = self.log.end();
         match sync_log(&mut self.log) {
             Ok(()) => Ok(()),
@@ -474,6 +476,7 @@ impl<D: BlockDisk> Store<D> {
         ensures ok { OnOk result (WritesMark self.old.stored self.new.stored) }
         ensures err { IfErr result (λ f. ((f ≡ fault.NothingToDo) × (HasUnmarked self.old.stored → ⊥) × (self.new.stored ≡ self.old.stored)) ⊎ ((f ≡ fault.Device) × BreaksMark self.old.stored self.new.stored)) }
     {
+        // For the prover alone: what always holds of the log.
         let _ = self.log.end();
         let synced = self.log.synced();
         let newest = self.control.newest();

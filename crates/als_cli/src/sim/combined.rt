@@ -1,10 +1,8 @@
 use super::disk::Disk;
 use super::stepping::one_step;
 use als_engine::{Fault, Reply, Step, World};
+use als_record::BLOCK_LEN;
 use std::alloc::Global;
-
-/// Bytes of a block.
-const BLOCK: u64 = 512;
 
 /// Makes all that is held certain to survive a crash: writes and syncs the log, and then the control block. Answers what is
 /// acknowledged, or the first refusal that is not passed over, after which it stops.
@@ -25,7 +23,7 @@ pub fn force(alloc: Global, world: World<Disk>) -> (World<Disk>, Reply) {
 fn write_log(alloc: Global, world: World<Disk>) -> (World<Disk>, Reply) {
     let mut world = world;
     // There is no block past that of the log's end.
-    for _ in 0..=world.engine().status().end.0 / BLOCK {
+    for _ in 0..=world.engine().status().end.0 / BLOCK_LEN as u64 {
         let (after, reply) = one_step(alloc, world, Step::LogWrite);
         world = after;
         if reply != Reply::Done {

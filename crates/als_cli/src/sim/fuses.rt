@@ -1,11 +1,8 @@
 use super::disk::Disk;
 use als_disk::{FailingDisk, Fuse, MemDisk};
-use als_engine::Disks;
+use als_engine::{CONTROL_BLOCKS, Disks};
 use als_script::{Device, FailLine, WorldLine};
 use std::alloc::{AllocError, Global};
-
-/// Blocks of the control device.
-const CONTROL_BLOCKS: u64 = 321;
 
 /// What makes the standby's devices fail.
 pub struct Fuses {

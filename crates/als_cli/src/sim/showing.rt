@@ -4,16 +4,10 @@ use super::shown_record::ShownRecord;
 use als_analysis::OpenTransaction;
 use als_engine::{Engine, Fault, State, Status, World};
 use als_page::Page;
-use als_record::{Lsn, TransactionState, encoded_len};
+use als_record::{FIRST_LSN, Lsn, SLOT_COUNT, TransactionState, encoded_len};
 use std::alloc::Global;
 use std::io;
 use std::io::Write;
-
-/// Slots of a page.
-const SLOTS: u8 = 15;
-
-/// Where the first record of a log stands.
-const FIRST: u64 = 16;
 
 /// `show status`.
 pub fn status<W: Write>(output: &mut W, engine: &Engine<Disk>) -> io::Result<()> {
@@ -83,7 +77,7 @@ pub fn database<W: Write>(output: &mut W, engine: &Engine<Disk>) -> io::Result<(
 /// A line for each present slot; answers whether there is one.
 fn present<W: Write>(output: &mut W, number: u32, page: &Page) -> io::Result<bool> {
     let mut any = false;
-    for slot in 0..SLOTS {
+    for slot in 0..SLOT_COUNT as u8 {
         let image = page.image(slot);
         if image.is_some() {
             writeln!(output, "{number}/{slot} {}", ShownImage(image))?;
@@ -97,9 +91,9 @@ fn present<W: Write>(output: &mut W, number: u32, page: &Page) -> io::Result<boo
 /// growth was refused.
 pub fn log(alloc: Global, world: &mut World<Disk>, from: u64) -> Result<String, Fault> {
     let mut listing = String::new(alloc);
-    let mut at = FIRST;
+    let mut at = FIRST_LSN.0;
     // Each record begins at a byte of its own.
-    for _ in FIRST..world.engine().status().end.0 {
+    for _ in FIRST_LSN.0..world.engine().status().end.0 {
         let Some(logged) = world.record_at(Lsn(at))? else {
             break;
         };
