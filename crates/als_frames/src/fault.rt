@@ -9,7 +9,7 @@ use thiserror::Error;
 /// Why a call is refused. The numbers are common to all crates.
 #[derive(Clone, Copy, Debug, PartialEq, Eq, Error)]
 pub enum Fault {
-    /// All frames are used, and none is clean.
+    /// All frames are used, and none is free.
     #[error("24 PoolFull")]
     PoolFull,
     /// The page is not resident, or it is written as it is now.

@@ -11,7 +11,7 @@ pub enum Fault {
     /// The page_LSN of the page is not below the acknowledged LSN.
     #[error("22 LogBehind")]
     LogBehind,
-    /// All frames are used, and none is clean.
+    /// All frames are used, and none is free.
     #[error("24 PoolFull")]
     PoolFull,
     /// There is nothing for the call to do.
