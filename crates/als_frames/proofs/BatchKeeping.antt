@@ -1,5 +1,5 @@
 -- What the redo of several changes leaves of all pages, for a log.
-use Rattle.std.proofs.Common.{◌≡◌, ℕ, ◌<◌, Bool, List, [], ◌∷◌, ◌++◌, Option, Some, fold, inl, inr, sym, ap, subst, ◌∙◌, arith}
+use Rattle.std.proofs.Common.{◌≡◌, ℕ, ◌<◌, Bool, List, [], ◌∷◌, ◌++◌, Option, Some, fold, inl, inr, sym, ap, subst, arith}
 use Rattle.std.proofs.lemmas.Bool.Decides.{eqb_tells}
 use Rattle.als_record.specs.declared.change.Change.{Change}
 use Rattle.als_record.specs.declared.record.Record.{Record}

@@ -1,8 +1,7 @@
 -- What making a page resident does, by its parts.
-use Rattle.std.proofs.Common.{true≢false, false, is_some, ◌≡◌, ℕ, zero, suc, Bool, ◌<◌, ◌≤◌, ◌+◌, min, List, length, Option, Some, None, nat_eq, refl, sym, ap, subst, ◌∙◌, arith}
+use Rattle.std.proofs.Common.{true≢false, false, is_some, ◌≡◌, ℕ, Bool, ◌<◌, ◌≤◌, ◌+◌, min, List, length, Option, Some, None, refl, ap, subst, ◌∙◌, arith}
 use Rattle.std.specs.Prelude.{Result, Ok, Err, IfOk, IfErr}
 use Rattle.std.specs.Result.{IsErrOf}
-use Rattle.std.specs.Map.{lookup}
 use Rattle.als_record.specs.Pages.{PageState}
 use Rattle.als_disk.specs.Slot.{Slot}
 use Rattle.als_page.specs.Block.{block_of}

@@ -11,7 +11,7 @@ use std::fmt;
 /// Why a call is refused. The numbers are common to all crates.
 #[derive(Clone, Copy, Debug, PartialEq, Eq)]
 pub enum Fault {
-    /// All frames are used, and none is clean.
+    /// All frames are used, and none is free.
     PoolFull,
     /// The page is not resident, or it is written as it is now.
     NothingToDo,

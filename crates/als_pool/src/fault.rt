@@ -12,7 +12,7 @@ use std::fmt;
 pub enum Fault {
     /// The page_LSN of the page is not below the acknowledged LSN.
     LogBehind,
-    /// All frames are used, and none is clean.
+    /// All frames are used, and none is free.
     PoolFull,
     /// There is nothing for the call to do.
     NothingToDo,

@@ -1,8 +1,8 @@
-use Rattle.std.proofs.Common.{◌≡◌, ◌<◌, ◌≤◌, None, refl, sym, subst, arith}
+use Rattle.std.proofs.Common.{◌<◌, ◌≤◌, refl, sym, subst, arith}
 use Rattle.std.proofs.lemmas.Result.{err_from_is_err_and}
 use Rattle.als_disk.specs.Slot.{Slot}
-use Rattle.als_page.specs.Page.{id_of, state_of}
-use Rattle.als_frames.specs.Frames.{Holding, Paged, frame_of, slots_from}
+use Rattle.als_page.specs.Page.{state_of}
+use Rattle.als_frames.specs.Frames.{Holding, Paged, slots_from}
 use Rattle.als_frames.specs.Outcomes.{IsFound, IsBadBelow, FailsToRead}
 use Rattle.als_frames.proofs.SlotsLaws.{slot_at, slots_from-all}
 use Rattle.als_frames.proofs.LoadLaws.{paged, same_device, same_but_failures, not_full, refused_reading, refused_fetch, past_end}
