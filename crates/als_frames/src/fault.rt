@@ -3,8 +3,8 @@ ghost use Rattle.als_fault.specs.Kinds.{number_of, name_of, text_of};
 ghost use Rattle.als_frames.specs.declared.fault.Fault.TheVariants.{Device as DeviceFailed, Memory as OutOfMemory, BadPage as IsBadPage};
 ghost use Rattle.als_frames.specs.FaultNames.{kind_of};
 
-use als_fault::FaultKind;
 use als_disk::DeviceError;
+use als_fault::FaultKind;
 use std::alloc::{AllocError, AllocFailed};
 use std::fmt;
 

@@ -1,9 +1,7 @@
 ghost use Rattle.std.specs.Prelude.{◌≡◌, ◌<◌, ◌≤◌, List, ◌∷◌, length, Some, slice_get, IsTrue, IfOk, IfErr, IsOkAnd};
 ghost use Rattle.als_page.specs.Block.{is_page_lsn};
 
-use crate::block::{
-    HEAD, is_head, is_zero, no_images, read_slots, write_head, write_slots,
-};
+use crate::block::{HEAD, is_head, is_zero, no_images, read_slots, write_head, write_slots};
 use crate::fault::Fault;
 use crate::slot::copy_of;
 use als_record::{BLOCK_LEN, Change, Image, Lsn, SLOT_COUNT};

@@ -70,7 +70,8 @@ pub use key::Key;
 pub use laws::{one_log, one_spelling};
 pub use lengths::encoded_len;
 pub use limits::{
-    BLOCK_LEN, FIRST_LSN, HEAD_LEN, PAGE_LIMIT, RECORD_LIMIT, SLOT_COUNT, TRANSACTION_LIMIT, VALUE_LIMIT,
+    BLOCK_LEN, FIRST_LSN, HEAD_LEN, PAGE_LIMIT, RECORD_LIMIT, SLOT_COUNT, TRANSACTION_LIMIT,
+    VALUE_LIMIT,
 };
 pub use lsn::Lsn;
 pub use record::{Body, Record};
