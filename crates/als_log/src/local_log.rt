@@ -56,7 +56,7 @@ impl<D: BlockDisk> Model for LocalLog<D> {
     ghost invariant = { λ l. IsHeld l.pages (records_in l.history) l.base l.written l.synced l.cursor (D.block_count l.disk) l.tail.items (D.slot l.disk) };
 }
 
-/// The length of a record, of which these are the bytes.
+/// The length of a record, of which these are the bytes. The record is there for the prover alone: the clause speaks of it.
 #[inline(always)]
 fn spelled_len(_logged: &Record, bytes: &[u8]) -> usize
     requires { bytes.now ≡ spelling _logged.now }
@@ -65,7 +65,7 @@ fn spelled_len(_logged: &Record, bytes: &[u8]) -> usize
     bytes.len()
 }
 
-/// Appends a record by its bytes, as `encode` does without them.
+/// Appends a record by its bytes, as `encode` does without them. The record is there for the prover alone.
 #[inline(always)]
 fn copy_in(_logged: &Record, bytes: &[u8], out: &mut Vec<u8>) -> Result<(), AllocError>
     requires { bytes.now ≡ spelling _logged.now }
