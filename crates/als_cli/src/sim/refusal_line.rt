@@ -5,6 +5,7 @@ use als_engine::Fault;
 use std::fmt;
 
 /// The line of a refusal: its number, its name, and the number that it carries, if any.
+#[derive(Clone, Copy)]
 pub struct RefusalLine(pub Fault);
 
 impl fmt::Display for RefusalLine {
