@@ -1,0 +1,125 @@
+ghost use Rattle.std.specs.Prelude.{◌≡◌, ◌≤◌, IsTrue, IsOk, Ok, List, [], IfSome, IsNone, ◌↔◌, find, option_map, option_copied};
+ghost use Rattle.std.specs.List.{All, Contains};
+ghost use Rattle.als_record.specs.LogText.{end_of};
+ghost use Rattle.als_record.specs.Tail.{tail_of, undone};
+ghost use Rattle.als_record.specs.Validity.{is_valid};
+ghost use Rattle.als_record.specs.declared.record.Record.{Record as AnyRecord};
+ghost use Rattle.als_analysis.specs.Noted.{IsTableOf};
+ghost use Rattle.als_analysis.specs.Open.{rows_of, left_of};
+ghost use Rattle.als_record.specs.Table.{table_of};
+ghost use Rattle.als_takeover.specs.Next.{first_of, is_over, newest_of, undo_at, undo_of, tables};
+
+use als_analysis::{OpenTransaction, TransTable};
+use als_disk::BlockDisk;
+use als_log::{Fault, LocalLog};
+use als_record::{Body, ImageView, Lsn, Record, TransactionState};
+
+/// Whether nothing of a transaction is to be undone: it has committed, or no update of it survives.
+fn is_finished(kept: &OpenTransaction) -> bool
+    ensures { result ≡ is_over kept.now }
+{
+    match kept.row().state {
+        TransactionState::Committed => true,
+        TransactionState::Active | TransactionState::RollingBack => kept.survivors().is_empty(),
+    }
+}
+
+/// The newest surviving update of a transaction.
+fn newest_of(kept: &OpenTransaction) -> Option<&Record>
+    ensures { option_copied result ≡ newest_of kept.now }
+{
+    kept.survivors().last()
+}
+
+/// Where the undo of a transaction goes on, 0 without a surviving update.
+fn undo_at(kept: &OpenTransaction) -> u64
+    ensures { result ≡ undo_at kept.now }
+{
+    match newest_of(kept) {
+        Some(update) => update.lsn.0,
+        None => 0,
+    }
+}
+
+/// The first transaction with nothing to undo.
+fn first_finished(entries: &[OpenTransaction]) -> Option<&OpenTransaction>
+    ensures { option_copied result ≡ find is_over entries.now }
+{
+    entries.iter().find(|kept| is_finished(kept))
+}
+
+/// The transaction whose undo goes on at the greatest LSN of all.
+fn greatest_undo(entries: &[OpenTransaction]) -> Option<&OpenTransaction>
+    ensures empty { IsNone result ↔ (entries.now ≡ []) }
+    ensures listed { IfSome result (λ o. Contains entries.now o.now) }
+    ensures greatest { IfSome result (λ o. All (λ p. undo_at p ≤ undo_at o.now) entries.now) }
+{
+    entries.iter().max_by_key(|kept| undo_at(kept))
+}
+
+/// What undoes an update: its key gets its before image back, and undo goes on at the record before it.
+fn undone_by(update: &Record) -> Body
+    ensures { result ≡ undone update.now.prev update.now.body }
+{
+    match &update.body {
+        Body::Update { key, before, .. } => Body::Compensation {
+            undo_next: update.prev,
+            key: *key,
+            after: ImageView::of(before).to_image(),
+        },
+        _ => Body::End,
+    }
+}
+
+/// The record at the log's end that follows the last one of a transaction.
+fn record_of(kept: &OpenTransaction, end: Lsn, body: Body) -> Record
+    ensures { result ≡ record { lsn = end; prev = kept.now.row.last; trans = kept.now.row.trans; body = body } }
+{
+    let row = kept.row();
+    Record {
+        lsn: end,
+        prev: row.last,
+        trans: row.trans,
+        body,
+    }
+}
+
+/// The compensation of the newest surviving update of a transaction.
+fn compensation_of(kept: &OpenTransaction, end: Lsn) -> Option<Record>
+    ensures { result ≡ option_map (undo_of kept.now end) (newest_of kept.now) }
+{
+    match newest_of(kept) {
+        Some(update) => Some(record_of(kept, end, undone_by(update))),
+        None => None,
+    }
+}
+
+/// The next record of the tail of a log that ends here, from its transactions.
+pub(crate) fn next_of(entries: &[OpenTransaction], end: Lsn) -> Option<Record>
+    ensures { (log : List AnyRecord) → IsTrue (is_valid log) → rows_of entries.now ≡ table_of log → left_of entries.now ≡ tables log → end.0 ≡ end_of log → result ≡ first_of (tail_of log) }
+{
+    if let Some(kept) = first_finished(entries) {
+        return Some(record_of(kept, end, Body::End));
+    }
+    match greatest_undo(entries) {
+        Some(kept) => compensation_of(kept, end),
+        None => None,
+    }
+}
+
+/// The next record that a takeover appends to its log: the first one of the log's tail, `None` where no transaction is
+/// unended. First each transaction with nothing to undo ends, in rising TransID; then the updates of all losers are undone in
+/// one falling sweep, whoever wrote them, and a transaction ends after its last one.
+///
+/// The table keeps the surviving updates, so that what a compensation has undone is not met again, no device is read and no
+/// memory taken: it answers `Ok`. It costs one look at each unended transaction, whatever they have to undo.
+pub fn next_undo<D: BlockDisk>(
+    table: &TransTable,
+    log: &mut LocalLog<D>,
+) -> Result<Option<Record>, Fault>
+    ensures next { IsTrue (is_valid log.old.log) → IsTableOf table.now log.old.log → result ≡ Ok (first_of (tail_of log.old.log)) }
+    ensures ok { IsOk result }
+    ensures same { log.new ≡ log.old }
+{
+    Ok(next_of(table.rows(), log.end()))
+}
