@@ -1,4 +1,5 @@
 pub mod BlockLaws
+pub mod CheckpointLaws
 pub mod DeviceLaws
 pub mod KeptLaws
 pub mod StateLaws

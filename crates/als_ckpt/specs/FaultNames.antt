@@ -7,3 +7,7 @@ use Rattle.als_ckpt.specs.declared.fault.Fault.TheVariants as fault
 abbrev pub kind_of : Fault → FaultKind
 kind_of fault.Device = kind.Device
 kind_of fault.BadControl = kind.BadControl
+kind_of fault.Memory = kind.Memory
+kind_of fault.CkptBusy = kind.CkptBusy
+kind_of fault.NothingToDo = kind.NothingToDo
+kind_of fault.LogBehind = kind.LogBehind

@@ -1,3 +1,4 @@
+pub mod Checkpoint
 pub mod Control
 pub mod FaultNames
 pub mod Kept

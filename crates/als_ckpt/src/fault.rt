@@ -1,10 +1,11 @@
 ghost use Rattle.std.specs.Prelude.{◌≡◌, Some};
 ghost use Rattle.als_fault.specs.Kinds.{number_of, name_of, text_of};
-ghost use Rattle.als_ckpt.specs.declared.fault.Fault.TheVariants.{Device};
+ghost use Rattle.als_ckpt.specs.declared.fault.Fault.TheVariants.{Device, Memory as OutOfMemory};
 ghost use Rattle.als_ckpt.specs.FaultNames.{kind_of};
 
 use als_disk::DeviceError;
 use als_fault::FaultKind;
+use std::alloc::{AllocError, AllocFailed};
 use std::fmt;
 
 /// Why there is no control block. The numbers are common to all crates.
@@ -14,6 +15,14 @@ pub enum Fault {
     Device,
     /// The block is no control block of a database with this many pages over a log device of this size.
     BadControl,
+    /// A growth was refused.
+    Memory,
+    /// A checkpoint is begun, or the last one published is not synced, or a block of it is not.
+    CkptBusy,
+    /// No checkpoint is begun, or all its blocks are written.
+    NothingToDo,
+    /// The checkpoint's position is above the acknowledged LSN.
+    LogBehind,
 }
 
 impl Fault {
@@ -24,6 +33,10 @@ impl Fault {
         match self {
             Fault::Device => FaultKind::Device,
             Fault::BadControl => FaultKind::BadControl,
+            Fault::Memory => FaultKind::Memory,
+            Fault::CkptBusy => FaultKind::CkptBusy,
+            Fault::NothingToDo => FaultKind::NothingToDo,
+            Fault::LogBehind => FaultKind::LogBehind,
         }
     }
 
@@ -58,5 +71,21 @@ impl From<DeviceError> for Fault {
 
     fn from(_e: DeviceError) -> Fault {
         Fault::Device
+    }
+}
+
+impl From<AllocError> for Fault {
+    ghost from_gives = { λ _ e. e ≡ OutOfMemory };
+
+    fn from(_e: AllocError) -> Fault {
+        Fault::Memory
+    }
+}
+
+impl<T: Drop> From<AllocFailed<T>> for Fault {
+    ghost from_gives = { λ _ e. e ≡ OutOfMemory };
+
+    fn from(_e: AllocFailed<T>) -> Fault {
+        Fault::Memory
     }
 }

@@ -13,6 +13,14 @@ mod fault;
 mod refused;
 // A control state as the bytes of a block, and back.
 mod codec;
+// What a checkpoint says of its log beside the tables.
+mod numbers;
+// A checkpoint.
+mod checkpoint;
+// Whether the rows of a checkpoint are in order.
+mod checkpoint_rows;
+// A checkpoint as bytes, and back.
+mod checkpoint_codec;
 // The states written since the last sync.
 mod writes;
 // Control blocks on a disk.
@@ -22,11 +30,14 @@ mod control;
 // That a block is the control block of one state.
 mod laws;
 
+pub use checkpoint::Checkpoint;
+pub use checkpoint_codec::{decode_checkpoint, encode_checkpoint};
 pub use control::Control;
 pub use control_state::ControlState;
 pub use device::clear;
 pub use fault::Fault;
 pub use laws::one_state;
+pub use numbers::Numbers;
 pub use phase::Phase;
 pub use refused::Refused;
 pub use region::Region;
