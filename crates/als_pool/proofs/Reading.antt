@@ -90,6 +90,7 @@ module _ (front : List Record) (r : Record) (placed : r.lsn.0 ≡ end_of front) 
             (get_or-set_other old.dirty c.key.page p e' untouched_page ne) (get_or-set_other old.waits c.key.page p w' [] ne)
             (other-queue p (entry_of old.dirty p) (pending_of old.waits p) (unread_of old.unread p) (changes_on-other p r c is apart) (h.each p lt))
       ]
+
   -- a record that waits nowhere
   pub reads-other : (v : Pooled) → change_of r ≡ None → QueuesOf front v → QueuesOf (front ++ r ∷ []) v
   reads-other v none h = record {

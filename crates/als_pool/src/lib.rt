@@ -18,8 +18,8 @@ mod laws;
 
 pub use fault::Fault;
 pub use laws::{
-    change_can_be_routed, each_row_is_exact, each_row_is_sound, mark_changes_nothing, other_records_pass,
-    other_records_wait_nowhere, queues_join_images,
+    change_can_be_routed, each_row_is_exact, each_row_is_sound, mark_changes_nothing,
+    other_records_pass, other_records_wait_nowhere, queues_join_images,
 };
 pub use new_pool::NewPool;
 pub use pool::Pool;
