@@ -1,10 +1,12 @@
 -- An engine is ready again after each event.
 use Rattle.std.proofs.Common.{◌≡◌, ℕ, ◌≤◌, ◌⊎◌, List, [], ◌∷◌, ◌++◌, Option, Some, None, inl, inr, refl, sym, subst, arith}
+use Rattle.std.specs.Prelude.{Bool}
 use Rattle.als_record.specs.declared.record.Record.{Record}
 use Rattle.als_record.specs.LogText.{end_of}
 use Rattle.als_receiver.specs.Reception.{Reception, fresh}
 use Rattle.als_ckpt.specs.declared.control_state.ControlState.{ControlState}
 use Rattle.als_ckpt.specs.Control.{last_state}
+use Rattle.als_pool.specs.Pooled.{Pooled}
 use Rattle.als_store.specs.declared.fault.Fault.{Fault as StoreFault}
 use Rattle.als_store.specs.declared.fault.Fault.TheVariants.{NothingToDo, Device}
 use Rattle.als_store.specs.Stored.{Stored, formatted, acknowledged, newest}
@@ -25,9 +27,9 @@ last_state-push state (x ∷ rest) next = last_state-push x rest next
 pub none_is_no_some : (f : Fault) → ◌≡◌ {A = Option Fault} None (Some f) → ⊥
 none_is_no_some f e = cc e
 
-pub ready_new : (held : Stored) (receiver : Reception) (pages blocks failures attempts : ℕ) → held ≡ formatted pages blocks failures attempts → receiver ≡ fresh 16 pages → IsReady held receiver None
-ready_new held receiver pages blocks failures attempts e f = record {
-  rests = rests_new held receiver pages blocks failures attempts e f;
+pub ready_new : (held : Stored) (receiver : Reception) (pages : ℕ) (pool : Pooled) (blocks failures attempts : ℕ) → held ≡ formatted pages pool blocks failures attempts → receiver ≡ fresh 16 pages → IsReady held receiver None
+ready_new held receiver pages pool blocks failures attempts e f = record {
+  rests = rests_new held receiver pages pool blocks failures attempts e f;
   marks = subst (λ (h : Stored). acknowledged h ≤ (newest h).mark.0) (sym e) (omega arith);
   no_want = none_is_no_some Memory;
 }
@@ -71,3 +73,14 @@ ready_failed held new receiver refused fault ready failed = elim failed [
   | inl nothing ↦ subst (λ (h : Stored). IsReady h receiver refused) (sym nothing.2) ready
   | inr breaks ↦ ready_broken held new receiver refused ready breaks.1
 ]
+
+-- other pages, and perhaps a device that has failed, have the same log and the same marks
+abbrev pub with_pages : Stored → Pooled → Bool → ℕ → ℕ → Stored
+with_pages held pool broken failures attempts = record held { pool = pool; broken = broken; failures = failures; attempts = attempts }
+
+pub ready_paged : (held new : Stored) (pool : Pooled) (broken : Bool) (failures attempts : ℕ) (receiver : Reception) (refused : Option Fault) → IsReady held receiver refused → new ≡ with_pages held pool broken failures attempts → IsReady new receiver refused
+ready_paged held new pool broken failures attempts receiver refused ready e = subst (λ (h : Stored). IsReady h receiver refused) (sym e) (record {
+  rests = record { meets = record { wanted = ready.rests.meets.wanted; pages = ready.rests.meets.pages; takes = ready.rests.meets.takes }; waits = ready.rests.waits; short = ready.rests.short };
+  marks = ready.marks;
+  no_want = ready.no_want;
+})
