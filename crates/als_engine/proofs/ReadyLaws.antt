@@ -1,6 +1,5 @@
 -- An engine is ready again after each event.
 use Rattle.std.proofs.Common.{◌≡◌, ℕ, ◌≤◌, ◌⊎◌, List, [], ◌∷◌, ◌++◌, Option, Some, None, inl, inr, refl, sym, subst, arith}
-use Rattle.std.specs.Prelude.{Bool}
 use Rattle.als_record.specs.declared.record.Record.{Record}
 use Rattle.als_record.specs.LogText.{end_of}
 use Rattle.als_receiver.specs.Reception.{Reception, fresh}
@@ -73,14 +72,3 @@ ready_failed held new receiver refused fault ready failed = elim failed [
   | inl nothing ↦ subst (λ (h : Stored). IsReady h receiver refused) (sym nothing.2) ready
   | inr breaks ↦ ready_broken held new receiver refused ready breaks.1
 ]
-
--- other pages, and perhaps a device that has failed, have the same log and the same marks
-abbrev pub with_pages : Stored → Pooled → Bool → ℕ → ℕ → Stored
-with_pages held pool broken failures attempts = record held { pool = pool; broken = broken; failures = failures; attempts = attempts }
-
-pub ready_paged : (held new : Stored) (pool : Pooled) (broken : Bool) (failures attempts : ℕ) (receiver : Reception) (refused : Option Fault) → IsReady held receiver refused → new ≡ with_pages held pool broken failures attempts → IsReady new receiver refused
-ready_paged held new pool broken failures attempts receiver refused ready e = subst (λ (h : Stored). IsReady h receiver refused) (sym e) (record {
-  rests = record { meets = record { wanted = ready.rests.meets.wanted; pages = ready.rests.meets.pages; takes = ready.rests.meets.takes }; waits = ready.rests.waits; short = ready.rests.short };
-  marks = ready.marks;
-  no_want = ready.no_want;
-})

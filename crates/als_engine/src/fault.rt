@@ -62,7 +62,9 @@ pub enum Fault {
     /// A growth was refused.
     Memory,
     /// The block of this page holds no image of it that the event can take.
-    BadPage { page: u32 },
+    BadPage {
+        page: u32,
+    },
     /// As many changes are pending as the limit allows.
     Backlog,
     /// A number of the configuration is out of its range.
