@@ -49,11 +49,12 @@ text, and
   apply P                 redo the first pending changes of page P
   drain                   redo until nothing is pending
   log-write, log-sync     write the log's first unwritten block, sync the log
+  flush P, sync-pages     write page P to its block, sync the pages
   mark-write, ctl-sync    write the log's synced end as its mark, sync the mark
   force                   log-write until all is written, and then those three
   fail log|control|pages K
                           make the K-th next call of that device fail
-  show status|table|db, show page P, show log A
+  show status|table|dirty|db, show page P, show log A
 Writes standard output: for each line that is no record line what it answers.
 
 Example:

@@ -5,6 +5,7 @@ use Rattle.als_record.specs.LogText.{end_of}
 use Rattle.als_receiver.specs.Reception.{Reception, fresh}
 use Rattle.als_ckpt.specs.declared.control_state.ControlState.{ControlState}
 use Rattle.als_ckpt.specs.Control.{last_state}
+use Rattle.als_pool.specs.Pooled.{Pooled}
 use Rattle.als_store.specs.declared.fault.Fault.{Fault as StoreFault}
 use Rattle.als_store.specs.declared.fault.Fault.TheVariants.{NothingToDo, Device}
 use Rattle.als_store.specs.Stored.{Stored, formatted, acknowledged, newest}
@@ -25,9 +26,9 @@ last_state-push state (x ∷ rest) next = last_state-push x rest next
 pub none_is_no_some : (f : Fault) → ◌≡◌ {A = Option Fault} None (Some f) → ⊥
 none_is_no_some f e = cc e
 
-pub ready_new : (held : Stored) (receiver : Reception) (pages blocks failures attempts : ℕ) → held ≡ formatted pages blocks failures attempts → receiver ≡ fresh 16 pages → IsReady held receiver None
-ready_new held receiver pages blocks failures attempts e f = record {
-  rests = rests_new held receiver pages blocks failures attempts e f;
+pub ready_new : (held : Stored) (receiver : Reception) (pages : ℕ) (pool : Pooled) (blocks failures attempts : ℕ) → held ≡ formatted pages pool blocks failures attempts → receiver ≡ fresh 16 pages → IsReady held receiver None
+ready_new held receiver pages pool blocks failures attempts e f = record {
+  rests = rests_new held receiver pages pool blocks failures attempts e f;
   marks = subst (λ (h : Stored). acknowledged h ≤ (newest h).mark.0) (sym e) (omega arith);
   no_want = none_is_no_some Memory;
 }

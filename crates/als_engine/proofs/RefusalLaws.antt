@@ -3,11 +3,11 @@ use Rattle.std.proofs.Common.{◌≡◌, ℕ, ◌<◌, ◌==◌, ◌++◌, ◌�
 use Rattle.std.specs.Prelude.{false}
 use Rattle.std.proofs.lemmas.Bool.{lt-leb, ne_eqb}
 use Rattle.als_record.specs.declared.lsn.Lsn.{Lsn}
-use Rattle.als_store.specs.Stored.{Stored, pending_of, waiting_on, acknowledged, AppliesFirst}
+use Rattle.als_store.specs.Stored.{Stored, pending_of, acknowledged}
 use Rattle.als_engine.specs.declared.fault.Fault.{Fault}
 use Rattle.als_engine.specs.declared.fed.FeedFault.{FeedFault}
 use Rattle.als_engine.specs.Machine.{Machine, Keeps}
-use Rattle.als_engine.specs.Refusals.{feed_refusal, refusal, is_dry}
+use Rattle.als_engine.specs.Refusals.{feed_refusal, refusal}
 use Rattle.als_engine.specs.declared.step.Step.TheVariants as step
 use Rattle.als_engine.specs.Feeds.{Feeds}
 use Rattle.als_engine.proofs.KeepLaws.{le_refl, keeps_equal}
@@ -16,15 +16,8 @@ use Rattle.als_engine.proofs.KeepLaws.{le_refl, keeps_equal}
 pub feed_not_refused : (m : Machine) → m.held.broken ≡ false → m.refused ≡ None → pending_of m.held < m.limit → feed_refusal m ≡ None
 feed_not_refused m running following room = rw (running, following, lt-leb m.limit (pending_of m.held) room) refl
 
--- changes that were redone had waited
-not_dry : (held new : Stored) (page : ℕ) (lsn : Lsn) → AppliesFirst held page lsn new → is_dry held page ≡ false
-not_dry held new page lsn applied =
-    let some : (length (waiting_on held page) == 0) ≡ false =
-    ne_eqb (length (waiting_on held page)) 0 (λ e. omega (arith, e, ap length applied.changes, length-append (applied.front ++ applied.last ∷ []) applied.rest, length-append applied.front (applied.last ∷ []))) in
-    rw (lt-leb held.pages page applied.inside, some) refl
-
-pub apply_not_refused : (m : Machine) (new : Stored) (page : ℕ) (lsn : Lsn) → m.held.broken ≡ false → AppliesFirst m.held page lsn new → refusal m (step.Apply page) ≡ None
-apply_not_refused m new page lsn running applied = rw (running, not_dry m.held new page lsn applied) refl
+pub apply_not_refused : (m : Machine) (page : ℕ) → m.held.broken ≡ false → refusal m (step.Apply page) ≡ None
+apply_not_refused m page running = rw running refl
 
 -- a refused feed holds records at most
 pub keeps_refused : (old new : Machine) (piece : List ℕ) (cause : Option Fault) (refusal : FeedFault) → Feeds old piece cause (Err refusal) new → Keeps old new

@@ -12,7 +12,10 @@ use Rattle.als_record.proofs.LogLaws.{spellings-nil, spellings-append, spellings
 use Rattle.als_receiver.specs.Reception.{Reception, HandsOut, with_kept, fresh}
 use Rattle.als_store.specs.declared.fault.Fault.{Fault as StoreFault}
 use Rattle.als_store.specs.declared.fault.Fault.TheVariants.{LogFull}
-use Rattle.als_store.specs.Stored.{Stored, with_log, formatted, IsTooLong, IsRefused}
+use Rattle.als_store.specs.Stored.{Stored, routed, formatted, IsTooLong, IsRefused}
+use Rattle.als_record.specs.Pages.{change_of}
+use Rattle.als_pool.specs.Pooled.{Pooled}
+use Rattle.std.proofs.lemmas.Grind.{fold-append}
 use Rattle.als_engine.specs.declared.fault.Fault.{Fault}
 use Rattle.als_engine.specs.declared.fault.Fault.TheVariants.{Memory}
 use Rattle.als_engine.specs.Faults.{from_store}
@@ -60,17 +63,24 @@ pub record SoFar (old : Stored) (bytes : List ℕ) (new : Stored) (receiver : Re
   pub meets : Meets new receiver
 
 same_log : (h : Stored) → h ≡ grown h []
-same_log h = ap (λ (log : List Record). with_log h log) (sym (append-nil h.log))
+same_log h = ap (λ (log : List Record). record h { log = log }) (sym (append-nil h.log))
+
+-- a record more in the pages
+abbrev pool_with : Pooled → Record → Pooled
+pool_with pool r = routed pool (change_of r)
+
+grown_more : (h : Stored) (xs ys : List Record) → grown (grown h xs) ys ≡ grown h (xs ++ ys)
+grown_more h xs ys = λ j. record h { log = append_assoc h.log xs ys j; pool = sym (fold-append pool_with h.pool xs ys) j }
 
 grown_twice : (h a b : Stored) (xs ys : List Record) → a ≡ grown h xs → b ≡ grown a ys → b ≡ grown h (xs ++ ys)
-grown_twice h a b xs ys e f = f ∙ ap (λ (x : Stored). grown x ys) e ∙ ap (λ (log : List Record). with_log h log) (append_assoc h.log xs ys)
+grown_twice h a b xs ys e f = f ∙ ap (λ (x : Stored). grown x ys) e ∙ grown_more h xs ys
 
 spelled_twice : (bytes mid rest : List ℕ) (xs ys : List Record) → bytes ≡ spellings xs ++ mid → mid ≡ spellings ys ++ rest → bytes ≡ spellings (xs ++ ys) ++ rest
 spelled_twice bytes mid rest xs ys e f = e ∙ ap (λ (m : List ℕ). spellings xs ++ m) f ∙ sym (append_assoc (spellings xs) (spellings ys) rest) ∙ ap (λ (m : List ℕ). m ++ rest) (sym (spellings-append xs ys))
 
 fit_append : (h : Stored) (xs ys : List Record) → AllFit h xs → AllFit (grown h xs) ys → AllFit h (xs ++ ys)
-fit_append h [] ys fit rest = subst (λ (log : List Record). AllFit (with_log h log) ys) (append-nil h.log) rest
-fit_append h (x ∷ xs) ys fit rest = (fit.0, fit_append (grown h (x ∷ [])) xs ys fit.1 (subst (λ (log : List Record). AllFit (with_log h log) ys) (sym (append_assoc h.log (x ∷ []) xs)) rest))
+fit_append h [] ys fit rest = subst (λ (s : Stored). AllFit s ys) (sym (same_log h)) rest
+fit_append h (x ∷ xs) ys fit rest = (fit.0, fit_append (grown h (x ∷ [])) xs ys fit.1 (subst (λ (s : Stored). AllFit s ys) (sym (grown_more h (x ∷ []) xs)) rest))
 
 fit_twice : (h a : Stored) (xs ys : List Record) → a ≡ grown h xs → AllFit h xs → AllFit a ys → AllFit h (xs ++ ys)
 fit_twice h a xs ys e fit rest = fit_append h xs ys fit (subst (λ (x : Stored). AllFit x ys) e rest)
@@ -110,8 +120,8 @@ so_far_from_all old new bytes receiver all = record { records = all.records; who
 
 cause_at : (old now : Stored) (xs ys : List Record) (rest : List ℕ) (fault : Fault) → now ≡ grown old xs → IsCause (grown now ys) rest fault → IsCause (grown old (xs ++ ys)) rest fault
 cause_at old now xs ys rest fault e cause =
-    let there : IsCause (with_log old ((old.log ++ xs) ++ ys)) rest fault = subst (λ (h : Stored). IsCause (grown h ys) rest fault) e cause in
-    subst (λ (log : List Record). IsCause (with_log old log) rest fault) (append_assoc old.log xs ys) there
+    let there : IsCause (grown (grown old xs) ys) rest fault = subst (λ (h : Stored). IsCause (grown h ys) rest fault) e cause in
+    subst (λ (s : Stored). IsCause s rest fault) (grown_more old xs ys) there
 
 -- a cause in front of more bytes is the same cause
 cause_more : (held : Stored) (rest more : List ℕ) (fault : Fault) → IsCause held rest fault → IsCause held (rest ++ more) fault
@@ -212,8 +222,8 @@ unfolding end_of
 end-start = refl
 
 -- a new receiver at the start of an empty log
-pub rests_new : (held : Stored) (receiver : Reception) (pages blocks failures attempts : ℕ) → held ≡ formatted pages blocks failures attempts → receiver ≡ fresh 16 pages → Rests held receiver
-rests_new held receiver pages blocks failures attempts e f = rests_empty held receiver (record {
+pub rests_new : (held : Stored) (receiver : Reception) (pages : ℕ) (pool : Pooled) (blocks failures attempts : ℕ) → held ≡ formatted pages pool blocks failures attempts → receiver ≡ fresh 16 pages → Rests held receiver
+rests_new held receiver pages pool blocks failures attempts e f = rests_empty held receiver (record {
   wanted = ap (λ (x : Reception). x.wanted) f ∙ sym end-start ∙ ap (λ (h : Stored). end_of h.log) (sym e);
   pages = ap (λ (x : Reception). x.pages) f ∙ ap (λ (h : Stored). h.pages) (sym e);
   takes = ap (λ (x : Reception). x.refusal) f;

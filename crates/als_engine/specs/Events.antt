@@ -3,8 +3,12 @@ use Rattle.std.specs.Prelude.{◌≡◌, ℕ, ◌⊎◌, [], Option, None, Resul
 use Rattle.als_record.specs.declared.lsn.Lsn.{Lsn}
 use Rattle.als_record.specs.declared.record.Record.{Record}
 use Rattle.als_log.specs.Reading.{HasRowsAt}
-use Rattle.als_store.specs.Stored.{Stored, AppliesFirst, StandsAt}
-use Rattle.als_store.specs.Events.{Breaks, FailsToRead, WritesLog, SyncsLog, WritesMark, BreaksMark, SyncsControl}
+use Rattle.als_page.specs.declared.page.Page.{Page}
+use Rattle.als_store.specs.declared.fault.Fault.{Fault as StoreFault}
+use Rattle.als_store.specs.Spare.{Spare, Holding}
+use Rattle.als_store.specs.Stored.{Stored, StandsAt, IsShown}
+use Rattle.als_store.specs.Events.{Breaks, FailsToRead, WritesLog, SyncsLog, WritesMark, BreaksMark, SyncsControl, AppliesFirst, NotApplied, FlushesPage, NotFlushed, SyncsDevice, BreaksSync, FailsToShow}
+use Rattle.als_engine.specs.Faults.{from_store}
 use Rattle.als_engine.specs.declared.fault.Fault.{Fault}
 use Rattle.als_engine.specs.declared.fault.Fault.TheVariants.{Device, Memory}
 use Rattle.als_engine.specs.declared.step.Step.TheVariants as step
@@ -31,10 +35,29 @@ abbrev pub DropsPartial : Machine → Result (Unit {0}) Fault → Machine → Ty
 DropsPartial old (Ok done) new = new ≡ resynced old
 DropsPartial old (Err fault) new = ⊥
 
+-- nothing was redone, for this reason, with this room beside what is held
+pub record FailsToRedo (old : Machine) (page : ℕ) (fault : Fault) (new : Machine) : Type 0 where
+  pub room : Spare
+  pub after : Holding
+  pub cause : StoreFault
+  pub fault_is : fault ≡ from_store cause
+  pub not_applied : NotApplied (record { stored = old.held; spare = room }) page cause after
+  pub becomes : new ≡ record old { held = after.stored }
+
 -- the first changes that a page waits for are redone, and its page_LSN is answered
 abbrev pub Redoes : Machine → ℕ → Result Lsn Fault → Machine → Type 0
 Redoes old page (Ok lsn) new = Changes old (λ held after. AppliesFirst held page lsn after) new
-Redoes old page (Err fault) new = ⊥
+Redoes old page (Err fault) new = FailsToRedo old page fault new
+
+-- a page is written to its block, by one write of a device, if the log is acknowledged past its page_LSN
+abbrev pub WritesPage : Machine → ℕ → Result (Unit {0}) Fault → Machine → Type 0
+WritesPage old page (Ok done) new = Changes old (λ held after. FlushesPage held page after) new
+WritesPage old page (Err fault) new = (cause : StoreFault) × (fault ≡ from_store cause) × Changes old (λ held after. NotFlushed held page cause after) new
+
+-- the pages' device is synced, by one sync
+abbrev pub SyncsAllPages : Machine → Result (Unit {0}) Fault → Machine → Type 0
+SyncsAllPages old (Ok done) new = Changes old SyncsDevice new
+SyncsAllPages old (Err fault) new = FailsIn old fault BreaksSync new
 
 -- the first block with unwritten bytes of the log is written, by one write of a device
 abbrev pub WritesBlock : Machine → Result (Unit {0}) Fault → Machine → Type 0
@@ -64,6 +87,12 @@ Resyncs old result new = Does old step.Resync (DropsPartial old) result new
 abbrev pub Applies : Machine → ℕ → Result Lsn Fault → Machine → Type 0
 Applies old page result new = Does old (step.Apply page) (Redoes old page) result new
 
+abbrev pub FlushesOne : Machine → ℕ → Result (Unit {0}) Fault → Machine → Type 0
+FlushesOne old page result new = Does old (step.Flush page) (WritesPage old page) result new
+
+abbrev pub PagesSync : Machine → Result (Unit {0}) Fault → Machine → Type 0
+PagesSync old result new = Does old step.SyncPages (SyncsAllPages old) result new
+
 abbrev pub LogWrites : Machine → Result (Unit {0}) Fault → Machine → Type 0
 LogWrites old result new = Does old step.LogWrite (WritesBlock old) result new
 
@@ -76,10 +105,15 @@ MarkWrites old result new = Does old step.MarkWrite (MovesMark old) result new
 abbrev pub ControlSyncs : Machine → Result Lsn Fault → Machine → Type 0
 ControlSyncs old result new = Does old step.ControlSync (Acknowledges old) result new
 
--- ---- a query that may read a device
+-- ---- queries that may read a device
 
 -- the record at an LSN, if one stands there; memory is wanted for an end_chkpt's rows alone; a read that fails is counted,
 -- and nothing else changes
 abbrev pub Reads : Machine → Lsn → Result (Option Record) Fault → Machine → Type 0
 Reads old lsn (Ok found) new = StandsAt old.held.log lsn found × (new ≡ old)
 Reads old lsn (Err fault) new = ((fault ≡ Memory) × HasRowsAt old.held.log lsn.0 × (new ≡ old)) ⊎ ((fault ≡ Device) × (held : Stored) × FailsToRead old.held held × (new ≡ record old { held = held }))
+
+-- the page as it is now; a read that fails is counted, and nothing else changes
+abbrev pub ShowsPage : Machine → ℕ → Result Page Fault → Machine → Type 0
+ShowsPage old page (Ok shown) new = IsShown old.held page shown × (new ≡ old)
+ShowsPage old page (Err fault) new = FailsIn old fault (λ held after. FailsToShow held page after) new

@@ -8,7 +8,7 @@ use Rattle.als_record.specs.declared.cause.Cause.TheVariants as cause
 use Rattle.als_store.specs.declared.fault.Fault.{Fault as StoreFault}
 use Rattle.als_store.specs.declared.fault.Fault.TheVariants as store_fault
 use Rattle.als_engine.specs.declared.fault.Fault.{Fault}
-use Rattle.als_engine.specs.declared.fault.Fault.TheVariants.{BadHeader, BadLength, BadType, BadReserved, WrongLsn, BadKey, BadValue, BadPrev, OldTransaction, WrongState, WrongUndoNext, WrongCompensation, RecordHeld, BeforeImage, TooManyTransactions, BadCheckpoint, NothingToDo, LogFull, Device, Stopped, Memory, Backlog, BadConfig}
+use Rattle.als_engine.specs.declared.fault.Fault.TheVariants.{BadHeader, BadLength, BadType, BadReserved, WrongLsn, BadKey, BadValue, BadPrev, OldTransaction, WrongState, WrongUndoNext, WrongCompensation, RecordHeld, BeforeImage, TooManyTransactions, BadCheckpoint, LogBehind, PoolFull, NothingToDo, LogFull, Device, Stopped, Memory, BadPage, Backlog, BadConfig}
 
 abbrev pub kind_of : Fault → FaultKind
 kind_of BadHeader = kind.BadHeader
@@ -27,11 +27,14 @@ kind_of (RecordHeld by) = kind.RecordHeld by.0
 kind_of BeforeImage = kind.BeforeImage
 kind_of TooManyTransactions = kind.TooManyTransactions
 kind_of BadCheckpoint = kind.BadCheckpoint
+kind_of LogBehind = kind.LogBehind
+kind_of PoolFull = kind.PoolFull
 kind_of NothingToDo = kind.NothingToDo
 kind_of LogFull = kind.LogFull
 kind_of Device = kind.Device
 kind_of Stopped = kind.Stopped
 kind_of Memory = kind.Memory
+kind_of (BadPage page) = kind.BadPage page
 kind_of Backlog = kind.Backlog
 kind_of BadConfig = kind.BadConfig
 
@@ -61,7 +64,10 @@ from_cause cause.BadCheckpoint = BadCheckpoint
 -- a fault of the store, as the engine answers it
 abbrev pub from_store : StoreFault → Fault
 from_store (store_fault.Invalid cause) = from_cause cause
+from_store store_fault.LogBehind = LogBehind
+from_store store_fault.PoolFull = PoolFull
 from_store store_fault.NothingToDo = NothingToDo
 from_store store_fault.LogFull = LogFull
 from_store store_fault.Device = Device
 from_store store_fault.Memory = Memory
+from_store (store_fault.BadPage page) = BadPage page

@@ -7,9 +7,9 @@ use Rattle.als_record.specs.Reading.{read_record}
 use Rattle.als_record.specs.Spelling.{record_len}
 use Rattle.als_record.specs.LogText.{spellings, end_of}
 use Rattle.als_record.specs.Validity.{first_bad, IsValidLog}
-use Rattle.als_store.specs.Stored.{Stored, with_log, IsTooLong}
+use Rattle.als_store.specs.Stored.{Stored, with_records, IsTooLong}
 use Rattle.als_engine.specs.declared.fault.Fault.{Fault}
-use Rattle.als_engine.specs.declared.fault.Fault.TheVariants.{BadHeader, BadLength, BadType, BadReserved, WrongLsn, BadKey, BadValue, BadPrev, OldTransaction, WrongState, WrongUndoNext, WrongCompensation, RecordHeld, BeforeImage, TooManyTransactions, BadCheckpoint, NothingToDo, LogFull, Device, Stopped, Memory, Backlog, BadConfig}
+use Rattle.als_engine.specs.declared.fault.Fault.TheVariants.{BadHeader, BadLength, BadType, BadReserved, WrongLsn, BadKey, BadValue, BadPrev, OldTransaction, WrongState, WrongUndoNext, WrongCompensation, RecordHeld, BeforeImage, TooManyTransactions, BadCheckpoint, LogBehind, PoolFull, NothingToDo, LogFull, Device, Stopped, Memory, BadPage, Backlog, BadConfig}
 use Rattle.als_engine.specs.declared.fed.Fed.{Fed}
 use Rattle.als_engine.specs.declared.fed.FeedFault.{FeedFault}
 use Rattle.als_engine.specs.Faults.{from_record, from_cause}
@@ -17,7 +17,7 @@ use Rattle.als_engine.specs.Machine.{Machine}
 
 -- the held log with more records
 abbrev pub grown : Stored → List Record → Stored
-grown held records = with_log held (held.log ++ records)
+grown held records = with_records held records
 
 -- the log device has room for each record after those before it, with the tail that a takeover would then append
 abbrev pub AllFit : Stored → List Record → Type 0
@@ -67,11 +67,14 @@ kept_fault (RecordHeld by) = Some (RecordHeld by)
 kept_fault BeforeImage = Some BeforeImage
 kept_fault TooManyTransactions = Some TooManyTransactions
 kept_fault BadCheckpoint = Some BadCheckpoint
+kept_fault LogBehind = Some LogBehind
+kept_fault PoolFull = Some PoolFull
 kept_fault NothingToDo = Some NothingToDo
 kept_fault LogFull = None
 kept_fault Device = Some Device
 kept_fault Stopped = Some Stopped
 kept_fault Memory = None
+kept_fault (BadPage page) = Some (BadPage page)
 kept_fault Backlog = Some Backlog
 kept_fault BadConfig = Some BadConfig
 

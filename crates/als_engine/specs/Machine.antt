@@ -1,8 +1,9 @@
--- The small machine: what an engine holds. It knows no pages, queues or buffers: a page is the log's, up to a page_LSN; and
--- no blocks: the log is written and synced up to an offset, and control states are written.
+-- The small machine: what an engine holds. A page is the log's, up to a page_LSN; the log is written and synced up to an offset, and
+-- control states are written.
 use Rattle.std.specs.Prelude.{◌≡◌, ℕ, ◌≤◌, ◌++◌, Bool, true, false, List, [], Option, Some, None}
 use Rattle.als_record.specs.declared.record.Record.{Record}
 use Rattle.als_record.specs.LogText.{end_of}
+use Rattle.als_pool.specs.Pooled.{Pooled}
 use Rattle.als_store.specs.Stored.{Stored, formatted, acknowledged}
 use Rattle.als_engine.specs.declared.config.Config.{Config}
 use Rattle.als_engine.specs.declared.fault.Fault.{Fault}
@@ -21,8 +22,8 @@ pub record Machine : Type 0 where
 
 -- a standby over devices that were just formatted: the log device has so many blocks, and the devices had failed so often and
 -- were called so often to write or to sync
-abbrev pub formatted_machine : Config → ℕ → ℕ → ℕ → Machine
-formatted_machine config blocks failures attempts = record { held = formatted config.pages blocks failures attempts; limit = config.pending; partial = []; refused = None }
+abbrev pub formatted_machine : Config → Pooled → ℕ → ℕ → ℕ → Machine
+formatted_machine config pool blocks failures attempts = record { held = formatted config.pages pool blocks failures attempts; limit = config.pending; partial = []; refused = None }
 
 -- no write and no sync has failed
 abbrev pub IsRunning : Machine → Type 0

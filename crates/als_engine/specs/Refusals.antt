@@ -1,7 +1,7 @@
 -- Why an event is refused before it does anything.
-use Rattle.std.specs.Prelude.{◌≡◌, ℕ, ◌==◌, nat_lt, nat_le, Bool, true, not, ◌||◌, List, [], ◌∷◌, ◌++◌, length, Option, Some, None, MatchOption, Result, Err, if◌then◌else◌}
+use Rattle.std.specs.Prelude.{◌≡◌, nat_lt, nat_le, Bool, true, not, List, [], ◌∷◌, ◌++◌, Option, Some, None, MatchOption, Result, Err, if◌then◌else◌}
 use Rattle.als_record.specs.LogText.{end_of}
-use Rattle.als_store.specs.Stored.{Stored, newest, pending_of, waiting_on}
+use Rattle.als_store.specs.Stored.{Stored, newest, pending_of}
 use Rattle.als_engine.specs.declared.fault.Fault.{Fault}
 use Rattle.als_engine.specs.declared.fault.Fault.TheVariants.{NothingToDo, Stopped, Backlog}
 use Rattle.als_engine.specs.declared.step.Step.{Step}
@@ -23,10 +23,6 @@ has_refused (Some fault) = (true, fault) ∷ []
 abbrev pub is_full : Machine → Bool
 is_full m = nat_le m.limit (pending_of m.held)
 
--- no change waits for the page, or there is no such page
-abbrev pub is_dry : Stored → ℕ → Bool
-is_dry held page = nat_le held.pages page || (length (waiting_on held page) == 0)
-
 -- the log has bytes that are not written
 abbrev pub is_unwritten : Stored → Bool
 is_unwritten held = nat_lt held.written (end_of held.log)
@@ -44,7 +40,10 @@ feed_causes m = has_stopped m ∷ has_refused m.refused ++ (is_full m, Backlog) 
 abbrev pub causes : Machine → Step → List (Bool × Fault)
 causes m (step.Feed piece) = feed_causes m
 causes m step.Resync = has_stopped m ∷ []
-causes m (step.Apply page) = has_stopped m ∷ (is_dry m.held page, NothingToDo) ∷ []
+-- what else refuses these two is looked at in the pages: by the event itself
+causes m (step.Apply page) = has_stopped m ∷ []
+causes m (step.Flush page) = has_stopped m ∷ []
+causes m step.SyncPages = has_stopped m ∷ []
 causes m step.LogWrite = has_stopped m ∷ (not (is_unwritten m.held), NothingToDo) ∷ []
 causes m step.LogSync = has_stopped m ∷ []
 causes m step.MarkWrite = has_stopped m ∷ (not (is_unmarked m.held), NothingToDo) ∷ []

@@ -8,7 +8,7 @@ use Rattle.als_engine.specs.declared.step.Reply.TheVariants as reply
 use Rattle.als_engine.specs.Machine.{Machine}
 use Rattle.als_engine.specs.Refusals.{feed_refusal}
 use Rattle.als_engine.specs.Feeds.{Feeds}
-use Rattle.als_engine.specs.Events.{Resyncs, Applies, LogWrites, LogSyncs, MarkWrites, ControlSyncs}
+use Rattle.als_engine.specs.Events.{Resyncs, Applies, FlushesOne, PagesSync, LogWrites, LogSyncs, MarkWrites, ControlSyncs}
 
 -- the reply to an event that answers no value
 abbrev pub reply_of : Result (Unit {0}) Fault → Reply
@@ -23,6 +23,10 @@ Steps old step.Resync reply.Done new = Resyncs old (Ok tt) new
 Steps old step.Resync (reply.Refused fault) new = Resyncs old (Err fault) new
 Steps old (step.Apply page) (reply.Applied lsn) new = Applies old page (Ok lsn) new
 Steps old (step.Apply page) (reply.Refused fault) new = Applies old page (Err fault) new
+Steps old (step.Flush page) reply.Done new = FlushesOne old page (Ok tt) new
+Steps old (step.Flush page) (reply.Refused fault) new = FlushesOne old page (Err fault) new
+Steps old step.SyncPages reply.Done new = PagesSync old (Ok tt) new
+Steps old step.SyncPages (reply.Refused fault) new = PagesSync old (Err fault) new
 Steps old step.LogWrite reply.Done new = LogWrites old (Ok tt) new
 Steps old step.LogWrite (reply.Refused fault) new = LogWrites old (Err fault) new
 Steps old step.LogSync reply.Done new = LogSyncs old (Ok tt) new

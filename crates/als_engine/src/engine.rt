@@ -1,17 +1,19 @@
 ghost use Rattle.std.specs.Prelude.{◌≡◌, ℕ, ◌<◌, ◌≤◌, ◌+◌, ◌⊎◌, true, false, List, [], ◌∷◌, ◌++◌, length, Some, None, Ok, Err, IfOk, IfErr, OnOk, OnErr, IsErrOf, IsOk};
-ghost use Rattle.std.specs.Option.{option_copied};
 ghost use Rattle.als_record.specs.LogText.{end_of};
 ghost use Rattle.als_record.specs.Table.{table_of};
 ghost use Rattle.als_analysis.specs.Open.{rows_of};
-ghost use Rattle.als_store.specs.Stored.{acknowledged, pending_of, WaitsFrom, ShowsPage};
-ghost use Rattle.als_store.specs.Devices.{AreKept};
+ghost use Rattle.als_store.specs.Stored.{acknowledged, pending_of, formatted_pool};
+ghost use Rattle.als_store.specs.Devices.{AreKept, AreImages};
+ghost use Rattle.als_pool.specs.Queues.{WaitsFirst};
+ghost use Rattle.als_pool.specs.Images.{IsPoolOf};
+ghost use Rattle.als_dirty.specs.Rows.{IsNextRow};
 ghost use Rattle.als_store.specs.Formatting.{IsHalfFormatted};
 ghost use Rattle.als_engine.specs.Config.{IsConfig, IsWorld};
 ghost use Rattle.als_engine.specs.Machine.{formatted_machine, state_of, state_from, Keeps};
 ghost use Rattle.als_engine.specs.Serving.{HasRoomForPiece};
 ghost use Rattle.als_engine.specs.Refusals.{feed_refusal};
 ghost use Rattle.als_engine.specs.Feeds.{Feeds, kept_fault};
-ghost use Rattle.als_engine.specs.Events.{Resyncs, Applies, LogWrites, LogSyncs, MarkWrites, ControlSyncs, Reads};
+ghost use Rattle.als_engine.specs.Events.{Resyncs, Applies, FlushesOne, PagesSync, LogWrites, LogSyncs, MarkWrites, ControlSyncs, Reads, ShowsPage};
 ghost use Rattle.als_engine.specs.Runs.{Steps, reply_of};
 
 use crate::config::Config;
@@ -25,7 +27,7 @@ use als_analysis::OpenTransaction;
 use als_disk::BlockDisk;
 use als_page::Page;
 use als_receiver::Receiver;
-use als_record::{FIRST_LSN, Lsn, Record};
+use als_record::{FIRST_LSN, LoggedPage, Lsn, Record};
 use als_store::{Disks, Store};
 use std::alloc::Global;
 use std::marker::Model;
@@ -73,16 +75,16 @@ impl<D: BlockDisk> Engine<D> {
     ///
     /// BadConfig: a number of the configuration is out of its range, or a device has too few blocks, or the log's too many;
     /// the devices are as they were. Memory: a growth was refused; the devices are as they were. Device: a device failed; the
-    /// log is as it was, or a crash leaves a control block that is cleared or that of the new database.
+    /// log and the pages are as they were, or a crash leaves a control block that is cleared or that of the new database.
     pub fn format(alloc: Global, disks: Disks<D>, config: Config) -> Result<Engine<D>, Refused<D>>
         ensures fits { IfOk result (λ e. IsWorld config (D.block_count disks.log) (D.block_count disks.control) (D.block_count disks.pages)) }
-        ensures ok { IfOk result (λ e. e.machine ≡ formatted_machine config (D.block_count disks.log) (D.failures disks.log + D.failures disks.control + D.failures disks.pages) e.machine.held.attempts) }
+        ensures ok { IfOk result (λ e. e.machine ≡ formatted_machine config (formatted_pool config.pages config.frames (D.block_count disks.pages) (D.failures disks.pages) (D.attempts disks.pages + config.pages + 1)) (D.block_count disks.log) (D.failures disks.log + D.failures disks.control + D.failures disks.pages) e.machine.held.attempts) }
         ensures config { IfErr result (λ r. r.fault ≡ Fault.BadConfig → IsWorld config (D.block_count disks.log) (D.block_count disks.control) (D.block_count disks.pages) → ⊥) }
         ensures fault { IfErr result (λ r. (r.fault ≡ Fault.BadConfig) ⊎ (IsWorld config (D.block_count disks.log) (D.block_count disks.control) (D.block_count disks.pages) × ((r.fault ≡ Fault.Memory) ⊎ (r.fault ≡ Fault.Device)))) }
         ensures same { IfErr result (λ r. (r.fault ≡ Fault.Device → ⊥) → r.disks ≡ disks) }
-        ensures device { IfErr result (λ r. r.fault ≡ Fault.Device → D.failures disks.log + D.failures disks.control < D.failures r.disks.log + D.failures r.disks.control) }
-        ensures left { IfErr result (λ r. r.fault ≡ Fault.Device → IsHalfFormatted config.pages (D.slot disks.log) (D.slot r.disks.log) (D.slot r.disks.control)) }
-        ensures counts { IfErr result (λ r. (D.block_count r.disks.log ≡ D.block_count disks.log) × (D.block_count r.disks.control ≡ D.block_count disks.control) × (r.disks.pages ≡ disks.pages)) }
+        ensures device { IfErr result (λ r. r.fault ≡ Fault.Device → D.failures disks.log + D.failures disks.control + D.failures disks.pages < D.failures r.disks.log + D.failures r.disks.control + D.failures r.disks.pages) }
+        ensures left { IfErr result (λ r. r.fault ≡ Fault.Device → IsHalfFormatted config.pages (D.slot disks.log) (D.slot r.disks.log) (D.slot disks.pages) (D.slot r.disks.pages) (D.slot r.disks.control)) }
+        ensures counts { IfErr result (λ r. (D.block_count r.disks.log ≡ D.block_count disks.log) × (D.block_count r.disks.control ≡ D.block_count disks.control) × (D.block_count r.disks.pages ≡ D.block_count disks.pages)) }
     {
         if !config.fits(&disks) {
             return Err(Refused {
@@ -91,7 +93,7 @@ impl<D: BlockDisk> Engine<D> {
             });
         }
         let pages = config.pages as u32;
-        match Store::format(alloc, disks, pages) {
+        match Store::format(alloc, disks, pages, config.frames as usize) {
             Ok(store) => Ok(Engine {
                 alloc,
                 store,
@@ -110,6 +112,7 @@ impl<D: BlockDisk> Engine<D> {
     /// and the log device has the held log's text below that mark. Their attempts together are the machine's.
     pub fn into_disks(self) -> Disks<D>
         ensures kept { AreKept self.machine.held (D.slot result.log) (D.slot result.control) }
+        ensures images { AreImages self.machine.held (D.slot result.pages) }
         ensures attempts { D.attempts result.log + D.attempts result.control + D.attempts result.pages ≡ self.machine.held.attempts }
     {
         let Engine {
@@ -178,8 +181,11 @@ impl<D: BlockDisk> Engine<D> {
         Ok(())
     }
 
-    /// Redoes the first changes that a page waits for, at most 64, and answers its page_LSN. NothingToDo: none waits, or there
-    /// is no such page. Stopped comes before it; both change nothing.
+    /// Redoes the first changes that a page waits for, at most 64, and answers its page_LSN. A page that has no frame is read into one.
+    ///
+    /// Stopped. Then NothingToDo: none waits, or there is no such page. PoolFull: the page has no frame, all frames are used and none is
+    /// clean. Device: it could not be read. BadPage: its block has no image of it that is the log's. Memory: a growth was refused.
+    /// They come in this order. Then again NothingToDo: the page that was read has all that waited.
     pub fn apply(&mut self, page: u32) -> Result<Lsn, Fault>
         ensures { Applies self.old.machine page result self.new.machine }
     {
@@ -188,6 +194,31 @@ impl<D: BlockDisk> Engine<D> {
         }
         let lsn = self.store.apply(page)?;
         Ok(lsn)
+    }
+
+    /// Writes a page to its block, if the log is acknowledged past its page_LSN: it makes one write of a device. NothingToDo: the page
+    /// has no frame, or it is the image last written. LogBehind: its page_LSN is not below the acknowledged LSN. Device: the
+    /// write failed, and the engine has stopped.
+    pub fn flush(&mut self, page: u32) -> Result<(), Fault>
+        ensures { FlushesOne self.old.machine page result self.new.machine }
+    {
+        if self.store.is_broken() {
+            return Err(Fault::Stopped);
+        }
+        self.store.flush(page)?;
+        Ok(())
+    }
+
+    /// Syncs the pages' device, by one sync: the rows of the dirty page table move. Device: the sync failed, and the engine has
+    /// stopped.
+    pub fn sync_pages(&mut self) -> Result<(), Fault>
+        ensures { PagesSync self.old.machine result self.new.machine }
+    {
+        if self.store.is_broken() {
+            return Err(Fault::Stopped);
+        }
+        self.store.sync_pages()?;
+        Ok(())
     }
 
     /// Writes the first block of the log with unwritten bytes: it makes one write of a device. NothingToDo: there is none.
@@ -257,6 +288,8 @@ impl<D: BlockDisk> Engine<D> {
                 Ok(lsn) => Reply::Applied(lsn),
                 Err(fault) => Reply::Refused(fault),
             },
+            Step::Flush(page) => done(self.flush(*page)),
+            Step::SyncPages => done(self.sync_pages()),
             Step::LogWrite => done(self.log_write()),
             Step::LogSync => done(self.log_sync()),
             Step::MarkWrite => done(self.mark_write()),
@@ -301,11 +334,23 @@ impl<D: BlockDisk> Engine<D> {
         self.store.pages()
     }
 
-    /// The page as it is now: `None` where there is no such page.
-    pub fn page_now(&self, page: u32) -> Option<&Page>
-        ensures { ShowsPage self.now.machine.held page (option_copied result) }
+    /// The dirty page table: the first row of a page from there on.
+    pub fn dirty(&self, from: u32) -> Option<LoggedPage>
+        ensures row { IsNextRow self.now.machine.held.pool.dirty from result }
+        // The pages, their images and their rows are the log's, and no image has a page_LSN above what is acknowledged.
+        ensures pool { IsPoolOf self.now.machine.held.log (acknowledged self.now.machine.held) self.now.machine.held.pool }
     {
-        self.store.page_now(page)
+        let _ = self.store.acknowledged();
+        self.store.next_row(from)
+    }
+
+    /// The page as it is now: that of its frame, or else that of its block, which is read. Device: the read failed, which is counted.
+    pub fn page_now(&mut self, page: u32) -> Result<Page, Fault>
+        requires { page < self.old.machine.held.pages }
+        ensures { ShowsPage self.old.machine page result self.new.machine }
+    {
+        let found = self.store.page_now(page)?;
+        Ok(found)
     }
 
     /// The held record at an LSN, read from the log device where it is no longer in memory. Device: a read failed. Memory:
@@ -320,7 +365,7 @@ impl<D: BlockDisk> Engine<D> {
 
     /// The first page from there on with pending changes.
     pub fn next_pending(&self, from: u32) -> Option<u32>
-        ensures { WaitsFrom self.now.machine.held from result }
+        ensures { WaitsFirst self.now.machine.held.pool.waits from result }
     {
         self.store.next_pending(from)
     }

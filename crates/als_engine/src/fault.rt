@@ -47,6 +47,10 @@ pub enum Fault {
     TooManyTransactions,
     /// A checkpoint's record that does not fit those before it.
     BadCheckpoint,
+    /// The log is not acknowledged past the page_LSN of the page.
+    LogBehind,
+    /// All frames are used, and none is clean.
+    PoolFull,
     /// There is nothing for the event to do.
     NothingToDo,
     /// The log device has no room for the record and for what a takeover would then append.
@@ -57,6 +61,10 @@ pub enum Fault {
     Stopped,
     /// A growth was refused.
     Memory,
+    /// The block of this page holds no image of it that the event can take.
+    BadPage {
+        page: u32,
+    },
     /// As many changes are pending as the limit allows.
     Backlog,
     /// A number of the configuration is out of its range.
@@ -85,11 +93,14 @@ impl Fault {
             Fault::BeforeImage => FaultKind::BeforeImage,
             Fault::TooManyTransactions => FaultKind::TooManyTransactions,
             Fault::BadCheckpoint => FaultKind::BadCheckpoint,
+            Fault::LogBehind => FaultKind::LogBehind,
+            Fault::PoolFull => FaultKind::PoolFull,
             Fault::NothingToDo => FaultKind::NothingToDo,
             Fault::LogFull => FaultKind::LogFull,
             Fault::Device => FaultKind::Device,
             Fault::Stopped => FaultKind::Stopped,
             Fault::Memory => FaultKind::Memory,
+            Fault::BadPage { page } => FaultKind::BadPage { page },
             Fault::Backlog => FaultKind::Backlog,
             Fault::BadConfig => FaultKind::BadConfig,
         }
@@ -162,10 +173,13 @@ impl From<StoreFault> for Fault {
     fn from(fault: StoreFault) -> Fault {
         match fault {
             StoreFault::Invalid(cause) => Fault::from(cause),
+            StoreFault::LogBehind => Fault::LogBehind,
+            StoreFault::PoolFull => Fault::PoolFull,
             StoreFault::NothingToDo => Fault::NothingToDo,
             StoreFault::LogFull => Fault::LogFull,
             StoreFault::Device => Fault::Device,
             StoreFault::Memory => Fault::Memory,
+            StoreFault::BadPage { page } => Fault::BadPage { page },
         }
     }
 }

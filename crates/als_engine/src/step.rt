@@ -11,6 +11,10 @@ pub enum Step<'a> {
     Resync,
     /// Redoes the first changes that a page waits for, at most 64.
     Apply(u32),
+    /// Writes a page to its block, if the log is acknowledged past its page_LSN.
+    Flush(u32),
+    /// Syncs the pages' device.
+    SyncPages,
     /// Writes the first block of the log with unwritten bytes.
     LogWrite,
     /// Syncs the log.

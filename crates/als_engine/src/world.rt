@@ -1,12 +1,13 @@
-ghost use Rattle.std.specs.Prelude.{◌≡◌, ◌≤◌, ◌+◌, length, IfOk, IfErr};
+ghost use Rattle.std.specs.Prelude.{◌≡◌, ◌<◌, ◌≤◌, ◌+◌, length, IfOk, IfErr};
 ghost use Rattle.als_engine.specs.Machine.{Keeps};
-ghost use Rattle.als_engine.specs.Events.{Reads};
+ghost use Rattle.als_engine.specs.Events.{Reads, ShowsPage};
 ghost use Rattle.als_engine.specs.Runs.{Run};
 
 use crate::engine::Engine;
 use crate::fault::Fault;
 use crate::step::{Reply, Step};
 use als_disk::BlockDisk;
+use als_page::Page;
 use als_record::{Lsn, Record};
 use std::alloc::Global;
 use std::marker::Model;
@@ -45,6 +46,14 @@ impl<D: BlockDisk> World<D> {
         ensures { Reads self.old lsn result self.new }
     {
         self.engine.record_at(lsn)
+    }
+
+    /// The engine's page as it is now, which may have to be read from its block.
+    pub fn page_now(&mut self, page: u32) -> Result<Page, Fault>
+        requires { page < self.old.held.pages }
+        ensures { ShowsPage self.old page result self.new }
+    {
+        self.engine.page_now(page)
     }
 
     /// The engine.

@@ -9,6 +9,8 @@ mod page_queue;
 mod queues;
 // A device that could not be laid out.
 mod unformatted;
+// What a new pool has in memory.
+mod new_pool;
 // All pages.
 mod pool;
 // What holds of a pool for every log.
@@ -19,6 +21,7 @@ pub use laws::{
     change_can_be_routed, each_row_is_exact, each_row_is_sound, mark_changes_nothing,
     other_records_pass, other_records_wait_nowhere, queues_join_images,
 };
+pub use new_pool::NewPool;
 pub use pool::Pool;
 pub use unformatted::Unformatted;
 

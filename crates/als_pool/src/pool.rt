@@ -1,4 +1,4 @@
-ghost use Rattle.std.specs.Prelude.{◌≡◌, ◌≢◌, ◌<◌, ◌≤◌, ◌+◌, ℕ, List, [], ◌∷◌, ◌++◌, length, replicate, take, slice_set, Contains, Some, None, IsTrue, IsSome, IfSome, IfNone, IsOk, IfOk, IfErr, OnOk, OnErr, ◌↔◌};
+ghost use Rattle.std.specs.Prelude.{◌≡◌, ◌≢◌, ◌<◌, ◌≤◌, ◌+◌, ℕ, List, [], ◌∷◌, ◌++◌, length, take, slice_set, Contains, Some, None, IsTrue, IsSome, IfSome, IfNone, IsOk, IfOk, IfErr, OnOk, OnErr, ◌↔◌};
 ghost use Rattle.std.specs.Result.{IsErrOf};
 ghost use Rattle.als_record.specs.declared.record.Record.{Record as AnyRecord};
 ghost use Rattle.als_record.specs.LogText.{end_of, IsLog};
@@ -19,6 +19,7 @@ ghost use Rattle.als_pool.specs.Outcomes.{HasPlace, with_place, without_place, C
 ghost use Rattle.als_pool.specs.Images.{IsPoolOf, IsRowSound, QueuesOf, IsFromOn};
 
 use crate::fault::Fault;
+use crate::new_pool::NewPool;
 use crate::queues::Queues;
 use crate::unformatted::Unformatted;
 use als_dirty::DirtyTable;
@@ -87,18 +88,35 @@ impl<D: BlockDisk> Pool<D> {
         ensures untouched { IfErr result (λ u. u.fault ≡ Fault.Memory → u.disk ≡ disk) }
         ensures blocks { IfErr result (λ u. D.block_count u.disk ≡ D.block_count disk) }
     {
-        let Ok(dirty) = DirtyTable::new(alloc, pages) else {
+        let Ok(new) = NewPool::new(alloc, pages) else {
             let fault = Fault::Memory;
             return Err(Unformatted { disk, fault });
         };
-        let Ok(queues) = Queues::new(alloc, pages) else {
-            let fault = Fault::Memory;
-            return Err(Unformatted { disk, fault });
-        };
-        let Ok(unread) = all_read(alloc, pages) else {
-            let fault = Fault::Memory;
-            return Err(Unformatted { disk, fault });
-        };
+        match Pool::lay_out(disk, new, frames) {
+            Ok(pool) => Ok(pool),
+            Err(disk) => {
+                let fault = Fault::Device;
+                Err(Unformatted { disk, fault })
+            }
+        }
+    }
+
+    /// Lays out a device as a database of empty pages, whose memory was taken before, of which at most `frames` can be in memory at
+    /// once: writes the block of each page, and syncs. The device comes back where it failed.
+    pub fn lay_out(disk: D, new: NewPool, frames: usize) -> Result<Pool<D>, D>
+        requires { new ≤ D.block_count disk }
+        ensures ok { IfOk result (λ p. p.pool ≡ new_pool (without_frames new frames (λ _. only zeros) (D.block_count disk) (D.failures disk) (D.attempts disk + new + 1)) new) }
+        ensures keeps { IfOk result (λ p. (below : ℕ) → IsPoolOf [] below p.pool) }
+        ensures err { IfErr result (λ d. D.failures disk < D.failures d) }
+        ensures blocks { IfErr result (λ d. D.block_count d ≡ D.block_count disk) }
+    {
+        let NewPool {
+            alloc,
+            pages,
+            dirty,
+            queues,
+            unread,
+        } = new;
         match Frames::format(alloc, disk, pages, frames) {
             Ok(frames) => Ok(Pool {
                 frames,
@@ -106,11 +124,7 @@ impl<D: BlockDisk> Pool<D> {
                 queues,
                 unread,
             }),
-            Err(refused) => {
-                let fault = Fault::Device;
-                let disk = refused.disk;
-                Err(Unformatted { disk, fault })
-            }
+            Err(refused) => Err(refused.disk),
         }
     }
 
@@ -428,15 +442,4 @@ impl<D: BlockDisk> Pool<D> {
         } = self;
         frames.into_disk()
     }
-}
-
-// No page that waits to be read.
-fn all_read(alloc: Global, pages: u32) -> Result<Vec<Option<Lsn>>, AllocError>
-    ensures { IfOk result (λ unread. unread.items ≡ replicate pages None) }
-{
-    let mut unread = Vec::with_capacity(alloc, pages as usize)?;
-    for _page in 0..pages {
-        unread.push(None)?;
-    }
-    Ok(unread)
 }

@@ -6,6 +6,8 @@ pub enum ShowLine {
     Status,
     /// The transaction table.
     Table,
+    /// The dirty page table.
+    Dirty,
     /// `show page P`
     Page { page: u32 },
     /// All records of the database.
@@ -24,6 +26,7 @@ impl ShowLine {
         let show = match words.next()? {
             "status" => ShowLine::Status,
             "table" => ShowLine::Table,
+            "dirty" => ShowLine::Dirty,
             "page" => ShowLine::Page {
                 page: words.number()?,
             },

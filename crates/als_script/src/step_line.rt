@@ -8,6 +8,10 @@ pub enum StepLine {
     Resync,
     /// `apply P`
     Apply { page: u32 },
+    /// `flush P`
+    Flush { page: u32 },
+    /// `sync-pages`
+    SyncPages,
     LogWrite,
     LogSync,
     MarkWrite,
@@ -28,6 +32,10 @@ impl StepLine {
             "apply" => StepLine::Apply {
                 page: words.number()?,
             },
+            "flush" => StepLine::Flush {
+                page: words.number()?,
+            },
+            "sync-pages" => StepLine::SyncPages,
             "log-write" => StepLine::LogWrite,
             "log-sync" => StepLine::LogSync,
             "mark-write" => StepLine::MarkWrite,

@@ -1,7 +1,4 @@
-pub mod Redoing
-pub mod PageLists
-pub mod StoredPages
-pub mod StoredViews
-pub mod JudgingLaws
+pub mod PoolSteps
 pub mod StoredParts
+pub mod JudgingLaws
 pub mod KeptLaws

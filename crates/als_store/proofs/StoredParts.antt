@@ -4,34 +4,71 @@ use Rattle.std.specs.Prelude.{Bool, ◌^◌, ◌*◌, true, false, slice_set, If
 use Rattle.std.proofs.lemmas.Bool.{cases_lt, le-leb, lt-leb}
 use Rattle.std.specs.List.{sum_by}
 use Rattle.als_disk.specs.SlotLaws.{Contains-one}
-use Rattle.std.proofs.lemmas.List.{map-set, length-set}
 use Rattle.std.proofs.lemmas.List.Sums.{sum_by-cons}
 use Rattle.std.proofs.lemmas.List.Elements.{Contains-push_cases}
-use Rattle.std.proofs.lemmas.Option.{slice_get_within}
 use Rattle.als_record.specs.declared.lsn.Lsn.{Lsn}
 use Rattle.als_record.specs.declared.change.Change.{Change}
 use Rattle.als_record.specs.declared.record.Record.{Record}
 use Rattle.als_record.specs.Spelling.{record_len, IsRecord}
-use Rattle.als_record.specs.LogText.{end_of}
-use Rattle.als_record.specs.Validity.{first_bad}
+use Rattle.als_record.specs.LogText.{end_of, follow_from, IsLog}
+use Rattle.std.specs.List.{AllByRecursion}
+use Rattle.std.proofs.lemmas.Bool.{and_from}
+use Rattle.std.proofs.lemmas.List.{length-replicate}
+use Rattle.als_record.specs.Validity.{first_bad, may_follow, may_follow_all, is_valid, IsValidLog}
+use Rattle.als_record.proofs.Validity.{first_bad-none, may_follow-admitted, is_valid-push}
 use Rattle.als_record.specs.Pages.{change_of}
 use Rattle.als_record.proofs.RecordLaws.{record_len-high}
-use Rattle.als_record.proofs.PageLaws.{end_of-push, record_len-least, lsn_after-last, lsn-fold}
+use Rattle.als_record.proofs.PageLaws.{end_of-push, follow_from-push, record_len-least}
 use Rattle.als_validator.specs.declared.validator.Validator.{Validator}
 use Rattle.als_validator.specs.Validated.{IsValidatorOf, HasRoom}
 use Rattle.als_log.specs.Local.{Local, IsLocal, IsFrontEnd, whole_end, whole_from}
 use Rattle.als_ckpt.specs.declared.control_state.ControlState.{ControlState}
 use Rattle.als_ckpt.specs.Control.{Controlled, newest, last_state, with_state, settled, first_state, new_control}
-use Rattle.als_store.specs.Warm.{Warm, CanRoute, MakesPlaces, AppliesAt, total_waiting, fresh_from}
+use Rattle.als_frames.specs.Frames.{Paged}
+use Rattle.als_pool.specs.Queues.{total_waiting}
+use Rattle.als_pool.specs.Pooled.{Pooled, Room, new_pool}
+use Rattle.als_pool.specs.Outcomes.{HasPlace, CanRoute, SyncsPages, Flushes}
+use Rattle.als_pool.specs.Images.{IsPoolOf}
+use Rattle.als_pool.proofs.QueueLists.{total-empty}
 use Rattle.als_record.specs.Tail as tail
 use Rattle.als_record.specs.Transactions as transactions
 use Rattle.als_record.specs.Tail.{tail_len, reserve_of}
-use Rattle.als_store.specs.Stored.{Stored, AppliesFirst, formatted, with_log, IsTooLong, FrontsFit}
-use Rattle.als_store.specs.Parts.{IsStored, AreMarks, applied_of, stored_of, spare_of}
+use Rattle.als_store.specs.Stored.{Stored, formatted, routed, with_records, IsTooLong, FrontsFit}
+use Rattle.als_store.specs.Parts.{IsStored, IsHeldPool, AreMarks, stored_of, spare_of}
 use Rattle.als_store.specs.Spare.{HasSpare}
-use Rattle.als_store.proofs.PageLists.{length-fresh, total-fresh, total-set, redoes-shorter}
-use Rattle.als_store.proofs.StoredPages.{IsLog-push, pages-fresh, pages-apply, can_route, end-nil}
-use Rattle.als_store.proofs.StoredViews.{places_count, places_pages, place_made, Routes, routes_count, routes_pages, valid_push, valid-nil, applied-fresh, waiting_seen}
+use Rattle.als_store.proofs.PoolSteps.{IsCalm, routed_count}
+
+-- ---- the log
+
+all-push : {X : Type 0} (P : X → Type 0) (xs : List X) (x : X) → AllByRecursion P xs → P x → AllByRecursion P (xs ++ x ∷ [])
+all-push P [] x h p = (p, tt)
+all-push P (y ∷ ys) x h p = (h.0, all-push P ys x h.1 p)
+
+-- a record that fits and stands at the end makes a log again
+IsLog-push : (pages : ℕ) (log : List Record) (r : Record) → IsLog pages log → IsRecord pages r → r.lsn.0 ≡ end_of log → IsLog pages (log ++ r ∷ [])
+IsLog-push pages log r h fits at = record { laid_out = follow_from-push log r h.laid_out at; records = all-push (IsRecord pages) log r h.records fits }
+
+-- and, where it is not refused, a valid log
+pub valid_push : (pages : ℕ) (log : List Record) (r : Record) → IsValidLog pages log → IsRecord pages r → r.lsn.0 ≡ end_of log → first_bad log r ≡ None → IsValidLog pages (log ++ r ∷ [])
+valid_push pages log r h fits at good = record {
+  text = IsLog-push pages log r h.text fits at;
+  valid = is_valid-push log r ∙ and_from (is_valid log) (may_follow log r) h.valid (may_follow-admitted log r (first_bad-none log r at good));
+}
+
+log-nil : (pages : ℕ) → IsLog pages []
+unfolding follow_from
+log-nil pages = record { laid_out = refl; records = tt }
+
+valid-nil : (pages : ℕ) → IsValidLog pages []
+unfolding is_valid may_follow_all
+valid-nil pages = record { text = log-nil pages; valid = refl }
+
+end-nil : end_of [] ≡ 16
+unfolding end_of
+end-nil = refl
+
+one_more : (others before now : ℕ) → now ≡ before + 1 → others + now ≡ others + before + 1
+one_more others before now e = omega (arith, e)
 
 -- how many records a log can have
 pub length-below_end : (log : List Record) → length log ≤ end_of log
@@ -133,141 +170,161 @@ whole_end-covers log at written f le =
 -- ---- room for a record
 
 -- where room was made in all parts, a record can be taken with no memory
-pub spare_made : (l : Local) (validator : Validator) (old new : List Warm) (r : Record) (len : ℕ) → len ≡ record_len r → len ≤ l.room → HasRoom validator → MakesPlaces old (change_of r) new → HasSpare (spare_of l validator new) r
-spare_made l validator old new r len is bytes room places = record {
+pub spare_made : (l : Local) (validator : Validator) (room : Room) (r : Record) (len : ℕ) → len ≡ record_len r → len ≤ l.room → HasRoom validator → IfSome (change_of r) (λ c. HasPlace room c.key.page) → HasSpare (spare_of l validator room) r
+spare_made l validator room r len is bytes judged places = record {
   bytes = omega (arith, is, bytes);
-  table = room.table;
-  commits = omega (arith, room.committed);
-  place = place_made old new (change_of r) places;
+  table = judged.table;
+  commits = omega (arith, judged.committed);
+  place = places;
 }
 
 -- ---- the store after each event
 
-pub can_route_change : (pages held : ℕ) (l : Local) (c : Controlled) (warm : List Warm) (validator : Validator) (broken : Bool) (r : Record) (change : Option Change) → change_of r ≡ change → IsStored pages l held c warm validator broken → IsRecord pages r → r.lsn.0 ≡ end_of l.log
-    → IfSome change (CanRoute warm)
-can_route_change pages held l c warm validator broken r None e h fits at = tt
-can_route_change pages held l c warm validator broken r (Some change) e h fits at = can_route pages l.log r change warm (IsLog-push pages l.log r h.is_log.text fits at) at e h.count h.are_pages
+-- the pool's part, as the pool changes in a call that writes nothing and syncs nothing
+pub pool-calm : (pages : ℕ) (log : List Record) (acknowledged : ℕ) (old new : Pooled) (broken : Bool) → IsHeldPool pages log acknowledged old broken → IsCalm old new → IsPoolOf log acknowledged new → IsHeldPool pages log acknowledged new broken
+pool-calm pages log acknowledged old new broken h calm is = record {
+  count = calm.count ∙ h.count;
+  is_pool = is;
+  few = omega (arith, calm.few, h.few);
+  sure = λ whole. calm.sure ∙ h.sure whole;
+}
 
-module _ (pages held : ℕ) (l : Local) (c : Controlled) (warm : List Warm) (validator : Validator) (broken : Bool) (h : IsStored pages l held c warm validator broken) where
+-- after a sync
+pub pool-synced : (pages : ℕ) (log : List Record) (acknowledged : ℕ) (old new : Pooled) (broken : Bool) → IsHeldPool pages log acknowledged old broken → SyncsPages old new → IsPoolOf log acknowledged new → IsHeldPool pages log acknowledged new broken
+pool-synced pages log acknowledged old new broken h s is = record {
+  count = ap (λ (v : Pooled). length v.waits) s.same ∙ h.count;
+  is_pool = is;
+  few = omega (arith, ap (λ (v : Pooled). total_waiting v.waits) s.same, h.few);
+  sure = λ whole. ap (λ (v : Paged). v.sure) s.syncs.same ∙ h.sure whole;
+}
+
+-- after a write
+pub pool-flushed : (pages : ℕ) (log : List Record) (acknowledged : ℕ) (old new : Pooled) (page : ℕ) (mark : Lsn) (broken : Bool) → IsHeldPool pages log acknowledged old broken → Flushes old new page mark → IsPoolOf log acknowledged new → IsHeldPool pages log acknowledged new broken
+pool-flushed pages log acknowledged old new page mark broken h f is = record {
+  count = ap (λ (v : Pooled). length v.waits) f.stores.same ∙ h.count;
+  is_pool = is;
+  few = omega (arith, ap (λ (v : Pooled). total_waiting v.waits) f.stores.same, h.few);
+  sure = λ whole. ap (λ (v : Paged). v.sure) f.stores.writes.same ∙ h.sure whole;
+}
+
+-- after a write or a sync that has failed
+pub pool-broken : (pages : ℕ) (log : List Record) (acknowledged : ℕ) (old new : Pooled) (broken : Bool) → IsHeldPool pages log acknowledged old broken → new ≡ record old { frames = new.frames } → IsPoolOf log acknowledged new → IsHeldPool pages log acknowledged new true
+pool-broken pages log acknowledged old new broken h same is = record {
+  count = ap (λ (v : Pooled). length v.waits) same ∙ h.count;
+  is_pool = is;
+  few = omega (arith, ap (λ (v : Pooled). total_waiting v.waits) same, h.few);
+  sure = λ wrong. absurd cc;
+}
+
+module _ (pages held : ℕ) (l : Local) (c : Controlled) (pool : Pooled) (validator : Validator) (broken : Bool) (h : IsStored pages l held c pool validator broken) where
   same_marks : (l' : Local) → l' ≡ record l { room = l'.room } → AreMarks l' c
   same_marks l' e = subst (λ (x : Local). AreMarks x c) (sym e) (record { pages = h.marks.pages; bytes = h.marks.bytes; newest_synced = h.marks.newest_synced; fronts = h.marks.fronts })
 
   -- another validator of the same log, and another room
-  pub stored-again : (l' : Local) (validator' : Validator) → l' ≡ record l { room = l'.room } → IsValidatorOf pages validator' l.log → IsStored pages l' held c warm validator' broken
-  stored-again l' validator' e judged = subst (λ (x : Local). IsStored pages x held c warm validator' broken) (sym e) (record {
+  pub stored-again : (l' : Local) (validator' : Validator) → l' ≡ record l { room = l'.room } → IsValidatorOf pages validator' l.log → IsStored pages l' held c pool validator' broken
+  stored-again l' validator' e judged = subst (λ (x : Local). IsStored pages x held c pool validator' broken) (sym e) (record {
     log_pages = h.log_pages;
     is_log = h.is_log;
     fit = h.fit;
     judged = judged;
-    are_pages = h.are_pages;
-    count = h.count;
+    paged = h.paged;
     held_is = h.held_is;
-    few = h.few;
     few_pages = h.few_pages;
     marks = record { pages = h.marks.pages; bytes = h.marks.bytes; newest_synced = h.marks.newest_synced; fronts = h.marks.fronts };
     sure = h.sure;
   })
 
-  -- room for a record in all parts
-  pub stored-room : (l' : Local) (warm' : List Warm) (validator' : Validator) (change : Option Change) → l' ≡ record l { room = l'.room } → IsValidatorOf pages validator' l.log → MakesPlaces warm change warm'
-      → IsStored pages l' held c warm' validator' broken
-  stored-room l' warm' validator' change e judged places =
-      let k = places_count warm warm' change places in
-      subst (λ (x : Local). IsStored pages x held c warm' validator' broken) (sym e) (record {
-        log_pages = h.log_pages;
-        is_log = h.is_log;
-        fit = h.fit;
-        judged = judged;
-        are_pages = places_pages l.log warm warm' change places h.are_pages;
-        count = k.0 ∙ h.count;
-        held_is = h.held_is;
-        few = omega (arith, k.1, h.few);
-        few_pages = h.few_pages;
-        marks = record { pages = h.marks.pages; bytes = h.marks.bytes; newest_synced = h.marks.newest_synced; fronts = h.marks.fronts };
-        sure = h.sure;
-      })
+  -- other pages, and perhaps a write or a sync that has failed
+  pub stored-pool : (pool' : Pooled) (broken' : Bool) → IsHeldPool pages l.log c.synced.mark.0 pool' broken' → (broken' ≡ false → broken ≡ false) → IsStored pages l held c pool' validator broken'
+  stored-pool pool' broken' paged whole = record {
+    log_pages = h.log_pages;
+    is_log = h.is_log;
+    fit = h.fit;
+    judged = h.judged;
+    paged = paged;
+    held_is = h.held_is;
+    few_pages = h.few_pages;
+    marks = h.marks;
+    sure = λ e. h.sure (whole e);
+  }
 
-  pub view-room : (failures attempts : ℕ) (l' : Local) (warm' : List Warm) (change : Option Change) → l' ≡ record l { room = l'.room } → MakesPlaces warm change warm'
-      → stored_of pages l' c warm' broken failures attempts ≡ stored_of pages l c warm broken failures attempts
-  view-room failures attempts l' warm' change e places =
-      ap (λ (x : Local). stored_of pages x c warm' broken failures attempts) e
-      ∙ ap (λ (xs : List ℕ). record (stored_of pages l c warm broken failures attempts) { applied = xs }) (places_count warm warm' change places).2
+  -- pages of which nothing was written or synced
+  pub stored-calm : (pool' : Pooled) → IsCalm pool pool' → IsPoolOf l.log c.synced.mark.0 pool' → IsStored pages l held c pool' validator broken
+  stored-calm pool' calm is = stored-pool pool' broken (pool-calm pages l.log c.synced.mark.0 pool pool' broken h.paged calm is) (λ e. e)
+
+  log_more : (r : Record) → IsRecord pages r → r.lsn.0 ≡ end_of l.log → IsLog pool.frames.pages (l.log ++ r ∷ [])
+  log_more r fits at = subst (λ (n : ℕ). IsLog n (l.log ++ r ∷ [])) (sym (h.paged.is_pool.paged ∙ h.paged.count)) (IsLog-push pages l.log r h.is_log.text fits at)
+
+  -- a record's change can go behind those that its page waits for
+  pub can_route_change : (r : Record) (change : Option Change) → change_of r ≡ change → IsRecord pages r → r.lsn.0 ≡ end_of l.log → end_of l.log ≤ 2 ^ 31
+      → ((log : List Record) (below : ℕ) (v : Pooled) (x : Record) (d : Change) → IsPoolOf log below v → IsLog v.frames.pages (log ++ x ∷ []) → x.lsn.0 ≡ end_of log → change_of x ≡ Some d → total_waiting v.waits + 1 < 2 ^ 64 → CanRoute v d)
+      → IfSome change (CanRoute pool)
+  can_route_change r None e fits at short law = tt
+  can_route_change r (Some d) e fits at short law =
+      law l.log c.synced.mark.0 pool r d h.paged.is_pool (log_more r fits at) at e (omega (arith, h.paged.few, length-below_end l.log, short))
 
   -- a record more
-  pub stored-push : (l' : Local) (r : Record) (warm' : List Warm) (validator' : Validator) → IsRecord pages r → r.lsn.0 ≡ end_of l.log → first_bad l.log r ≡ None
-      → end_of l.log + record_len r + reserve_of (l.log ++ r ∷ []) ≤ 512 * l.blocks → l' ≡ record l { log = l.log ++ r ∷ []; room = l'.room } → IsValidatorOf pages validator' (l.log ++ r ∷ []) → Routes warm (change_of r) warm' → IsStored pages l' (held + 1) c warm' validator' broken
-  stored-push l' r warm' validator' fits at good left e judged routes =
-      let k = routes_count warm warm' (change_of r) routes in
-      subst (λ (x : Local). IsStored pages x (held + 1) c warm' validator' broken) (sym e) (record {
+  pub stored-push : (l' : Local) (r : Record) (pool' : Pooled) (validator' : Validator) → IsRecord pages r → r.lsn.0 ≡ end_of l.log → first_bad l.log r ≡ None
+      → end_of l.log + record_len r + reserve_of (l.log ++ r ∷ []) ≤ 512 * l.blocks → l' ≡ record l { log = l.log ++ r ∷ []; room = l'.room } → IsValidatorOf pages validator' (l.log ++ r ∷ [])
+      → IfSome (change_of r) (CanRoute pool) → pool' ≡ routed pool (change_of r)
+      → ((log : List Record) (below : ℕ) → IsPoolOf log below pool → IsLog pool.frames.pages (log ++ r ∷ []) → r.lsn.0 ≡ end_of log → IsPoolOf (log ++ r ∷ []) below pool')
+      → IsStored pages l' (held + 1) c pool' validator' broken
+  stored-push l' r pool' validator' fits at good left e judged can same keeps =
+      let k = routed_count pool (change_of r) can in
+      subst (λ (x : Local). IsStored pages x (held + 1) c pool' validator' broken) (sym e) (record {
         log_pages = h.log_pages;
         is_log = valid_push pages l.log r h.is_log fits at good;
         fit = fit-push l.blocks c.synced.mark.0 l.log r h.fit left;
         judged = judged;
-        are_pages = routes_pages l.log r warm warm' (change_of r) refl at routes h.are_pages;
-        count = k.0 ∙ h.count;
+        paged = record {
+          count = ap (λ (v : Pooled). length v.waits) same ∙ k.0 ∙ h.paged.count;
+          is_pool = keeps l.log c.synced.mark.0 h.paged.is_pool (log_more r fits at) at;
+          few = omega (arith, ap (λ (v : Pooled). total_waiting v.waits) same, k.1, h.paged.few, length-append l.log (r ∷ []));
+          sure = λ whole. ap (λ (v : Pooled). v.frames.sure) same ∙ ap (λ (v : Paged). v.sure) k.2 ∙ h.paged.sure whole;
+        };
         held_is = omega (arith, h.held_is, length-append l.log (r ∷ []));
-        few = omega (arith, k.1, h.few, length-append l.log (r ∷ []));
         few_pages = h.few_pages;
         marks = record { pages = h.marks.pages; bytes = h.marks.bytes; newest_synced = h.marks.newest_synced; fronts = λ s among. front-push l.log r s.mark.0 (h.marks.fronts s among) };
         sure = h.sure;
       })
 
-  pub view-push : (failures attempts : ℕ) (l' : Local) (r : Record) (warm' : List Warm) (change : Option Change) → l' ≡ record l { log = l.log ++ r ∷ []; room = l'.room } → Routes warm change warm'
-      → stored_of pages l' c warm' broken failures attempts ≡ with_log (stored_of pages l c warm broken failures attempts) (l.log ++ r ∷ [])
-  view-push failures attempts l' r warm' change e routes =
-      ap (λ (x : Local). stored_of pages x c warm' broken failures attempts) e
-      ∙ ap (λ (xs : List ℕ). record (stored_of pages l c warm broken failures attempts) { log = l.log ++ r ∷ []; applied = xs }) (routes_count warm warm' change routes).2
+  pub view-push : (l' : Local) (r : Record) (pool' : Pooled) → l' ≡ record l { log = l.log ++ r ∷ []; room = l'.room } → IfSome (change_of r) (CanRoute pool) → pool' ≡ routed pool (change_of r)
+      → stored_of pages l' c pool' broken ≡ with_records (stored_of pages l c pool broken) (r ∷ [])
+  view-push l' r pool' e can same =
+      let k = routed_count pool (change_of r) can in
+      ap (λ (x : Local). stored_of pages x c pool' broken) e
+      ∙ ap (λ (v : Pooled). record (stored_of pages l c pool broken) { log = l.log ++ r ∷ []; pool = v; failures = l.failures + c.failures + v.frames.failures; attempts = l.attempts + c.attempts + v.frames.attempts }) same
+      ∙ ap (λ (f : Paged). record (stored_of pages l c pool broken) { log = l.log ++ r ∷ []; pool = routed pool (change_of r); failures = l.failures + c.failures + f.failures; attempts = l.attempts + c.attempts + f.attempts }) k.2
 
-  -- changes redone
-  pub stored-apply : (page : ℕ) (warm' : List Warm) (lsn : Lsn) → AppliesAt warm page warm' lsn → IsStored pages l held c warm' validator broken
-  stored-apply page warm' lsn applied =
-      let w : Warm = applied.w in
-      let w' : Warm = applied.w' in
-      let total = total-set warm page w w' applied.found in
-      record {
-        log_pages = h.log_pages;
-        is_log = h.is_log;
-        fit = h.fit;
-        judged = h.judged;
-        are_pages = pages-apply pages l.log warm page warm' lsn h.is_log.text h.are_pages applied;
-        count = ap length applied.after ∙ length-set warm page w' ∙ h.count;
-        held_is = h.held_is;
-        few = omega (arith, ap total_waiting applied.after, total, redoes-shorter w w' lsn applied.redoes, h.few);
-        few_pages = h.few_pages;
-        marks = h.marks;
-        sure = h.sure;
-      }
+  -- pages of which nothing was written or synced
+  pub view-calm : (pool' : Pooled) → IsCalm pool pool' → stored_of pages l c pool' broken ≡ record (stored_of pages l c pool broken) { pool = pool'; failures = l.failures + c.failures + pool'.frames.failures }
+  view-calm pool' calm = ap (λ (n : ℕ). record (stored_of pages l c pool broken) { pool = pool'; failures = l.failures + c.failures + pool'.frames.failures; attempts = l.attempts + c.attempts + n }) calm.attempts
 
-  pub view-apply : (failures attempts page : ℕ) (warm' : List Warm) (lsn : Lsn) → AppliesAt warm page warm' lsn → AppliesFirst (stored_of pages l c warm broken failures attempts) page lsn (stored_of pages l c warm' broken failures attempts)
-  view-apply failures attempts page warm' lsn applied =
-      let w : Warm = applied.w in
-      let w' : Warm = applied.w' in
-      let r = applied.redoes in
-      let inside : page < length warm = slice_get_within warm page w applied.found in
-      let lsn-is : w'.state.lsn ≡ r.last.lsn.0 = ap (λ (v : Warm). v.state.lsn) r.after ∙ lsn-fold w.state (r.front ++ r.last ∷ []) ∙ lsn_after-last w.state.lsn r.front r.last in
-      record {
-        inside = omega (arith, inside, h.count);
-        front = r.front;
-        last = r.last;
-        rest = r.rest;
-        changes = waiting_seen (stored_of pages l c warm broken failures attempts) warm page w refl h.are_pages applied.found ∙ r.waits;
-        most = r.most;
-        all = r.all;
-        lsn_is = r.lsn_is;
-        after = ap (λ (xs : List ℕ). record (stored_of pages l c warm broken failures attempts) { applied = xs }) (ap applied_of applied.after ∙ map-set (λ (v : Warm). v.state.lsn) warm page w' ∙ ap (λ (q : ℕ). slice_set (applied_of warm) page q) lsn-is);
-      }
+  pub view-steady : (pool' : Pooled) → IsCalm pool pool' → pool'.frames.failures ≡ pool.frames.failures → stored_of pages l c pool' broken ≡ record (stored_of pages l c pool broken) { pool = pool' }
+  view-steady pool' calm same = view-calm pool' calm ∙ ap (λ (n : ℕ). record (stored_of pages l c pool broken) { pool = pool'; failures = l.failures + c.failures + n }) same
+
+  -- one write or one sync of the pages' device
+  pub view-called : (pool' : Pooled) → pool'.frames.failures ≡ pool.frames.failures → pool'.frames.attempts ≡ pool.frames.attempts + 1
+      → stored_of pages l c pool' broken ≡ record (stored_of pages l c pool broken) { pool = pool'; attempts = l.attempts + c.attempts + pool.frames.attempts + 1 }
+  view-called pool' same more =
+      ap (λ (n : ℕ). record (stored_of pages l c pool broken) { pool = pool'; failures = l.failures + c.failures + n; attempts = l.attempts + c.attempts + pool'.frames.attempts }) same
+      ∙ ap (λ (n : ℕ). record (stored_of pages l c pool broken) { pool = pool'; attempts = n }) (one_more (l.attempts + c.attempts) pool.frames.attempts pool'.frames.attempts more)
+
+  -- that failed
+  pub view-broken : (pool' : Pooled) → pool'.frames.attempts ≡ pool.frames.attempts + 1
+      → stored_of pages l c pool' true ≡ record (stored_of pages l c pool broken) { pool = pool'; broken = true; failures = l.failures + c.failures + pool'.frames.failures; attempts = l.attempts + c.attempts + pool.frames.attempts + 1 }
+  view-broken pool' more =
+      ap (λ (n : ℕ). record (stored_of pages l c pool true) { pool = pool'; failures = l.failures + c.failures + pool'.frames.failures; attempts = n }) (one_more (l.attempts + c.attempts) pool.frames.attempts pool'.frames.attempts more)
 
   -- a log synced
-  pub stored-synced : (l' : Local) → IsLocal l → l' ≡ record l { synced = whole_end l.log l.written; attempts = l.attempts + 1; room = l'.room } → IsStored pages l' held c warm validator broken
-  stored-synced l' facts e = subst (λ (x : Local). IsStored pages x held c warm validator broken) (sym e) (record {
+  pub stored-synced : (l' : Local) → IsLocal l → l' ≡ record l { synced = whole_end l.log l.written; attempts = l.attempts + 1; room = l'.room } → IsStored pages l' held c pool validator broken
+  stored-synced l' facts e = subst (λ (x : Local). IsStored pages x held c pool validator broken) (sym e) (record {
     log_pages = h.log_pages;
     is_log = h.is_log;
     fit = h.fit;
     judged = h.judged;
-    are_pages = h.are_pages;
-    count = h.count;
+    paged = h.paged;
     held_is = h.held_is;
-    few = h.few;
     few_pages = h.few_pages;
     marks = record {
       pages = h.marks.pages;
@@ -278,16 +335,15 @@ module _ (pages held : ℕ) (l : Local) (c : Controlled) (warm : List Warm) (val
     sure = h.sure;
   })
 
-  with_control : (c' : Controlled) (broken' : Bool) → c.synced.mark.0 ≤ c'.synced.mark.0 → AreMarks l c' → (broken' ≡ false → c'.sure ≡ true) → IsStored pages l held c' warm validator broken'
-  with_control c' broken' rises marks sure = record {
+  with_control : (c' : Controlled) (broken' : Bool) → c.synced.mark.0 ≤ c'.synced.mark.0 → AreMarks l c' → (broken' ≡ false → c'.sure ≡ true) → IsPoolOf l.log c'.synced.mark.0 pool → (broken' ≡ false → broken ≡ false)
+      → IsStored pages l held c' pool validator broken'
+  with_control c' broken' rises marks sure is whole = record {
     log_pages = h.log_pages;
     is_log = h.is_log;
     fit = fit-raised l.blocks c.synced.mark.0 c'.synced.mark.0 l.log rises h.fit;
     judged = h.judged;
-    are_pages = h.are_pages;
-    count = h.count;
+    paged = record { count = h.paged.count; is_pool = is; few = h.paged.few; sure = λ e. h.paged.sure (whole e) };
     held_is = h.held_is;
-    few = h.few;
     few_pages = h.few_pages;
     marks = marks;
     sure = sure;
@@ -305,42 +361,58 @@ module _ (pages held : ℕ) (l : Local) (c : Controlled) (warm : List Warm) (val
     ];
   }
 
-  pub stored-marked : (c' : Controlled) (t : ControlState) → IsLocal l → t.mark.0 ≡ l.synced → c' ≡ with_state c t → IsStored pages l held c' warm validator broken
-  stored-marked c' t facts is e = subst (λ (x : Controlled). IsStored pages l held x warm validator broken) (sym e) (with_control (with_state c t) broken (omega arith) (marks-written t facts is) h.sure)
+  pub stored-marked : (c' : Controlled) (t : ControlState) → IsLocal l → t.mark.0 ≡ l.synced → c' ≡ with_state c t → IsStored pages l held c' pool validator broken
+  stored-marked c' t facts is e = subst (λ (x : Controlled). IsStored pages l held x pool validator broken) (sym e) (with_control (with_state c t) broken (omega arith) (marks-written t facts is) h.sure h.paged.is_pool (λ e. e))
 
-  pub stored-torn : (c' : Controlled) (t : ControlState) → IsLocal l → t.mark.0 ≡ l.synced → c' ≡ record (with_state c t) { sure = false; failures = c'.failures } → IsStored pages l held c' warm validator true
+  pub stored-torn : (c' : Controlled) (t : ControlState) → IsLocal l → t.mark.0 ≡ l.synced → c' ≡ record (with_state c t) { sure = false; failures = c'.failures } → IsStored pages l held c' pool validator true
   stored-torn c' t facts is e =
       let m = marks-written t facts is in
-      subst (λ (x : Controlled). IsStored pages l held x warm validator true) (sym e)
-      (with_control (record (with_state c t) { sure = false; failures = c'.failures }) true (omega arith) (record { pages = m.pages; bytes = m.bytes; newest_synced = m.newest_synced; fronts = m.fronts }) (λ wrong. absurd cc))
+      subst (λ (x : Controlled). IsStored pages l held x pool validator true) (sym e)
+      (with_control (record (with_state c t) { sure = false; failures = c'.failures }) true (omega arith) (record { pages = m.pages; bytes = m.bytes; newest_synced = m.newest_synced; fronts = m.fronts }) (λ wrong. absurd cc) h.paged.is_pool (λ wrong. absurd cc))
 
   -- the control device synced
-  pub stored-settled : (c' : Controlled) → c' ≡ settled c → c.synced.mark.0 ≤ (newest c).mark.0 → IsStored pages l held c' warm validator broken
-  stored-settled c' e rises = subst (λ (x : Controlled). IsStored pages l held x warm validator broken) (sym e) (with_control (settled c) broken rises (record {
+  pub stored-settled : (c' : Controlled) → c' ≡ settled c → c.synced.mark.0 ≤ (newest c).mark.0 → IsPoolOf l.log (newest c).mark.0 pool → IsStored pages l held c' pool validator broken
+  stored-settled c' e rises is = subst (λ (x : Controlled). IsStored pages l held x pool validator broken) (sym e) (with_control (settled c) broken rises (record {
     pages = h.marks.pages;
     bytes = h.marks.bytes;
     newest_synced = h.marks.newest_synced;
     fronts = λ s among. subst (λ (x : ControlState). IsFrontEnd l.log x.mark.0) (Contains-one among) (h.marks.fronts (newest c) (last_state-among c.synced c.since));
-  }) h.sure)
+  }) h.sure is (λ e. e))
+
+  -- a write or a sync of the log's device or of the control device has failed
+  pub stored-broken : (l' : Local) (c' : Controlled) → IsStored pages l' held c' pool validator broken → IsStored pages l' held c' pool validator true
+  stored-broken l' c' s = record {
+    log_pages = s.log_pages;
+    is_log = s.is_log;
+    fit = s.fit;
+    judged = s.judged;
+    paged = record { count = s.paged.count; is_pool = s.paged.is_pool; few = s.paged.few; sure = λ wrong. absurd cc };
+    held_is = s.held_is;
+    few_pages = s.few_pages;
+    marks = s.marks;
+    sure = λ wrong. absurd cc;
+  }
 
 -- a store just formatted
-pub stored-new : (pages blocks log_failures log_attempts control_blocks control_failures control_attempts : ℕ) (l : Local) (c : Controlled) (warm : List Warm) (validator : Validator) → pages ≤ 4096 → 1 ≤ blocks
+pub stored-new : (pages blocks log_failures log_attempts control_blocks control_failures control_attempts : ℕ) (l : Local) (c : Controlled) (pool : Pooled) (frames : Paged) (validator : Validator) → pages ≤ 4096 → 1 ≤ blocks
     → l ≡ record { pages = pages; log = []; written = 16; synced = 16; blocks = blocks; failures = log_failures; attempts = log_attempts; room = l.room } → c ≡ new_control pages (512 * blocks) first_state control_blocks control_failures control_attempts
-    → warm ≡ fresh_from 0 pages → IsValidatorOf pages validator [] → IsStored pages l 0 c warm validator false
-stored-new pages blocks log_failures log_attempts control_blocks control_failures control_attempts l c warm validator le some el ec ew judged =
+    → pool ≡ new_pool frames pages → frames.sure ≡ true → ((below : ℕ) → IsPoolOf [] below pool) → IsValidatorOf pages validator [] → IsStored pages l 0 c pool validator false
+stored-new pages blocks log_failures log_attempts control_blocks control_failures control_attempts l c pool frames validator le some el ec ep sure is judged =
     let fresh_log : Local = record { pages = pages; log = []; written = 16; synced = 16; blocks = blocks; failures = log_failures; attempts = log_attempts; room = l.room } in
     let fresh_control : Controlled = new_control pages (512 * blocks) first_state control_blocks control_failures control_attempts in
-    subst (λ (x : Local). IsStored pages x 0 c warm validator false) (sym el) (
-    subst (λ (y : Controlled). IsStored pages fresh_log 0 y warm validator false) (sym ec) (
-    subst (λ (ws : List Warm). IsStored pages fresh_log 0 fresh_control ws validator false) (sym ew) (record {
+    subst (λ (x : Local). IsStored pages x 0 c pool validator false) (sym el) (
+    subst (λ (y : Controlled). IsStored pages fresh_log 0 y pool validator false) (sym ec) (record {
       log_pages = refl;
       is_log = valid-nil pages;
       fit = fit-nil blocks 16 some;
       judged = judged;
-      are_pages = pages-fresh pages;
-      count = length-fresh 0 pages;
+      paged = record {
+        count = ap (λ (v : Pooled). length v.waits) ep ∙ length-replicate {A = List Change} pages [];
+        is_pool = is 16;
+        few = omega (arith, ap (λ (v : Pooled). total_waiting v.waits) ep, total-empty pages);
+        sure = λ e. ap (λ (v : Pooled). v.frames.sure) ep ∙ sure;
+      };
       held_is = refl;
-      few = omega (arith, total-fresh 0 pages);
       few_pages = le;
       marks = record {
         pages = refl;
@@ -349,17 +421,15 @@ stored-new pages blocks log_failures log_attempts control_blocks control_failure
         fronts = λ s among. record { front = []; rest = []; parts = refl; ends = end-nil ∙ ap (λ (x : ControlState). x.mark.0) (Contains-one among) };
       };
       sure = λ e. refl;
-    })
-    )
-    )
+    }))
 
-pub view-new : (pages blocks log_failures log_attempts control_blocks control_failures control_attempts failures attempts : ℕ) (l : Local) (c : Controlled) (warm : List Warm)
+pub view-new : (pages blocks log_failures log_attempts control_blocks control_failures control_attempts : ℕ) (l : Local) (c : Controlled) (pool fresh : Pooled)
     → l ≡ record { pages = pages; log = []; written = 16; synced = 16; blocks = blocks; failures = log_failures; attempts = log_attempts; room = l.room } → c ≡ new_control pages (512 * blocks) first_state control_blocks control_failures control_attempts
-    → warm ≡ fresh_from 0 pages → stored_of pages l c warm false failures attempts ≡ formatted pages blocks (log_failures + control_failures + failures) (l.attempts + c.attempts + attempts)
-view-new pages blocks log_failures log_attempts control_blocks control_failures control_attempts failures attempts l c warm el ec ew =
-    ap (λ (x : Local). record (stored_of pages x c warm false failures attempts) { attempts = l.attempts + c.attempts + attempts }) el
-    ∙ ap (λ (y : Controlled). record { pages = pages; log = []; applied = applied_of warm; blocks = blocks; written = 16; synced = 16; control = y.synced; since = y.since; broken = false; failures = log_failures + y.failures + failures; attempts = l.attempts + c.attempts + attempts }) ec
-    ∙ ap (λ (xs : List ℕ). record (formatted pages blocks (log_failures + control_failures + failures) (l.attempts + c.attempts + attempts)) { applied = xs }) (ap applied_of ew ∙ applied-fresh 0 pages)
+    → pool ≡ fresh → stored_of pages l c pool false ≡ formatted pages fresh blocks (log_failures + control_failures + fresh.frames.failures) (l.attempts + c.attempts + pool.frames.attempts)
+view-new pages blocks log_failures log_attempts control_blocks control_failures control_attempts l c pool fresh el ec ep =
+    ap (λ (x : Local). record (stored_of pages x c pool false) { attempts = l.attempts + c.attempts + pool.frames.attempts }) el
+    ∙ ap (λ (y : Controlled). record { pages = pages; log = []; pool = pool; blocks = blocks; written = 16; synced = 16; control = y.synced; since = y.since; broken = false; failures = log_failures + y.failures + pool.frames.failures; attempts = l.attempts + c.attempts + pool.frames.attempts }) ec
+    ∙ ap (λ (v : Pooled). record (formatted pages v blocks (log_failures + control_failures + v.frames.failures) (l.attempts + c.attempts + pool.frames.attempts)) { pool = v }) ep
 
 -- a record appended, after room was made for it
 pub appended : (l l' l'' : Local) (r : Record) → l' ≡ record l { room = l'.room } → l'' ≡ record l' { log = l'.log ++ r ∷ []; room = l''.room } → l'' ≡ record l { log = l.log ++ r ∷ []; room = l''.room }

@@ -1,5 +1,5 @@
 -- What the devices of a store hold, whatever a crash leaves of them.
-use Rattle.std.specs.Prelude.{◌≡◌, ℕ, ◌*◌, ◌≤◌, List, ◌∷◌, Contains}
+use Rattle.std.specs.Prelude.{◌≡◌, ℕ, ◌*◌, ◌<◌, ◌≤◌, List, ◌∷◌, Contains}
 use Rattle.als_record.specs.LogText.{log_text, end_of}
 use Rattle.als_record.specs.Validity.{IsValidLog}
 use Rattle.als_disk.specs.Slot.{Slot}
@@ -7,6 +7,8 @@ use Rattle.als_log.specs.Local.{IsFrontEnd}
 use Rattle.als_log.specs.Texts.{AllHaveText}
 use Rattle.als_ckpt.specs.declared.control_state.ControlState.{ControlState}
 use Rattle.als_ckpt.specs.Control.{control_block, IsControlState}
+use Rattle.als_dirty.specs.Rows.{rec_lsn_of}
+use Rattle.als_pool.specs.Images.{IsRowSound}
 use Rattle.als_store.specs.Stored.{Stored, acknowledged, FrontsFit}
 
 -- the bytes of a control block with a mark that is acknowledged or above, and below which the whole log is synced
@@ -27,3 +29,9 @@ pub record AreKept (s : Stored) (log control : ℕ → Slot) : Type 0 where
   pub valid : IsValidLog s.pages s.log
   pub room : end_of s.log ≤ 512 * s.blocks
   pub fit : FrontsFit s.blocks (acknowledged s) s.log
+
+-- Whatever a crash leaves in a page's block is an image of the page from below what is acknowledged, which lacks no record of the log
+-- below the page's RecLSN, and none where the page has no row.
+abbrev pub AreImages : Stored → (ℕ → Slot) → Type 0
+AreImages s blocks = (page : ℕ) (content : List ℕ) → page < s.pages → Contains (blocks page).candidates content
+    → IsRowSound s.log page (acknowledged s) (rec_lsn_of s.pool.dirty page) content

@@ -2,12 +2,26 @@
 use Rattle.als_fault.specs.declared.fault_kind.FaultKind.{FaultKind}
 use Rattle.als_fault.specs.declared.fault_kind.FaultKind.TheVariants as kind
 use Rattle.als_record.specs.CauseNames.{kind_of_cause}
+use Rattle.als_pool.specs.declared.fault.Fault.{Fault as PoolFault}
+use Rattle.als_pool.specs.declared.fault.Fault.TheVariants as pool_fault
 use Rattle.als_store.specs.declared.fault.Fault.{Fault}
 use Rattle.als_store.specs.declared.fault.Fault.TheVariants as fault
 
 abbrev pub kind_of : Fault → FaultKind
 kind_of (fault.Invalid cause) = kind_of_cause cause
+kind_of fault.LogBehind = kind.LogBehind
+kind_of fault.PoolFull = kind.PoolFull
 kind_of fault.NothingToDo = kind.NothingToDo
 kind_of fault.LogFull = kind.LogFull
 kind_of fault.Device = kind.Device
 kind_of fault.Memory = kind.Memory
+kind_of (fault.BadPage page) = kind.BadPage page
+
+-- what a fault of the pool is here
+abbrev pub of_pool : PoolFault → Fault
+of_pool pool_fault.LogBehind = fault.LogBehind
+of_pool pool_fault.PoolFull = fault.PoolFull
+of_pool pool_fault.NothingToDo = fault.NothingToDo
+of_pool pool_fault.Device = fault.Device
+of_pool pool_fault.Memory = fault.Memory
+of_pool (pool_fault.BadPage page) = fault.BadPage page

@@ -1,5 +1,4 @@
 pub mod Faults
-pub mod Warm
 pub mod Stored
 pub mod Spare
 pub mod Events

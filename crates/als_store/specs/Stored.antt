@@ -1,6 +1,7 @@
--- What a store holds, without blocks, queues or frames: the log, how far it is written and synced, the control states, and
--- each page, which is the log's up to a page_LSN.
-use Rattle.std.specs.Prelude.{◌≡◌, ℕ, suc, ◌+◌, ◌*◌, ◌<◌, ◌≤◌, ◌⊎◌, Bool, false, List, [], ◌∷◌, ◌++◌, length, Option, Some, None, Result, Ok, Err, slice_index, slice_set, replicate}
+-- What a store holds: the log, how far it is written and synced, the control states, and the pages, each of which is the log's up to a
+-- page_LSN.
+use Rattle.std.specs.Prelude.{◌≡◌, ℕ, ◌+◌, ◌*◌, ◌<◌, ◌≤◌, ◌⊎◌, Bool, false, List, [], ◌∷◌, ◌++◌, length, Option, Some, None, Result, Ok, Err}
+use Rattle.std.specs.List.{fold}
 use Rattle.als_record.specs.declared.lsn.Lsn.{Lsn}
 use Rattle.als_record.specs.declared.change.Change.{Change}
 use Rattle.als_record.specs.declared.record.Record.{Record}
@@ -9,9 +10,16 @@ use Rattle.als_record.specs.Spelling.{record_len}
 use Rattle.als_record.specs.LogText.{end_of}
 use Rattle.als_record.specs.Validity.{first_bad}
 use Rattle.als_record.specs.Tail.{reserve_of}
-use Rattle.als_record.specs.Pages.{page_at, changes_above}
+use Rattle.als_record.specs.Pages.{page_at, change_of}
 use Rattle.als_page.specs.declared.page.Page.{Page}
-use Rattle.als_page.specs.Page.{state_of}
+use Rattle.als_page.specs.Page.{id_of, state_of}
+use Rattle.als_disk.specs.Slot.{only}
+use Rattle.als_disk.specs.Store.{zeros}
+use Rattle.als_frames.specs.Frames.{without_frames}
+use Rattle.als_frames.specs.Images.{lsn_now}
+use Rattle.als_pool.specs.Queues.{total_waiting}
+use Rattle.als_pool.specs.Pooled.{Pooled, new_pool}
+use Rattle.als_pool.specs.Outcomes.{with_change}
 use Rattle.als_log.specs.Reading.{record_at}
 use Rattle.als_ckpt.specs.declared.control_state.ControlState.{ControlState}
 use Rattle.als_ckpt.specs.Control.{first_state, last_state}
@@ -19,10 +27,10 @@ use Rattle.als_store.specs.declared.fault.Fault.{Fault}
 use Rattle.als_store.specs.declared.fault.Fault.TheVariants.{Invalid, LogFull, Memory}
 
 pub record Stored : Type 0 where
-  -- the page count, the records, and each page's page_LSN
+  -- the page count, the records, and the pages with what waits for them
   pub pages : ℕ
   pub log : List Record
-  pub applied : List ℕ
+  pub pool : Pooled
   -- how many blocks the log device has; up to where it is written; the end of the last record wholly written at its last sync
   pub blocks : ℕ
   pub written : ℕ
@@ -45,12 +53,22 @@ newest s = last_state s.control s.since
 abbrev pub acknowledged : Stored → ℕ
 acknowledged s = s.control.mark.0
 
-abbrev pub with_log : Stored → List Record → Stored
-with_log s log = record s { log = log }
+-- what a record makes of the pages: what it changes, if anything, waits behind what waited for its page
+abbrev pub routed : Pooled → Option Change → Pooled
+routed pool None = pool
+routed pool (Some change) = with_change pool change
+
+-- the store with records more
+abbrev pub with_records : Stored → List Record → Stored
+with_records s records = record s { log = s.log ++ records; pool = fold (λ pool r. routed pool (change_of r)) s.pool records }
+
+-- the pages of a database that was just formatted: so many, and so many frames at most
+abbrev pub formatted_pool : ℕ → ℕ → ℕ → ℕ → ℕ → Pooled
+formatted_pool pages frames blocks failures attempts = new_pool (without_frames pages frames (λ _. only zeros) blocks failures attempts) pages
 
 -- a store over devices that were just formatted
-abbrev pub formatted : ℕ → ℕ → ℕ → ℕ → Stored
-formatted pages blocks failures attempts = record { pages = pages; log = []; applied = replicate pages 0; blocks = blocks; written = 16; synced = 16; control = first_state; since = []; broken = false; failures = failures; attempts = attempts }
+abbrev pub formatted : ℕ → Pooled → ℕ → ℕ → ℕ → Stored
+formatted pages pool blocks failures attempts = record { pages = pages; log = []; pool = pool; blocks = blocks; written = 16; synced = 16; control = first_state; since = []; broken = false; failures = failures; attempts = attempts }
 
 -- ---- records
 
@@ -82,40 +100,11 @@ StandsAt log lsn found = found ≡ record_at log lsn.0
 
 -- ---- pages
 
--- the changes of a page that wait for redo
-abbrev pub waiting_on : Stored → ℕ → List Change
-waiting_on s page = changes_above s.log page (slice_index s.applied page)
+-- the page as it is now: history repeated up to its page_LSN
+pub record IsShown (s : Stored) (page : ℕ) (shown : Page) : Type 0 where
+  pub number : id_of shown ≡ page
+  pub content : state_of shown ≡ page_at s.log page (lsn_now s.pool.frames page)
 
--- how many changes wait, of the pages from a number on with these page_LSNs
-abbrev pub waiting_from : List Record → ℕ → List ℕ → ℕ
-waiting_from log page [] = 0
-waiting_from log page (lsn ∷ lsns) = length (changes_above log page lsn) + waiting_from log (suc page) lsns
-
+-- how many changes wait, over all pages
 abbrev pub pending_of : Stored → ℕ
-pending_of s = waiting_from s.log 0 s.applied
-
--- the first changes that wait for a page, at most 64, are redone
-pub record AppliesFirst (old : Stored) (page : ℕ) (lsn : Lsn) (new : Stored) : Type 0 where
-  pub inside : page < old.pages
-  pub front : List Change
-  pub last : Change
-  pub rest : List Change
-  pub changes : waiting_on old page ≡ (front ++ last ∷ []) ++ rest
-  pub most : length front < 64
-  pub all : (length front ≡ 63) ⊎ (rest ≡ [])
-  pub lsn_is : lsn ≡ last.lsn
-  pub after : new ≡ record old { applied = slice_set old.applied page last.lsn.0 }
-
--- no change waits for a page, or there is no such page
-abbrev pub IsDry : Stored → ℕ → Type 0
-IsDry s page = (s.pages ≤ page) ⊎ (waiting_on s page ≡ [])
-
--- the first page from a number on for which changes wait
-abbrev pub WaitsFrom : Stored → ℕ → Option ℕ → Type 0
-WaitsFrom s from None = (page : ℕ) → from ≤ page → IsDry s page
-WaitsFrom s from (Some page) = (from ≤ page) × (page < s.pages) × (waiting_on s page ≡ [] → ⊥) × ((other : ℕ) → from ≤ other → other < page → IsDry s other)
-
--- the page as it is now: history repeated up to its page_LSN; there is none past the page count
-abbrev pub ShowsPage : Stored → ℕ → Option Page → Type 0
-ShowsPage s page None = s.pages ≤ page
-ShowsPage s page (Some shown) = (page < s.pages) × (shown.id ≡ page) × (state_of shown ≡ page_at s.log page (slice_index s.applied page)) × ((state_of shown).lsn ≡ slice_index s.applied page)
+pending_of s = total_waiting s.pool.waits

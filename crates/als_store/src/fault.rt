@@ -1,7 +1,7 @@
 ghost use Rattle.std.specs.Prelude.{◌≡◌, Some};
 ghost use Rattle.als_fault.specs.Kinds.{number_of, name_of, text_of};
 ghost use Rattle.als_store.specs.declared.fault.Fault.TheVariants.{Memory as OutOfMemory};
-ghost use Rattle.als_store.specs.Faults.{kind_of};
+ghost use Rattle.als_store.specs.Faults.{kind_of, of_pool};
 
 use als_fault::FaultKind;
 use als_record::Cause;
@@ -13,6 +13,10 @@ use std::fmt;
 pub enum Fault {
     /// The record may not follow the log.
     Invalid(Cause),
+    /// The log is not acknowledged past the page_LSN of the page.
+    LogBehind,
+    /// All frames are used, and none is clean.
+    PoolFull,
     /// There is nothing for the event to do.
     NothingToDo,
     /// The log device has no room for the record and for what a takeover would then append.
@@ -21,6 +25,8 @@ pub enum Fault {
     Device,
     /// A growth was refused.
     Memory,
+    /// The block of this page holds no image of it that the event can take.
+    BadPage { page: u32 },
 }
 
 impl Fault {
@@ -30,10 +36,13 @@ impl Fault {
     {
         match self {
             Fault::Invalid(cause) => cause.kind(),
+            Fault::LogBehind => FaultKind::LogBehind,
+            Fault::PoolFull => FaultKind::PoolFull,
             Fault::NothingToDo => FaultKind::NothingToDo,
             Fault::LogFull => FaultKind::LogFull,
             Fault::Device => FaultKind::Device,
             Fault::Memory => FaultKind::Memory,
+            Fault::BadPage { page } => FaultKind::BadPage { page },
         }
     }
 
@@ -62,6 +71,21 @@ impl fmt::Display for Fault {
 }
 
 impl std::error::Error for Fault {}
+
+impl From<als_pool::Fault> for Fault {
+    ghost from_gives = { λ e fault. fault ≡ of_pool e };
+
+    fn from(e: als_pool::Fault) -> Fault {
+        match e {
+            als_pool::Fault::LogBehind => Fault::LogBehind,
+            als_pool::Fault::PoolFull => Fault::PoolFull,
+            als_pool::Fault::NothingToDo => Fault::NothingToDo,
+            als_pool::Fault::Device => Fault::Device,
+            als_pool::Fault::Memory => Fault::Memory,
+            als_pool::Fault::BadPage { page } => Fault::BadPage { page },
+        }
+    }
+}
 
 impl From<AllocError> for Fault {
     ghost from_gives = { λ _ e. e ≡ OutOfMemory };

@@ -1,4 +1,4 @@
-//! What a standby stores: its log and control block on devices, its pages in memory, and its transaction table.
+//! What a standby stores: its log and control block on devices, its pages on a device and in frames, and its transaction table.
 #![tactic(auto)]
 
 // Why an event is refused.
@@ -7,10 +7,6 @@ mod fault;
 mod disks;
 // Devices handed back.
 mod unformatted;
-// A page and the changes that it waits for.
-mod warm_page;
-// All pages.
-mod warm_pages;
 // What a new store has in memory.
 mod new_parts;
 // The devices of a new store.

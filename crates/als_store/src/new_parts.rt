@@ -1,11 +1,10 @@
 ghost use Rattle.std.specs.Prelude.{◌≡◌, ◌≤◌, [], IfOk, IfErr};
 ghost use Rattle.als_validator.specs.Validated.{IsValidatorOf};
 ghost use Rattle.als_store.specs.declared.fault.Fault.TheVariants as fault;
-ghost use Rattle.als_store.specs.Warm.{fresh_from};
 
 use crate::fault::Fault;
-use crate::warm_pages::WarmPages;
 use als_log::NewLog;
+use als_pool::NewPool;
 use als_validator::Validator;
 use std::alloc::Global;
 
@@ -13,7 +12,7 @@ use std::alloc::Global;
 #[derive(Drop)]
 pub(crate) struct NewParts {
     pub(crate) log: NewLog,
-    pub(crate) warm: WarmPages,
+    pub(crate) pool: NewPool,
     pub(crate) validator: Validator,
 }
 
@@ -23,16 +22,16 @@ impl NewParts {
         requires some { 1 ≤ pages }
         requires few { pages ≤ 4096 }
         ensures log { IfOk result (λ parts. parts.log ≡ pages) }
-        ensures warm { IfOk result (λ parts. parts.warm ≡ fresh_from 0 pages) }
+        ensures pool { IfOk result (λ parts. parts.pool ≡ pages) }
         ensures validator { IfOk result (λ parts. IsValidatorOf pages parts.validator []) }
         ensures err { IfErr result (λ f. f ≡ fault.Memory) }
     {
         let log = new_log(alloc, pages)?;
-        let warm = WarmPages::empty(alloc, pages)?;
+        let pool = NewPool::new(alloc, pages)?;
         let validator = new_validator(alloc, pages)?;
         Ok(NewParts {
             log,
-            warm,
+            pool,
             validator,
         })
     }

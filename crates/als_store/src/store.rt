@@ -1,6 +1,5 @@
 ghost use Rattle.std.specs.Prelude.{◌≡◌, ℕ, ◌<◌, ◌≤◌, ◌+◌, ◌*◌, ◌^◌, ◌⊎◌, true, false, List, [], ◌∷◌, ◌++◌, length, replicate, IfOk, IfErr, IfSome, MatchOption, None, IsOk, OnOk, OnErr, Err};
 ghost use Rattle.std.specs.Result.{IsErrOf};
-ghost use Rattle.std.specs.Option.{option_copied};
 ghost use Rattle.als_record.specs.declared.record.Record.{Record as AnyRecord};
 ghost use Rattle.als_record.specs.Spelling.{spelling, record_len, IsRecord};
 ghost use Rattle.als_record.specs.LogText.{end_of};
@@ -9,14 +8,18 @@ ghost use Rattle.als_record.specs.Table.{table_of};
 ghost use Rattle.als_record.specs.Tail.{reserve_of};
 ghost use Rattle.als_record.specs.Pages.{change_of};
 ghost use Rattle.als_analysis.specs.Open.{rows_of};
+ghost use Rattle.als_record.specs.LogText.{IsLog};
 ghost use Rattle.als_validator.specs.Validated.{IsValidatorOf, HasRoom};
 ghost use Rattle.als_store.specs.declared.fault.Fault.TheVariants as fault;
-ghost use Rattle.als_store.specs.Warm.{CanRoute, HasPlace, MakesPlaces, IsRouted, total_waiting};
+ghost use Rattle.als_dirty.specs.Rows.{IsNextRow};
+ghost use Rattle.als_pool.specs.Queues.{WaitsFirst};
+ghost use Rattle.als_pool.specs.Outcomes.{HasPlace, CanRoute};
+ghost use Rattle.als_pool.specs.Images.{IsPoolOf};
 ghost use Rattle.als_store.specs.Spare.{HasSpare};
 ghost use Rattle.als_store.specs.Parts.{spare_of};
-ghost use Rattle.als_store.specs.Stored.{Stored, formatted, acknowledged, with_log, pending_of, AppliesFirst, IsDry, WaitsFrom, ShowsPage, StandsAt, IsRefused, IsTooLong, FrontsFit, judgement_of};
-ghost use Rattle.als_store.specs.Events.{Breaks, FailsToRead, HasUnwritten, WritesLog, SyncsLog, HasUnmarked, WritesMark, BreaksMark, SyncsControl};
-ghost use Rattle.als_store.specs.Devices.{AreKept};
+ghost use Rattle.als_store.specs.Stored.{Stored, formatted, formatted_pool, acknowledged, with_records, routed, pending_of, IsShown, StandsAt, IsRefused, IsTooLong, FrontsFit, judgement_of};
+ghost use Rattle.als_store.specs.Events.{Breaks, FailsToRead, HasUnwritten, WritesLog, SyncsLog, HasUnmarked, WritesMark, BreaksMark, SyncsControl, AppliesFirst, NotApplied, FlushesPage, NotFlushed, SyncsDevice, BreaksSync, FailsToShow};
+ghost use Rattle.als_store.specs.Devices.{AreKept, AreImages};
 ghost use Rattle.als_store.specs.Formatting.{IsHalfFormatted};
 ghost use Rattle.als_log.specs.Local.{HasRoomFor, next_written, whole_end};
 ghost use Rattle.als_log.specs.Reading.{record_at, HasRowsAt};
@@ -27,13 +30,15 @@ use crate::fault::Fault;
 use crate::laying_out::lay_out;
 use crate::new_parts::NewParts;
 use crate::unformatted::Unformatted;
-use crate::warm_pages::WarmPages;
 use als_analysis::OpenTransaction;
 use als_ckpt::Control;
 use als_disk::BlockDisk;
 use als_log::{Fault as LogFault, LocalLog};
 use als_page::Page;
-use als_record::{Body, Lsn, Record, encoded_len};
+use als_pool::{
+    Fault as PoolFault, Pool, change_can_be_routed, mark_changes_nothing, other_records_pass,
+};
+use als_record::{Body, LoggedPage, Lsn, Record, encoded_len};
 use als_validator::{Fault as Refusal, Validator};
 use std::alloc::{AllocError, Global};
 use std::marker::Model;
@@ -46,8 +51,7 @@ pub struct Store<D: BlockDisk> {
     log: LocalLog<D>,
     count: usize,
     control: Control<D>,
-    page_disk: D,
-    warm: WarmPages,
+    pool: Pool<D>,
     validator: Validator,
     broken: bool,
 }
@@ -59,9 +63,9 @@ impl<D: BlockDisk> Model for Store<D> {
 
     ghost Value = { Holding };
 
-    ghost view = { λ s. record { stored = stored_of s.pages s.log s.control s.warm s.broken (D.failures s.page_disk) (D.attempts s.page_disk); spare = spare_of s.log s.validator s.warm } };
+    ghost view = { λ s. record { stored = stored_of s.pages s.log s.control s.pool.pool s.broken; spare = spare_of s.log s.validator s.pool.room } };
 
-    ghost invariant = { λ s. IsStored s.pages s.log s.count s.control s.warm s.validator s.broken };
+    ghost invariant = { λ s. IsStored s.pages s.log s.count s.control s.pool.pool s.validator s.broken };
 }
 
 // Written out: a derived drop is proved part by part wherever a store is let go of, this one only here.
@@ -72,28 +76,27 @@ impl<D: BlockDisk + Drop> Drop for Store<D> {
             log,
             count: _,
             control,
-            page_disk,
-            warm,
+            pool,
             validator,
             broken: _,
         } = self;
         drop(log);
         drop(control);
-        drop(page_disk);
-        drop(warm);
+        drop(pool);
         drop(validator);
     }
 }
 
 /// Room for what a record changes, if anything, behind what its page waits for. An `Err` changes nothing.
-fn reserve_change(warm: &mut WarmPages, logged: &Record) -> Result<(), Fault>
-    requires { IfSome (change_of logged.now) (λ c. c.key.page < length warm.old) }
-    ensures ok { OnOk result (MakesPlaces warm.old (change_of logged.now) warm.new) }
-    ensures err { IfErr result (λ f. (f ≡ fault.Memory) × (warm.new ≡ warm.old)) }
-    ensures reserved { IfSome (change_of logged.now) (λ c. HasPlace warm.old c.key.page) → IsOk result }
+fn reserve_change<D: BlockDisk>(pool: &mut Pool<D>, logged: &Record) -> Result<(), Fault>
+    requires { IfSome (change_of logged.now) (λ c. c.key.page < length pool.old.pool.waits) }
+    ensures same { pool.new.pool ≡ pool.old.pool }
+    ensures ok { OnOk result (IfSome (change_of logged.now) (λ c. HasPlace pool.new.room c.key.page)) }
+    ensures err { IfErr result (λ f. f ≡ fault.Memory) }
+    ensures reserved { IfSome (change_of logged.now) (λ c. HasPlace pool.old.room c.key.page) → IsOk result }
 {
     match &logged.body {
-        Body::Update { key, .. } | Body::Compensation { key, .. } => match warm.reserve(key.page) {
+        Body::Update { key, .. } | Body::Compensation { key, .. } => match pool.reserve(key.page) {
             Ok(()) => Ok(()),
             Err(_) => Err(Fault::Memory),
         },
@@ -102,15 +105,17 @@ fn reserve_change(warm: &mut WarmPages, logged: &Record) -> Result<(), Fault>
 }
 
 /// Adds what a record changes, if anything, behind what its page waits for. It takes no memory.
-fn route_change(warm: &mut WarmPages, logged: &Record)
-    requires can { IfSome (change_of logged.now) (CanRoute warm.old) }
-    requires count { total_waiting warm.old + 1 < 2 ^ 64 }
-    requires place { IfSome (change_of logged.now) (λ c. HasPlace warm.old c.key.page) }
-    ensures { MatchOption (change_of logged.now) (warm.new ≡ warm.old) (λ c. IsRouted warm.old c warm.new) }
+fn route_change<D: BlockDisk>(pool: &mut Pool<D>, logged: &Record)
+    requires can { IfSome (change_of logged.now) (CanRoute pool.old.pool) }
+    requires place { IfSome (change_of logged.now) (λ c. HasPlace pool.old.room c.key.page) }
+    ensures value { pool.new.pool ≡ routed pool.old.pool (change_of logged.now) }
+    // For every log that the pool is of, it is that of the log with the record.
+    ensures keeps { (log : List AnyRecord) (below : ℕ) → IsPoolOf log below pool.old.pool → IsLog pool.old.pool.frames.pages (log ++ logged.now ∷ [])
+        → logged.now.lsn.0 ≡ end_of log → IsPoolOf (log ++ logged.now ∷ []) below pool.new.pool }
 {
     match logged.change() {
-        None => {}
-        Some(change) => warm.route(change),
+        None => other_records_pass(),
+        Some(change) => pool.route(change),
     }
 }
 
@@ -183,22 +188,22 @@ fn reserve_bytes<D: BlockDisk>(log: &mut LocalLog<D>, len: usize) -> Result<(), 
 fn make_room<D: BlockDisk>(
     log: &mut LocalLog<D>,
     validator: &mut Validator,
-    warm: &mut WarmPages,
+    pool: &mut Pool<D>,
     logged: &Record,
     len: usize,
 ) -> Result<(), Fault>
-    requires inside { IfSome (change_of logged.now) (λ c. c.key.page < length warm.old) }
+    requires inside { IfSome (change_of logged.now) (λ c. c.key.page < length pool.old.pool.waits) }
     requires len { len ≡ record_len logged.now }
     ensures log { log.new ≡ record log.old { room = log.new.room } }
     ensures validator { (pages : ℕ) (log : List AnyRecord) → IsValidatorOf pages validator.old log → IsValidatorOf pages validator.new log }
-    ensures pages { OnOk result (MakesPlaces warm.old (change_of logged.now) warm.new) }
-    ensures ok { OnOk result (HasSpare (spare_of log.new validator.new warm.new) logged.now) }
-    ensures err { IfErr result (λ f. (f ≡ fault.Memory) × (warm.new ≡ warm.old)) }
-    ensures reserved { HasSpare (spare_of log.old validator.old warm.old) logged.now → IsOk result }
+    ensures pages { pool.new.pool ≡ pool.old.pool }
+    ensures ok { OnOk result (HasSpare (spare_of log.new validator.new pool.new.room) logged.now) }
+    ensures err { IfErr result (λ f. f ≡ fault.Memory) }
+    ensures reserved { HasSpare (spare_of log.old validator.old pool.old.room) logged.now → IsOk result }
 {
     reserve_bytes(log, len)?;
     reserve_judgement(validator)?;
-    reserve_change(warm, logged)?;
+    reserve_change(pool, logged)?;
     Ok(())
 }
 
@@ -263,41 +268,46 @@ fn read_log<D: BlockDisk>(log: &mut LocalLog<D>, lsn: Lsn) -> Result<Option<Reco
 }
 
 impl<D: BlockDisk> Store<D> {
-    /// Formats the devices for a database of so many pages: clears and syncs the control block, then writes and syncs the
-    /// log's header, then writes and syncs the control block. It leaves an empty log, acknowledged up to 16. All memory is
-    /// taken before a device is touched.
+    /// Formats the devices for a database of so many pages, of which at most `frames` can be in memory at once: clears and syncs
+    /// the control block, then writes and syncs empty pages and the log's header, then writes and syncs the control block. It
+    /// leaves an empty log, acknowledged up to 16. All memory is taken before a device is touched.
     ///
-    /// Memory: the devices come back as they were. Device: one of them failed; they come back with the log as it was, or with
-    /// a control block that is cleared or that of the new database, whatever a crash leaves.
-    pub fn format(alloc: Global, disks: Disks<D>, pages: u32) -> Result<Store<D>, Unformatted<D>>
+    /// Memory: the devices come back as they were. Device: one of them failed; they come back with the log and the pages as they
+    /// were, or with a control block that is cleared or that of the new database, whatever a crash leaves.
+    pub fn format(
+        alloc: Global,
+        disks: Disks<D>,
+        pages: u32,
+        frames: usize,
+    ) -> Result<Store<D>, Unformatted<D>>
         requires some_pages { 1 ≤ pages }
         requires few_pages { pages ≤ 4096 }
         requires some_blocks { 1 ≤ D.block_count disks.log }
         requires few_blocks { D.block_count disks.log ≤ 4194304 }
         requires control { 321 ≤ D.block_count disks.control }
-        ensures ok { IfOk result (λ s. s.stored ≡ formatted pages (D.block_count disks.log) (D.failures disks.log + D.failures disks.control + D.failures disks.pages) s.stored.attempts) }
+        requires page_blocks { pages ≤ D.block_count disks.pages }
+        ensures ok { IfOk result (λ s. s.stored ≡ formatted pages (formatted_pool pages frames (D.block_count disks.pages) (D.failures disks.pages) (D.attempts disks.pages + pages + 1)) (D.block_count disks.log) (D.failures disks.log + D.failures disks.control + D.failures disks.pages) s.stored.attempts) }
         ensures fault { IfErr result (λ u. (u.fault ≡ fault.Memory) ⊎ (u.fault ≡ fault.Device)) }
         ensures memory { IfErr result (λ u. u.fault ≡ fault.Memory → u.disks ≡ disks) }
-        ensures device { IfErr result (λ u. u.fault ≡ fault.Device → D.failures disks.log + D.failures disks.control < D.failures u.disks.log + D.failures u.disks.control) }
-        ensures left { IfErr result (λ u. u.fault ≡ fault.Device → IsHalfFormatted pages (D.slot disks.log) (D.slot u.disks.log) (D.slot u.disks.control)) }
-        ensures counts { IfErr result (λ u. (D.block_count u.disks.log ≡ D.block_count disks.log) × (D.block_count u.disks.control ≡ D.block_count disks.control) × (u.disks.pages ≡ disks.pages)) }
+        ensures device { IfErr result (λ u. u.fault ≡ fault.Device → D.failures disks.log + D.failures disks.control + D.failures disks.pages < D.failures u.disks.log + D.failures u.disks.control + D.failures u.disks.pages) }
+        ensures left { IfErr result (λ u. u.fault ≡ fault.Device → IsHalfFormatted pages (D.slot disks.log) (D.slot u.disks.log) (D.slot disks.pages) (D.slot u.disks.pages) (D.slot u.disks.control)) }
+        ensures counts { IfErr result (λ u. (D.block_count u.disks.log ≡ D.block_count disks.log) × (D.block_count u.disks.control ≡ D.block_count disks.control) × (D.block_count u.disks.pages ≡ D.block_count disks.pages)) }
     {
         let NewParts {
             log,
-            warm,
+            pool,
             validator,
         } = match NewParts::new(alloc, pages) {
             Ok(parts) => parts,
             Err(fault) => return Err(Unformatted { disks, fault }),
         };
-        match lay_out(disks, pages, log) {
+        match lay_out(disks, pages, frames, log, pool) {
             Ok(laid) => Ok(Store {
                 pages,
                 log: laid.log,
                 count: 0,
                 control: laid.control,
-                page_disk: laid.pages,
-                warm,
+                pool: laid.pool,
                 validator,
                 broken: false,
             }),
@@ -308,9 +318,11 @@ impl<D: BlockDisk> Store<D> {
         }
     }
 
-    /// The devices. Whatever a crash leaves of them has all acknowledged bytes. Their attempts together are the store's.
+    /// The devices. Whatever a crash leaves of them has all acknowledged bytes, and of each page an image from below them for which
+    /// its row is sound. Their attempts together are the store's.
     pub fn into_disks(self) -> Disks<D>
         ensures kept { AreKept self.stored (D.slot result.log) (D.slot result.control) }
+        ensures images { AreImages self.stored (D.slot result.pages) }
         ensures attempts { D.attempts result.log + D.attempts result.control + D.attempts result.pages ≡ self.stored.attempts }
     {
         let Store {
@@ -318,17 +330,15 @@ impl<D: BlockDisk> Store<D> {
             log,
             count: _,
             control,
-            page_disk,
-            warm,
+            pool,
             validator,
             broken: _,
         } = self;
-        drop(warm);
         drop(validator);
         Disks {
             log: log.into_disk(),
             control: control.into_disk(),
-            pages: page_disk,
+            pages: pool.into_disk(),
         }
     }
 
@@ -359,7 +369,10 @@ impl<D: BlockDisk> Store<D> {
 
     /// The offset below which no log byte can be lost: the mark in the control block as last synced.
     pub fn acknowledged(&self) -> Lsn
-        ensures { result.0 ≡ acknowledged self.now.stored }
+        ensures lsn { result.0 ≡ acknowledged self.now.stored }
+        // The pages, their images and their rows are the log's, and no image has a page_LSN above what is acknowledged.
+        ensures pool { IsPoolOf self.now.stored.log (acknowledged self.now.stored) self.now.stored.pool }
+        ensures count { length self.now.stored.pool.waits ≡ self.now.stored.pages }
     {
         self.control.acknowledged()
     }
@@ -375,7 +388,7 @@ impl<D: BlockDisk> Store<D> {
     pub fn pending(&self) -> usize
         ensures { result ≡ pending_of self.now.stored }
     {
-        self.warm.waiting()
+        self.pool.waiting()
     }
 
     /// Makes room for a record that stands at the log's end, in all parts that it changes: it can then be held with no memory.
@@ -392,7 +405,7 @@ impl<D: BlockDisk> Store<D> {
         make_room(
             &mut self.log,
             &mut self.validator,
-            &mut self.warm,
+            &mut self.pool,
             logged,
             len,
         )?;
@@ -407,7 +420,7 @@ impl<D: BlockDisk> Store<D> {
         requires fits { IsRecord self.old.stored.pages logged.now }
         requires at { logged.now.lsn.0 ≡ end_of self.old.stored.log }
         requires spelled { bytes.now ≡ spelling logged.now }
-        ensures ok { OnOk result ((first_bad self.old.stored.log logged.now ≡ None) × (self.new.stored ≡ with_log self.old.stored (self.old.stored.log ++ logged.now ∷ []))) }
+        ensures ok { OnOk result ((first_bad self.old.stored.log logged.now ≡ None) × (self.new.stored ≡ with_records self.old.stored (logged.now ∷ []))) }
         ensures err { OnErr result (self.new.stored ≡ self.old.stored) }
         ensures cause { IfErr result (IsRefused self.old.stored logged.now) }
         ensures full { first_bad self.old.stored.log logged.now ≡ None → IsTooLong self.old.stored logged.now → result ≡ Err fault.LogFull }
@@ -426,12 +439,13 @@ impl<D: BlockDisk> Store<D> {
         make_room(
             &mut self.log,
             &mut self.validator,
-            &mut self.warm,
+            &mut self.pool,
             logged,
             len,
         )?;
         admit(&mut self.validator, logged);
-        route_change(&mut self.warm, logged);
+        change_can_be_routed();
+        route_change(&mut self.pool, logged);
         append(&mut self.log, logged, bytes, reserve_after);
         self.count += 1;
         Ok(())
@@ -499,7 +513,10 @@ impl<D: BlockDisk> Store<D> {
         ensures err { IfErr result (λ f. (f ≡ fault.Device) × Breaks self.old.stored self.new.stored) }
     {
         match self.control.sync() {
-            Ok(()) => Ok(self.control.acknowledged()),
+            Ok(()) => {
+                mark_changes_nothing();
+                Ok(self.control.acknowledged())
+            }
             Err(_) => {
                 self.broken = true;
                 Err(Fault::Device)
@@ -514,33 +531,82 @@ impl<D: BlockDisk> Store<D> {
         self.validator.rows()
     }
 
-    /// Redoes the first changes that a page waits for, at most 64, and answers its page_LSN. NothingToDo: none waits, or
-    /// there is no such page.
+    /// Redoes the first changes that a page waits for, at most 64, and answers its page_LSN. A page that has no frame is read into
+    /// one; the changes that it has already no longer wait, and its row becomes exact.
+    ///
+    /// NothingToDo: none waits, or there is no such page. PoolFull: the page has no frame, all frames are used and none is clean.
+    /// Device: it could not be read. BadPage: its block has no image of it with a page_LSN below the log's end, which never comes.
+    /// Memory: a growth was refused. They come in this order. Then again NothingToDo: the page that was read has all that
+    /// waited, which waits no more.
     pub fn apply(&mut self, page: u32) -> Result<Lsn, Fault>
         ensures ok { IfOk result (λ lsn. AppliesFirst self.old.stored page lsn self.new.stored) }
-        ensures err { IfErr result (λ f. (f ≡ fault.NothingToDo) × IsDry self.old.stored page × (self.new.stored ≡ self.old.stored)) }
+        ensures err { IfErr result (λ f. NotApplied self.old page f self.new) }
+        ensures sound { IfErr result (λ f. f ≡ fault.BadPage page → ⊥) }
     {
-        let Some(lsn) = self.warm.apply(page) else {
-            return Err(Fault::NothingToDo);
-        };
+        let end = self.log.end();
+        let lsn = self.pool.apply(page, end)?;
         Ok(lsn)
+    }
+
+    /// Writes a page to its block, if the log is acknowledged past its page_LSN: one write of the pages' device.
+    ///
+    /// NothingToDo: the page has no frame, or it is the image last written. LogBehind: its page_LSN is not below the acknowledged
+    /// LSN. Device: the write has failed.
+    pub fn flush(&mut self, page: u32) -> Result<(), Fault>
+        requires { self.old.stored.broken ≡ false }
+        ensures ok { OnOk result (FlushesPage self.old.stored page self.new.stored) }
+        ensures err { IfErr result (λ f. NotFlushed self.old.stored page f self.new.stored) }
+    {
+        let acknowledged = self.control.acknowledged();
+        match self.pool.flush_one(page, acknowledged) {
+            Ok(()) => Ok(()),
+            Err(PoolFault::Device) => {
+                self.broken = true;
+                Err(Fault::Device)
+            }
+            Err(fault) => Err(Fault::from(fault)),
+        }
+    }
+
+    /// Syncs the pages' device, by one sync: of each page the image last written is then the one last synced, and the rows move.
+    pub fn sync_pages(&mut self) -> Result<(), Fault>
+        requires { self.old.stored.broken ≡ false }
+        ensures ok { OnOk result (SyncsDevice self.old.stored self.new.stored) }
+        ensures err { IfErr result (λ f. (f ≡ fault.Device) × BreaksSync self.old.stored self.new.stored) }
+    {
+        match self.pool.sync_pages() {
+            Ok(()) => Ok(()),
+            Err(_) => {
+                self.broken = true;
+                Err(Fault::Device)
+            }
+        }
     }
 
     /// The first page from there on for which changes wait.
     pub fn next_pending(&self, from: u32) -> Option<u32>
-        ensures { WaitsFrom self.now.stored from result }
+        ensures { WaitsFirst self.now.stored.pool.waits from result }
     {
-        self.warm.next_waiting(from)
+        self.pool.next_pending(from)
     }
 
-    /// The page as it is now.
-    pub fn page_now(&self, page: u32) -> Option<&Page>
-        ensures { ShowsPage self.now.stored page (option_copied result) }
+    /// The first row of the dirty page table from a page on.
+    pub fn next_row(&self, from: u32) -> Option<LoggedPage>
+        ensures { IsNextRow self.now.stored.pool.dirty from result }
     {
-        match self.warm.get(page) {
-            Some(warm) => Some(warm.page()),
-            None => None,
-        }
+        self.pool.next_row(from)
+    }
+
+    /// The page as it is now: a copy of the page in its frame, or else of the one in its block, which is read. It takes no memory.
+    /// Device: the read has failed, which is counted.
+    pub fn page_now(&mut self, page: u32) -> Result<Page, Fault>
+        requires { page < self.old.stored.pages }
+        ensures ok { IfOk result (IsShown self.old.stored page) }
+        ensures same { OnOk result (self.new ≡ self.old) }
+        ensures err { IfErr result (λ f. (f ≡ fault.Device) × FailsToShow self.old.stored page self.new.stored) }
+    {
+        let found = self.pool.page_now(page)?;
+        Ok(found)
     }
 
     /// The record that stands at an LSN, read from the log device where it is no longer in memory. Memory: there was none for

@@ -71,6 +71,7 @@ fn acknowledged(rt: &impl Abort, store: &mut Store<MemDisk>) -> Result<Lsn, Faul
 fn devices(alloc: Global) -> Disks<MemDisk>
     ensures log { ⟦<MemDisk as BlockDisk>⟧.block_count result.log ≡ 8 }
     ensures control { ⟦<MemDisk as BlockDisk>⟧.block_count result.control ≡ 321 }
+    ensures pages { ⟦<MemDisk as BlockDisk>⟧.block_count result.pages ≡ 4 }
 {
     Disks {
         log: MemDisk::new(alloc, 8),
@@ -81,7 +82,7 @@ fn devices(alloc: Global) -> Disks<MemDisk>
 
 /// A record is held and acknowledged. False: memory was refused, and where that failed a write the store is broken.
 fn acknowledges(rt: &impl Abort, alloc: Global) -> bool {
-    let Ok(mut store) = Store::format(alloc, devices(alloc), 4) else {
+    let Ok(mut store) = Store::format(alloc, devices(alloc), 4, 2) else {
         return false;
     };
     assert_eq!(rt;
@@ -111,7 +112,7 @@ fn a_record_is_acknowledged_or_the_store_is_broken(rt: HostRuntime) {
 
 /// A record is held in the room that was made for it. False: memory was refused where the devices were formatted.
 fn holds(rt: &impl Abort, alloc: Global) -> bool {
-    let Ok(mut store) = Store::format(alloc, devices(alloc), 4) else {
+    let Ok(mut store) = Store::format(alloc, devices(alloc), 4, 2) else {
         return false;
     };
     let logged = commit_at(store.end(), Lsn(0));

@@ -5,7 +5,7 @@ use als_analysis::OpenTransaction;
 use als_engine::{Engine, Fault, State, Status, World};
 use als_page::Page;
 use als_record::{FIRST_LSN, Lsn, SLOT_COUNT, TransactionState, encoded_len};
-use std::alloc::Global;
+use std::alloc::{AllocError, Global};
 use std::io;
 use std::io::Write;
 
@@ -53,38 +53,58 @@ pub fn table<W: Write>(output: &mut W, table: &[OpenTransaction]) -> io::Result<
     Ok(())
 }
 
-/// `show page`.
-pub fn page<W: Write>(output: &mut W, number: u32, page: &Page) -> io::Result<()> {
-    writeln!(output, "page {number} lsn={}", page.lsn().0)?;
-    present(output, number, page)?;
+/// `show dirty`: in rising page.
+pub fn dirty<W: Write>(output: &mut W, engine: &Engine<Disk>) -> io::Result<()> {
+    let mut from = 0;
+    for _ in 0..engine.pages() {
+        let Some(row) = engine.dirty(from) else {
+            break;
+        };
+        writeln!(output, "page {} rec={}", row.page, row.rec_lsn.0)?;
+        from = row.page.saturating_add(1);
+    }
+    if from == 0 {
+        writeln!(output, "none")?;
+    }
     Ok(())
 }
 
-/// `show db`.
-pub fn database<W: Write>(output: &mut W, engine: &Engine<Disk>) -> io::Result<()> {
-    let mut is_empty = true;
-    for number in 0..engine.pages() {
-        if let Some(page) = engine.page_now(number) {
-            is_empty &= !present(output, number, page)?;
+/// `show page`, of a page that there is. It is gathered, so that a refusal stands alone. Device: a read failed. Memory: a growth
+/// was refused.
+pub fn page(alloc: Global, world: &mut World<Disk>, number: u32) -> Result<String, Fault> {
+    let mut listing = String::new(alloc);
+    if number < world.engine().pages() {
+        let page = world.page_now(number)?;
+        writeln!(listing, "page {number} lsn={}", page.lsn().0)?;
+        present(&mut listing, number, &page)?;
+    }
+    Ok(listing)
+}
+
+/// `show db`, gathered in the same way.
+pub fn database(alloc: Global, world: &mut World<Disk>) -> Result<String, Fault> {
+    let mut listing = String::new(alloc);
+    for number in 0..world.engine().pages() {
+        if number < world.engine().pages() {
+            let page = world.page_now(number)?;
+            present(&mut listing, number, &page)?;
         }
     }
-    if is_empty {
-        writeln!(output, "empty")?;
+    if listing.is_empty() {
+        listing.push_str("empty\n")?;
     }
-    Ok(())
+    Ok(listing)
 }
 
-/// A line for each present slot; answers whether there is one.
-fn present<W: Write>(output: &mut W, number: u32, page: &Page) -> io::Result<bool> {
-    let mut any = false;
+/// A line for each present slot.
+fn present(listing: &mut String, number: u32, page: &Page) -> Result<(), AllocError> {
     for slot in 0..SLOT_COUNT as u8 {
         let image = page.image(slot);
         if image.is_some() {
-            writeln!(output, "{number}/{slot} {}", ShownImage(image))?;
-            any = true;
+            writeln!(listing, "{number}/{slot} {}", ShownImage(image))?;
         }
     }
-    Ok(any)
+    Ok(())
 }
 
 /// `show log`: the records from an LSN on. They are gathered, so that a refusal stands alone. Device: a read failed. Memory: a

@@ -6,6 +6,7 @@ use crate::failure::Failure;
 use als_engine::{Config, Disks, Engine, Fault, World};
 use als_script::{CombinedLine, Line, LogText, ShowLine, StepLine, WorldLine};
 use std::alloc::Global;
+use std::io;
 use std::io::Write;
 
 /// The most slots for leases.
@@ -138,15 +139,15 @@ impl Simulation {
         match line {
             ShowLine::Status => showing::status(output, world.engine())?,
             ShowLine::Table => showing::table(output, world.engine().table())?,
-            ShowLine::Page { page } => match world.engine().page_now(page) {
-                Some(shown) => showing::page(output, page, shown)?,
-                None => return Err(Failure::BadLine(number)),
-            },
-            ShowLine::Database => showing::database(output, world.engine())?,
-            ShowLine::Log { from } => match showing::log(alloc, &mut world, from) {
-                Ok(listing) => output.write_all(listing.as_bytes())?,
-                Err(fault) => printing::refused(output, fault)?,
-            },
+            ShowLine::Dirty => showing::dirty(output, world.engine())?,
+            ShowLine::Page { page } => {
+                if page >= world.engine().pages() {
+                    return Err(Failure::BadLine(number));
+                }
+                listed(output, showing::page(alloc, &mut world, page))?;
+            }
+            ShowLine::Database => listed(output, showing::database(alloc, &mut world))?,
+            ShowLine::Log { from } => listed(output, showing::log(alloc, &mut world, from))?,
         }
         Ok(Simulation {
             alloc,
@@ -154,6 +155,14 @@ impl Simulation {
             fuses,
             text,
         })
+    }
+}
+
+/// What was gathered, or the refusal alone.
+fn listed<W: Write>(output: &mut W, listing: Result<String, Fault>) -> io::Result<()> {
+    match listing {
+        Ok(listing) => output.write_all(listing.as_bytes()),
+        Err(fault) => printing::refused(output, fault),
     }
 }
 

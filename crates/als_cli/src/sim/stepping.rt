@@ -13,6 +13,8 @@ pub fn step_of(line: StepLine, text: &[u8]) -> Option<Step<'_>> {
         }
         StepLine::Resync => Step::Resync,
         StepLine::Apply { page } => Step::Apply(page),
+        StepLine::Flush { page } => Step::Flush(page),
+        StepLine::SyncPages => Step::SyncPages,
         StepLine::LogWrite => Step::LogWrite,
         StepLine::LogSync => Step::LogSync,
         StepLine::MarkWrite => Step::MarkWrite,

@@ -86,6 +86,77 @@ ok
 ok taken=28 records=1 end=80
 ",
     ),
+    // A page is written once the log is acknowledged past its page_LSN, and its row goes at the sync.
+    (
+        "world pages=4 log=8 frames=4 workers=2 pending=1000
+u 1 0 0 - aa
+commit 1
+u 2 0 1 - bb
+u 2 0 0 aa cc
+feed 16 116
+force
+feed 116 153
+drain
+show dirty
+flush 0
+force
+flush 0
+show dirty
+sync-pages
+show dirty
+flush 0
+flush 4
+",
+        "ok taken=100 records=3 end=116
+ok ack=116
+ok taken=37 records=1 end=153
+ok
+page 0 rec=16
+refused 22 LogBehind
+ok ack=153
+ok
+page 0 rec=16
+ok
+none
+refused 27 NothingToDo
+refused 27 NothingToDo
+",
+    ),
+    // One frame for two pages: it is replaced once its page is written and synced.
+    (
+        "world pages=4 log=8 frames=1 workers=2 pending=1000
+u 1 0 0 - aa
+u 1 1 0 - bb
+commit 1
+feed 16 116
+apply 0
+apply 1
+force
+flush 0
+apply 1
+sync-pages
+apply 1
+show db
+fail pages 1
+show page 0
+show page 0
+",
+        "ok taken=100 records=3 end=116
+ok lsn=16
+refused 24 PoolFull
+ok ack=116
+ok
+refused 24 PoolFull
+ok
+ok lsn=52
+0/0 aa
+1/0 bb
+ok
+refused 30 Device
+page 0 lsn=16
+0/0 aa
+",
+    ),
     // Redo of one page, and what is shown before and behind it.
     (
         "world pages=4 log=8 frames=4 workers=2 pending=1000

@@ -1,15 +1,17 @@
-use Rattle.std.proofs.Common.{◌≡◌, ◌+◌, ◌≤◌, ◌∷◌, ◌++◌, [], sym, subst, refl, ap, ◌∙◌, arith, inl, inr}
+use Rattle.std.proofs.Common.{◌≡◌, ℕ, List, ◌+◌, ◌≤◌, ◌∷◌, ◌++◌, [], sym, subst, refl, ap, ◌∙◌, arith, inl, inr}
 use Rattle.std.specs.Prelude.{◌*◌}
 use Rattle.als_record.specs.Spelling.{IsRecord, record_len}
-use Rattle.als_record.specs.LogText.{end_of}
+use Rattle.als_record.specs.declared.record.Record.{Record}
+use Rattle.als_record.specs.LogText.{end_of, IsLog}
 use Rattle.als_record.specs.Tail.{reserve_of}
 use Rattle.als_record.specs.Pages.{change_of}
 use Rattle.als_record.specs.Validity.{first_bad}
-use Rattle.als_store.specs.Stored.{Stored, with_log}
+use Rattle.als_pool.specs.Pooled.{Pooled}
+use Rattle.als_pool.specs.Images.{IsPoolOf}
+use Rattle.als_store.specs.Stored.{Stored, routed}
 use Rattle.als_store.specs.Spare.{Holding}
 use Rattle.als_store.specs.Parts.{stored_of}
-use Rattle.als_store.proofs.StoredViews.{valid_push, places_count}
-use Rattle.als_store.proofs.StoredParts.{can_route_change, stored-again, stored-room, stored-push, view-room, view-push, length-below_end, appended, too_long, not_too_long, short_push}
+use Rattle.als_store.proofs.StoredParts.{can_route_change, valid_push, stored-again, stored-push, view-push, length-below_end, appended, too_long, not_too_long, short_push}
 use Rattle.als_store.proofs.JudgingLaws.{good_from}
 use Rattle.als_store.proofs.store.Store.admit.Goals as goal
 
@@ -20,7 +22,7 @@ returns-then-not-fits-clause-cause g c =
     let at = subst (λ (h : Holding). c.args.logged.now.lsn.0 ≡ end_of h.stored.log) (sym c.self.view_is) c.requires.at in
     let good = good_from (first_bad s.log.log c.args.logged.now) c.judge.result c.in_ok-judge.was (c.judge.ensures s.pages s.log.log c.self.invariant.judged c.self.invariant.is_log fits at) in
     let short = short_push s.pages s.log.blocks s.log.log c.args.logged.now fits c.end.ensures.facts.fits c.end.ensures.facts.few in
-    let seen = stored_of s.pages s.log s.control s.warm s.broken (g.D.BlockDisk.failures s.page_disk) (g.D.BlockDisk.attempts s.page_disk) in
+    let seen = stored_of s.pages s.log s.control s.pool.pool s.broken in
     rw (← c.self.view_is)
     (inr (inl (
       good,
@@ -31,8 +33,8 @@ returns-then-not-fits-clause-cause g c =
 pub invariant_of-self : goal.invariant_of-self
 invariant_of-self g c =
     let s = c.self.inside in
-    rw c.in_err-make_room.ensures.err.1
-    (stored-again s.pages s.count s.log s.control s.warm s.validator s.broken c.self.invariant c.make_room.new.log c.make_room.new.validator c.in_err-make_room.ensures.log
+    rw c.in_err-make_room.ensures.pages
+    (stored-again s.pages s.count s.log s.control s.pool.pool s.validator s.broken c.self.invariant c.make_room.new.log c.make_room.new.validator c.in_err-make_room.ensures.log
     (c.in_err-make_room.ensures.validator s.pages s.log.log c.self.invariant.judged))
 
 pub route_change-requires-clause-can : goal.route_change-requires-clause-can
@@ -41,16 +43,8 @@ route_change-requires-clause-can g c =
     let r = c.args.logged.now in
     let fits = subst (λ (h : Holding). IsRecord h.stored.pages r) (sym c.self.view_is) c.requires.fits in
     let at = subst (λ (h : Holding). r.lsn.0 ≡ end_of h.stored.log) (sym c.self.view_is) c.requires.at in
-    let judged-room = c.in_ok-make_room.ensures.validator s.pages s.log.log c.self.invariant.judged in
-    let roomed = stored-room s.pages s.count s.log s.control s.warm s.validator s.broken c.self.invariant s.log c.make_room.new.warm c.make_room.new.validator (change_of r) refl judged-room c.in_ok-make_room.ensures.pages in
-    can_route_change s.pages s.count s.log s.control c.make_room.new.warm c.make_room.new.validator s.broken r (change_of r) refl roomed fits at
-
-pub route_change-requires-clause-count : goal.route_change-requires-clause-count
-route_change-requires-clause-count g c =
-    let s = c.self.inside in
-    let facts = c.end.ensures.facts in
-    let counted = places_count s.warm c.make_room.new.warm (change_of c.args.logged.now) c.in_ok-make_room.ensures.pages in
-    omega (arith, counted.1, c.self.invariant.few, length-below_end s.log.log, facts.fits, facts.few)
+    let can = can_route_change s.pages s.count s.log s.control s.pool.pool s.validator s.broken c.self.invariant r (change_of r) refl fits at (omega (arith, c.end.ensures.facts.fits, c.end.ensures.facts.few)) c.change_can_be_routed.ensures in
+    rw c.in_ok-make_room.ensures.pages can
 
 pub overflow_add-self : goal.overflow_add-self
 overflow_add-self g c =
@@ -68,33 +62,31 @@ invariant_of-self-2 g c =
     let left : end_of s.log.log + record_len r + reserve_of (s.log.log ++ r ∷ []) ≤ 512 * s.log.blocks =
     omega (arith, c.len_of-len.ensures, c.reserve_after-reserve_after.ensures s.pages s.log.log c.self.invariant.judged at good, c.if-not-fits.ensures.0 refl) in
     let judged-room = c.in_ok-make_room.ensures.validator s.pages s.log.log c.self.invariant.judged in
-    let roomed = stored-room s.pages s.count s.log s.control s.warm s.validator s.broken c.self.invariant s.log c.make_room.new.warm c.make_room.new.validator (change_of r) refl judged-room c.in_ok-make_room.ensures.pages in
     let judged = c.admit.ensures s.pages s.log.log judged-room (valid_push s.pages s.log.log r c.self.invariant.is_log fits at good) in
-    stored-push s.pages s.count s.log s.control c.make_room.new.warm c.make_room.new.validator s.broken roomed c.append.new.log r c.route_change.new.warm c.admit.new.validator fits at good left
-    (appended s.log c.make_room.new.log c.append.new.log r c.in_ok-make_room.ensures.log c.append.ensures) judged c.route_change.ensures
+    let can = can_route_change s.pages s.count s.log s.control s.pool.pool s.validator s.broken c.self.invariant r (change_of r) refl fits at (omega (arith, c.end.ensures.facts.fits, c.end.ensures.facts.few)) c.change_can_be_routed.ensures in
+    let same = c.in_ok-make_room.ensures.pages in
+    let keeps = subst (λ (v : Pooled). (log : List Record) (below : ℕ) → IsPoolOf log below v → IsLog v.frames.pages (log ++ r ∷ []) → r.lsn.0 ≡ end_of log → IsPoolOf (log ++ r ∷ []) below c.route_change.new.pool.pool) same c.route_change.ensures.keeps in
+    stored-push s.pages s.count s.log s.control s.pool.pool s.validator s.broken c.self.invariant c.append.new.log r c.route_change.new.pool.pool c.admit.new.validator fits at good left
+    (appended s.log c.make_room.new.log c.append.new.log r c.in_ok-make_room.ensures.log c.append.ensures) judged can (c.route_change.ensures.value ∙ ap (λ (v : Pooled). routed v (change_of r)) same) keeps
 
 pub returns-clause-ok : goal.returns-clause-ok
 returns-clause-ok g c =
     let s = c.self.inside in
     let r = c.args.logged.now in
-    let failures = g.D.BlockDisk.failures s.page_disk in
-    let attempts = g.D.BlockDisk.attempts s.page_disk in
     let fits = subst (λ (h : Holding). IsRecord h.stored.pages r) (sym c.self.view_is) c.requires.fits in
     let at = subst (λ (h : Holding). r.lsn.0 ≡ end_of h.stored.log) (sym c.self.view_is) c.requires.at in
     let good = good_from (first_bad s.log.log r) c.judge.result c.in_ok-judge.was (c.judge.ensures s.pages s.log.log c.self.invariant.judged c.self.invariant.is_log fits at) in
-    let short = short_push s.pages s.log.blocks s.log.log r fits c.end.ensures.facts.fits c.end.ensures.facts.few in
-    let judged-room = c.in_ok-make_room.ensures.validator s.pages s.log.log c.self.invariant.judged in
-    let roomed = stored-room s.pages s.count s.log s.control s.warm s.validator s.broken c.self.invariant s.log c.make_room.new.warm c.make_room.new.validator (change_of r) refl judged-room c.in_ok-make_room.ensures.pages in
-    let pushed = view-push s.pages s.count s.log s.control c.make_room.new.warm c.make_room.new.validator s.broken roomed failures attempts c.append.new.log r c.route_change.new.warm (change_of r)
-    (appended s.log c.make_room.new.log c.append.new.log r c.in_ok-make_room.ensures.log c.append.ensures) c.route_change.ensures in
-    let same = view-room s.pages s.count s.log s.control s.warm s.validator s.broken c.self.invariant failures attempts s.log c.make_room.new.warm (change_of r) refl c.in_ok-make_room.ensures.pages in
-    rw (← c.self.view_is) (good, pushed ∙ ap (λ (x : Stored). with_log x (s.log.log ++ r ∷ [])) same)
+    let can = can_route_change s.pages s.count s.log s.control s.pool.pool s.validator s.broken c.self.invariant r (change_of r) refl fits at (omega (arith, c.end.ensures.facts.fits, c.end.ensures.facts.few)) c.change_can_be_routed.ensures in
+    let same = c.in_ok-make_room.ensures.pages in
+    let pushed = view-push s.pages s.count s.log s.control s.pool.pool s.validator s.broken c.self.invariant c.append.new.log r c.route_change.new.pool.pool
+    (appended s.log c.make_room.new.log c.append.new.log r c.in_ok-make_room.ensures.log c.append.ensures) can (c.route_change.ensures.value ∙ ap (λ (v : Pooled). routed v (change_of r)) same) in
+    rw (← c.self.view_is) (good, pushed)
 
 pub returns-in_err-make_room-clause-full : goal.returns-in_err-make_room-clause-full
 returns-in_err-make_room-clause-full g c =
     let s = c.self.inside in
     let r = c.args.logged.now in
-    let seen = stored_of s.pages s.log s.control s.warm s.broken (g.D.BlockDisk.failures s.page_disk) (g.D.BlockDisk.attempts s.page_disk) in
+    let seen = stored_of s.pages s.log s.control s.pool.pool s.broken in
     let fits = subst (λ (h : Holding). IsRecord h.stored.pages r) (sym c.self.view_is) c.requires.fits in
     let at = subst (λ (h : Holding). r.lsn.0 ≡ end_of h.stored.log) (sym c.self.view_is) c.requires.at in
     let good = good_from (first_bad s.log.log r) c.judge.result c.in_ok-judge.was (c.judge.ensures s.pages s.log.log c.self.invariant.judged c.self.invariant.is_log fits at) in
@@ -107,7 +99,7 @@ pub returns-clause-full : goal.returns-clause-full
 returns-clause-full g c =
     let s = c.self.inside in
     let r = c.args.logged.now in
-    let seen = stored_of s.pages s.log s.control s.warm s.broken (g.D.BlockDisk.failures s.page_disk) (g.D.BlockDisk.attempts s.page_disk) in
+    let seen = stored_of s.pages s.log s.control s.pool.pool s.broken in
     let fits = subst (λ (h : Holding). IsRecord h.stored.pages r) (sym c.self.view_is) c.requires.fits in
     let at = subst (λ (h : Holding). r.lsn.0 ≡ end_of h.stored.log) (sym c.self.view_is) c.requires.at in
     let good = good_from (first_bad s.log.log r) c.judge.result c.in_ok-judge.was (c.judge.ensures s.pages s.log.log c.self.invariant.judged c.self.invariant.is_log fits at) in

@@ -1,5 +1,8 @@
-use Rattle.std.proofs.Common.{ℕ, ◌+◌, ap, ◌∙◌}
-use Rattle.als_store.specs.Stored.{formatted}
+use Rattle.std.proofs.Common.{ℕ, ◌+◌, refl}
+use Rattle.als_disk.specs.Slot.{only}
+use Rattle.als_disk.specs.Store.{zeros}
+use Rattle.als_frames.specs.Frames.{without_frames}
+use Rattle.als_store.specs.Stored.{formatted_pool}
 use Rattle.als_store.proofs.StoredParts.{stored-new, view-new}
 use Rattle.als_store.proofs.store.Store.format.Goals as goal
 
@@ -9,15 +12,14 @@ invariant_of-result g c =
     let parts = c.in-Ok in
     stored-new c.args.pages (g.D.BlockDisk.block_count c.args.disks.log) (g.D.BlockDisk.failures c.args.disks.log) (g.D.BlockDisk.attempts c.args.disks.log + 2)
     (g.D.BlockDisk.block_count c.args.disks.control) (g.D.BlockDisk.failures c.args.disks.control) laid.laid.control.attempts
-    laid.laid.log laid.laid.control parts.parts.warm parts.parts.validator c.requires.few_pages c.requires.some_blocks laid.ensures.log laid.ensures.control parts.ensures.warm parts.ensures.validator
+    laid.laid.log laid.laid.control laid.laid.pool.pool
+    (without_frames c.args.pages c.args.frames (λ _. only zeros) (g.D.BlockDisk.block_count c.args.disks.pages) (g.D.BlockDisk.failures c.args.disks.pages) (g.D.BlockDisk.attempts c.args.disks.pages + c.args.pages + 1))
+    parts.parts.validator c.requires.few_pages c.requires.some_blocks laid.ensures.log laid.ensures.control laid.ensures.pool refl laid.ensures.is_pool parts.ensures.validator
 
 pub returns-in-Ok-lay_out-clause-ok : goal.returns-in-Ok-lay_out-clause-ok
 returns-in-Ok-lay_out-clause-ok g c =
     let laid = c.in-Ok-lay_out in
-    let blocks = g.D.BlockDisk.block_count c.args.disks.log in
-    let log_failures = g.D.BlockDisk.failures c.args.disks.log in
-    let control_failures = g.D.BlockDisk.failures c.args.disks.control in
-    let page_attempts = g.D.BlockDisk.attempts laid.laid.pages in
-    view-new c.args.pages blocks log_failures (g.D.BlockDisk.attempts c.args.disks.log + 2) (g.D.BlockDisk.block_count c.args.disks.control) control_failures laid.laid.control.attempts
-    (g.D.BlockDisk.failures laid.laid.pages) page_attempts laid.laid.log laid.laid.control c.in-Ok.parts.warm laid.ensures.log laid.ensures.control c.in-Ok.ensures.warm
-    ∙ ap (λ (n : ℕ). formatted c.args.pages blocks (log_failures + control_failures + n) (laid.laid.log.attempts + laid.laid.control.attempts + page_attempts)) (ap g.D.BlockDisk.failures laid.ensures.pages)
+    view-new c.args.pages (g.D.BlockDisk.block_count c.args.disks.log) (g.D.BlockDisk.failures c.args.disks.log) (g.D.BlockDisk.attempts c.args.disks.log + 2)
+    (g.D.BlockDisk.block_count c.args.disks.control) (g.D.BlockDisk.failures c.args.disks.control) laid.laid.control.attempts laid.laid.log laid.laid.control laid.laid.pool.pool
+    (formatted_pool c.args.pages c.args.frames (g.D.BlockDisk.block_count c.args.disks.pages) (g.D.BlockDisk.failures c.args.disks.pages) (g.D.BlockDisk.attempts c.args.disks.pages + c.args.pages + 1))
+    laid.ensures.log laid.ensures.control laid.ensures.pool

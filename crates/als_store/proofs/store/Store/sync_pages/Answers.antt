@@ -1,0 +1,13 @@
+use Rattle.std.proofs.Common.{ap, ◌∙◌}
+use Rattle.als_store.specs.Spare.{Holding}
+use Rattle.als_store.proofs.StoredParts.{stored-pool, pool-synced}
+use Rattle.als_store.proofs.store.Store.sync_pages.Goals as goal
+
+pub invariant_of-self : goal.invariant_of-self
+invariant_of-self g c =
+    let s = c.self.inside in
+    let h = c.self.invariant in
+    let whole = ap (λ (x : Holding). x.stored.broken) c.self.view_is ∙ c.requires in
+    stored-pool s.pages s.count s.log s.control s.pool.pool s.validator s.broken h c.sync_pages.new.self.pool s.broken
+    (pool-synced s.pages s.log.log s.control.synced.mark.0 s.pool.pool c.sync_pages.new.self.pool s.broken h.paged c.in-Ok.ensures.ok
+    (c.in-Ok.ensures.keeps s.log.log s.control.synced.mark.0 (h.paged.sure whole) h.paged.is_pool)) (λ e. e)
