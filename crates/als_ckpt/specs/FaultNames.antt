@@ -8,6 +8,3 @@ abbrev pub kind_of : Fault → FaultKind
 kind_of fault.Device = kind.Device
 kind_of fault.BadControl = kind.BadControl
 kind_of fault.Memory = kind.Memory
-kind_of fault.CkptBusy = kind.CkptBusy
-kind_of fault.NothingToDo = kind.NothingToDo
-kind_of fault.LogBehind = kind.LogBehind

@@ -8,21 +8,16 @@ use als_fault::FaultKind;
 use std::alloc::{AllocError, AllocFailed};
 use std::fmt;
 
-/// Why there is no control block. The numbers are common to all crates.
+/// Why there is no control block, or no checkpoint. The numbers are common to all crates.
 #[derive(Clone, Copy, Debug, PartialEq, Eq)]
 pub enum Fault {
     /// The device failed.
     Device,
-    /// The block is no control block of a database with this many pages over a log device of this size.
+    /// The block is no control block of a database with this many pages over a log device of this size, or the bytes are no
+    /// checkpoint of it at this position.
     BadControl,
     /// A growth was refused.
     Memory,
-    /// A checkpoint is begun, or the last one published is not synced, or a block of it is not.
-    CkptBusy,
-    /// No checkpoint is begun, or all its blocks are written.
-    NothingToDo,
-    /// The checkpoint's position is above the acknowledged LSN.
-    LogBehind,
 }
 
 impl Fault {
@@ -34,9 +29,6 @@ impl Fault {
             Fault::Device => FaultKind::Device,
             Fault::BadControl => FaultKind::BadControl,
             Fault::Memory => FaultKind::Memory,
-            Fault::CkptBusy => FaultKind::CkptBusy,
-            Fault::NothingToDo => FaultKind::NothingToDo,
-            Fault::LogBehind => FaultKind::LogBehind,
         }
     }
 

@@ -1,4 +1,5 @@
-//! The control block of a database: the stable mark of its log, its phase, and the published checkpoint.
+//! The control block of a database: the stable mark of its log, its phase, and the published checkpoint. And the bytes of a
+//! checkpoint.
 #![tactic(auto)]
 
 // Whether the log follows its source, is sealed, or was taken over.

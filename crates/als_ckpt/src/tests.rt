@@ -2,9 +2,12 @@ ghost use Rattle.std.specs.Prelude.{◌≡◌, ◌<◌, ◌≤◌, ◌+◌, IfOk
 ghost use Rattle.als_disk.specs.Slot.{IsSettled};
 ghost use Rattle.als_ckpt.specs.Control.{first_state, new_control};
 
-use crate::{Control, ControlState, Fault, Phase, Refused, Region, clear};
+use crate::{
+    Checkpoint, Control, ControlState, Fault, Numbers, Phase, Refused, Region, clear,
+    decode_checkpoint, encode_checkpoint,
+};
 use als_disk::{BlockDisk, DeviceError, FailingDisk, Fuse, MemDisk, Restart};
-use als_record::Lsn;
+use als_record::{LoggedPage, LoggedTransaction, Lsn, PageRows, TransId, TransactionRows};
 use std::alloc::Global;
 use std::process::Abort;
 use std::test::Fail;
@@ -147,6 +150,7 @@ fn refuses_what_is_no_control_block(rt: HostRuntime) {
     }
     assert_eq!(rt; Fault::BadControl.number(), 34);
     assert_eq!(rt; Fault::BadControl.name(), "BadControl");
+    assert_eq!(rt; Fault::Memory.number(), 32);
     assert_eq!(rt; Fault::Device.number(), 30);
     assert_eq!(rt; Fault::Device.name(), "Device");
 }
@@ -236,5 +240,107 @@ fn a_failed_write_may_be_left(rt: HostRuntime) {
             None => left_by(&rt, alloc, pick),
         };
         assert_eq!(rt; left, Some(Lsn(mark)));
+    }
+}
+
+fn numbers() -> Numbers {
+    Numbers {
+        position: Lsn(116),
+        greatest: TransId(9),
+        open_checkpoint: Lsn(60),
+        commits: 3,
+        last_commit: Lsn(88),
+    }
+}
+
+/// The 106 bytes of a checkpoint with two rows in each table, and zeros to a block's end.
+fn checkpoint_block(alloc: Global) -> Result<[u8; 512], Fault> {
+    let mut transactions = TransactionRows::new(alloc);
+    for (trans, state) in [(5, 1), (9, 3)] {
+        let row = LoggedTransaction {
+            trans: TransId(trans),
+            state,
+            last: Lsn(100),
+            undo_next: Lsn(72),
+        };
+        if transactions.as_slice().len() < TransactionRows::LIMIT {
+            transactions.push(row)?;
+        }
+    }
+    let mut pages = PageRows::new(alloc);
+    for page in [0, 2] {
+        let row = LoggedPage {
+            page,
+            rec_lsn: Lsn(60),
+        };
+        if pages.as_slice().len() < PageRows::LIMIT {
+            pages.push(row)?;
+        }
+    }
+    let bytes = encode_checkpoint(
+        alloc,
+        Checkpoint {
+            numbers: numbers(),
+            transactions,
+            pages,
+        },
+    )?;
+    let mut block = [0; 512];
+    for at in 0..512usize {
+        if let Some(byte) = bytes.get(at) {
+            block[at] = *byte;
+        }
+    }
+    Ok(block)
+}
+
+/// What is read from the checkpoint's bytes with another byte at a place: the numbers, and how many rows.
+fn read_checkpoint_with(
+    alloc: Global,
+    at: u16,
+    byte: u8,
+) -> Result<(Numbers, usize, usize), Fault> {
+    let mut block = checkpoint_block(alloc)?;
+    if let Some(place) = block.get_mut(at as usize) {
+        *place = byte;
+    }
+    let found = decode_checkpoint(alloc, &mut block, 4, Lsn(116))?;
+    Ok((
+        found.numbers,
+        found.transactions.as_slice().len(),
+        found.pages.as_slice().len(),
+    ))
+}
+
+/// The same, by a second try where memory was refused.
+fn read_again_with(alloc: Global, at: u16, byte: u8) -> Result<(Numbers, usize, usize), Fault> {
+    match read_checkpoint_with(alloc, at, byte) {
+        Err(Fault::Memory) => read_checkpoint_with(alloc, at, byte),
+        read => read,
+    }
+}
+
+#[test]
+fn a_checkpoint_is_read_back(rt: HostRuntime) {
+    assert_eq!(rt; read_again_with(rt.alloc(), 0, 0), Ok((numbers(), 2, 2)));
+    // a byte behind the rows is not looked at
+    assert_eq!(rt; read_again_with(rt.alloc(), 106, 1), Ok((numbers(), 2, 2)));
+    let rows: [(&str, u16, u8); 9] = [
+        ("another position", 7, 117),
+        ("more than 256 transactions", 36, 2),
+        ("more than 4,096 pages", 38, 17),
+        ("no state", 44, 0),
+        ("a state above 3", 44, 4),
+        ("transactions that fall", 64, 4),
+        ("a transaction twice", 64, 5),
+        ("a page twice", 97, 0),
+        ("a page past the database", 97, 4),
+    ];
+    for (what, at, byte) in rows {
+        assert_eq!(rt;
+            read_again_with(rt.alloc(), at, byte),
+            Err(Fault::BadControl),
+            "{what}"
+        );
     }
 }
