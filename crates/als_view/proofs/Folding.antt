@@ -1,7 +1,7 @@
 -- The images of a view, one write and one commit after another.
-use Rattle.std.proofs.Common.{◌≡◌, ℕ, ◌+◌, ◌*◌, ◌≤◌, ◌<◌, ◌==◌, ◌≢◌, ◌%◌, ◌^◌, length-append, nat_lt, nat_le, Bool, true, false, cond, ◌&&◌, List, [], ◌∷◌, ◌++◌, length, get_or, set, fold, flat_map, Option, None, refl, sym, ap, ◌∙◌, inl, inr, subst, arith}
-use Rattle.std.proofs.lemmas.Bool.{cases_Bool, eqb-true, eq-eqb, false≢true, and_parts, and_from, ltb-true, ltb-false, lt-ltb}
-use Rattle.std.proofs.lemmas.List.{get_or-set_same, get_or-set_other, length-set}
+use Rattle.std.proofs.Common.{◌≡◌, ℕ, ◌+◌, ◌*◌, ◌≤◌, ◌<◌, ◌==◌, ◌%◌, ◌^◌, length-append, nat_lt, Bool, true, false, cond, ◌&&◌, List, [], ◌∷◌, ◌++◌, length, get_or, set, fold, flat_map, None, refl, sym, ap, ◌∙◌, inl, inr, arith}
+use Rattle.std.proofs.lemmas.Bool.{cases_Bool, eqb-true, eq-eqb, false≢true, and_parts, and_from, ltb-true, lt-ltb}
+use Rattle.std.proofs.lemmas.List.{get_or-set_other, length-set}
 use Rattle.std.proofs.lemmas.Grind.{get_or-set_at, flat_map-append}
 use Rattle.std.proofs.lemmas.List.Sums.{fold-append}
 use Rattle.als_record.specs.declared.key.Key.{Key}

@@ -1,5 +1,5 @@
 -- A view, and the front of commits that it shows.
-use Rattle.std.specs.Prelude.{◌≡◌, ℕ, ◌+◌, ◌*◌, ◌<◌, ◌≤◌, ◌%◌, ◌^◌, Bool, true, List, [], ◌∷◌, length, slice_index_or, slice_set, nat_lt, ◌&&◌, fold, None, if◌then◌else◌}
+use Rattle.std.specs.Prelude.{◌≡◌, ℕ, ◌+◌, ◌*◌, ◌<◌, ◌≤◌, ◌%◌, ◌^◌, Bool, List, length, slice_index_or, slice_set, nat_lt, ◌&&◌, fold, None, if◌then◌else◌}
 use Rattle.als_record.specs.declared.key.Key.{Key}
 use Rattle.als_record.specs.Spelling.{Image}
 use Rattle.als_record.specs.Commits.{Commit, Write, seen_after}
