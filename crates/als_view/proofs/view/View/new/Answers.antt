@@ -1,0 +1,7 @@
+use Rattle.std.proofs.Common.{refl}
+use Rattle.als_view.specs.Fronts.{last_of}
+use Rattle.als_view.proofs.view.View.new.Goals as goal
+
+pub returns-clause-ok : goal.returns-clause-ok
+unfolding last_of
+returns-clause-ok c = (record { images = c.in_ok-unwritten.ensures.ok; count = refl; last = refl }, refl, refl, c.new.ensures.items)

@@ -1,0 +1,118 @@
+ghost use Rattle.std.specs.Prelude.{◌≡◌, ℕ, ◌<◌, ◌%◌, ◌^◌, ◌++◌, ◌∷◌, [], List, true, false, Ok, Err, None, IfOk, IfErr, OnOk, OnErr, if◌then◌else◌, ◌&&◌, nat_lt, length, MatchResult};
+ghost use Rattle.als_record.specs.Commits.{Commit as AnyCommit, seen_after};
+ghost use Rattle.als_view.specs.declared.fault.Fault.TheVariants.{Memory, Warming};
+ghost use Rattle.als_view.specs.Fronts.{HasPublished, Answers, last_of};
+
+use crate::commit::Commit;
+use crate::fault::Fault;
+use crate::images;
+use als_record::{Image, ImageView, Key, Lsn, SLOT_COUNT};
+use std::alloc::Global;
+use std::marker::Model;
+use std::mem;
+
+/// What a reader is answered: the value of a key after the published commits, how many these are, and the LSN of the last of
+/// them, 0 without one.
+#[derive(Drop)]
+pub struct Answer {
+    pub value: Image,
+    pub commits: u64,
+    pub lsn: Lsn,
+}
+
+/// What readers see: the published commits, as the image that each key has after them. Commits that are queued show at the
+/// next publishing.
+#[derive(Drop)]
+pub struct View {
+    alloc: Global,
+    pages: u32,
+    // Whether there is a list of published commits, if only the empty one.
+    listed: bool,
+    images: Vec<Image>,
+    // Modulo 2^64, which is exact for the commits of a device's log.
+    commits: u64,
+    last: Lsn,
+    queued: Vec<Commit>,
+}
+
+impl Model for View {
+    ghost use Rattle.std.specs.Prelude.{◌≡◌, ◌*◌, length};
+    ghost use Rattle.als_view.specs.Fronts.{View};
+
+    ghost Value = { View };
+
+    ghost view = { λ v. record { pages = v.pages; listed = v.listed; images = v.images.items; commits = v.commits; last = v.last.0; queued = v.queued.items } };
+
+    ghost invariant = { λ v. length v.images.items ≡ v.pages * 15 };
+}
+
+impl View {
+    /// The view of a database with so many pages: with the empty list of published commits, or with none.
+    pub fn new(alloc: Global, pages: u32, listed: bool) -> Result<View, Fault>
+        ensures ok { IfOk result (λ v. HasPublished v [] × (v.listed ≡ listed) × (v.pages ≡ pages) × (v.queued ≡ [])) }
+        ensures err { IfErr result (λ e. e ≡ Memory) }
+    {
+        Ok(View {
+            alloc,
+            pages,
+            listed,
+            images: images::unwritten(alloc, pages)?,
+            commits: 0,
+            last: Lsn(0),
+            queued: Vec::new(alloc),
+        })
+    }
+
+    /// Queues a commit behind the others. Where memory for that is refused, it is handed back and nothing changes.
+    pub fn queue(&mut self, commit: Commit) -> Result<(), Commit>
+        ensures ok { OnOk result (self.new ≡ record self.old { queued = self.old.queued ++ commit ∷ [] }) }
+        ensures err { IfErr result (λ back. (back ≡ commit) × (self.new ≡ self.old)) }
+    {
+        if self.queued.reserve(1).is_err() {
+            return Err(commit);
+        }
+        self.queued.push_reserved(commit);
+        Ok(())
+    }
+
+    /// Publishes all queued commits at once, in order, and opens the list if need be. It takes no memory. It costs what the
+    /// commits write.
+    pub fn publish(&mut self)
+        ensures shown { (commits : List AnyCommit) → HasPublished self.old commits → HasPublished self.new (commits ++ self.old.queued) }
+        ensures listed { self.new.listed ≡ true }
+        ensures queued { self.new.queued ≡ [] }
+        ensures pages { self.new.pages ≡ self.old.pages }
+    {
+        self.last = Lsn(images::last_after(self.queued.as_slice(), self.last.0));
+        self.commits = self.commits.wrapping_add(self.queued.len() as u64);
+        let queued = mem::replace(&mut self.queued, Vec::new(self.alloc));
+        images::write_commits(&mut self.images, queued);
+        self.listed = true;
+    }
+
+    /// What a key has after the published commits: one look-up, however many they are. A key outside the database has
+    /// nothing. `Warming`: there is no list yet.
+    pub fn get(&self, key: Key) -> Result<Answer, Fault>
+        ensures ok { IfOk result (λ a. (self.now.listed ≡ true) × ((commits : List AnyCommit) → HasPublished self.now commits → length commits < 2 ^ 64 → Answers a self.now.pages key commits)) }
+        ensures err { IfErr result (λ e. (e ≡ Warming) × (self.now.listed ≡ false)) }
+    {
+        if !self.listed {
+            return Err(Fault::Warming);
+        }
+        Ok(Answer {
+            value: self.image_of(key),
+            commits: self.commits,
+            lsn: self.last,
+        })
+    }
+
+    /// The image of a key after the published commits.
+    fn image_of(&self, key: Key) -> Image
+        ensures { (commits : List AnyCommit) → HasPublished self.now commits → result ≡ (if nat_lt key.page self.now.pages && nat_lt key.slot 15 then seen_after commits key else None) }
+    {
+        if key.page >= self.pages || key.slot as usize >= SLOT_COUNT {
+            return None;
+        }
+        ImageView::of(&self.images[images::place(key)]).to_image()
+    }
+}
