@@ -31,7 +31,7 @@ const REFUSED_WORLDS: [&str; 11] = [
 ];
 
 /// Lines that are none of the language.
-const BAD_LINES: [&str; 57] = [
+const BAD_LINES: [&str; 60] = [
     " ",
     "nothing",
     "COMMIT 1",

@@ -2,7 +2,7 @@ use super::row::{Row, WORLD, run_row, run_scripts};
 use std::process::Abort;
 
 /// Whole scripts, and what they print.
-const SCRIPTS: [(&str, &str); 5] = [
+const SCRIPTS: [(&str, &str); 7] = [
     // `examples/first-path.als`
     (
         "world pages=4 log=8 frames=4 workers=2 pending=1000
