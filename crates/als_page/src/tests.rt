@@ -1,6 +1,5 @@
-use crate::block::BLOCK;
 use crate::{Fault, Page};
-use als_record::{Change, Image, Key, Lsn, Value};
+use als_record::{BLOCK_LEN, Change, Image, Key, Lsn, Value};
 use std::test::Fail;
 
 // A value of one byte.
@@ -13,8 +12,8 @@ fn one_byte(byte: u8) -> Image {
 }
 
 // The block of page 0 whose slot 0 has the value aa by the record at 16.
-fn block_of_first_update() -> [u8; BLOCK] {
-    let mut block = [0; BLOCK];
+fn block_of_first_update() -> [u8; BLOCK_LEN] {
+    let mut block = [0; BLOCK_LEN];
     block[7] = 0x10;
     block[13] = 1;
     block[32] = 2;
@@ -30,7 +29,7 @@ fn writes_and_reads_a_block(rt: HostRuntime) -> Result<(), Fail> {
         key: Key { page: 0, slot: 0 },
         after: one_byte(0xaa),
     });
-    let mut block = [7; BLOCK];
+    let mut block = [7; BLOCK_LEN];
     page.write_block(&mut block);
     assert_eq!(rt; block.as_slice(), block_of_first_update().as_slice());
     let read = Page::read_block(0, &block)?;
@@ -44,13 +43,13 @@ fn writes_and_reads_a_block(rt: HostRuntime) -> Result<(), Fail> {
 
 #[test]
 fn an_untouched_page_is_zeros(rt: HostRuntime) -> Result<(), Fail> {
-    let read = Page::read_block(7, &[0; BLOCK])?;
+    let read = Page::read_block(7, &[0; BLOCK_LEN])?;
     assert_eq!(rt; read.id(), 7);
     assert_eq!(rt; read.lsn(), Lsn(0));
     assert!(rt; read.image(0).is_none());
-    let mut block = [7; BLOCK];
+    let mut block = [7; BLOCK_LEN];
     read.write_block(&mut block);
-    assert_eq!(rt; block.as_slice(), [0; BLOCK].as_slice());
+    assert_eq!(rt; block.as_slice(), [0; BLOCK_LEN].as_slice());
     Ok(())
 }
 
