@@ -1,6 +1,7 @@
 #!/usr/bin/env bash
 # Runs the program als with the given arguments and standard input, from any folder; first builds it where a source
-# is newer than the last build. A build proves what has changed, so the first one takes minutes.
+# is newer than the last build. A build proves what has changed, so the first one takes minutes. Help and the version
+# are told without a build.
 # Status and streams are the program's own; a build that fails ends with 1.
 set -euo pipefail
 
@@ -15,6 +16,63 @@ is_stale() {
     [[ -n $(find "$top/crates.txt" "$top"/crates/*/{src,specs,proofs} -newer "$stamp" -print -quit 2> /dev/null) ]]
 }
 
+# ---- help and version, with no build
+
+# The text that the program's constant of this name has: it stands in command.rt alone.
+text() {
+    awk -v start="const $1: &str =" '
+        index($0, start) == 1 { found = 1; $0 = substr($0, length(start) + 1) }
+        !found { next }
+        !begun { if (!sub(/^ *"/, "")) next; begun = 1 }
+        { last = sub(/";$/, ""); gsub(/\\\\/, "\\"); print }
+        last { exit }' "$crate/src/command.rt"
+}
+
+# The pages as clap lays them out.
+help_page() {
+    case "$1" in
+        als)
+            text ABOUT
+            printf '\nUsage: als <COMMAND>\n\nCommands:\n  make  %s\n  sim   %s\n' "$(text MAKE_ABOUT)" "$(text SIM_ABOUT)"
+            printf '  help  Print this message or the help of the given subcommand(s)\n\nOptions:\n  -h, --help  Print help\n\n'
+            text STATUSES
+            ;;
+        make)
+            text MAKE_ABOUT
+            printf '\nUsage: als make [OPTIONS]\n\nOptions:\n'
+            printf '      --hex   %s\n' "$(sed -n 's/^ *\.help("\(.*\)");$/\1/p' "$crate/src/command.rt")"
+            printf '  -h, --help  Print help\n\n'
+            text MAKE_HELP
+            ;;
+        sim)
+            text SIM_ABOUT
+            printf '\nUsage: als sim\n\nOptions:\n  -h, --help  Print help\n\n'
+            text SIM_HELP
+            ;;
+    esac
+}
+
+version() {
+    local commit state='proved and built'
+    commit=$(git -C "$top" log -1 --format='%h of %cs' 2> /dev/null) || commit=unknown
+    if is_stale; then
+        state='not built yet, or its sources have changed'
+    fi
+    echo "als, commit $commit ($state)"
+}
+
+# Answers 1 where the words ask for something else than help.
+tell() {
+    case "$*" in
+        --help | -h | help) help_page als ;;
+        'make --help' | 'make -h' | 'help make') help_page make ;;
+        'sim --help' | 'sim -h' | 'help sim') help_page sim ;;
+        *) return 1 ;;
+    esac
+}
+
+# ---- the build
+
 # The crates that a crate stands on, and the crate itself, one a line.
 closure() {
     local name=$1 dep
@@ -27,13 +85,38 @@ closure() {
     done
 }
 
-# Tells each crate as its proof begins: rt names it in its log.
+# The same in the order of crates.txt, in which they are proved.
+in_order() {
+    sed -n 's/^\([a-z_0-9]*\):.*/\1/p' "$top/crates.txt" | grep -xFf "$seen"
+}
+
+# Tells each crate as its proof begins (rt names it in its log), and each minute what is being proved.
 show_progress() {
-    local log=$1 total=$2 began=$SECONDS done=0 name
-    tail -n +1 -F "$log" --pid="$3" 2> /dev/null | sed -un 's/^rt: chose --jobs [0-9]* for \(.*\)$/\1/p' | while read -r name; do
-        done=$((done + 1))
-        echo "als: proving $name ($done of $total), minute $(((SECONDS - began) / 60))" >&2
+    local log=$1 runner=$2 began=$SECONDS told='' now total minute crate_now place
+    total=$(wc -l < "$ordered")
+    while kill -0 "$runner" 2> /dev/null; do
+        crate_now=$(sed -n 's/^rt: chose --jobs [0-9]* for \(.*\)$/\1/p' "$log" | tail -n 1)
+        minute=$(((SECONDS - began) / 60))
+        now="$minute $crate_now"
+        if [[ -n $crate_now && $now != "$told" ]]; then
+            place=$(grep -nxF "$crate_now" "$ordered" | cut -d: -f1 || true)
+            echo "als: minute $minute: proving $crate_now (crate ${place:-?} of $total)" >&2
+            told=$now
+        elif [[ $minute != "${told%% *}" && $minute != 0 ]]; then
+            echo "als: minute $minute: reading the sources" >&2
+            told=$now
+        fi
+        sleep 2
     done
+}
+
+announce() {
+    if [[ -x $program ]]; then
+        echo "als: sources have changed: their crates, and those above, are proved again before the program runs" >&2
+    else
+        echo "als: the program is proved and then built, once: about 20 minutes on 4 cores, more on fewer" >&2
+        echo "als: meanwhile ./demo shows the first demonstration in a minute, without proofs; ./als --help needs no build" >&2
+    fi
 }
 
 build() {
@@ -41,31 +124,45 @@ build() {
         echo "als: rt, the command of the Rattle toolchain, is not on the PATH; it builds this program" >&2
         exit 1
     fi
-    echo "als: the program is proved and then built; the first time this takes about 20 minutes on 4 cores" >&2
-    echo "als: ./demo shows the first demonstration in a minute, without proofs" >&2
+    announce
     mkdir -p "$crate/out"
     local log="$crate/out/als.log" began runner status=0
     began=$(mktemp "$crate/out/als.began.XXXXXX")
     seen=$(mktemp)
+    ordered=$(mktemp)
     closure als_cli
+    in_order > "$ordered"
     : > "$log"
     # rt builds by running the program once.
     (cd "$crate" && exec rt run -- --help) < /dev/null > "$log" 2>&1 &
     runner=$!
-    show_progress "$log" "$(wc -l < "$seen")" "$runner" &
+    show_progress "$log" "$runner" &
     wait "$runner" || status=$?
     wait || true
-    rm -f "$seen"
+    rm -f "$seen" "$ordered"
     if [[ $status != 0 ]]; then
         rm -f "$began"
         cat "$log" >&2
-        echo "als: the build failed" >&2
+        echo "als: the build failed; its output stands above, and in $log" >&2
         exit 1
     fi
     mv "$began" "$stamp"
 }
 
+case "$*" in
+    --version | -V)
+        version
+        exit 0
+        ;;
+esac
 if is_stale; then
+    if [[ $# == 0 ]]; then
+        help_page als >&2
+        exit 2
+    fi
+    if tell "$@"; then
+        exit 0
+    fi
     build
 fi
 exec "$program" "$@"
