@@ -85,22 +85,16 @@ closure() {
     done
 }
 
-# The same in the order of crates.txt, in which they are proved.
-in_order() {
-    sed -n 's/^\([a-z_0-9]*\):.*/\1/p' "$top/crates.txt" | grep -xFf "$seen"
-}
-
 # Tells each crate as its proof begins (rt names it in its log), and each minute what is being proved.
 show_progress() {
-    local log=$1 runner=$2 began=$SECONDS told='' now total minute crate_now place
-    total=$(wc -l < "$ordered")
+    local log=$1 total=$2 runner=$3 began=$SECONDS told='' now minute crate_now count
     while kill -0 "$runner" 2> /dev/null; do
-        crate_now=$(sed -n 's/^rt: chose --jobs [0-9]* for \(.*\)$/\1/p' "$log" | tail -n 1)
+        read -r count crate_now < <(sed -n 's/^rt: chose --jobs [0-9]* for \(.*\)$/\1/p' "$log" |
+            awk '!seen[$0]++ { n++ } { name = $0 } END { print n + 0, name }')
         minute=$(((SECONDS - began) / 60))
         now="$minute $crate_now"
         if [[ -n $crate_now && $now != "$told" ]]; then
-            place=$(grep -nxF "$crate_now" "$ordered" | cut -d: -f1 || true)
-            echo "als: minute $minute: proving $crate_now (crate ${place:-?} of $total)" >&2
+            echo "als: minute $minute: proving $crate_now (crate $count of $total at most)" >&2
             told=$now
         elif [[ $minute != "${told%% *}" && $minute != 0 ]]; then
             echo "als: minute $minute: reading the sources" >&2
@@ -129,17 +123,15 @@ build() {
     local log="$crate/out/als.log" began runner status=0
     began=$(mktemp "$crate/out/als.began.XXXXXX")
     seen=$(mktemp)
-    ordered=$(mktemp)
     closure als_cli
-    in_order > "$ordered"
     : > "$log"
     # rt builds by running the program once.
     (cd "$crate" && exec rt run -- --help) < /dev/null > "$log" 2>&1 &
     runner=$!
-    show_progress "$log" "$runner" &
+    show_progress "$log" "$(wc -l < "$seen")" "$runner" &
     wait "$runner" || status=$?
     wait || true
-    rm -f "$seen" "$ordered"
+    rm -f "$seen"
     if [[ $status != 0 ]]; then
         rm -f "$began"
         cat "$log" >&2
