@@ -123,10 +123,10 @@ module _ (xs ys : List Open) (reserve tight capacity : ℕ) (has_room : Bool) (k
     room = λ _. record { each = λ x e l. k.but_one x e l (λ q. absurd (omega arith)); place = place; spare = spare };
   }
 
-  pub kept-ready_at : (ys' : List Open) (capacity' : ℕ) (d o : Open) → All (λ o. 0 < o.room) ys' → length xs < capacity' → 0 < length ys' → tight < length xs → o.row ≡ (get_or xs tight d).row → o.left ≡ (get_or xs tight d).left → 0 < o.room → IsKept (set xs tight o) ys' reserve tight true capacity'
-  kept-ready_at ys' capacity' d o spared place spare lt row left room =
+  pub kept-ready_at : (ys' : List Open) (capacity' : ℕ) (d o : Open) → All (λ o. 0 < o.room) ys' → length xs < capacity' → 0 < length ys' → tight < length xs → o.row ≡ (get_or xs tight d).row → o.bytes ≡ (get_or xs tight d).bytes → 0 < o.room → IsKept (set xs tight o) ys' reserve tight true capacity'
+  kept-ready_at ys' capacity' d o spared place spare lt row bytes room =
       let n : length (set xs tight o) ≡ length xs = length-set xs tight o in
-      let same : owed o ≡ owed (get_or xs tight d) = cc (row, left) in
+      let same : owed o ≡ owed (get_or xs tight d) = cc (row, bytes) in
       record {
         rising = λ a b e l m. let h : (get_or xs a e).row.trans.0 < (get_or xs b e).row.trans.0 = k.rising a b e l (omega arith) in let p : (get_or (set xs tight o) a e).row.trans.0 ≡ (get_or xs a e).row.trans.0 = trans a e in let q : (get_or (set xs tight o) b e).row.trans.0 ≡ (get_or xs b e).row.trans.0 = trans b e in omega arith;
         few = omega (arith, k.few);
@@ -150,7 +150,7 @@ module _ (xs ys : List Open) (reserve tight capacity : ℕ) (has_room : Bool) (k
 
   pub kept-made : (xs' ys' : List Open) (capacity' : ℕ) → All (λ o. 0 < o.room) ys' → length xs < capacity' → 0 < length ys' → MakesRoom xs xs' tight → IsKept xs' ys' reserve tight true capacity'
   kept-made xs' ys' capacity' spared place spare m = elim (cases_lt tight (length xs)) [
-    | inl lt ↦ subst (λ zs. IsKept zs ys' reserve tight true capacity') (sym m.is) (kept-ready_at ys' capacity' m.entry m.entry spared place spare lt (m.row m.entry lt) (m.left m.entry lt) (m.room lt))
+    | inl lt ↦ subst (λ zs. IsKept zs ys' reserve tight true capacity') (sym m.is) (kept-ready_at ys' capacity' m.entry m.entry spared place spare lt (m.row m.entry lt) (m.bytes m.entry lt) (m.room lt))
     | inr ge ↦ subst (λ zs. IsKept zs ys' reserve tight true capacity') (sym (m.is ∙ set_past xs tight m.entry ge)) (kept-ready ys' capacity' spared place spare ge)
   ]
 
@@ -177,7 +177,7 @@ module _ {X Y : Type 0} (f : X → Y) where
 -- ---- places and rows
 
 abbrev entry_of : TransactionRow → Open
-entry_of row = record { row = row; left = []; room = 0 }
+entry_of row = record { row = row; left = []; bytes = 0; room = 0 }
 
 pub place-above : (xs : List Open) (t p : ℕ) → IsPlace xs t p → p ≡ length xs → All (λ row. row.trans.0 < t) (rows_of xs)
 place-above xs t p h e k d lt =

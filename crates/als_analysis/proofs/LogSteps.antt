@@ -1,6 +1,6 @@
 -- The table of a log, through one more record.
-use Rattle.std.proofs.Common.{◌≡◌, ℕ, ◌==◌, ◌+◌, ◌≤◌, ◌<◌, nat_le, Bool, true, false, not, ◌&&◌, ◌||◌, List, [], ◌∷◌, ◌++◌, length, get_or, set, map, reverse, inl, inr, refl, sym, ap, ◌∙◌, subst, arith, zero, suc, le_of_suc-le-suc, not-suc-le-zero}
-use Rattle.std.specs.List.{All, remove}
+use Rattle.std.proofs.Common.{◌≡◌, ℕ, ◌==◌, ◌+◌, ◌%◌, ◌^◌, ◌≤◌, ◌<◌, nat_le, Bool, true, false, not, ◌&&◌, ◌||◌, List, [], ◌∷◌, ◌++◌, length, get_or, set, map, reverse, inl, inr, refl, sym, ap, ◌∙◌, subst, arith, zero, suc, le_of_suc-le-suc, not-suc-le-zero}
+use Rattle.std.specs.List.{All, remove, sum_by}
 use Rattle.std.proofs.lemmas.Bool.{cases_Bool, cases_lt, eqb-true, eq-eqb, false≢true, and_parts, le-leb, or_parts, lt-ltb}
 use Rattle.std.proofs.lemmas.List.{get_or-map, length-map, map_push, length_push}
 use Rattle.als_record.specs.declared.record.Body.{Body}
@@ -17,9 +17,10 @@ use Rattle.als_record.proofs.Unended.{unended-checkpoint, unended-more, unended-
 use Rattle.als_record.proofs.TableSteps.{table_of-checkpoint, table_of-new, table_of-new_end}
 use Rattle.als_record.proofs.TableRows.{numbers, numbers-table_of, is_among-table_of, get_or-table_of, is_unended-row, table_of-set, table_of-remove}
 use Rattle.als_record.proofs.Validity.{Admitted, Admitted-may_follow}
-use Rattle.als_analysis.specs.Open.{left_after}
-use Rattle.als_analysis.specs.Noted.{Table, IsTableOf}
+use Rattle.als_analysis.specs.Open.{left_after, bytes_after, undo_len}
+use Rattle.als_analysis.specs.Noted.{Table, IsTableOf, undo_bytes}
 use Rattle.als_analysis.proofs.KeptSteps.{remove-map}
+use Rattle.als_analysis.proofs.UndoBytes.{undo_bytes-other, undo_bytes-own}
 
 -- ---- maps of numbers that are apart
 
@@ -164,111 +165,154 @@ undo_next_of-row log t = refl
 
 -- ---- one more record
 
+-- What is kept of each unended transaction, where only the records of a transaction change what is kept of it: `f` with one more record, `g` without it.
+module _ {X : Type 0} (f g : ℕ → X) (log : List Record) (r : Record) (agree : (x : ℕ) → is_of x r ≡ false → f x ≡ g x) (old new : List X) (kept : old ≡ map g (unended log)) where
+  others : (x : ℕ) → (x == r.trans.0) ≡ false → f x ≡ g x
+  others x e = agree x (off (is_transactional r.body) (eqb-sym r.trans.0 x ∙ e))
+    where
+      off : (w : Bool) → (r.trans.0 == x) ≡ false → (w && (r.trans.0 == x)) ≡ false
+      off true e = e
+      off false e = refl
+
+  each-checkpoint : is_transactional r.body ≡ false → new ≡ old → new ≡ map f (unended (log ++ r ∷ []))
+  each-checkpoint w p = p ∙ kept ∙ sym (ap (map f) (unended-checkpoint log r w) ∙ all (unended log))
+    where
+      all : (xs : List ℕ) → map f xs ≡ map g xs
+      all [] = refl
+      all (x ∷ rest) =
+          let p : f x ≡ g x = agree x (rw w refl) in
+          let q : map f rest ≡ map g rest = all rest in
+          cc
+
+  module _ (w : is_transactional r.body ≡ true) (i : ℕ) (inside : i < length (unended log)) (place : get_or (unended log) i 0 ≡ r.trans.0) (open_ : is_unended log r.trans.0 ≡ true) where
+    each-more : (step : X → X) (d : X) → is_end r.body ≡ false → f r.trans.0 ≡ step (g r.trans.0) → new ≡ set old i (step (get_or old i d)) → new ≡ map f (unended (log ++ r ∷ []))
+    each-more step d e own p =
+        p ∙ ap (λ xs. set xs i (step (get_or xs i d))) kept
+        ∙ ap (λ x. set (map g (unended log)) i (step x)) (get_or-map g (unended log) i 0 d inside ∙ ap g place)
+        ∙ ap (λ x. set (map g (unended log)) i x) (sym own)
+        ∙ sym (ap (map f) (unended-more log r w e open_) ∙ map-at f g r.trans.0 others (unended log) i (Apart-unended log) inside place)
+
+    each-end : is_end r.body ≡ true → new ≡ remove old i → new ≡ map f (unended (log ++ r ∷ []))
+    each-end e p =
+        p ∙ ap (λ xs. remove xs i) kept ∙ remove-map g (unended log) i inside
+        ∙ ap (map g) (sym (without-remove r.trans.0 (unended log) i (Apart-unended log) inside place))
+        ∙ sym (ap (map f) (unended-end log r w e (has_begun-unended log r.trans.0 open_)) ∙ map-absent f g r.trans.0 others (without r.trans.0 (unended log)) gone)
+      where
+        gone : is_among (without r.trans.0 (unended log)) r.trans.0 ≡ false
+        gone = is_among-filter (λ x. not (x == r.trans.0)) r.trans.0 (unended log) ∙ rw (eqb-refl r.trans.0) refl
+
+  module _ (w : is_transactional r.body ≡ true) (begins : has_begun log r.trans.0 ≡ false) (not_among : is_among (unended log) r.trans.0 ≡ false) where
+    each-new_end : is_end r.body ≡ true → new ≡ old → new ≡ map f (unended (log ++ r ∷ []))
+    each-new_end e p = p ∙ kept ∙ sym (ap (map f) (unended-new_end log r w e begins) ∙ map-absent f g r.trans.0 others (unended log) not_among)
+
+    each-new : (x : X) → is_end r.body ≡ false → f r.trans.0 ≡ x → new ≡ old ++ x ∷ [] → new ≡ map f (unended (log ++ r ∷ []))
+    each-new x e own p =
+        p ∙ ap (λ xs. xs ++ x ∷ []) kept ∙ ap (λ x. map g (unended log) ++ x ∷ []) (sym own)
+        ∙ ap (λ xs. xs ++ f r.trans.0 ∷ []) (sym (map-absent f g r.trans.0 others (unended log) not_among))
+        ∙ sym (ap (map f) (unended-new log r w e begins) ∙ map_push f (unended log) r.trans.0)
+
+-- the bytes that are counted of a transaction
+abbrev counted : List Record → ℕ → ℕ
+counted log t = undo_bytes log t % 2 ^ 64
+
 module _ (log : List Record) (r : Record) where
+  left_agree : (x : ℕ) → is_of x r ≡ false → surviving (log ++ r ∷ []) x ≡ surviving log x
+  left_agree x e = surviving-other log r x e
+
+  bytes_agree : (x : ℕ) → is_of x r ≡ false → counted (log ++ r ∷ []) x ≡ counted log x
+  bytes_agree x e = ap (λ n. n % 2 ^ 64) (undo_bytes-other log r x e)
+
   own : is_transactional r.body ≡ true → is_of r.trans.0 r ≡ true
   own w = rw (w, eqb-refl r.trans.0) refl
 
-  off : (x : ℕ) → (x == r.trans.0) ≡ false → is_of x r ≡ false
-  off x e = go (is_transactional r.body) (eqb-sym r.trans.0 x ∙ e)
-    where
-      go : (w : Bool) → (r.trans.0 == x) ≡ false → (w && (r.trans.0 == x)) ≡ false
-      go true e = e
-      go false e = refl
-
-  agree : (x : ℕ) → (x == r.trans.0) ≡ false → surviving (log ++ r ∷ []) x ≡ surviving log x
-  agree x e = surviving-other log r x (off x e)
-
-  map-all : is_transactional r.body ≡ false → (xs : List ℕ) → map (surviving (log ++ r ∷ [])) xs ≡ map (surviving log) xs
-  map-all w [] = refl
-  map-all w (x ∷ rest) =
-      let p : surviving (log ++ r ∷ []) x ≡ surviving log x = surviving-other log r x (rw w refl) in
-      let q : map (surviving (log ++ r ∷ [])) rest ≡ map (surviving log) rest = map-all w rest in
-      cc
-
   module _ (old new : Table) (h : IsTableOf old log) where
-    pub step-checkpoint : is_transactional r.body ≡ false → new.rows ≡ old.rows → new.left ≡ old.left → IsTableOf new (log ++ r ∷ [])
-    step-checkpoint w p q = record {
+    pub step-checkpoint : is_transactional r.body ≡ false → new.rows ≡ old.rows → new.left ≡ old.left → new.bytes ≡ old.bytes → IsTableOf new (log ++ r ∷ [])
+    step-checkpoint w p q s = record {
       rows = p ∙ h.rows ∙ sym (table_of-checkpoint log r w);
-      left = q ∙ h.left ∙ sym (ap (map (surviving (log ++ r ∷ []))) (unended-checkpoint log r w) ∙ map-all w (unended log));
+      left = each-checkpoint (surviving (log ++ r ∷ [])) (surviving log) log r left_agree old.left new.left h.left w q;
+      bytes = each-checkpoint (counted (log ++ r ∷ [])) (counted log) log r bytes_agree old.bytes new.bytes h.bytes w s;
     }
 
-    module _ (w : is_transactional r.body ≡ true) (i : ℕ) (d : TransactionRow) (within : i < length old.rows) (at : (get_or old.rows i d).trans.0 ≡ r.trans.0) where
-      lt : i < length (table_of log)
-      lt = subst (λ (rows : List TransactionRow). i < length rows) h.rows within
+    module _ (w : is_transactional r.body ≡ true) (m : may_follow log r ≡ true) where
+      own_left : surviving (log ++ r ∷ []) r.trans.0 ≡ left_after (surviving log r.trans.0) r r.body
+      own_left = surviving-own log r r.trans.0 (own w)
 
-      here : (get_or (table_of log) i d).trans.0 ≡ r.trans.0
-      here = subst (λ (rows : List TransactionRow). (get_or rows i d).trans.0 ≡ r.trans.0) h.rows at
+      own_bytes : counted (log ++ r ∷ []) r.trans.0 ≡ bytes_after (counted log r.trans.0) r.body
+      own_bytes = let a : Admitted log r = Admitted-may_follow log r m in undo_bytes-own log r (own w) a.compensation
 
-      place : get_or (unended log) i 0 ≡ r.trans.0
-      place = get_or-unended log i d lt ∙ here
+      module _ (i : ℕ) (d : TransactionRow) (within : i < length old.rows) (at : (get_or old.rows i d).trans.0 ≡ r.trans.0) where
+        lt : i < length (table_of log)
+        lt = subst (λ (rows : List TransactionRow). i < length rows) h.rows within
 
-      inside : i < length (unended log)
-      inside = subst (λ n. i < n) (length-table_of log) lt
+        here : (get_or (table_of log) i d).trans.0 ≡ r.trans.0
+        here = subst (λ (rows : List TransactionRow). (get_or rows i d).trans.0 ≡ r.trans.0) h.rows at
 
-      open_ : is_unended log r.trans.0 ≡ true
-      open_ = is_unended-row log r i d lt here
+        place : get_or (unended log) i 0 ≡ r.trans.0
+        place = get_or-unended log i d lt ∙ here
 
-      pub step-more : is_end r.body ≡ false → new.rows ≡ set old.rows i (row_after (get_or old.rows i d) r) → new.left ≡ set old.left i (left_after (get_or old.left i []) r r.body) → IsTableOf new (log ++ r ∷ [])
-      step-more e p q = record {
-        rows = p ∙ ap (λ rows. set rows i (row_after (get_or rows i d) r)) h.rows ∙ sym (table_of-set log r i d lt here w e);
-        left = q ∙ ap (λ left. set left i (left_after (get_or left i []) r r.body)) h.left
-            ∙ ap (λ us. set (map (surviving log) (unended log)) i (left_after us r r.body)) (get_or-map (surviving log) (unended log) i 0 [] inside ∙ ap (surviving log) place)
-            ∙ ap (λ us. set (map (surviving log) (unended log)) i us) (sym (surviving-own log r r.trans.0 (own w)))
-            ∙ sym (ap (map (surviving (log ++ r ∷ []))) (unended-more log r w e open_) ∙ map-at (surviving (log ++ r ∷ [])) (surviving log) r.trans.0 agree (unended log) i (Apart-unended log) inside place);
-      }
+        inside : i < length (unended log)
+        inside = subst (λ n. i < n) (length-table_of log) lt
 
-      pub step-end : is_end r.body ≡ true → new.rows ≡ remove old.rows i → new.left ≡ remove old.left i → IsTableOf new (log ++ r ∷ [])
-      step-end e p q = record {
-        rows = p ∙ ap (λ rows. remove rows i) h.rows ∙ sym (table_of-remove log r i d lt here w e);
-        left = q ∙ ap (λ left. remove left i) h.left ∙ remove-map (surviving log) (unended log) i inside
-            ∙ ap (map (surviving log)) (sym (without-remove r.trans.0 (unended log) i (Apart-unended log) inside place))
-            ∙ sym (ap (map (surviving (log ++ r ∷ []))) (unended-end log r w e (has_begun-unended log r.trans.0 open_)) ∙ map-absent (surviving (log ++ r ∷ [])) (surviving log) r.trans.0 agree (without r.trans.0 (unended log)) gone);
-      }
-        where
-          gone : is_among (without r.trans.0 (unended log)) r.trans.0 ≡ false
-          gone = is_among-filter (λ x. not (x == r.trans.0)) r.trans.0 (unended log) ∙ rw (eqb-refl r.trans.0) refl
+        open_ : is_unended log r.trans.0 ≡ true
+        open_ = is_unended-row log r i d lt here
 
-    module _ (w : is_transactional r.body ≡ true) (m : may_follow log r ≡ true) (absent : is_among (numbers old.rows) r.trans.0 ≡ false) where
-      closed : is_unended log r.trans.0 ≡ false
-      closed = sym (is_among-table_of log r.trans.0) ∙ subst (λ (rows : List TransactionRow). is_among (numbers rows) r.trans.0 ≡ false) h.rows absent
+        pub step-more : is_end r.body ≡ false → new.rows ≡ set old.rows i (row_after (get_or old.rows i d) r) → new.left ≡ set old.left i (left_after (get_or old.left i []) r r.body) → new.bytes ≡ set old.bytes i (bytes_after (get_or old.bytes i 0) r.body) → IsTableOf new (log ++ r ∷ [])
+        step-more e p q s = record {
+          rows = p ∙ ap (λ rows. set rows i (row_after (get_or rows i d) r)) h.rows ∙ sym (table_of-set log r i d lt here w e);
+          left = each-more (surviving (log ++ r ∷ [])) (surviving log) log r left_agree old.left new.left h.left w i inside place open_ (λ us. left_after us r r.body) [] e own_left q;
+          bytes = each-more (counted (log ++ r ∷ [])) (counted log) log r bytes_agree old.bytes new.bytes h.bytes w i inside place open_ (λ n. bytes_after n r.body) 0 e own_bytes s;
+        }
 
-      begins : has_begun log r.trans.0 ≡ false
-      begins = not_begun log r.trans.0 (fresh-follows log r m w closed)
+        pub step-end : is_end r.body ≡ true → new.rows ≡ remove old.rows i → new.left ≡ remove old.left i → new.bytes ≡ remove old.bytes i → IsTableOf new (log ++ r ∷ [])
+        step-end e p q s = record {
+          rows = p ∙ ap (λ rows. remove rows i) h.rows ∙ sym (table_of-remove log r i d lt here w e);
+          left = each-end (surviving (log ++ r ∷ [])) (surviving log) log r left_agree old.left new.left h.left w i inside place open_ e q;
+          bytes = each-end (counted (log ++ r ∷ [])) (counted log) log r bytes_agree old.bytes new.bytes h.bytes w i inside place open_ e s;
+        }
 
-      not_among : is_among (unended log) r.trans.0 ≡ false
-      not_among = is_among-unended log r.trans.0 ∙ closed
+      module _ (absent : is_among (numbers old.rows) r.trans.0 ≡ false) where
+        closed : is_unended log r.trans.0 ≡ false
+        closed = sym (is_among-table_of log r.trans.0) ∙ subst (λ (rows : List TransactionRow). is_among (numbers rows) r.trans.0 ≡ false) h.rows absent
 
-      pub step-new_end : is_end r.body ≡ true → new.rows ≡ old.rows → new.left ≡ old.left → IsTableOf new (log ++ r ∷ [])
-      step-new_end e p q = record {
-        rows = p ∙ h.rows ∙ sym (table_of-new_end log r w e begins);
-        left = q ∙ h.left ∙ sym (ap (map (surviving (log ++ r ∷ []))) (unended-new_end log r w e begins) ∙ map-absent (surviving (log ++ r ∷ [])) (surviving log) r.trans.0 agree (unended log) not_among);
-      }
+        begins : has_begun log r.trans.0 ≡ false
+        begins = not_begun log r.trans.0 (fresh-follows log r m w closed)
 
-      pub step-new : is_end r.body ≡ false → new.rows ≡ old.rows ++ row_after (fresh_row r.trans.0) r ∷ [] → new.left ≡ old.left ++ left_after [] r r.body ∷ [] → IsTableOf new (log ++ r ∷ [])
-      step-new e p q = record {
-        rows = p ∙ ap (λ rows. rows ++ row_after (fresh_row r.trans.0) r ∷ []) h.rows ∙ sym (table_of-new log r w e begins);
-        left = q ∙ ap (λ left. left ++ left_after [] r r.body ∷ []) h.left
-            ∙ ap (λ us. map (surviving log) (unended log) ++ us ∷ []) (ap (λ us. left_after us r r.body) (sym (surviving-none log r.trans.0 begins)) ∙ sym (surviving-own log r r.trans.0 (own w)))
-            ∙ ap (λ xs. xs ++ surviving (log ++ r ∷ []) r.trans.0 ∷ []) (sym (map-absent (surviving (log ++ r ∷ [])) (surviving log) r.trans.0 agree (unended log) not_among))
-            ∙ sym (ap (map (surviving (log ++ r ∷ []))) (unended-new log r w e begins) ∙ map_push (surviving (log ++ r ∷ [])) (unended log) r.trans.0);
-      }
+        not_among : is_among (unended log) r.trans.0 ≡ false
+        not_among = is_among-unended log r.trans.0 ∙ closed
 
-      -- there is place for it, above all rows
-      pub new-few : is_end r.body ≡ false → length old.rows < 256
-      unfolding too_many
-      new-few e =
-          let a : Admitted log r = Admitted-may_follow log r m in
-          let n : length (unended (log ++ r ∷ [])) ≡ length (unended log) + 1 = ap length (unended-new log r w e begins) ∙ length_push (unended log) r.trans.0 in
-          let k : length old.rows ≡ length (unended log) = ap length h.rows ∙ length-table_of log in
-          elim (cases_lt (length old.rows) 256) [
-            | inl l ↦ l
-            | inr g ↦ absurd (false≢true (sym a.many ∙ lt-ltb 256 (length (unended (log ++ r ∷ []))) (omega arith)))
-          ]
+        none : surviving log r.trans.0 ≡ []
+        none = surviving-none log r.trans.0 begins
 
-      pub new-above : All (λ row. row.trans.0 < r.trans.0) old.rows
-      new-above i d within =
-          let lt : i < length (table_of log) = subst (λ (rows : List TransactionRow). i < length rows) h.rows within in
-          let u : is_unended log (get_or (table_of log) i d).trans.0 ≡ true = unended-at log i (get_or (table_of log) i d).trans.0 d lt refl in
-          let b : (get_or (table_of log) i d).trans.0 ≤ greatest_trans log = begun-le-greatest log (get_or (table_of log) i d).trans.0 (has_begun-unended log (get_or (table_of log) i d).trans.0 u) in
-          let g : greatest_trans log < r.trans.0 = fresh-follows log r m w closed in
-          subst (λ (rows : List TransactionRow). (get_or rows i d).trans.0 < r.trans.0) (sym h.rows) (omega arith)
+        pub step-new_end : is_end r.body ≡ true → new.rows ≡ old.rows → new.left ≡ old.left → new.bytes ≡ old.bytes → IsTableOf new (log ++ r ∷ [])
+        step-new_end e p q s = record {
+          rows = p ∙ h.rows ∙ sym (table_of-new_end log r w e begins);
+          left = each-new_end (surviving (log ++ r ∷ [])) (surviving log) log r left_agree old.left new.left h.left w begins not_among e q;
+          bytes = each-new_end (counted (log ++ r ∷ [])) (counted log) log r bytes_agree old.bytes new.bytes h.bytes w begins not_among e s;
+        }
+
+        pub step-new : is_end r.body ≡ false → new.rows ≡ old.rows ++ row_after (fresh_row r.trans.0) r ∷ [] → new.left ≡ old.left ++ left_after [] r r.body ∷ [] → new.bytes ≡ old.bytes ++ bytes_after 0 r.body ∷ [] → IsTableOf new (log ++ r ∷ [])
+        step-new e p q s = record {
+          rows = p ∙ ap (λ rows. rows ++ row_after (fresh_row r.trans.0) r ∷ []) h.rows ∙ sym (table_of-new log r w e begins);
+          left = each-new (surviving (log ++ r ∷ [])) (surviving log) log r left_agree old.left new.left h.left w begins not_among (left_after [] r r.body) e (own_left ∙ ap (λ us. left_after us r r.body) none) q;
+          bytes = each-new (counted (log ++ r ∷ [])) (counted log) log r bytes_agree old.bytes new.bytes h.bytes w begins not_among (bytes_after 0 r.body) e (own_bytes ∙ ap (λ us. bytes_after (sum_by undo_len us % 2 ^ 64) r.body) none) s;
+        }
+
+        -- there is place for it, above all rows
+        pub new-few : is_end r.body ≡ false → length old.rows < 256
+        unfolding too_many
+        new-few e =
+            let a : Admitted log r = Admitted-may_follow log r m in
+            let n : length (unended (log ++ r ∷ [])) ≡ length (unended log) + 1 = ap length (unended-new log r w e begins) ∙ length_push (unended log) r.trans.0 in
+            let k : length old.rows ≡ length (unended log) = ap length h.rows ∙ length-table_of log in
+            elim (cases_lt (length old.rows) 256) [
+              | inl l ↦ l
+              | inr g ↦ absurd (false≢true (sym a.many ∙ lt-ltb 256 (length (unended (log ++ r ∷ []))) (omega arith)))
+            ]
+
+        pub new-above : All (λ row. row.trans.0 < r.trans.0) old.rows
+        new-above i d within =
+            let lt : i < length (table_of log) = subst (λ (rows : List TransactionRow). i < length rows) h.rows within in
+            let u : is_unended log (get_or (table_of log) i d).trans.0 ≡ true = unended-at log i (get_or (table_of log) i d).trans.0 d lt refl in
+            let b : (get_or (table_of log) i d).trans.0 ≤ greatest_trans log = begun-le-greatest log (get_or (table_of log) i d).trans.0 (has_begun-unended log (get_or (table_of log) i d).trans.0 u) in
+            let g : greatest_trans log < r.trans.0 = fresh-follows log r m w closed in
+            subst (λ (rows : List TransactionRow). (get_or rows i d).trans.0 < r.trans.0) (sym h.rows) (omega arith)

@@ -1,6 +1,7 @@
 -- The length of a tail is the sum of what each unended transaction owes.
-use Rattle.std.proofs.Common.{◌≡◌, ℕ, ◌==◌, ◌+◌, Bool, true, false, cond, not, List, [], ◌∷◌, ◌++◌, map, filter, reverse, inl, inr, refl, sym, ap, ◌∙◌, arith}
+use Rattle.std.proofs.Common.{◌≡◌, ℕ, ◌==◌, ◌+◌, ◌%◌, ◌^◌, Bool, true, false, cond, not, List, [], ◌∷◌, ◌++◌, map, filter, reverse, inl, inr, refl, sym, ap, ◌∙◌, arith}
 use Rattle.std.specs.List.{sum_by, list_any, AllByRecursion}
+use Rattle.std.proofs.Math.Nat.{add-mod-mod}
 use Rattle.std.proofs.lemmas.Bool.{cases_Bool, eqb-true, false≢true, and_parts, or_parts}
 use Rattle.std.proofs.lemmas.List.Sums.{sum_by-cons, sum_by-append}
 use Rattle.std.proofs.lemmas.List.Sorted.{sum_by-IsPermutation, IsPermutation-reverse}
@@ -9,7 +10,7 @@ use Rattle.als_record.specs.declared.record.Body.{Body}
 use Rattle.als_record.specs.declared.record.Body.TheVariants.{Update, Compensation, Commit, Rollback, End, BeginCheckpoint, EndCheckpoint}
 use Rattle.als_record.specs.declared.record.Record.{Record}
 use Rattle.als_record.specs.declared.transaction_state.TransactionState.{TransactionState}
-use Rattle.als_record.specs.declared.transaction_state.TransactionState.TheVariants.{Active, RollingBack}
+use Rattle.als_record.specs.declared.transaction_state.TransactionState.TheVariants.{Active, Committed, RollingBack}
 use Rattle.als_record.specs.declared.transaction_row.TransactionRow.{TransactionRow}
 use Rattle.als_record.specs.Spelling.{image_len, body_len, record_len}
 use Rattle.als_record.specs.Images.{image_before}
@@ -20,7 +21,9 @@ use Rattle.als_record.proofs.Numbers.{Apart, eqb-refl, eqb-sym}
 use Rattle.als_record.proofs.Survivors.{is_by, all_surviving-by, All-is_update}
 use Rattle.als_record.proofs.Unended.{Apart-unended, is_among-unended}
 use Rattle.als_record.proofs.TailSteps.{filter-none, is_some_left-filter, filter-by}
-use Rattle.als_analysis.specs.Open.{Open, undo_len, undo_owed, owed, rows_of, left_of}
+use Rattle.als_analysis.specs.Open.{Open, undo_len, undo_owed, owed, rows_of, bytes_of}
+use Rattle.als_analysis.specs.Noted.{undo_bytes}
+use Rattle.als_analysis.proofs.Counting.{wrapped-add}
 
 -- ---- sums over numbers
 
@@ -159,12 +162,12 @@ undoes-len ts a (u ∷ rest) h =
 
 -- ---- one transaction
 
-undo_owed-open : (s : TransactionState) (h : Bool) (left : List Record) → s ≡ cond h RollingBack Active → undo_owed s left ≡ sum_by undo_len left
-undo_owed-open s true left e = ap (λ s. undo_owed s left) e
-undo_owed-open s false left e = ap (λ s. undo_owed s left) e
+undo_owed-open : (s : TransactionState) (h : Bool) (bytes : ℕ) → s ≡ cond h RollingBack Active → undo_owed s bytes ≡ bytes
+undo_owed-open s true bytes e = ap (λ s. undo_owed s bytes) e
+undo_owed-open s false bytes e = ap (λ s. undo_owed s bytes) e
 
 module _ (log : List Record) (t : ℕ) (u : is_unended log t ≡ true) where
-  owed-one : cond (is_finished log t) 28 0 + weight (filter (is_by t) (losing log)) ≡ 28 + undo_owed (state_of log t) (surviving log t)
+  owed-one : cond (is_finished log t) 28 0 + weight (filter (is_by t) (losing log)) ≡ 28 + undo_owed (state_of log t) (undo_bytes log t)
   unfolding is_finished losing state_of is_open surviving
   owed-one = elim (cases_Bool (is_committed log t)) [
     | inl c ↦
@@ -173,7 +176,7 @@ module _ (log : List Record) (t : ℕ) (u : is_unended log t ≡ true) where
     | inr c ↦
         let some : filter (is_by t) (filter (λ v. is_loser log v.trans.0) (all_surviving log)) ≡ to_undo log t = filter-by (is_loser log) t (rw (u, c) refl) (all_surviving log) ∙ all_surviving-by t log in
         let back : sum_by undo_len (reverse (to_undo log t)) ≡ sum_by undo_len (to_undo log t) = sum_by-IsPermutation undo_len (to_undo log t) (reverse (to_undo log t)) (IsPermutation-reverse (to_undo log t)) in
-        rw (some, c) (alone (to_undo log t) ∙ ap (λ n. 28 + n) (sym back ∙ sym (undo_owed-open (cond (has_rollback log t) RollingBack Active) (has_rollback log t) (reverse (to_undo log t)) refl)))
+        rw (some, c) (alone (to_undo log t) ∙ ap (λ n. 28 + n) (sym back ∙ sym (undo_owed-open (cond (has_rollback log t) RollingBack Active) (has_rollback log t) (sum_by undo_len (reverse (to_undo log t))) refl)))
   ]
     where
       alone : (left : List Record) → cond (not (is_some_left left)) 28 0 + weight left ≡ 28 + sum_by undo_len left
@@ -193,7 +196,7 @@ losing-undoes log = kept (all_surviving log) (All-is_update log)
       | inr y ↦ rw y (kept rest a.1)
     ]
 
-pub tail_len-sum : (log : List Record) → tail_len log ≡ sum_by (λ t. 28 + undo_owed (state_of log t) (surviving log t)) (unended log)
+pub tail_len-sum : (log : List Record) → tail_len log ≡ sum_by (λ t. 28 + undo_owed (state_of log t) (undo_bytes log t)) (unended log)
 unfolding tail_len tail_of tail_steps unended
 tail_len-sum log =
     numbered-len log (tail_steps log)
@@ -202,24 +205,34 @@ tail_len-sum log =
     let q : sum_by step_len (undoes (losing log)) ≡ sum_by (λ t. weight (filter (is_by t) (losing log))) (unended log) = undoes-len (unended log) (Apart-unended log) (losing log) (losing-undoes log) in
     let s : sum_by step_len (ends (filter (is_finished log) (unended log))) + sum_by step_len (undoes (losing log)) ≡ sum_by (λ t. cond (is_finished log t) 28 0) (unended log) + sum_by (λ t. weight (filter (is_by t) (losing log))) (unended log) = cc in s)
     ∙ sum-add (λ t. cond (is_finished log t) 28 0) (λ t. weight (filter (is_by t) (losing log))) (unended log)
-    ∙ sum-agree (λ t. cond (is_finished log t) 28 0 + weight (filter (is_by t) (losing log))) (λ t. 28 + undo_owed (state_of log t) (surviving log t)) (is_unended log) (λ t u. owed-one log t u) (transactions log)
+    ∙ sum-agree (λ t. cond (is_finished log t) 28 0 + weight (filter (is_by t) (losing log))) (λ t. 28 + undo_owed (state_of log t) (undo_bytes log t)) (is_unended log) (λ t u. owed-one log t u) (transactions log)
 
-owed-sum : (F : ℕ → TransactionRow) (G : ℕ → List Record) (entries : List Open) (ts : List ℕ) → rows_of entries ≡ map F ts → left_of entries ≡ map G ts → sum_by owed entries ≡ sum_by (λ t. 28 + undo_owed (F t).state (G t)) ts
+owed-mod : (s : TransactionState) (bytes : ℕ) → (28 + undo_owed s (bytes % 2 ^ 64)) % 2 ^ 64 ≡ (28 + undo_owed s bytes) % 2 ^ 64
+owed-mod Active bytes = add-mod-mod 28 bytes (2 ^ 64)
+owed-mod Committed bytes = refl
+owed-mod RollingBack bytes = add-mod-mod 28 bytes (2 ^ 64)
+
+owed-sum : (F : ℕ → TransactionRow) (G : ℕ → ℕ) (entries : List Open) (ts : List ℕ) → rows_of entries ≡ map F ts → bytes_of entries ≡ map (λ t. G t % 2 ^ 64) ts → sum_by owed entries % 2 ^ 64 ≡ sum_by (λ t. 28 + undo_owed (F t).state (G t)) ts % 2 ^ 64
 owed-sum F G [] [] p q = refl
 owed-sum F G [] (t ∷ ts) p q = absurd (cc p)
 owed-sum F G (o ∷ entries) [] p q = absurd (cc p)
 owed-sum F G (o ∷ entries) (t ∷ ts) p q =
     let row : o.row ≡ F t = cc p in
-    let left : o.left ≡ G t = cc q in
+    let bytes : o.bytes ≡ G t % 2 ^ 64 = cc q in
     let rows : rows_of entries ≡ map F ts = cc p in
-    let lefts : left_of entries ≡ map G ts = cc q in
+    let counts : bytes_of entries ≡ map (λ t. G t % 2 ^ 64) ts = cc q in
     let a : sum_by owed (o ∷ entries) ≡ owed o + sum_by owed entries = sum_by-cons owed o entries in
     let b : sum_by (λ t. 28 + undo_owed (F t).state (G t)) (t ∷ ts) ≡ 28 + undo_owed (F t).state (G t) + sum_by (λ t. 28 + undo_owed (F t).state (G t)) ts = sum_by-cons (λ (t : ℕ). 28 + undo_owed (F t).state (G t)) t ts in
-    let c : owed o ≡ 28 + undo_owed (F t).state (G t) = ap (λ (r : TransactionRow). 28 + undo_owed r.state o.left) row ∙ ap (λ left. 28 + undo_owed (F t).state left) left in
-    let r : sum_by owed entries ≡ sum_by (λ t. 28 + undo_owed (F t).state (G t)) ts = owed-sum F G entries ts rows lefts in
-    omega arith
+    let c : owed o % 2 ^ 64 ≡ (28 + undo_owed (F t).state (G t)) % 2 ^ 64 = ap (λ (r : TransactionRow). (28 + undo_owed r.state o.bytes) % 2 ^ 64) row ∙ ap (λ n. (28 + undo_owed (F t).state n) % 2 ^ 64) bytes ∙ owed-mod (F t).state (G t) in
+    let r : sum_by owed entries % 2 ^ 64 ≡ sum_by (λ t. 28 + undo_owed (F t).state (G t)) ts % 2 ^ 64 = owed-sum F G entries ts rows counts in
+    ap (λ n. n % 2 ^ 64) a
+    ∙ sym (wrapped-add (owed o) (sum_by owed entries))
+    ∙ ap (λ n. (n + sum_by owed entries % 2 ^ 64) % 2 ^ 64) c
+    ∙ ap (λ n. ((28 + undo_owed (F t).state (G t)) % 2 ^ 64 + n) % 2 ^ 64) r
+    ∙ wrapped-add (28 + undo_owed (F t).state (G t)) (sum_by (λ t. 28 + undo_owed (F t).state (G t)) ts)
+    ∙ ap (λ n. n % 2 ^ 64) (sym b)
 
 -- what the entries of the table of a log owe is what a takeover appends
-pub owed-tail : (log : List Record) (entries : List Open) → rows_of entries ≡ table_of log → left_of entries ≡ map (surviving log) (unended log) → sum_by owed entries ≡ tail_len log
+pub owed-tail : (log : List Record) (entries : List Open) → rows_of entries ≡ table_of log → bytes_of entries ≡ map (λ t. undo_bytes log t % 2 ^ 64) (unended log) → sum_by owed entries % 2 ^ 64 ≡ tail_len log % 2 ^ 64
 unfolding table_of row_of
-owed-tail log entries p q = owed-sum (row_of log) (surviving log) entries (unended log) p q ∙ sym (tail_len-sum log)
+owed-tail log entries p q = owed-sum (row_of log) (undo_bytes log) entries (unended log) p q ∙ ap (λ n. n % 2 ^ 64) (sym (tail_len-sum log))

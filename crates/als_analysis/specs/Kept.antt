@@ -24,7 +24,7 @@ pub record HasRoom (entries spares : List Open) (capacity : ℕ) : Type 0 where
   pub place : length entries < capacity
   pub spare : 0 < length spares
 
--- What the table keeps of itself. The sum is kept modulo 2^64, which is exact for a log that a device holds. `tight` is the one transaction that may be without room.
+-- What the table keeps of itself. The sum is that of what is counted of each transaction, modulo 2^64. `tight` is the one transaction that may be without room.
 pub record IsKept (entries spares : List Open) (reserve tight : ℕ) (has_room : Bool) (capacity : ℕ) : Type 0 where
   pub rising : IsRising entries
   pub few : length entries ≤ 256
@@ -39,4 +39,5 @@ pub record MakesRoom (old new : List Open) (at : ℕ) : Type 0 where
   pub is : new ≡ slice_set old at entry
   pub row : (d : Open) → at < length old → entry.row ≡ (slice_index_or old at d).row
   pub left : (d : Open) → at < length old → entry.left ≡ (slice_index_or old at d).left
+  pub bytes : (d : Open) → at < length old → entry.bytes ≡ (slice_index_or old at d).bytes
   pub room : at < length old → 0 < entry.room

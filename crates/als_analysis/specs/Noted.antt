@@ -1,22 +1,30 @@
 -- The transaction table, and the log of which it is the table.
-use Rattle.std.specs.Prelude.{◌≡◌, ℕ, Bool, true, List, map}
+use Rattle.std.specs.Prelude.{◌≡◌, ℕ, ◌%◌, ◌^◌, Bool, true, List, map}
+use Rattle.std.specs.List.{sum_by}
 use Rattle.als_record.specs.declared.record.Record.{Record}
 use Rattle.als_record.specs.declared.transaction_row.TransactionRow.{TransactionRow}
 use Rattle.als_record.specs.Transactions.{is_unended, surviving, unended}
 use Rattle.als_record.specs.Table.{row_of, table_of}
-use Rattle.als_analysis.specs.Open.{Open}
+use Rattle.als_analysis.specs.Open.{Open, undo_len}
 
--- a row for each transaction that has not ended, beside each its surviving updates, and whether there is room for one
--- more record whatever it is
+-- a row for each transaction that has not ended, beside each its surviving updates and the bytes that are counted of it, and
+-- whether there is room for one more record whatever it is
 pub record Table : Type 0 where
   pub rows : List TransactionRow
   pub left : List (List Record)
+  pub bytes : List ℕ
   pub has_room : Bool
 
--- The table is that of the log: a row for each unended transaction, and its surviving updates beside it.
+-- the bytes of the compensations that undo what survives of a transaction
+abbrev pub undo_bytes : List Record → ℕ → ℕ
+undo_bytes log t = sum_by undo_len (surviving log t)
+
+-- The table is that of the log: a row for each unended transaction, and beside it its surviving updates and the bytes of their
+-- compensations. They are counted modulo 2^64, which is exact for a log that a device holds.
 pub record IsTableOf (table : Table) (log : List Record) : Type 0 where
   pub rows : table.rows ≡ table_of log
   pub left : table.left ≡ map (surviving log) (unended log)
+  pub bytes : table.bytes ≡ map (λ t. undo_bytes log t % 2 ^ 64) (unended log)
 
 -- what is kept of an unended transaction of the log
 pub record IsOpenOf (kept : Open) (log : List Record) (t : ℕ) : Type 0 where

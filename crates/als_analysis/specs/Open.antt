@@ -1,6 +1,5 @@
 -- What is kept of a transaction that has not ended.
-use Rattle.std.specs.Prelude.{◌≡◌, ℕ, ◌+◌, ◌-◌, ◌%◌, ◌^◌, List, [], ◌∷◌, ◌++◌, length, take, map}
-use Rattle.std.specs.List.{sum_by}
+use Rattle.std.specs.Prelude.{ℕ, ◌+◌, ◌-◌, ◌%◌, ◌^◌, List, [], ◌∷◌, ◌++◌, length, take, map}
 use Rattle.als_record.specs.declared.record.Body.{Body}
 use Rattle.als_record.specs.declared.record.Body.TheVariants.{Update, Compensation}
 use Rattle.als_record.specs.declared.record.Record.{Record}
@@ -11,10 +10,12 @@ use Rattle.als_record.specs.Spelling.{image_len}
 use Rattle.als_record.specs.Images.{image_before}
 use Rattle.als_record.specs.Table.{state_after}
 
--- its row, its surviving updates in order, and how many more of them can be kept without memory
+-- its row, its surviving updates in order, the bytes of their compensations as they were counted from record to record, and how many more updates can be kept
+-- without memory
 pub record Open : Type 0 where
   pub row : TransactionRow
   pub left : List Record
+  pub bytes : ℕ
   pub room : ℕ
 
 -- the surviving updates after one more record of the transaction
@@ -27,22 +28,25 @@ left_after left r _ = left
 abbrev pub undo_len : Record → ℕ
 undo_len u = 42 + image_len (image_before u.body)
 
+-- The bytes of the compensations to come after one more record: the compensation of an update comes to them, one that is written goes from them by its own
+-- length. Of any record, and so modulo 2^64.
+abbrev pub bytes_after : ℕ → Body → ℕ
+bytes_after bytes (Update key before after) = (bytes + (42 + image_len before)) % 2 ^ 64
+bytes_after bytes (Compensation undo_next key after) = (bytes + (2 ^ 64 - (42 + image_len after) % 2 ^ 64)) % 2 ^ 64
+bytes_after bytes _ = bytes
+
 -- the bytes of the compensations to come: none for a committed transaction
-abbrev pub undo_owed : TransactionState → List Record → ℕ
-undo_owed Committed left = 0
-undo_owed _ left = sum_by undo_len left
+abbrev pub undo_owed : TransactionState → ℕ → ℕ
+undo_owed Committed bytes = 0
+undo_owed _ bytes = bytes
 
 -- the bytes that a takeover appends for a transaction: its compensations and its end
 abbrev pub owed : Open → ℕ
-owed o = 28 + undo_owed o.row.state o.left
+owed o = 28 + undo_owed o.row.state o.bytes
 
 -- the same after one more record of the transaction, which is not its end
-abbrev pub owed_after : TransactionState → List Record → Record → ℕ
-owed_after state left r = 28 + undo_owed (state_after state r.body) (left_after left r r.body)
-
--- the bytes of the compensations are counted, modulo 2^64
-abbrev pub IsCounted : List Record → ℕ → Type 0
-IsCounted left bytes = bytes ≡ sum_by undo_len left % 2 ^ 64
+abbrev pub owed_after : TransactionState → ℕ → Body → ℕ
+owed_after state bytes body = 28 + undo_owed (state_after state body) (bytes_after bytes body)
 
 -- the rows of transactions
 abbrev pub rows_of : List Open → List TransactionRow
@@ -51,3 +55,7 @@ rows_of entries = map (λ o. o.row) entries
 -- the surviving updates of each
 abbrev pub left_of : List Open → List (List Record)
 left_of entries = map (λ o. o.left) entries
+
+-- the bytes that are counted of each
+abbrev pub bytes_of : List Open → List ℕ
+bytes_of entries = map (λ o. o.bytes) entries

@@ -1,12 +1,10 @@
-ghost use Rattle.std.specs.Prelude.{◌≡◌, ◌↔◌, IsTrue, ℕ, ◌<◌, ◌≤◌, ◌+◌, ◌%◌, ◌^◌, [], IfOk, OnOk, OnErr};
-ghost use Rattle.std.specs.List.{sum_by};
+ghost use Rattle.std.specs.Prelude.{◌≡◌, ◌↔◌, IsTrue, ◌<◌, ◌≤◌, ◌+◌, ◌%◌, ◌^◌, [], IfOk, OnOk, OnErr};
 ghost use Rattle.als_record.specs.declared.transaction_state.TransactionState.TheVariants.{Active};
 ghost use Rattle.als_record.specs.Spelling.{image_len};
-ghost use Rattle.als_record.specs.Images.{image_before};
 ghost use Rattle.als_record.specs.Shown.{shown, shown_body, shown_image};
 ghost use Rattle.als_record.specs.Table.{row_after, state_after, state_after_rollback, fresh_row};
 ghost use Rattle.als_record.specs.Transactions.{undo_next_after};
-ghost use Rattle.als_analysis.specs.Open.{left_after, undo_len, undo_owed, owed, owed_after};
+ghost use Rattle.als_analysis.specs.Open.{left_after, bytes_after, undo_owed, owed, owed_after};
 
 use crate::fault::Fault;
 use als_record::{
@@ -17,7 +15,8 @@ use std::alloc::Global;
 use std::marker::Model;
 
 /// One transaction that has not ended: its row of the transaction table, and its surviving updates in order. The bytes of
-/// its compensations are counted modulo 2^64, so that any record may be noted.
+/// its compensations to come are counted from record to record, modulo 2^64, so that any record may be noted: of a valid log
+/// they are those of the surviving updates.
 #[derive(Drop)]
 pub struct OpenTransaction {
     row: TransactionRow,
@@ -27,34 +26,50 @@ pub struct OpenTransaction {
 
 impl Model for OpenTransaction {
     ghost use Rattle.std.specs.Prelude.{vec_len, vec_capacity, ◌-◌};
-    ghost use Rattle.als_analysis.specs.Open.{Open, IsCounted};
+    ghost use Rattle.als_analysis.specs.Open.{Open};
 
     ghost Value = { Open };
 
-    ghost view = { λ o. record { row = o.row; left = o.left.items; room = vec_capacity o.left - vec_len o.left } };
-
-    ghost invariant = { λ o. IsCounted o.left.items o.undo_bytes };
+    ghost view = { λ o. record { row = o.row; left = o.left.items; bytes = o.undo_bytes; room = vec_capacity o.left - vec_len o.left } };
 }
 
-/// The length of the compensation that undoes an update, in bytes.
-fn undo_len_of(update: &RecordView<'_>) -> u64
-    ensures len { result ≡ undo_len (shown update.now) }
+/// The length of a compensation that writes this image, in bytes.
+fn compensation_len(image: &ImageView<'_>) -> u64
+    ensures len { result ≡ 42 + image_len (shown_image image.now) }
     ensures limit { result ≤ 73 }
 {
-    match &update.body {
-        BodyView::Update { before, .. } => 42 + before.len() as u64,
-        _ => 42,
+    42 + image.len() as u64
+}
+
+/// The bytes of the compensations to come after one more record of the transaction, modulo 2^64.
+fn undo_bytes_after(undo_bytes: u64, body: &BodyView<'_>) -> u64
+    ensures { result ≡ bytes_after undo_bytes (shown_body body.now) }
+{
+    match body {
+        BodyView::Update { before, .. } => undo_bytes.wrapping_add(compensation_len(before)),
+        BodyView::Compensation { after, .. } => undo_bytes.wrapping_sub(compensation_len(after)),
+        _ => undo_bytes,
     }
 }
 
-/// The bytes that a takeover appends for a transaction of which this is the first record, and not its end.
-pub(crate) fn owed_anew(logged: &RecordView<'_>) -> u64
-    ensures { result ≡ owed_after Active [] (shown logged.now) }
+/// The bytes that a takeover appends for a transaction in this state, modulo 2^64.
+fn owed_in(state: TransactionState, undo_bytes: u64) -> u64
+    ensures { result ≡ (28 + undo_owed state undo_bytes) % 2 ^ 64 }
 {
-    match &logged.body {
-        BodyView::Update { .. } => 28 + undo_len_of(logged),
-        _ => 28,
+    match state {
+        TransactionState::Committed => 28,
+        TransactionState::Active | TransactionState::RollingBack => undo_bytes.wrapping_add(28),
     }
+}
+
+/// The bytes that a takeover appends for a transaction of which this is the first record, and not its end, modulo 2^64.
+pub(crate) fn owed_anew(body: &BodyView<'_>) -> u64
+    ensures { result ≡ owed_after Active 0 (shown_body body.now) % 2 ^ 64 }
+{
+    owed_in(
+        next_state(TransactionState::Active, body),
+        undo_bytes_after(0, body),
+    )
 }
 
 /// The state after one more record of the transaction.
@@ -123,37 +138,17 @@ impl OpenTransaction {
     pub(crate) fn owed(&self) -> u64
         ensures { result ≡ owed self.now % 2 ^ 64 }
     {
-        let undo_bytes = match self.row.state {
-            TransactionState::Committed => 0,
-            TransactionState::Active | TransactionState::RollingBack => self.undo_bytes,
-        };
-        undo_bytes.wrapping_add(28)
-    }
-
-    /// The bytes of its compensations after one more record of the transaction, if it is to be undone, modulo 2^64.
-    fn undo_bytes_after(&self, logged: &RecordView<'_>) -> u64
-        ensures { result ≡ sum_by undo_len (left_after self.now.left (shown logged.now) (shown_body logged.now.body)) % 2 ^ 64 }
-    {
-        match &logged.body {
-            BodyView::Update { .. } => self.undo_bytes.wrapping_add(undo_len_of(logged)),
-            BodyView::Compensation { .. } => match self.left.last() {
-                Some(undone) => self.undo_bytes.wrapping_sub(undo_len_of(&undone.view())),
-                None => self.undo_bytes,
-            },
-            _ => self.undo_bytes,
-        }
+        owed_in(self.row.state, self.undo_bytes)
     }
 
     /// The bytes that a takeover appends for it after one more record of the transaction, which is not its end, modulo 2^64.
-    pub(crate) fn owed_after(&self, logged: &RecordView<'_>) -> u64
-        ensures { result ≡ owed_after self.now.row.state self.now.left (shown logged.now) % 2 ^ 64 }
+    pub(crate) fn owed_after(&self, body: &BodyView<'_>) -> u64
+        ensures { result ≡ owed_after self.now.row.state self.now.bytes (shown_body body.now) % 2 ^ 64 }
     {
-        match next_state(self.row.state, &logged.body) {
-            TransactionState::Committed => 28,
-            TransactionState::Active | TransactionState::RollingBack => {
-                self.undo_bytes_after(logged).wrapping_add(28)
-            }
-        }
+        owed_in(
+            next_state(self.row.state, body),
+            undo_bytes_after(self.undo_bytes, body),
+        )
     }
 
     /// Whether one more update can be kept without memory.
@@ -167,6 +162,7 @@ impl OpenTransaction {
     pub(crate) fn reserve(&mut self) -> Result<(), Fault>
         ensures row { self.new.row ≡ self.old.row }
         ensures left { self.new.left ≡ self.old.left }
+        ensures bytes { self.new.bytes ≡ self.old.bytes }
         ensures ok { OnOk result (0 < self.new.room) }
         ensures err { OnErr result (self.new ≡ self.old) }
     {
@@ -178,6 +174,7 @@ impl OpenTransaction {
     pub(crate) fn renew(&mut self, trans: TransId)
         ensures row { self.new.row ≡ fresh_row trans.0 }
         ensures left { self.new.left ≡ [] }
+        ensures bytes { self.new.bytes ≡ 0 }
         ensures room { self.old.room ≤ self.new.room }
     {
         self.row = row_without_record(trans);
@@ -191,6 +188,7 @@ impl OpenTransaction {
         requires room { 0 < self.old.room }
         ensures row { self.new.row ≡ row_after self.old.row (shown logged.now) }
         ensures left { self.new.left ≡ left_after self.old.left (shown logged.now) (shown_body logged.now.body) }
+        ensures bytes { self.new.bytes ≡ bytes_after self.old.bytes (shown_body logged.now.body) }
     {
         self.row = TransactionRow {
             trans: self.row.trans,
@@ -198,16 +196,13 @@ impl OpenTransaction {
             last: logged.lsn,
             undo_next: next_undo(self.row.undo_next, logged),
         };
+        self.undo_bytes = undo_bytes_after(self.undo_bytes, &logged.body);
         match &logged.body {
-            BodyView::Update { key, before, after } => {
-                self.undo_bytes = self.undo_bytes.wrapping_add(undo_len_of(logged));
-                self.left
-                    .push_reserved(copy_of_update(logged, key, before, after));
-            }
+            BodyView::Update { key, before, after } => self
+                .left
+                .push_reserved(copy_of_update(logged, key, before, after)),
             BodyView::Compensation { .. } => {
-                if let Some(undone) = self.left.pop() {
-                    self.undo_bytes = self.undo_bytes.wrapping_sub(undo_len_of(&undone.view()));
-                }
+                let _undone = self.left.pop();
             }
             _ => {}
         }

@@ -27,7 +27,8 @@ fn update(lsn: u64, prev: u64, trans: u32, slot: u8, before: Image) -> Record {
     record(lsn, prev, trans, Body::Update { key, before, after })
 }
 
-fn undo(lsn: u64, prev: u64, trans: u32, slot: u8, next: u64) -> Record {
+// A compensation at a slot of page 0.
+fn undo(lsn: u64, prev: u64, trans: u32, slot: u8, next: u64, after: Image) -> Record {
     let key = Key { page: 0, slot };
     let undo_next = Lsn(next);
     record(
@@ -37,7 +38,7 @@ fn undo(lsn: u64, prev: u64, trans: u32, slot: u8, next: u64) -> Record {
         Body::Compensation {
             undo_next,
             key,
-            after: None,
+            after,
         },
     )
 }
@@ -115,7 +116,7 @@ fn a_committed_and_an_active_transaction(rt: HostRuntime) {
 fn a_transaction_rolled_back_to_its_start(rt: HostRuntime) {
     let mut table = TransTable::new(rt.alloc());
     note(&rt, &mut table, &update(16, 0, 1, 0, None));
-    note(&rt, &mut table, &undo(52, 16, 1, 0, 0));
+    note(&rt, &mut table, &undo(52, 16, 1, 0, 0, None));
     note(&rt, &mut table, &update(94, 0, 2, 0, None));
     note(&rt, &mut table, &record(130, 94, 2, Body::Commit));
     expect_row(&rt, &table, 0, row(1, TransactionState::Active, 52, 0));
@@ -125,11 +126,27 @@ fn a_transaction_rolled_back_to_its_start(rt: HostRuntime) {
 }
 
 #[test]
+fn a_compensation_takes_its_own_bytes(rt: HostRuntime) {
+    let mut table = TransTable::new(rt.alloc());
+    note(&rt, &mut table, &update(16, 0, 1, 0, None));
+    note(&rt, &mut table, &record(52, 16, 1, Body::Commit));
+    note(&rt, &mut table, &record(80, 52, 1, Body::End));
+    note(&rt, &mut table, &update(108, 0, 2, 0, byte(1)));
+    note(&rt, &mut table, &update(145, 108, 2, 1, None));
+    assert_eq!(rt; table.reserve_bytes(), 28 + 43 + 42);
+    note(&rt, &mut table, &undo(181, 145, 2, 1, 108, None));
+    assert_eq!(rt; table.reserve_bytes(), 28 + 43);
+    note(&rt, &mut table, &undo(223, 181, 2, 0, 0, byte(1)));
+    assert_eq!(rt; table.reserve_bytes(), 28);
+    expect_survivors(&rt, &table, 2, &[]);
+}
+
+#[test]
 fn a_partial_rollback(rt: HostRuntime) {
     let mut table = TransTable::new(rt.alloc());
     note(&rt, &mut table, &update(16, 0, 1, 0, None));
     note(&rt, &mut table, &update(52, 16, 1, 1, None));
-    note(&rt, &mut table, &undo(88, 52, 1, 1, 16));
+    note(&rt, &mut table, &undo(88, 52, 1, 1, 16, None));
     note(&rt, &mut table, &update(130, 88, 1, 2, None));
     expect_row(&rt, &table, 0, row(1, TransactionState::Active, 130, 130));
     expect_survivors(&rt, &table, 1, &[16, 130]);

@@ -8,7 +8,7 @@ ghost use Rattle.als_record.specs.Table.{table_of, row_after, fresh_row};
 ghost use Rattle.als_record.specs.LogText.{end_of};
 ghost use Rattle.als_record.specs.Tail.{reserve_of};
 ghost use Rattle.als_record.specs.Validity.{may_follow};
-ghost use Rattle.als_analysis.specs.Open.{left_after, rows_of, left_of};
+ghost use Rattle.als_analysis.specs.Open.{left_after, bytes_after, rows_of, left_of};
 ghost use Rattle.als_analysis.specs.Kept.{IsRising, IsPlace, MakesRoom, numbers};
 ghost use Rattle.als_analysis.specs.Noted.{IsTableOf, IsOpenOf};
 
@@ -43,12 +43,12 @@ pub struct TransTable {
 impl Model for TransTable {
     ghost use Rattle.std.specs.Prelude.{vec_capacity};
     ghost use Rattle.als_analysis.specs.Noted.{Table};
-    ghost use Rattle.als_analysis.specs.Open.{rows_of, left_of};
+    ghost use Rattle.als_analysis.specs.Open.{rows_of, left_of, bytes_of};
     ghost use Rattle.als_analysis.specs.Kept.{IsKept};
 
     ghost Value = { Table };
 
-    ghost view = { λ t. record { rows = rows_of t.entries.items; left = left_of t.entries.items; has_room = t.has_room } };
+    ghost view = { λ t. record { rows = rows_of t.entries.items; left = left_of t.entries.items; bytes = bytes_of t.entries.items; has_room = t.has_room } };
 
     ghost invariant = { λ t. IsKept t.entries.items t.spares.items t.reserve t.tight t.has_room (vec_capacity t.entries) };
 }
@@ -226,6 +226,7 @@ impl TransTable {
         requires within { at < length self.old.rows }
         ensures rows { (d : TransactionRow) → self.new.rows ≡ slice_set self.old.rows at (row_after (slice_index_or self.old.rows at d) (shown logged.now)) }
         ensures left { (d : List Record) → self.new.left ≡ slice_set self.old.left at (left_after (slice_index_or self.old.left at d) (shown logged.now) (shown_body logged.now.body)) }
+        ensures bytes { (d : ℕ) → self.new.bytes ≡ slice_set self.old.bytes at (bytes_after (slice_index_or self.old.bytes at d) (shown_body logged.now.body)) }
     {
         let entry = &mut self.entries[at];
         let before = entry.owed();
@@ -242,6 +243,7 @@ impl TransTable {
         requires within { at < length self.old.rows }
         ensures rows { self.new.rows ≡ remove self.old.rows at }
         ensures left { self.new.left ≡ remove self.old.left at }
+        ensures bytes { self.new.bytes ≡ remove self.old.bytes at }
     {
         let ended = self.entries.remove(at);
         self.reserve = self.reserve.wrapping_sub(ended.owed());
@@ -257,6 +259,7 @@ impl TransTable {
         requires rising { All (λ row. row.trans.0 < logged.now.trans.0) self.old.rows }
         ensures rows { self.new.rows ≡ self.old.rows ++ row_after (fresh_row logged.now.trans.0) (shown logged.now) ∷ [] }
         ensures left { self.new.left ≡ self.old.left ++ left_after [] (shown logged.now) (shown_body logged.now.body) ∷ [] }
+        ensures bytes { self.new.bytes ≡ self.old.bytes ++ bytes_after 0 (shown_body logged.now.body) ∷ [] }
     {
         match self.spares.pop() {
             Some(mut fresh) => {
@@ -429,7 +432,7 @@ impl TransTable {
         if is_end_record(&logged.body) {
             return others;
         }
-        others.wrapping_add(entry.owed_after(logged))
+        others.wrapping_add(entry.owed_after(&logged.body))
     }
 
     /// What a takeover would append after a record of a transaction without a row, modulo 2^64.
@@ -441,7 +444,7 @@ impl TransTable {
         if is_end_record(&logged.body) {
             return self.reserve;
         }
-        self.reserve.wrapping_add(owed_anew(logged))
+        self.reserve.wrapping_add(owed_anew(&logged.body))
     }
 
     /// The bytes that a takeover would append after one more record, before that is noted, exact for a log of less than 2^62

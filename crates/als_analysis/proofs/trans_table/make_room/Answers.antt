@@ -8,5 +8,5 @@ pub returns-then-at-len-clause-ok : goal.returns-then-at-len-clause-ok
 returns-then-at-len-clause-ok c =
     let xs = c.args.entries.now.items in
     let past : length xs ≤ c.args.at = omega (arith, c.len.ensures, c.if-at-len.true) in
-    let none : Open = record { row = fresh_row 0; left = []; room = 0 } in
-    record { entry = none; is = sym (set_past xs c.args.at none past); row = λ d lt. absurd (omega arith); left = λ d lt. absurd (omega arith); room = λ lt. absurd (omega arith) }
+    let none : Open = record { row = fresh_row 0; left = []; bytes = 0; room = 0 } in
+    record { entry = none; is = sym (set_past xs c.args.at none past); row = λ d lt. absurd (omega arith); left = λ d lt. absurd (omega arith); bytes = λ d lt. absurd (omega arith); room = λ lt. absurd (omega arith) }

@@ -1,7 +1,7 @@
 use Rattle.std.proofs.Common.{◌≡◌, ◌-◌, ◌+◌, ◌%◌, ◌^◌, ◌<◌, true, false, length, get_or, sym, ap, ◌∙◌, subst, arith}
 use Rattle.std.specs.List.{remove}
 use Rattle.std.proofs.lemmas.List.{length-map}
-use Rattle.als_analysis.specs.Open.{Open, owed, rows_of, left_of}
+use Rattle.als_analysis.specs.Open.{Open, owed, rows_of, left_of, bytes_of}
 use Rattle.als_analysis.specs.Kept.{IsKept}
 use Rattle.als_analysis.specs.Noted.{Table}
 use Rattle.als_analysis.proofs.KeptSteps.{kept-remove, remove-map}
@@ -37,3 +37,11 @@ returns-clause-left c =
     let m : length (rows_of xs) ≡ length c.args.self.now.rows = ap (λ (t : Table). length t.rows) c.self.view_is in
     let lt : c.args.at < length xs = omega (arith, c.requires.within) in
     ap left_of c.remove-ended.ensures.items ∙ sym (remove-map (λ (o : Open). o.left) xs c.args.at lt) ∙ ap (λ (t : Table). remove t.left c.args.at) c.self.view_is
+
+pub returns-clause-bytes : goal.returns-clause-bytes
+returns-clause-bytes c =
+    let xs = c.self.inside.entries.items in
+    let n : length (rows_of xs) ≡ length xs = length-map xs (λ o. o.row) in
+    let m : length (rows_of xs) ≡ length c.args.self.now.rows = ap (λ (t : Table). length t.rows) c.self.view_is in
+    let lt : c.args.at < length xs = omega (arith, c.requires.within) in
+    ap bytes_of c.remove-ended.ensures.items ∙ sym (remove-map (λ (o : Open). o.bytes) xs c.args.at lt) ∙ ap (λ (t : Table). remove t.bytes c.args.at) c.self.view_is

@@ -3,7 +3,7 @@ use Rattle.std.proofs.lemmas.List.{length-map, get_or-map, map-set}
 use Rattle.als_record.specs.Shown.{shown}
 use Rattle.als_record.specs.declared.transaction_row.TransactionRow.{TransactionRow}
 use Rattle.als_record.specs.Table.{row_after}
-use Rattle.als_analysis.specs.Open.{Open, owed, rows_of, left_of, left_after}
+use Rattle.als_analysis.specs.Open.{Open, owed, rows_of, left_of, bytes_of, left_after, bytes_after}
 use Rattle.als_analysis.specs.Kept.{IsKept}
 use Rattle.als_analysis.specs.Noted.{Table}
 use Rattle.als_analysis.proofs.KeptSteps.{kept-set}
@@ -45,3 +45,14 @@ returns-clause-left c d =
     map-set (λ (o : Open). o.left) xs c.args.at c.extend.new.self
     ∙ ap (λ left. set (left_of xs) c.args.at left) (c.extend.ensures.left ∙ ap (λ left. left_after left (shown c.args.logged.now) (shown c.args.logged.now).body) (ap (λ (p : Open). p.left) c.index_mut-entry.ensures.value ∙ sym (get_or-map (λ (o : Open). o.left) xs c.args.at e d lt)))
     ∙ ap (λ (t : Table). set t.left c.args.at (left_after (get_or t.left c.args.at d) (shown c.args.logged.now) (shown c.args.logged.now).body)) c.self.view_is
+
+pub returns-clause-bytes : goal.returns-clause-bytes
+returns-clause-bytes c d =
+    let xs = c.self.inside.entries.items in
+    let e = c.index_mut-entry.result.now in
+    let n : length (rows_of xs) ≡ length xs = length-map xs (λ o. o.row) in
+    let m : length (rows_of xs) ≡ length c.args.self.now.rows = ap (λ (t : Table). length t.rows) c.self.view_is in
+    let lt : c.args.at < length xs = omega (arith, c.requires.within) in
+    map-set (λ (o : Open). o.bytes) xs c.args.at c.extend.new.self
+    ∙ ap (λ n. set (bytes_of xs) c.args.at n) (c.extend.ensures.bytes ∙ ap (λ n. bytes_after n (shown c.args.logged.now).body) (ap (λ (p : Open). p.bytes) c.index_mut-entry.ensures.value ∙ sym (get_or-map (λ (o : Open). o.bytes) xs c.args.at e d lt)))
+    ∙ ap (λ (t : Table). set t.bytes c.args.at (bytes_after (get_or t.bytes c.args.at d) (shown c.args.logged.now).body)) c.self.view_is

@@ -6,7 +6,7 @@ use Rattle.als_analysis.proofs.trans_table.TransTable.note_new.Goals as goal
 
 pub returns-then-is_end_record : goal.returns-then-is_end_record
 returns-then-is_end_record c log h m =
-    step-new_end log (shown c.args.logged.now) c.args.self.now c.args.self.now h c.requires.kind m c.requires.absent (sym c.if-is_end_record.ensures) refl refl
+    step-new_end log (shown c.args.logged.now) c.args.self.now c.args.self.now h c.requires.kind m c.requires.absent (sym c.if-is_end_record.ensures) refl refl refl
 
 pub returns-then-not-can_begin : goal.returns-then-not-can_begin
 returns-then-not-can_begin c log h m =
@@ -17,4 +17,4 @@ returns-then-not-can_begin c log h m =
 
 pub returns : goal.returns
 returns c log h m =
-    step-new log (shown c.args.logged.now) c.args.self.now c.begin.new.self h c.requires.kind m c.requires.absent (sym c.if-is_end_record.ensures) c.begin.ensures.rows c.begin.ensures.left
+    step-new log (shown c.args.logged.now) c.args.self.now c.begin.new.self h c.requires.kind m c.requires.absent (sym c.if-is_end_record.ensures) c.begin.ensures.rows c.begin.ensures.left c.begin.ensures.bytes

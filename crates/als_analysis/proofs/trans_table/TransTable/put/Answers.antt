@@ -5,4 +5,4 @@ use Rattle.als_analysis.proofs.trans_table.TransTable.put.Goals as goal
 
 pub returns-then-not-is_transaction_record : goal.returns-then-not-is_transaction_record
 returns-then-not-is_transaction_record c log h m =
-    step-checkpoint log (shown c.args.logged.now) c.args.self.now c.args.self.now h (sym c.if-not-is_transaction_record.ensures) refl refl
+    step-checkpoint log (shown c.args.logged.now) c.args.self.now c.args.self.now h (sym c.if-not-is_transaction_record.ensures) refl refl refl

@@ -1,5 +1,5 @@
 use Rattle.std.proofs.Common.{◌≡◌, ◌<◌, true, length, ap, ◌∙◌, subst, arith, vec_capacity}
-use Rattle.als_analysis.specs.Open.{Open, rows_of, left_of}
+use Rattle.als_analysis.specs.Open.{Open, rows_of, left_of, bytes_of}
 use Rattle.als_analysis.specs.Kept.{MakesRoom}
 use Rattle.als_analysis.specs.Noted.{Table}
 use Rattle.als_analysis.proofs.KeptSteps.{kept-made, map-made}
@@ -21,6 +21,9 @@ returns-clause-ok c =
     let left : left_of c.make_room.new.entries.items ≡ left_of xs = ap left_of made.is ∙ map-made (λ (o : Open). o.left) xs c.self.inside.tight made.entry (made.left made.entry) in
     let rows_now : rows_of xs ≡ c.args.self.now.rows = ap (λ (t : Table). t.rows) c.self.view_is in
     let left_now : left_of xs ≡ c.args.self.now.left = ap (λ (t : Table). t.left) c.self.view_is in
+    let bytes : bytes_of c.make_room.new.entries.items ≡ bytes_of xs = ap bytes_of made.is ∙ map-made (λ (o : Open). o.bytes) xs c.self.inside.tight made.entry (made.bytes made.entry) in
+    let bytes_now : bytes_of xs ≡ c.args.self.now.bytes = ap (λ (t : Table). t.bytes) c.self.view_is in
     let p = rows ∙ rows_now in
     let q = left ∙ left_now in
-    λ i. record { rows = p i; left = q i; has_room = true }
+    let s = bytes ∙ bytes_now in
+    λ i. record { rows = p i; left = q i; bytes = s i; has_room = true }

@@ -1,4 +1,4 @@
-use Rattle.std.proofs.Common.{◌%◌, ◌^◌, [], ◌∷◌, ◌++◌, sym, ap, ◌∙◌}
+use Rattle.std.proofs.Common.{[], ◌∷◌, ◌++◌, sym, ap, ◌∙◌}
 use Rattle.als_record.specs.Shown.{shown}
 use Rattle.als_record.proofs.TailBound.{reserve_of-exact}
 use Rattle.als_analysis.specs.Noted.{Table}
@@ -8,7 +8,7 @@ use Rattle.als_analysis.proofs.trans_table.TransTable.reserve_after.Goals as goa
 pub returns-then-not-is_transaction_record : goal.returns-then-not-is_transaction_record
 returns-then-not-is_transaction_record c log h m short =
     c.self.invariant.counted
-    ∙ ap (λ n. n % 2 ^ 64) (after-checkpoint log (shown c.args.logged.now) c.args.self.now c.self.inside.entries.items h (ap (λ (t : Table). t.rows) c.self.view_is) (ap (λ (t : Table). t.left) c.self.view_is) (sym c.if-not-is_transaction_record.ensures))
+    ∙ after-checkpoint log (shown c.args.logged.now) c.args.self.now c.self.inside.entries.items h (ap (λ (t : Table). t.rows) c.self.view_is) (ap (λ (t : Table). t.bytes) c.self.view_is) (sym c.if-not-is_transaction_record.ensures)
     ∙ reserve_of-exact (log ++ (shown c.args.logged.now) ∷ []) short
 
 pub returns-in-Some : goal.returns-in-Some

@@ -1,4 +1,4 @@
-use Rattle.std.proofs.Common.{◌%◌, ◌^◌, ap, ◌∙◌}
+use Rattle.std.proofs.Common.{ap, ◌∙◌}
 use Rattle.als_analysis.specs.Noted.{Table}
 use Rattle.als_record.proofs.TailBound.{reserve_of-exact}
 use Rattle.als_analysis.proofs.TailLength.{owed-tail}
@@ -7,5 +7,5 @@ use Rattle.als_analysis.proofs.trans_table.TransTable.reserve_bytes.Goals as goa
 pub returns : goal.returns
 returns c log h short =
     c.self.invariant.counted
-    ∙ ap (λ n. n % 2 ^ 64) (owed-tail log c.self.inside.entries.items (ap (λ (t : Table). t.rows) c.self.view_is ∙ h.rows) (ap (λ (t : Table). t.left) c.self.view_is ∙ h.left))
+    ∙ owed-tail log c.self.inside.entries.items (ap (λ (t : Table). t.rows) c.self.view_is ∙ h.rows) (ap (λ (t : Table). t.bytes) c.self.view_is ∙ h.bytes)
     ∙ reserve_of-exact log short
