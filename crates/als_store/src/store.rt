@@ -540,8 +540,10 @@ impl<D: BlockDisk> Store<D> {
     /// waited, which waits no more.
     pub fn apply(&mut self, page: u32) -> Result<Lsn, Fault>
         ensures ok { IfOk result (λ lsn. AppliesFirst self.old.stored page lsn self.new.stored) }
-        ensures err { IfErr result (λ f. NotApplied self.old page f self.new) }
+        ensures err { IfErr result (λ f. NotApplied self.old.stored page f self.new.stored) }
         ensures sound { IfErr result (λ f. f ≡ fault.BadPage page → ⊥) }
+        // Memory is wanted only where there is no room for a frame more.
+        ensures reserved { 0 < self.old.spare.pool.frames → IsErrOf result fault.Memory → ⊥ }
     {
         let end = self.log.end();
         let lsn = self.pool.apply(page, end)?;
