@@ -3,3 +3,4 @@ pub mod StoredParts
 pub mod JudgingLaws
 pub mod KeptLaws
 pub mod PageEvents
+pub mod Showing

@@ -4,10 +4,12 @@ use Rattle.als_record.specs.LogText.{end_of}
 use Rattle.als_pool.specs.Outcomes.{Applies as AppliesPages, RefusesApply}
 use Rattle.als_store.specs.declared.fault.Fault.{Fault}
 use Rattle.als_store.specs.Events.{NotApplied}
+use Rattle.als_store.specs.Views.{ShowsRedo}
 use Rattle.als_store.specs.Parts.{stored_of}
 use Rattle.als_store.specs.Spare.{Holding}
 use Rattle.als_store.proofs.PoolSteps.{calm_applies, calm_refused, bad_page_from}
 use Rattle.als_store.proofs.PageEvents.{applied, refused}
+use Rattle.als_store.proofs.Showing.{shows_redo}
 use Rattle.als_store.proofs.StoredParts.{stored-calm}
 use Rattle.als_store.proofs.store.Store.apply.Goals as goal
 
@@ -54,3 +56,11 @@ returns-in_err-lsn-clause-sound g c =
     let p = err_from_is_err_and c.from_residual.result c.from_residual.ensures.1 in
     let within : end_of s.log.log ≤ c.end-end.result.0 = omega (arith, c.end-end.ensures.end) in
     rw p.1 (λ is. c.in_err-lsn.ensures.sound s.log.log s.control.synced.mark.0 c.self.invariant.paged.is_pool within (ap Err (bad_page_from c.in_err-lsn.field-0.0 c.args.page (sym p.2 ∙ is))))
+
+pub returns-clause-views : goal.returns-clause-views
+returns-clause-views g c =
+    let s = c.self.inside in
+    let new = c.apply.new.self.pool in
+    let it : ShowsRedo s.log.log s.pool.pool new c.args.page c.in_ok-lsn.lsn
+    = shows_redo s.log.log s.control.synced.mark.0 s.pool.pool new c.args.page c.end-end.result.0 c.in_ok-lsn.lsn c.in_ok-lsn.ensures.ok c.self.invariant.paged.is_pool in
+    subst (λ (x : Holding). ShowsRedo x.stored.log x.stored.pool new c.args.page c.in_ok-lsn.lsn) c.self.view_is it
