@@ -16,9 +16,6 @@ use Rattle.als_engine.proofs.KeepLaws.{le_refl, keeps_equal}
 pub feed_not_refused : (m : Machine) → m.held.broken ≡ false → m.refused ≡ None → pending_of m.held < m.limit → feed_refusal m ≡ None
 feed_not_refused m running following room = rw (running, following, lt-leb m.limit (pending_of m.held) room) refl
 
-pub apply_not_refused : (m : Machine) (page : ℕ) → m.held.broken ≡ false → refusal m (step.Apply page) ≡ None
-apply_not_refused m page running = rw running refl
-
 -- a refused feed holds records at most
 pub keeps_refused : (old new : Machine) (piece : List ℕ) (cause : Option Fault) (refusal : FeedFault) → Feeds old piece cause (Err refusal) new → Keeps old new
 keeps_refused old new piece None refusal front =

@@ -5,9 +5,8 @@ use Rattle.als_record.specs.declared.record.Record.{Record}
 use Rattle.als_log.specs.Reading.{HasRowsAt}
 use Rattle.als_page.specs.declared.page.Page.{Page}
 use Rattle.als_store.specs.declared.fault.Fault.{Fault as StoreFault}
-use Rattle.als_store.specs.Spare.{Spare, Holding}
 use Rattle.als_store.specs.Stored.{Stored, StandsAt, IsShown}
-use Rattle.als_store.specs.Events.{Breaks, FailsToRead, WritesLog, SyncsLog, WritesMark, BreaksMark, SyncsControl, AppliesFirst, NotApplied, FlushesPage, NotFlushed, SyncsDevice, BreaksSync, FailsToShow}
+use Rattle.als_store.specs.Events.{Breaks, FailsToRead, WritesLog, SyncsLog, WritesMark, BreaksMark, SyncsControl, AppliesFirst, IsNotRedone, FlushesPage, BreaksFlush, SyncsDevice, BreaksSync, FailsToShow}
 use Rattle.als_engine.specs.Faults.{from_store}
 use Rattle.als_engine.specs.declared.fault.Fault.{Fault}
 use Rattle.als_engine.specs.declared.fault.Fault.TheVariants.{Device, Memory}
@@ -35,24 +34,16 @@ abbrev pub DropsPartial : Machine → Result (Unit {0}) Fault → Machine → Ty
 DropsPartial old (Ok done) new = new ≡ resynced old
 DropsPartial old (Err fault) new = ⊥
 
--- nothing was redone, for this reason, with this room beside what is held
-pub record FailsToRedo (old : Machine) (page : ℕ) (fault : Fault) (new : Machine) : Type 0 where
-  pub room : Spare
-  pub after : Holding
-  pub cause : StoreFault
-  pub fault_is : fault ≡ from_store cause
-  pub not_applied : NotApplied (record { stored = old.held; spare = room }) page cause after
-  pub becomes : new ≡ record old { held = after.stored }
-
--- the first changes that a page waits for are redone, and its page_LSN is answered
+-- The first changes that a page waits for are redone, and its page_LSN is answered; or nothing was, since it was to be read: that failed,
+-- or it has all that waited.
 abbrev pub Redoes : Machine → ℕ → Result Lsn Fault → Machine → Type 0
 Redoes old page (Ok lsn) new = Changes old (λ held after. AppliesFirst held page lsn after) new
-Redoes old page (Err fault) new = FailsToRedo old page fault new
+Redoes old page (Err fault) new = (cause : StoreFault) × (fault ≡ from_store cause) × Changes old (λ held after. IsNotRedone held page cause after) new
 
--- a page is written to its block, by one write of a device, if the log is acknowledged past its page_LSN
+-- a page is written to its block, by one write of a device
 abbrev pub WritesPage : Machine → ℕ → Result (Unit {0}) Fault → Machine → Type 0
 WritesPage old page (Ok done) new = Changes old (λ held after. FlushesPage held page after) new
-WritesPage old page (Err fault) new = (cause : StoreFault) × (fault ≡ from_store cause) × Changes old (λ held after. NotFlushed held page cause after) new
+WritesPage old page (Err fault) new = FailsIn old fault (λ held after. BreaksFlush held page after) new
 
 -- the pages' device is synced, by one sync
 abbrev pub SyncsAllPages : Machine → Result (Unit {0}) Fault → Machine → Type 0

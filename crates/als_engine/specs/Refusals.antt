@@ -1,9 +1,11 @@
 -- Why an event is refused before it does anything.
 use Rattle.std.specs.Prelude.{◌≡◌, nat_lt, nat_le, Bool, true, not, List, [], ◌∷◌, ◌++◌, Option, Some, None, MatchOption, Result, Err, if◌then◌else◌}
 use Rattle.als_record.specs.LogText.{end_of}
-use Rattle.als_store.specs.Stored.{Stored, newest, pending_of}
+use Rattle.als_pool.specs.Pooled.{view_of}
+use Rattle.als_pool.specs.Refusals.{has_waiting, is_full as has_no_frame, is_due, is_behind}
+use Rattle.als_store.specs.Stored.{Stored, newest, pending_of, acknowledged}
 use Rattle.als_engine.specs.declared.fault.Fault.{Fault}
-use Rattle.als_engine.specs.declared.fault.Fault.TheVariants.{NothingToDo, Stopped, Backlog}
+use Rattle.als_engine.specs.declared.fault.Fault.TheVariants.{LogBehind, PoolFull, NothingToDo, Stopped, Backlog}
 use Rattle.als_engine.specs.declared.step.Step.{Step}
 use Rattle.als_engine.specs.declared.step.Step.TheVariants as step
 use Rattle.als_engine.specs.Machine.{Machine}
@@ -40,9 +42,9 @@ feed_causes m = has_stopped m ∷ has_refused m.refused ++ (is_full m, Backlog) 
 abbrev pub causes : Machine → Step → List (Bool × Fault)
 causes m (step.Feed piece) = feed_causes m
 causes m step.Resync = has_stopped m ∷ []
--- what else refuses these two is looked at in the pages: by the event itself
-causes m (step.Apply page) = has_stopped m ∷ []
-causes m (step.Flush page) = has_stopped m ∷ []
+causes m (step.Apply page) = has_stopped m ∷ (not (has_waiting m.held.pool page), NothingToDo) ∷ (has_no_frame m.held.pool page, PoolFull) ∷ []
+causes m (step.Flush page) =
+    has_stopped m ∷ (not (is_due (view_of m.held.pool page)), NothingToDo) ∷ (is_behind (view_of m.held.pool page) (acknowledged m.held), LogBehind) ∷ []
 causes m step.SyncPages = has_stopped m ∷ []
 causes m step.LogWrite = has_stopped m ∷ (not (is_unwritten m.held), NothingToDo) ∷ []
 causes m step.LogSync = has_stopped m ∷ []

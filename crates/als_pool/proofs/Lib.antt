@@ -8,3 +8,4 @@ pub mod Keeping
 pub mod Lsns
 pub mod PoolLaws
 pub mod Reading
+pub mod Refusing

@@ -1,13 +1,15 @@
-ghost use Rattle.std.specs.Prelude.{◌≡◌, ℕ, ◌<◌, ◌≤◌, ◌+◌, ◌^◌, List, [], ◌∷◌, ◌++◌, length, Contains, Some, None};
+ghost use Rattle.std.specs.Prelude.{◌≡◌, ◌↔◌, ℕ, ◌<◌, ◌≤◌, ◌+◌, ◌^◌, true, false, List, [], ◌∷◌, ◌++◌, length, Contains, Some, None};
 ghost use Rattle.als_record.specs.declared.change.Change.{Change as AnyChange};
 ghost use Rattle.als_record.specs.declared.record.Record.{Record as AnyRecord};
 ghost use Rattle.als_record.specs.LogText.{end_of, IsLog};
 ghost use Rattle.als_record.specs.Pages.{change_of};
 ghost use Rattle.als_frames.specs.Frames.{slot_of};
+ghost use Rattle.als_frames.specs.Outcomes.{IsFull, NothingIsDue};
 ghost use Rattle.als_frames.specs.Images.{synced_content, synced_lsn, AreFramesOf};
 ghost use Rattle.als_dirty.specs.Rows.{rec_lsn_of};
-ghost use Rattle.als_pool.specs.Queues.{total_waiting};
-ghost use Rattle.als_pool.specs.Pooled.{Pooled, unread_of};
+ghost use Rattle.als_pool.specs.Queues.{total_waiting, pending_of};
+ghost use Rattle.als_pool.specs.Pooled.{Pooled, unread_of, view_of};
+ghost use Rattle.als_pool.specs.Refusals.{has_waiting, is_full, is_due};
 ghost use Rattle.als_pool.specs.Outcomes.{CanRoute};
 ghost use Rattle.als_pool.specs.Images.{IsPoolOf, IsRowSound, IsRowExact, QueuesOf, IsBelow, AllLackFrom};
 
@@ -23,6 +25,14 @@ pub fn each_row_is_sound()
 pub fn each_row_is_exact()
     ensures { (log : List AnyRecord) (below : ℕ) (pool : Pooled) (page : ℕ) → IsPoolOf log below pool → page < length pool.waits
         → unread_of pool.unread page ≡ None → IsRowExact log page (rec_lsn_of pool.dirty page) (synced_content (slot_of pool.frames page)) }
+{}
+
+/// A law: the tests by which redo and a write of a page are refused are exact. Nothing waits for the page; or it has no frame, and none can
+/// be had for it; or there is nothing to write.
+pub fn refusals_compute()
+    ensures waiting { (pool : Pooled) (page : ℕ) → (has_waiting pool page ≡ false) ↔ (pending_of pool.waits page ≡ []) }
+    ensures full { (pool : Pooled) (page : ℕ) → (is_full pool page ≡ true) ↔ IsFull pool.frames page }
+    ensures due { (pool : Pooled) (page : ℕ) → (is_due (view_of pool page) ≡ false) ↔ NothingIsDue pool.frames page }
 {}
 
 /// A law: the change of a record at the log's end can go behind those that its page waits for.

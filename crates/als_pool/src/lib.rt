@@ -19,7 +19,7 @@ mod laws;
 pub use fault::Fault;
 pub use laws::{
     change_can_be_routed, each_row_is_exact, each_row_is_sound, mark_changes_nothing,
-    other_records_pass, other_records_wait_nowhere, queues_join_images,
+    other_records_pass, other_records_wait_nowhere, queues_join_images, refusals_compute,
 };
 pub use new_pool::NewPool;
 pub use pool::Pool;

@@ -17,8 +17,16 @@ use Rattle.als_frames.specs.declared.fault.Fault.TheVariants.{Device as DiskFail
 use Rattle.als_pool.specs.Outcomes.{RefusesPage, ReadRefused}
 use Rattle.als_store.specs.declared.fault.Fault.TheVariants as fault
 use Rattle.als_store.specs.Faults.{of_pool}
-use Rattle.als_store.specs.Events.{Counts}
 use Rattle.als_store.specs.Stored.{routed}
+
+-- by the fault: the device's failures rose, or they did not
+abbrev pub Counts : PoolFault → ℕ → ℕ → Type 0
+Counts pool_fault.Device before now = before < now
+Counts pool_fault.LogBehind before now = now ≡ before
+Counts pool_fault.PoolFull before now = now ≡ before
+Counts pool_fault.NothingToDo before now = now ≡ before
+Counts pool_fault.Memory before now = now ≡ before
+Counts (pool_fault.BadPage page) before now = now ≡ before
 
 -- of a pool after a call that writes nothing and syncs nothing
 pub record IsCalm (old new : Pooled) : Type 0 where
@@ -119,15 +127,6 @@ routed_count pool (Some c) can =
       omega (arith, total-set pool.waits c.key.page more can.in_range, length-append (pending_of pool.waits c.key.page) (c ∷ [])),
       refl,
     )
-
--- how often the counts rose, over all devices
-pub counts_sum : (reason : PoolFault) (others before now : ℕ) → Counts reason before now → Counts reason (others + before) (others + now)
-counts_sum pool_fault.Device others before now c = omega (arith, c)
-counts_sum pool_fault.LogBehind others before now c = omega (arith, c)
-counts_sum pool_fault.PoolFull others before now c = omega (arith, c)
-counts_sum pool_fault.NothingToDo others before now c = omega (arith, c)
-counts_sum pool_fault.Memory others before now c = omega (arith, c)
-counts_sum (pool_fault.BadPage p) others before now c = omega (arith, c)
 
 -- ---- faults
 

@@ -1,20 +1,16 @@
 -- What each event makes of a store: each of them makes one write or one sync of a device at most.
-use Rattle.std.specs.Prelude.{◌≡◌, ℕ, ◌+◌, ◌<◌, true, [], ◌∷◌, ◌++◌}
+use Rattle.std.specs.Prelude.{◌≡◌, ◌⊎◌, ℕ, ◌+◌, ◌<◌, true, false, [], ◌∷◌, ◌++◌}
 use Rattle.als_record.specs.declared.lsn.Lsn.{Lsn}
 use Rattle.als_record.specs.LogText.{end_of}
 use Rattle.als_log.specs.Local.{next_written, whole_end}
 use Rattle.als_ckpt.specs.declared.control_state.ControlState.{ControlState}
-use Rattle.als_frames.specs.Outcomes.{NothingIsDue}
-use Rattle.als_pool.specs.Pooled.{Pooled}
-use Rattle.als_pool.specs.Outcomes.{Applies, RefusesApply, Flushes, FlushFails, IsBehind, SyncsPages, SyncPagesFails, ReadRefused}
+use Rattle.als_pool.specs.Pooled.{view_of}
+use Rattle.als_pool.specs.Refusals.{has_waiting, is_full, is_due, is_behind}
+use Rattle.als_pool.specs.Outcomes.{Applies, HasAll, Flushes, FlushFails, SyncsPages, SyncPagesFails, ReadRefused}
 use Rattle.als_frames.specs.declared.fault.Fault.TheVariants.{Device as DiskFailed}
-use Rattle.als_pool.specs.declared.fault.Fault.{Fault as PoolFault}
-use Rattle.als_pool.specs.declared.fault.Fault.TheVariants as pool_fault
 use Rattle.als_store.specs.declared.fault.Fault.{Fault}
 use Rattle.als_store.specs.declared.fault.Fault.TheVariants as fault
-use Rattle.als_store.specs.Faults.{of_pool}
-use Rattle.als_store.specs.Spare.{Holding, pages_of}
-use Rattle.als_store.specs.Stored.{Stored, newest}
+use Rattle.als_store.specs.Stored.{Stored, newest, acknowledged}
 
 -- a device failed in the one write or sync of the event: nothing else changed
 pub record Breaks (old new : Stored) : Type 0 where
@@ -63,45 +59,80 @@ pub record SyncsControl (old : Stored) (lsn : Lsn) (new : Stored) : Type 0 where
   pub answer : lsn ≡ (newest old).mark
   pub after : new ≡ record old { control = newest old; since = []; attempts = old.attempts + 1 }
 
--- ---- pages
+-- ---- redo
+
+-- changes wait for a page, and it has a frame or can get one
+pub record CanApply (s : Stored) (page : ℕ) : Type 0 where
+  pub waiting : has_waiting s.pool page ≡ true
+  pub room : is_full s.pool page ≡ false
 
 -- The first changes that wait for a page are redone, at most 64; it was read into a frame if it had none.
 pub record AppliesFirst (old : Stored) (page : ℕ) (lsn : Lsn) (new : Stored) : Type 0 where
+  pub can : CanApply old page
   pub applies : Applies old.pool new.pool page (end_of old.log) lsn
   pub after : new ≡ record old { pool = new.pool }
 
--- by the fault: the devices' failures rose, or they did not
-abbrev pub Counts : PoolFault → ℕ → ℕ → Type 0
-Counts pool_fault.Device before now = before < now
-Counts pool_fault.LogBehind before now = now ≡ before
-Counts pool_fault.PoolFull before now = now ≡ before
-Counts pool_fault.NothingToDo before now = now ≡ before
-Counts pool_fault.Memory before now = now ≡ before
-Counts (pool_fault.BadPage page) before now = now ≡ before
+-- a page was read into a frame, and all that waited for it is in it
+pub record FindsAll (old : Stored) (page : ℕ) (new : Stored) : Type 0 where
+  pub finds : HasAll old.pool new.pool page (end_of old.log)
+  pub after : new ≡ record old { pool = new.pool }
 
--- Nothing was redone, for this reason; only pages, and the count of failures where a read failed, may have changed.
-pub record NotApplied (old : Holding) (page : ℕ) (fault : Fault) (new : Holding) : Type 0 where
-  pub reason : PoolFault
-  pub fault_is : fault ≡ of_pool reason
-  pub refuses : RefusesApply reason (pages_of old) (pages_of new) page (end_of old.stored.log)
-  pub counted : Counts reason old.stored.failures new.stored.failures
-  pub after : new.stored ≡ record old.stored { pool = new.stored.pool; failures = new.stored.failures }
+-- the pages' device failed in a read, which is counted: nothing else changed
+pub record FailsToFetch (old new : Stored) : Type 0 where
+  pub failed : old.failures < new.failures
+  pub counted : new.pool ≡ record old.pool { frames = record old.pool.frames { failures = new.pool.frames.failures } }
+  pub after : new ≡ record old { pool = new.pool; failures = new.failures }
+
+-- by the fault, what reading a page came to: it has all that waited; the device failed; the block is not the page's; or a growth was
+-- refused
+abbrev pub ReadsInVain : Stored → ℕ → Fault → Stored → Type 0
+ReadsInVain old page fault.NothingToDo new = FindsAll old page new
+ReadsInVain old page fault.Device new = FailsToFetch old new
+ReadsInVain old page (fault.BadPage p) new = (p ≡ page) × (new ≡ old)
+ReadsInVain old page fault.Memory new = new ≡ old
+ReadsInVain old page (fault.Invalid cause) new = ⊥
+ReadsInVain old page fault.LogBehind new = ⊥
+ReadsInVain old page fault.PoolFull new = ⊥
+ReadsInVain old page fault.LogFull new = ⊥
+
+-- Nothing was redone of a page for which changes wait and which can get a frame: it had none, and was to be read.
+pub record IsNotRedone (old : Stored) (page : ℕ) (answer : Fault) (new : Stored) : Type 0 where
+  pub can : CanApply old page
+  pub absent : (view_of old.pool page).resident ≡ false
+  pub reads : ReadsInVain old page answer new
+
+-- Nothing was redone: no change waits for the page; or it has no frame and none can be had, which is found before it is read; or it was
+-- read in vain.
+abbrev pub NotApplied : Stored → ℕ → Fault → Stored → Type 0
+NotApplied old page answer new =
+    ((has_waiting old.pool page ≡ false) × (answer ≡ fault.NothingToDo) × (new ≡ old))
+    ⊎ (((has_waiting old.pool page ≡ true) × (is_full old.pool page ≡ true) × (answer ≡ fault.PoolFull) × (new ≡ old))
+    ⊎ IsNotRedone old page answer new)
+
+-- ---- images
+
+-- a page is resident and not written as it is now, and the log is acknowledged past its page_LSN
+pub record CanFlush (s : Stored) (page : ℕ) : Type 0 where
+  pub due : is_due (view_of s.pool page) ≡ true
+  pub logged : is_behind (view_of s.pool page) (acknowledged s) ≡ false
 
 -- a page is written to its block, as the log is acknowledged past its page_LSN
 pub record FlushesPage (old : Stored) (page : ℕ) (new : Stored) : Type 0 where
+  pub can : CanFlush old page
   pub flushes : Flushes old.pool new.pool page old.control.mark
   pub after : new ≡ record old { pool = new.pool; attempts = old.attempts + 1 }
 
 -- that write failed
 pub record BreaksFlush (old : Stored) (page : ℕ) (new : Stored) : Type 0 where
+  pub can : CanFlush old page
   pub fails : FlushFails old.pool new.pool page old.control.mark
   pub failed : old.failures < new.failures
   pub after : new ≡ record old { pool = new.pool; broken = true; failures = new.failures; attempts = old.attempts + 1 }
 
 -- a page was not written: there is nothing to write, or the log is not acknowledged past its page_LSN, or the device failed
 abbrev pub NotFlushed : Stored → ℕ → Fault → Stored → Type 0
-NotFlushed old page fault.NothingToDo new = NothingIsDue old.pool.frames page × (new ≡ old)
-NotFlushed old page fault.LogBehind new = IsBehind old.pool page old.control.mark × (new ≡ old)
+NotFlushed old page fault.NothingToDo new = (is_due (view_of old.pool page) ≡ false) × (new ≡ old)
+NotFlushed old page fault.LogBehind new = (is_due (view_of old.pool page) ≡ true) × (is_behind (view_of old.pool page) (acknowledged old) ≡ true) × (new ≡ old)
 NotFlushed old page fault.Device new = BreaksFlush old page new
 NotFlushed old page (fault.Invalid cause) new = ⊥
 NotFlushed old page fault.LogFull new = ⊥

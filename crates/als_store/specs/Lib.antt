@@ -5,3 +5,4 @@ pub mod Events
 pub mod Devices
 pub mod Formatting
 pub mod Parts
+pub mod Views

@@ -19,6 +19,7 @@ ghost use Rattle.als_store.specs.Spare.{HasSpare};
 ghost use Rattle.als_store.specs.Parts.{spare_of};
 ghost use Rattle.als_store.specs.Stored.{Stored, formatted, formatted_pool, acknowledged, with_records, routed, pending_of, IsShown, StandsAt, IsRefused, IsTooLong, FrontsFit, judgement_of};
 ghost use Rattle.als_store.specs.Events.{Breaks, FailsToRead, HasUnwritten, WritesLog, SyncsLog, HasUnmarked, WritesMark, BreaksMark, SyncsControl, AppliesFirst, NotApplied, FlushesPage, NotFlushed, SyncsDevice, BreaksSync, FailsToShow};
+ghost use Rattle.als_store.specs.Views.{ShowsRedo, ShowsWrite, ShowsSync};
 ghost use Rattle.als_store.specs.Devices.{AreKept, AreImages};
 ghost use Rattle.als_store.specs.Formatting.{IsHalfFormatted};
 ghost use Rattle.als_log.specs.Local.{HasRoomFor, next_written, whole_end};
@@ -540,8 +541,11 @@ impl<D: BlockDisk> Store<D> {
     /// waited, which waits no more.
     pub fn apply(&mut self, page: u32) -> Result<Lsn, Fault>
         ensures ok { IfOk result (λ lsn. AppliesFirst self.old.stored page lsn self.new.stored) }
-        ensures err { IfErr result (λ f. NotApplied self.old page f self.new) }
+        ensures err { IfErr result (λ f. NotApplied self.old.stored page f self.new.stored) }
+        ensures views { IfOk result (λ lsn. ShowsRedo self.old.stored.log self.old.stored.pool self.new.stored.pool page lsn) }
         ensures sound { IfErr result (λ f. f ≡ fault.BadPage page → ⊥) }
+        // Memory is wanted only where there is no room for a frame more.
+        ensures reserved { 0 < self.old.spare.pool.frames → IsErrOf result fault.Memory → ⊥ }
     {
         let end = self.log.end();
         let lsn = self.pool.apply(page, end)?;
@@ -556,6 +560,7 @@ impl<D: BlockDisk> Store<D> {
         requires { self.old.stored.broken ≡ false }
         ensures ok { OnOk result (FlushesPage self.old.stored page self.new.stored) }
         ensures err { IfErr result (λ f. NotFlushed self.old.stored page f self.new.stored) }
+        ensures views { OnOk result (ShowsWrite self.old.stored.pool self.new.stored.pool page) }
     {
         let acknowledged = self.control.acknowledged();
         match self.pool.flush_one(page, acknowledged) {
@@ -573,6 +578,7 @@ impl<D: BlockDisk> Store<D> {
         requires { self.old.stored.broken ≡ false }
         ensures ok { OnOk result (SyncsDevice self.old.stored self.new.stored) }
         ensures err { IfErr result (λ f. (f ≡ fault.Device) × BreaksSync self.old.stored self.new.stored) }
+        ensures views { OnOk result (ShowsSync self.old.stored.log self.old.stored.pool self.new.stored.pool) }
     {
         match self.pool.sync_pages() {
             Ok(()) => Ok(()),

@@ -1,5 +1,7 @@
-use Rattle.std.proofs.Common.{ap, ◌∙◌}
+use Rattle.std.proofs.Common.{◌≡◌, ap, subst, ◌∙◌}
 use Rattle.als_store.specs.Spare.{Holding}
+use Rattle.als_store.specs.Views.{ShowsSync}
+use Rattle.als_store.proofs.Showing.{shows_sync}
 use Rattle.als_store.proofs.StoredParts.{stored-pool, pool-synced}
 use Rattle.als_store.proofs.store.Store.sync_pages.Goals as goal
 
@@ -11,3 +13,13 @@ invariant_of-self g c =
     stored-pool s.pages s.count s.log s.control s.pool.pool s.validator s.broken h c.sync_pages.new.self.pool s.broken
     (pool-synced s.pages s.log.log s.control.synced.mark.0 s.pool.pool c.sync_pages.new.self.pool s.broken h.paged c.in-Ok.ensures.ok
     (c.in-Ok.ensures.keeps s.log.log s.control.synced.mark.0 (h.paged.sure whole) h.paged.is_pool)) (λ e. e)
+
+pub returns-in-Ok-clause-views : goal.returns-in-Ok-clause-views
+returns-in-Ok-clause-views g c =
+    let s = c.self.inside in
+    let h = c.self.invariant in
+    let new = c.sync_pages.new.self.pool in
+    let whole = ap (λ (x : Holding). x.stored.broken) c.self.view_is ∙ c.requires in
+    let it : ShowsSync s.log.log s.pool.pool new
+    = shows_sync s.log.log s.control.synced.mark.0 s.pool.pool new c.in-Ok.ensures.ok (h.paged.sure whole) h.paged.is_pool in
+    subst (λ (x : Holding). ShowsSync x.stored.log x.stored.pool new) c.self.view_is it

@@ -1,0 +1,88 @@
+-- Redo and the write of a page, refused or not, and what they keep.
+use Rattle.std.proofs.Common.{◌≡◌, ℕ, ◌+◌, ◌≤◌, ◌⊎◌, true, false, [], Option, Some, None, Err, Ok, inl, inr, refl, sym, ap, subst, ◌∙◌, append-nil, arith}
+use Rattle.std.specs.Prelude.{Result, MatchOption}
+use Rattle.als_record.specs.declared.lsn.Lsn.{Lsn}
+use Rattle.als_store.specs.declared.fault.Fault.{Fault as StoreFault}
+use Rattle.als_store.specs.declared.fault.Fault.TheVariants as store_fault
+use Rattle.als_store.specs.Stored.{Stored, acknowledged}
+use Rattle.als_store.specs.Events.{CanApply, AppliesFirst, ReadsInVain, CanFlush, FlushesPage}
+use Rattle.als_engine.specs.declared.fault.Fault.{Fault}
+use Rattle.als_engine.specs.declared.step.Step.{Step}
+use Rattle.als_engine.specs.declared.step.Step.TheVariants as step
+use Rattle.als_engine.specs.Machine.{Machine, IsStopped, Keeps}
+use Rattle.als_engine.specs.Refusals.{refusal, Does}
+use Rattle.als_engine.specs.Events.{Applies, Redoes, FlushesOne, WritesPage}
+use Rattle.als_engine.proofs.KeepLaws.{keeps_equal}
+
+-- an event that is not refused acts
+acting : {A : Type 0} (old : Machine) (event : Step) (acts : Result A Fault → Machine → Type 0) (result : Result A Fault) (new : Machine)
+    → refusal old event ≡ None → acts result new → Does old event acts result new
+acting old event acts result new e does =
+    subst (λ (o : Option Fault). MatchOption o (acts result new) (λ cause. (result ≡ Err cause) × (new ≡ old))) (sym e) does
+
+abbrev with_held : Machine → Stored → Machine
+with_held m held = record m { held = held }
+
+-- ---- redo
+
+apply_not_refused : (m : Machine) (page : ℕ) → m.held.broken ≡ false → CanApply m.held page → refusal m (step.Apply page) ≡ None
+apply_not_refused m page running can = rw (running, can.waiting, can.room) refl
+
+pub applies : (m : Machine) (page : ℕ) (lsn : Lsn) (held : Stored) → m.held.broken ≡ false → AppliesFirst m.held page lsn held → Applies m page (Ok lsn) (record m { held = held })
+applies m page lsn held running done =
+    acting m (step.Apply page) (Redoes m page) (Ok lsn) (with_held m held) (apply_not_refused m page running done.can) (record { held = held; becomes = done; after = refl })
+
+-- ---- images
+
+flush_not_refused : (m : Machine) (page : ℕ) → m.held.broken ≡ false → CanFlush m.held page → refusal m (step.Flush page) ≡ None
+flush_not_refused m page running can = rw (running, can.due, can.logged) refl
+
+pub flushes : (m : Machine) (page : ℕ) (held : Stored) → m.held.broken ≡ false → FlushesPage m.held page held → FlushesOne m page (Ok tt) (record m { held = held })
+flushes m page held running done =
+    acting m (step.Flush page) (WritesPage m page) (Ok tt) (with_held m held) (flush_not_refused m page running done.can) (record { held = held; becomes = done; after = refl })
+
+-- ---- what they keep
+
+-- the same log, the same acknowledged offset, and a stopped engine stays stopped
+keeps_log : (old new : Machine) → acknowledged new.held ≡ acknowledged old.held → new.held.log ≡ old.held.log → (IsStopped old → IsStopped new) → Keeps old new
+keeps_log old new mark log stopped = record { acknowledged = omega (arith, mark); more = []; log = log ∙ sym (append-nil old.held.log); stopped = stopped }
+
+keeps_pool : (old new : Machine) (held : Stored) → new ≡ record old { held = held } → acknowledged held ≡ acknowledged old.held → held.log ≡ old.held.log
+    → (old.held.broken ≡ true → held.broken ≡ true) → Keeps old new
+keeps_pool old new held after mark log stopped = subst (λ (m : Machine). Keeps old m) (sym after) (keeps_log old (with_held old held) mark log stopped)
+
+-- a page that was read in vain: all but the pages is as it was
+in_vain : (old held : Stored) (page : ℕ) (cause : StoreFault) → ReadsInVain old page cause held
+    → (acknowledged held ≡ acknowledged old) × (held.log ≡ old.log) × (held.broken ≡ old.broken) × (held.attempts ≡ old.attempts)
+in_vain old held page store_fault.NothingToDo r = (ap acknowledged r.after, ap (λ (s : Stored). s.log) r.after, ap (λ (s : Stored). s.broken) r.after, ap (λ (s : Stored). s.attempts) r.after)
+in_vain old held page store_fault.Device r = (ap acknowledged r.after, ap (λ (s : Stored). s.log) r.after, ap (λ (s : Stored). s.broken) r.after, ap (λ (s : Stored). s.attempts) r.after)
+in_vain old held page (store_fault.BadPage p) r = (ap acknowledged r.1, ap (λ (s : Stored). s.log) r.1, ap (λ (s : Stored). s.broken) r.1, ap (λ (s : Stored). s.attempts) r.1)
+in_vain old held page store_fault.Memory r = (ap acknowledged r, ap (λ (s : Stored). s.log) r, ap (λ (s : Stored). s.broken) r, ap (λ (s : Stored). s.attempts) r)
+in_vain old held page (store_fault.Invalid c) r = absurd r
+in_vain old held page store_fault.LogBehind r = absurd r
+in_vain old held page store_fault.PoolFull r = absurd r
+in_vain old held page store_fault.LogFull r = absurd r
+
+same_attempts : (old new : Machine) → new ≡ old → new.held.attempts ≤ old.held.attempts + 1
+same_attempts old new is = omega (arith, ap (λ (m : Machine). m.held.attempts) is)
+
+refused_keeps : (old new : Machine) (page : ℕ) (f : Fault) (o : Option Fault) → MatchOption o (Redoes old page (Err f) new) (λ cause. (◌≡◌ {A = Result Lsn Fault} (Err f) (Err cause)) × (new ≡ old))
+    → Keeps old new × (new.held.attempts ≤ old.held.attempts + 1)
+refused_keeps old new page f None r =
+    let v = in_vain old.held r.2.held page r.0 r.2.becomes.reads in
+    (keeps_pool old new r.2.held r.2.after v.0 v.1 (λ s. v.2 ∙ s), omega (arith, ap (λ (m : Machine). m.held.attempts) r.2.after, v.3))
+refused_keeps old new page f (Some cause) r = (keeps_equal old new r.1, same_attempts old new r.1)
+
+pub not_applied_keeps : (old new : Machine) (page : ℕ) (f : Fault) → Applies old page (Err f) new → Keeps old new × (new.held.attempts ≤ old.held.attempts + 1)
+not_applied_keeps old new page f r = refused_keeps old new page f (refusal old (step.Apply page)) r
+
+flush_keeps : (old new : Machine) (page : ℕ) (answer : Result (Unit {0}) Fault) (o : Option Fault) → MatchOption o (WritesPage old page answer new) (λ cause. (answer ≡ Err cause) × (new ≡ old)) → Keeps old new
+flush_keeps old new page (Ok x) None r =
+    keeps_pool old new r.held r.after (ap acknowledged r.becomes.after) (ap (λ (s : Stored). s.log) r.becomes.after) (λ s. ap (λ (h : Stored). h.broken) r.becomes.after ∙ s)
+flush_keeps old new page (Err f) None r =
+    keeps_pool old new r.1.held r.1.after (ap acknowledged r.1.becomes.after) (ap (λ (s : Stored). s.log) r.1.becomes.after) (λ s. ap (λ (h : Stored). h.broken) r.1.becomes.after)
+flush_keeps old new page (Ok x) (Some cause) r = keeps_equal old new r.1
+flush_keeps old new page (Err f) (Some cause) r = keeps_equal old new r.1
+
+pub flushes_keeps : (old new : Machine) (page : ℕ) (answer : Result (Unit {0}) Fault) → FlushesOne old page answer new → Keeps old new
+flushes_keeps old new page answer r = flush_keeps old new page answer (refusal old (step.Flush page)) r
