@@ -8,3 +8,5 @@ pub mod Keeping
 pub mod Lsns
 pub mod PoolLaws
 pub mod Reading
+pub mod Restarting
+pub mod Opened

@@ -3,3 +3,4 @@ pub mod Queues
 pub mod Pooled
 pub mod Outcomes
 pub mod Images
+pub mod Restart
