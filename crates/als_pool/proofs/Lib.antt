@@ -9,3 +9,5 @@ pub mod Lsns
 pub mod PoolLaws
 pub mod Reading
 pub mod Refusing
+pub mod Restarting
+pub mod Opened

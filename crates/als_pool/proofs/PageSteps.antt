@@ -49,7 +49,7 @@ in_lsn r (EndCheckpoint transactions pages) c is = absurd cc
 pub change_lsn : (r : Record) (c : Change) → change_of r ≡ Some c → c.lsn ≡ r.lsn
 change_lsn r c is = in_lsn r r.body c is
 
-first_lsn-push : (cs : List Change) (c : Change) → first_lsn (cs ++ c ∷ []) ≡ first_of (first_lsn cs) c.lsn
+pub first_lsn-push : (cs : List Change) (c : Change) → first_lsn (cs ++ c ∷ []) ≡ first_of (first_lsn cs) c.lsn
 first_lsn-push [] c = refl
 first_lsn-push (d ∷ cs) c = refl
 

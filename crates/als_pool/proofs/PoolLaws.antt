@@ -79,7 +79,7 @@ row_is_exact log below v page h lt was_read =
 
 -- ---- changes that come
 
-next-list : (pages : ℕ) (log : List Record) (page lsn : ℕ) (cs : List Change) → IsLog pages log → changes_above log page lsn ≡ cs → AreNext page lsn cs
+pub next-list : (pages : ℕ) (log : List Record) (page lsn : ℕ) (cs : List Change) → IsLog pages log → changes_above log page lsn ≡ cs → AreNext page lsn cs
 next-list pages log page lsn [] h e = tt
 next-list pages log page lsn (c ∷ rest) h e =
     let above' : IsChangeAbove page lsn (end_of log) c = changes_above-head log page lsn c rest h.laid_out e in
@@ -96,7 +96,7 @@ unfolding end_of
 log-start log = omega arith
 
 -- the page of a record's change is one of the database
-change_inside : (pages : ℕ) (log : List Record) (r : Record) (c : Change) → IsLog pages (log ++ r ∷ []) → r.lsn.0 ≡ end_of log → change_of r ≡ Some c → c.key.page < pages
+pub change_inside : (pages : ℕ) (log : List Record) (r : Record) (c : Change) → IsLog pages (log ++ r ∷ []) → r.lsn.0 ≡ end_of log → change_of r ≡ Some c → c.key.page < pages
 change_inside pages log r c is_log at change =
     let lt : 0 < r.lsn.0 = omega (arith, at, log-start log) in
     let all = changes_above-fit pages (log ++ r ∷ []) c.key.page 0 is_log.records in

@@ -4,3 +4,4 @@ pub mod Pooled
 pub mod Outcomes
 pub mod Images
 pub mod Refusals
+pub mod Restart

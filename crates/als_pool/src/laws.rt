@@ -11,7 +11,11 @@ ghost use Rattle.als_pool.specs.Queues.{total_waiting, pending_of};
 ghost use Rattle.als_pool.specs.Pooled.{Pooled, unread_of, view_of};
 ghost use Rattle.als_pool.specs.Refusals.{has_waiting, is_full, is_due};
 ghost use Rattle.als_pool.specs.Outcomes.{CanRoute};
-ghost use Rattle.als_pool.specs.Images.{IsPoolOf, IsRowSound, IsRowExact, QueuesOf, IsBelow, AllLackFrom};
+ghost use Rattle.als_pool.specs.Queues.{pending_of};
+ghost use Rattle.als_pool.specs.Images.{IsPoolOf, IsRowSound, IsRowExact, QueuesOf, IsBelow, IsFromOn, AllLackFrom};
+ghost use Rattle.als_pool.specs.Restart.{row_in, start_of, HasRowsFrom, IsRowOfRestart, HoldsImagesOf};
+ghost use Rattle.als_record.specs.declared.lsn.Lsn.{Lsn as AnyLsn};
+ghost use Rattle.als_record.specs.declared.rows.LoggedPage.{LoggedPage as AnyRow};
 
 /// A law, the meaning of RecLSN: whatever a crash leaves in the block of a page is an image of it from below the offset up to
 /// which the log survives, which lacks no record of the log below the page's RecLSN, and none where the page has no row.
@@ -65,7 +69,26 @@ pub fn other_records_wait_nowhere()
 /// A law, for a restart: where the whole log was read, and each block has one image that lacks no change below the LSN from which on
 /// its page's changes wait, the pool is that of the log.
 pub fn queues_join_images()
-    ensures { (log : List AnyRecord) (below : ℕ) (pool : Pooled) → pool.frames.pages ≡ length pool.waits
+    ensures joined { (log : List AnyRecord) (below : ℕ) (pool : Pooled) → pool.frames.pages ≡ length pool.waits
         → length pool.unread ≡ length pool.waits → AreFramesOf log (synced_lsn pool.frames) below pool.frames → QueuesOf log pool → AllLackFrom log pool
         → IsPoolOf log below pool }
+    ensures opened { (log : List AnyRecord) (below : ℕ) (pool : Pooled) → HoldsImagesOf log below pool → QueuesOf log pool → IsPoolOf log below pool }
+{}
+
+/// A law, for a restart: the change of the next record of the log can go behind those that its page waits for, if it does not stand
+/// below the LSN from which on they wait.
+pub fn change_can_be_read()
+    ensures { (front : List AnyRecord) (r : AnyRecord) (change : AnyChange) (position : AnyLsn) (rows : List AnyRow) (pool : Pooled) → HasRowsFrom position rows pool
+        → QueuesOf front pool → IsLog pool.frames.pages (front ++ r ∷ []) → r.lsn.0 ≡ end_of front → change_of r ≡ Some change → IsFromOn pool change
+        → total_waiting pool.waits + 1 < 2 ^ 64 → CanRoute pool change }
+{}
+
+/// A law: until a page was read after a restart, its row is the one in the checkpoint that it was opened with, or else the first record of
+/// the log on the page from the checkpoint's position on, none where there is none; and what waits are the page's changes from its row on.
+pub fn unread_rows_are_the_checkpoints()
+    ensures start { (position : AnyLsn) (rows : List AnyRow) (pool : Pooled) (page : ℕ) (from : AnyLsn) → HasRowsFrom position rows pool → page < length pool.waits
+        → unread_of pool.unread page ≡ Some from → from ≡ start_of position rows page }
+    ensures row { (log : List AnyRecord) (below : ℕ) (position : AnyLsn) (rows : List AnyRow) (pool : Pooled) (page : ℕ) (from : AnyLsn) → IsPoolOf log below pool
+        → HasRowsFrom position rows pool → page < length pool.waits → unread_of pool.unread page ≡ Some from
+        → IsRowOfRestart log page from (row_in rows page) (rec_lsn_of pool.dirty page) (pending_of pool.waits page) }
 {}

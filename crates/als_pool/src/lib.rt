@@ -11,6 +11,8 @@ mod queues;
 mod unformatted;
 // What a new pool has in memory.
 mod new_pool;
+// Where what waits for each page begins after a restart.
+mod starts;
 // All pages.
 mod pool;
 // What holds of a pool for every log.
@@ -18,8 +20,9 @@ mod laws;
 
 pub use fault::Fault;
 pub use laws::{
-    change_can_be_routed, each_row_is_exact, each_row_is_sound, mark_changes_nothing,
-    other_records_pass, other_records_wait_nowhere, queues_join_images, refusals_compute,
+    change_can_be_read, change_can_be_routed, each_row_is_exact, each_row_is_sound,
+    mark_changes_nothing, other_records_pass, other_records_wait_nowhere, queues_join_images,
+    refusals_compute, unread_rows_are_the_checkpoints,
 };
 pub use new_pool::NewPool;
 pub use pool::Pool;

@@ -1,4 +1,5 @@
-ghost use Rattle.std.specs.Prelude.{◌≡◌, ◌≢◌, ◌<◌, ◌≤◌, ◌+◌, ℕ, List, [], ◌∷◌, ◌++◌, length, take, slice_set, Contains, Some, None, IsTrue, IsSome, IfSome, IfNone, IsOk, IfOk, IfErr, OnOk, OnErr, ◌↔◌};
+ghost use Rattle.std.specs.Prelude.{◌≡◌, ◌≢◌, ◌<◌, ◌≤◌, ◌+◌, ℕ, List, [], ◌∷◌, ◌++◌, length, take, slice_set, replicate, false, Contains, Some, None, IsTrue, IsSome, IfSome, IfNone, IsOk, IfOk, IfErr, OnOk, OnErr, ◌↔◌};
+ghost use Rattle.std.specs.List.{fold};
 ghost use Rattle.std.specs.Result.{IsErrOf};
 ghost use Rattle.als_record.specs.declared.record.Record.{Record as AnyRecord};
 ghost use Rattle.als_record.specs.LogText.{end_of, IsLog};
@@ -17,10 +18,14 @@ ghost use Rattle.als_pool.specs.Queues.{pending_of, total_waiting, WaitsFirst};
 ghost use Rattle.als_pool.specs.Pooled.{Pooled, unread_of, new_pool, SameLsns, SameLsnsBut, Grows};
 ghost use Rattle.als_pool.specs.Outcomes.{HasPlace, with_place, without_place, CanRoute, with_change, Loads, MakesResident, RefusesLoad, Redoes, Applies, RefusesApply, IsDueAt, StoresPage, Flushes, RefusesFlush, SyncsPages, SyncPagesFails, IsPageNow, RefusesPage, RefusesFormat};
 ghost use Rattle.als_pool.specs.Images.{IsPoolOf, IsRowSound, QueuesOf, IsFromOn};
+ghost use Rattle.als_pool.specs.Restart.{started_at, with_row, IsOpened, HasRowsFrom, HoldsImagesFrom, HoldsImagesOf};
+ghost use Rattle.als_record.specs.declared.lsn.Lsn.{Lsn as AnyLsn};
+ghost use Rattle.als_record.specs.declared.rows.LoggedPage.{LoggedPage as AnyRow};
 
 use crate::fault::Fault;
 use crate::new_pool::NewPool;
 use crate::queues::Queues;
+use crate::starts::Starts;
 use crate::unformatted::Unformatted;
 use als_dirty::DirtyTable;
 use als_disk::BlockDisk;
@@ -128,6 +133,52 @@ impl<D: BlockDisk> Pool<D> {
         }
     }
 
+    /// The pages of a database that was laid out before, as a restart finds them: none was read, at most `frames` can be in memory at
+    /// once, and nothing waits yet. The changes of a page wait from its row in the published checkpoint on, or else from the
+    /// checkpoint's position on; where none is published the position is that of the first record. The device is not called.
+    ///
+    /// An `Err`, the device as it was: a growth was refused.
+    pub fn open(
+        alloc: Global,
+        disk: D,
+        pages: u32,
+        frames: usize,
+        position: Lsn,
+        rows: &[LoggedPage],
+    ) -> Result<Pool<D>, D>
+        requires room { pages ≤ D.block_count disk }
+        requires limit { pages ≤ 4096 }
+        ensures ok { IfOk result (λ p. IsOpened (without_frames pages frames (D.slot disk) (D.block_count disk) (D.failures disk) (D.attempts disk)) position rows.now p.pool) }
+        ensures err { IfErr result (λ d. d ≡ disk) }
+        // No record was read yet; and a page's row is the checkpoint's.
+        ensures reads { IfOk result (λ p. QueuesOf [] p.pool) }
+        ensures given { IfOk result (λ p. HasRowsFrom position rows.now p.pool) }
+        // For every log of whose pages each block has an image which lacks nothing below where its changes wait.
+        ensures holds { IfOk result (λ p. (log : List AnyRecord) (below : ℕ) → HoldsImagesFrom log below pages position rows.now (D.slot disk) → HoldsImagesOf log below p.pool) }
+    {
+        let Ok((starts, queues)) = restarted(alloc, pages, position, rows) else {
+            return Err(disk);
+        };
+        let frames = Frames::open(alloc, disk, pages, frames);
+        let Starts { dirty, unread } = starts;
+        Ok(Pool {
+            frames,
+            dirty,
+            queues,
+            unread,
+        })
+    }
+
+    /// The LSN from which on the changes of a page wait that was not read since a restart; none for one that was, and for no page.
+    pub fn waits_from(&self, page: u32) -> Option<Lsn>
+        ensures { result ≡ unread_of self.now.pool.unread page }
+    {
+        match self.unread.get(page as usize) {
+            Some(from) => *from,
+            None => None,
+        }
+    }
+
     /// Makes room for one more change of a page. An `Err` changes nothing.
     pub fn reserve(&mut self, page: u32) -> Result<(), AllocError>
         requires { page < length self.old.pool.waits }
@@ -153,6 +204,9 @@ impl<D: BlockDisk> Pool<D> {
         // While a log is read at a restart: for every front of it whose changes wait as they should, they do so with a record more.
         ensures reads { (front : List AnyRecord) (r : AnyRecord) → QueuesOf front self.old.pool → r.lsn.0 ≡ end_of front → change_of r ≡ Some change
             → IsFromOn self.old.pool change → QueuesOf (front ++ r ∷ []) self.new.pool }
+        ensures holds { (log : List AnyRecord) (below : ℕ) → HoldsImagesOf log below self.old.pool → HoldsImagesOf log below self.new.pool }
+        // The rows of unread pages stay those of the checkpoint.
+        ensures given { (position : AnyLsn) (rows : List AnyRow) → HasRowsFrom position rows self.old.pool → HasRowsFrom position rows self.new.pool }
     {
         self.add(change);
     }
@@ -186,6 +240,8 @@ impl<D: BlockDisk> Pool<D> {
         ensures others { (log : List AnyRecord) (below : ℕ) → IsPoolOf log below self.old.pool → SameLsnsBut page self.old.pool self.new.pool }
         ensures grows { (log : List AnyRecord) (below : ℕ) → IsPoolOf log below self.old.pool → Grows self.old.pool self.new.pool }
         ensures sound { (log : List AnyRecord) (below : ℕ) → IsPoolOf log below self.old.pool → end_of log ≤ end.0 → IsErrOf result (Fault.BadPage page) → ⊥ }
+        // The rows of unread pages stay those of the checkpoint.
+        ensures given { (position : AnyLsn) (rows : List AnyRow) → HasRowsFrom position rows self.old.pool → HasRowsFrom position rows self.new.pool }
     {
         self.redo_waiting(page, end)
     }
@@ -270,6 +326,8 @@ impl<D: BlockDisk> Pool<D> {
         ensures lsns { SameLsns self.old.pool self.new.pool }
         ensures grows { (log : List AnyRecord) (below : ℕ) → acknowledged.0 ≤ below → IsPoolOf log below self.old.pool → Grows self.old.pool self.new.pool }
         ensures room { self.new.room ≡ self.old.room }
+        // The rows of unread pages stay those of the checkpoint.
+        ensures given { (position : AnyLsn) (rows : List AnyRow) → HasRowsFrom position rows self.old.pool → HasRowsFrom position rows self.new.pool }
     {
         self.write_due(page, acknowledged)
     }
@@ -328,6 +386,8 @@ impl<D: BlockDisk> Pool<D> {
         ensures keeps { (log : List AnyRecord) (below : ℕ) → IsTrue self.old.pool.frames.sure → IsPoolOf log below self.old.pool → IsPoolOf log below self.new.pool }
         ensures lsns { (log : List AnyRecord) (below : ℕ) → IsTrue self.old.pool.frames.sure → IsPoolOf log below self.old.pool → SameLsns self.old.pool self.new.pool }
         ensures grows { (log : List AnyRecord) (below : ℕ) → IsTrue self.old.pool.frames.sure → IsPoolOf log below self.old.pool → Grows self.old.pool self.new.pool }
+        // The rows of unread pages stay those of the checkpoint.
+        ensures given { (position : AnyLsn) (rows : List AnyRow) → HasRowsFrom position rows self.old.pool → HasRowsFrom position rows self.new.pool }
     {
         self.sync_all()
     }
@@ -357,6 +417,8 @@ impl<D: BlockDisk> Pool<D> {
         ensures history { IfOk result (λ p. (log : List AnyRecord) (below : ℕ) → IsPoolOf log below self.old.pool
             → state_of p ≡ page_at log page (lsn_now self.old.pool.frames page)) }
         ensures sound { (log : List AnyRecord) (below : ℕ) → IsPoolOf log below self.old.pool → IsErrOf result (Fault.BadPage page) → ⊥ }
+        // The rows of unread pages stay those of the checkpoint.
+        ensures given { (position : AnyLsn) (rows : List AnyRow) → HasRowsFrom position rows self.old.pool → HasRowsFrom position rows self.new.pool }
     {
         self.read_page(page)
     }
@@ -442,4 +504,21 @@ impl<D: BlockDisk> Pool<D> {
         } = self;
         frames.into_disk()
     }
+}
+
+// What a pool has in memory after a restart.
+fn restarted(
+    alloc: Global,
+    pages: u32,
+    position: Lsn,
+    rows: &[LoggedPage],
+) -> Result<(Starts, Queues), AllocError>
+    requires { pages ≤ 4096 }
+    ensures starts { IfOk result (λ r. r.0 ≡ fold with_row (started_at pages position) rows.now) }
+    ensures queues { IfOk result (λ r. r.1 ≡ record { waits = replicate pages []; places = replicate pages false }) }
+{
+    let mut starts = Starts::new(alloc, pages, position)?;
+    starts.take_rows(rows);
+    let queues = Queues::new(alloc, pages)?;
+    Ok((starts, queues))
 }

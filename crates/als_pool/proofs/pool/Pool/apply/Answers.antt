@@ -2,6 +2,7 @@ use Rattle.als_pool.proofs.Keeping.{keeps_apply, never_bad}
 use Rattle.als_pool.proofs.Lsns.{others_apply, apply-spelled}
 use Rattle.std.proofs.Common.{◌≡◌, arith}
 use Rattle.als_frames.specs.Images.{synced_lsn}
+use Rattle.als_pool.proofs.Restarting.{rows-apply}
 use Rattle.als_pool.proofs.pool.Pool.apply.Goals as goal
 
 pub returns-clause-keeps : goal.returns-clause-keeps
@@ -21,3 +22,7 @@ returns-clause-grows g c log below h p lt =
 pub returns-clause-sound : goal.returns-clause-sound
 returns-clause-sound g c log below h le is =
     never_bad log below c.redo_waiting.result c.args.self.now c.redo_waiting.new.self c.args.page c.args.end.0 c.args.page le c.redo_waiting.ensures.err h is
+
+pub returns-clause-given : goal.returns-clause-given
+returns-clause-given g c position rows h =
+    rows-apply position rows c.redo_waiting.result c.args.self.now c.redo_waiting.new.self c.args.page c.args.end.0 c.redo_waiting.ensures.ok c.redo_waiting.ensures.err h
