@@ -1,12 +1,15 @@
 -- What is kept true of the disk, from one call to the next.
-use Rattle.std.proofs.Common.{◌≡◌, ℕ, ◌≤◌, Bool, true, false, IsTrue, List, [], ◌∷◌, ◌++◌, refl, sym, ap, subst, ◌∙◌, inl, inr}
-use Rattle.std.specs.Prelude.{Contains}
+use Rattle.std.proofs.Common.{◌≡◌, Option, ℕ, ◌≤◌, Bool, true, false, IsTrue, List, [], ◌∷◌, ◌++◌, refl, sym, ap, subst, ◌∙◌, inl, inr}
+use Rattle.std.specs.Prelude.{Contains, ◌⊎◌}
 use Rattle.std.proofs.lemmas.List.Elements.{Contains-append_left, Contains-push, Contains-push_cases}
 use Rattle.als_disk.specs.Slot.{Slot, only, written, FailsToWrite, KeepsReadable}
 use Rattle.als_disk.specs.SlotLaws.{Contains-one, candidates-write, readable-write, candidates-fail}
 use Rattle.als_ckpt.specs.declared.control_state.ControlState.{ControlState}
-use Rattle.als_ckpt.specs.Control.{control_block, IsControlState, IsBlockOf, MarksRise, IsControlled}
-use Rattle.als_ckpt.specs.Kept.{IsKept}
+use Rattle.als_ckpt.specs.Control.{control_block, IsControlState, IsBlockOf, MarksRise, IsControlled, IsApartIf}
+use Rattle.als_ckpt.specs.Kept.{IsKept, IsKeeping}
+use Rattle.als_ckpt.specs.Regions.{Held, Begun, IsPublished, held_at}
+use Rattle.als_ckpt.specs.Holding.{HoldsControl, HoldsOneOf, LeavesOneOf}
+use Rattle.als_ckpt.proofs.HeldLaws.{HoldsPublished-left}
 use Rattle.als_ckpt.proofs.StateLaws.{last_state-push, MarksRise-push, MarksRise-from, MarksRise-to, Contains-last_state}
 
 -- a block of one of the states is a block of one of more states
@@ -86,14 +89,40 @@ module _ (pages log_bytes blocks : ℕ) where
       readable = λ never content has. absurd cc;
     }
 
-  -- what the callers see
-  pub IsControlled-kept : (slot : Slot) (synced newest : ControlState) (since : List ControlState) (sure : Bool) (failures attempts : ℕ)
-      → IsKept slot pages log_bytes blocks synced newest since sure
-      → IsControlled (record { pages = pages; log_bytes = log_bytes; synced = synced; since = since; sure = sure; blocks = blocks; failures = failures; attempts = attempts })
-  IsControlled-kept slot synced newest since sure failures attempts kept = record {
-    room = kept.room;
-    fits = kept.fits;
-    rising = kept.rising;
-    from_synced = λ s has. MarksRise-from synced since s kept.rising has;
-    to_newest = λ s has. MarksRise-to synced since s kept.rising has;
-  }
+-- what the callers see
+pub IsControlled-kept : (slots : ℕ → Slot) (pages log_bytes blocks : ℕ) (synced newest : ControlState) (since : List ControlState) (sure : Bool) (failures attempts : ℕ) (held : Held) (begun : Option Begun)
+    → IsKeeping slots pages log_bytes blocks synced newest since sure held begun
+    → IsControlled (record { pages = pages; log_bytes = log_bytes; synced = synced; since = since; sure = sure; blocks = blocks; failures = failures; attempts = attempts; held = held; begun = begun })
+IsControlled-kept slots pages log_bytes blocks synced newest since sure failures attempts held begun h = record {
+  room = h.states.room;
+  fits = h.states.fits;
+  rising = h.states.rising;
+  from_synced = λ s has. MarksRise-from synced since s h.states.rising has;
+  to_newest = λ s has. MarksRise-to synced since s h.states.rising has;
+  named = h.checkpoints.named;
+  places = λ s has. subst (λ (t : ControlState). (s.published ≡ synced.published) ⊎ (s.published ≡ t.published)) h.states.last (h.checkpoints.places s has);
+  apart = subst (λ (t : ControlState). IsApartIf pages synced t held begun) h.states.last h.checkpoints.apart;
+}
+
+-- what a crash leaves
+pub LeavesOneOf-kept : (slots : ℕ → Slot) (pages log_bytes blocks : ℕ) (synced newest : ControlState) (since : List ControlState) (sure : Bool) (failures attempts : ℕ) (held : Held) (begun : Option Begun)
+    → IsKeeping slots pages log_bytes blocks synced newest since sure held begun
+    → LeavesOneOf (record { pages = pages; log_bytes = log_bytes; synced = synced; since = since; sure = sure; blocks = blocks; failures = failures; attempts = attempts; held = held; begun = begun }) slots
+LeavesOneOf-kept slots pages log_bytes blocks synced newest since sure failures attempts held begun h left keeps =
+    let block : IsBlockOf pages (synced ∷ since) (keeps 0).content = h.states.candidates (keeps 0).content (keeps 0).was_candidate in
+    record {
+      state = block.state;
+      among = block.among;
+      holds = record {
+        block = (keeps 0).left ∙ ap only block.spelled;
+        fits = h.states.fits block.state block.among;
+        published = h.checkpoints.named block.state block.among;
+        region = HoldsPublished-left slots left held block.state.published h.checkpoints.regions keeps;
+      };
+    }
+
+-- what the newest state publishes
+pub IsPublished-newest : (slots : ℕ → Slot) (pages log_bytes blocks : ℕ) (synced newest : ControlState) (since : List ControlState) (sure : Bool) (held : Held) (begun : Option Begun)
+    → IsKeeping slots pages log_bytes blocks synced newest since sure held begun → IsPublished pages newest.published newest.position.0 (held_at held newest.published)
+IsPublished-newest slots pages log_bytes blocks synced newest since sure held begun h =
+    h.checkpoints.named newest (subst (Contains (synced ∷ since)) (sym h.states.last) (Contains-last_state synced since))

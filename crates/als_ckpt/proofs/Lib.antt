@@ -1,6 +1,8 @@
 pub mod BlockLaws
-pub mod CheckpointLaws
 pub mod DeviceLaws
+pub mod HeldLaws
+pub mod KeepingLaws
 pub mod KeptLaws
+pub mod RegionLaws
 pub mod StateLaws
 mod WorkedBlocks

@@ -1,11 +1,14 @@
 -- The control block of a database: what it says, its bytes, and what is known of it between two syncs.
-use Rattle.std.specs.Prelude.{◌≡◌, ℕ, ◌+◌, ◌≤◌, Bool, true, List, [], ◌∷◌, ◌++◌, replicate, Option, None, Some, Contains, codes}
+use Rattle.std.specs.Prelude.{◌≡◌, ◌≢◌, ◌⊎◌, ℕ, ◌+◌, ◌≤◌, Bool, true, List, [], ◌∷◌, ◌++◌, replicate, Option, None, Some, Contains, codes}
 use Rattle.std.specs.Int.{w32, w64, to_be_bytes}
 use Rattle.als_ckpt.specs.declared.phase.Phase.{Phase}
 use Rattle.als_ckpt.specs.declared.phase.Phase.TheVariants.{Following, Sealed, Primary}
 use Rattle.als_ckpt.specs.declared.region.Region.{Region}
 use Rattle.als_ckpt.specs.declared.region.Region.TheVariants.{First, Second}
 use Rattle.als_ckpt.specs.declared.control_state.ControlState.{ControlState}
+use Rattle.als_ckpt_codec.specs.declared.checkpoint.Checkpoint.{Checkpoint}
+use Rattle.als_ckpt_codec.specs.Checkpoint.{IsCheckpoint}
+use Rattle.als_ckpt.specs.Regions.{Held, nothing_held, held_in, held_at, with_held, next_region, Said, Begun, IsBegun, IsPublished, block_written, blocks_synced}
 
 -- the byte of a phase
 abbrev pub phase_byte : Phase → ℕ
@@ -57,7 +60,7 @@ first_state = record {
 -- The control block of a database with so many pages and a log device of so many bytes: the state of the last sync, and
 -- each that was written since, that of a failed write too. It is sure where no write has failed since that sync: a read
 -- gives the last state then. The control device has so many blocks, has failed so often, and was called so often to write
--- or to sync.
+-- or to sync. Its regions hold checkpoints whatever a crash leaves, and one may be on its way there.
 pub record Controlled : Type 0 where
   pub pages : ℕ
   pub log_bytes : ℕ
@@ -67,8 +70,10 @@ pub record Controlled : Type 0 where
   pub blocks : ℕ
   pub failures : ℕ
   pub attempts : ℕ
+  pub held : Held
+  pub begun : Option Begun
 
--- a control block of which the synced state alone stands
+-- a control block of which the synced state alone stands, and no checkpoint
 abbrev pub new_control : ℕ → ℕ → ControlState → ℕ → ℕ → ℕ → Controlled
 new_control pages log_bytes state blocks failures attempts = record {
   pages = pages;
@@ -79,6 +84,8 @@ new_control pages log_bytes state blocks failures attempts = record {
   blocks = blocks;
   failures = failures;
   attempts = attempts;
+  held = nothing_held;
+  begun = None;
 }
 
 -- the last of a state and those that follow it
@@ -105,19 +112,81 @@ abbrev pub MarksRise : ControlState → List ControlState → Type 0
 MarksRise state [] = Unit {0}
 MarksRise state (next ∷ rest) = (state.mark.0 ≤ next.mark.0) × MarksRise next rest
 
+-- the state and the checkpoint that it publishes
+abbrev pub said_of : Controlled → ControlState → Said
+said_of control s = record { state = s; checkpoint = held_at control.held s.published }
+
+-- the region of the next checkpoint
+abbrev pub free_region : Controlled → Region
+free_region control = next_region (newest control).published
+
+-- A checkpoint can be begun and published: it is one of this database, at a position where a record may stand.
+pub record IsBeginning (pages : ℕ) (c : Checkpoint) : Type 0 where
+  pub is_checkpoint : IsCheckpoint pages c.numbers.position.0 c
+  pub position : 16 ≤ c.numbers.position.0
+
+-- While a checkpoint is begun every state names the same region, and the checkpoint goes to the other one.
+pub record IsApart (pages : ℕ) (synced newest : ControlState) (held : Held) (b : Begun) : Type 0 where
+  pub same : newest.published ≡ synced.published
+  pub apart : b.region ≡ next_region newest.published
+  pub unknown : held_in held b.region ≡ None
+  pub beginning : IsBeginning pages b.checkpoint
+
+-- the same where one is begun
+abbrev pub IsApartIf : ℕ → ControlState → ControlState → Held → Option Begun → Type 0
+IsApartIf pages synced newest held None = Unit {0}
+IsApartIf pages synced newest held (Some b) = IsBegun b × IsApart pages synced newest held b
+
 -- What is true of each control block: a crash leaves a state that the format admits, whose mark is at least that of the
--- synced state and at most that of the newest.
+-- synced state and at most that of the newest. It names the region that the synced state names, or that of the newest, and
+-- that region holds the state's checkpoint.
 pub record IsControlled (control : Controlled) : Type 0 where
   pub room : 321 ≤ control.blocks
   pub fits : (s : ControlState) → IsAmong control s → IsControlState control.log_bytes s
   pub rising : MarksRise control.synced control.since
   pub from_synced : (s : ControlState) → IsAmong control s → control.synced.mark.0 ≤ s.mark.0
   pub to_newest : (s : ControlState) → IsAmong control s → s.mark.0 ≤ (newest control).mark.0
+  pub named : (s : ControlState) → IsAmong control s → IsPublished control.pages s.published s.position.0 (held_at control.held s.published)
+  pub places : (s : ControlState) → IsAmong control s → (s.published ≡ control.synced.published) ⊎ (s.published ≡ (newest control).published)
+  pub apart : IsApartIf control.pages control.synced (newest control) control.held control.begun
 
--- the newest state alone stands, after one sync
+-- the newest state alone stands, and the blocks that are written of a checkpoint, after one sync
 abbrev pub settled : Controlled → Controlled
-settled control = record control { synced = newest control; since = []; attempts = control.attempts + 1 }
+settled control = record control { synced = newest control; since = []; attempts = control.attempts + 1; begun = blocks_synced control.begun }
 
 -- one more state is written, by one write
 abbrev pub with_state : Controlled → ControlState → Controlled
 with_state control s = record control { since = control.since ++ s ∷ []; attempts = control.attempts + 1 }
+
+-- ---- checkpoints
+
+-- no checkpoint can be begun: one is, or the last publish is not synced
+abbrev pub IsBusy : Controlled → Type 0
+IsBusy control = (control.begun ≢ None) ⊎ ((newest control).published ≢ control.synced.published)
+
+-- the state names the region that the newest names, or another one where no checkpoint is begun and the last publish is synced
+abbrev pub MayName : Controlled → ControlState → Type 0
+MayName control s = (s.published ≡ (newest control).published) ⊎ ((control.begun ≡ None) × ((newest control).published ≡ control.synced.published))
+
+-- a checkpoint is begun: none of its blocks is written, and what its region held may go away
+abbrev pub with_begun : Controlled → Checkpoint → Controlled
+with_begun control c = record control {
+  held = with_held control.held (free_region control) None;
+  begun = Some (record { region = free_region control; checkpoint = c; written = 0; synced = 0 });
+}
+
+-- the next block of the checkpoint is written, by one write
+abbrev pub with_next : Controlled → Controlled
+with_next control = record control { begun = block_written control.begun; attempts = control.attempts + 1 }
+
+-- the newest state with another checkpoint
+abbrev pub publishing : ControlState → Begun → ControlState
+publishing s b = record s { published = Some b.region; position = b.checkpoint.numbers.position }
+
+-- the region of a whole checkpoint holds it, and none is begun any more
+abbrev pub with_whole : Controlled → Begun → Controlled
+with_whole control b = record control { held = with_held control.held b.region (Some b.checkpoint); begun = None }
+
+-- the checkpoint is published, by one write
+abbrev pub published : Controlled → Begun → Controlled
+published control b = with_state (with_whole control b) (publishing (newest control) b)

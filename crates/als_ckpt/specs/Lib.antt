@@ -1,5 +1,7 @@
-pub mod Checkpoint
 pub mod Control
 pub mod FaultNames
+pub mod Holding
 pub mod Kept
+pub mod Outcomes
+pub mod Regions
 pub mod Writes

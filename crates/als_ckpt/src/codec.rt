@@ -8,17 +8,11 @@ ghost use Rattle.als_ckpt.specs.declared.control_state.ControlState.{ControlStat
 use crate::control_state::ControlState;
 use crate::phase::Phase;
 use crate::region::Region;
-use als_record::Lsn;
+use als_record::{BLOCK_LEN, FIRST_LSN, Lsn};
 use byteorder::{BigEndian, ByteOrder};
-
-/// How many bytes a block has.
-pub(crate) const BLOCK: usize = 512;
 
 /// What a control block begins with: a text, and version 1.
 static MAGIC: [u8; 10] = *b"ALSCTL01\0\x01";
-
-/// The least LSN of a record.
-const FIRST: u64 = 16;
 
 /// The byte of a phase.
 fn byte_of_phase(phase: Phase) -> u8
@@ -74,7 +68,7 @@ fn is_position(state: &ControlState) -> bool
 {
     match state.published {
         None => state.position.0 == 0,
-        Some(_) => FIRST <= state.position.0 && state.position.0 <= state.mark.0,
+        Some(_) => FIRST_LSN.0 <= state.position.0 && state.position.0 <= state.mark.0,
     }
 }
 
@@ -84,7 +78,8 @@ fn is_seal(state: &ControlState) -> bool
 {
     match state.phase {
         Phase::Following => state.seal.0 == 0,
-        Phase::Sealed | Phase::Primary => FIRST <= state.seal.0 && state.seal.0 <= state.mark.0,
+        Phase::Sealed | Phase::Primary => FIRST_LSN.0 <= state.seal.0
+            && state.seal.0 <= state.mark.0,
     }
 }
 
@@ -92,14 +87,14 @@ fn is_seal(state: &ControlState) -> bool
 fn is_control_state(state: &ControlState, log_bytes: u64) -> bool
     ensures { IsTrue result ↔ IsControlState log_bytes state.now }
 {
-    FIRST <= state.mark.0 && state.mark.0 <= log_bytes && is_position(state) && is_seal(state)
+    FIRST_LSN.0 <= state.mark.0 && state.mark.0 <= log_bytes && is_position(state) && is_seal(state)
 }
 
 /// The control block of a state, for a database of so many pages.
-pub(crate) fn encode(pages: u32, state: &ControlState) -> [u8; BLOCK]
+pub(crate) fn encode(pages: u32, state: &ControlState) -> [u8; BLOCK_LEN]
     ensures { result ≡ control_block pages state.now }
 {
-    let mut block = [0; BLOCK];
+    let mut block = [0; BLOCK_LEN];
     let (front, rest) = block.split_at_mut(10);
     let (kinds, rest) = rest.split_at_mut(2);
     let (at_pages, rest) = rest.split_at_mut(4);
@@ -116,7 +111,7 @@ pub(crate) fn encode(pages: u32, state: &ControlState) -> [u8; BLOCK]
 }
 
 /// The number of 64 bits at a place of a block.
-fn number_at(block: &[u8; BLOCK], at: usize) -> u64
+fn number_at(block: &[u8; BLOCK_LEN], at: usize) -> u64
     requires { at ≤ 504 }
     ensures { result ≡ big_number 8 (drop at block.now) }
 {
@@ -125,7 +120,7 @@ fn number_at(block: &[u8; BLOCK], at: usize) -> u64
 }
 
 /// The state whose fields stand in a block, whatever stands elsewhere in it.
-fn read_fields(block: &[u8; BLOCK]) -> Option<ControlState>
+fn read_fields(block: &[u8; BLOCK_LEN]) -> Option<ControlState>
     ensures { (pages log_bytes : ℕ) (s : AnyState) → log_bytes < 2 ^ 64 → IsControlState log_bytes s
         → block.now ≡ control_block pages s → result ≡ Some s }
 {
@@ -141,7 +136,7 @@ fn read_fields(block: &[u8; BLOCK]) -> Option<ControlState>
 }
 
 /// The control state that a block holds, of a database with so many pages over a log device of so many bytes.
-pub(crate) fn decode(block: &[u8; BLOCK], pages: u32, log_bytes: u64) -> Option<ControlState>
+pub(crate) fn decode(block: &[u8; BLOCK_LEN], pages: u32, log_bytes: u64) -> Option<ControlState>
     ensures found { IfSome result (λ s. (block.now ≡ control_block pages s) × IsControlState log_bytes s) }
     ensures only { (s : AnyState) → IsControlState log_bytes s → block.now ≡ control_block pages s → result ≡ Some s }
 {

@@ -1,18 +1,28 @@
-ghost use Rattle.std.specs.Prelude.{◌≡◌, ◌≢◌, ◌≤◌, ◌<◌, ◌+◌, ◌⊎◌, ℕ, ◌∷◌, List, Contains, true, false, OnOk, OnErr, IfOk, IfErr};
+ghost use Rattle.std.specs.Prelude.{◌≡◌, ◌≢◌, ◌≤◌, ◌<◌, ◌+◌, ◌⊎◌, ℕ, ◌∷◌, List, Contains, true, false, OnOk, OnErr, IfOk, IfErr, IsSomeAnd};
 ghost use Rattle.als_disk.specs.Failures.{CountsFailure};
 ghost use Rattle.als_disk.specs.Slot.{only, IsSettled, SameBlocks};
-ghost use Rattle.als_ckpt.specs.Control.{control_block, first_state, newest, with_state, settled, new_control, IsControlState, IsControlled, IsBlockOf};
+ghost use Rattle.als_ckpt.specs.Control.{control_block, first_state, newest, with_state, settled, new_control, IsControlState, IsControlled, IsBlockOf, MayName, IsBeginning, IsBusy, with_begun, with_next, with_whole};
+ghost use Rattle.als_ckpt.specs.Regions.{IsPublished, held_at, IsWhole};
+ghost use Rattle.als_ckpt.specs.Holding.{LeavesOneOf};
+ghost use Rattle.als_ckpt.specs.Outcomes.{RefusesBegin, RefusesNext, RefusesPublish, HasNext, Publishes};
 ghost use Rattle.als_ckpt.specs.declared.control_state.ControlState.{ControlState as AnyState};
 
+use crate::begun::Begun;
 use crate::control_state::ControlState;
-use crate::device::{read_state, store_first, write_state};
+use crate::device::{store_first, write_state};
 use crate::fault::Fault;
 use crate::phase::Phase;
+use crate::progress::{is_busy, next_block, note_synced, note_written, place_of};
 use crate::refused::Refused;
+use crate::region::Region;
+use crate::regions::Regions;
 use crate::writes::Writes;
+use als_ckpt_codec::{Checkpoint, encode_checkpoint};
 use als_disk::BlockDisk;
 use als_record::Lsn;
+use std::alloc::Global;
 use std::marker::Model;
+use std::snapshot::Snapshot;
 
 /// The control block of a database, on a disk of its own.
 ///
@@ -26,11 +36,13 @@ pub struct Control<D: BlockDisk> {
     synced: ControlState,
     last: ControlState,
     writes: Writes,
+    regions: Regions,
+    begun: Option<Begun>,
 }
 
 impl<D: BlockDisk> Model for Control<D> {
     ghost use Rattle.als_ckpt.specs.Control.{Controlled};
-    ghost use Rattle.als_ckpt.specs.Kept.{IsKept};
+    ghost use Rattle.als_ckpt.specs.Kept.{IsKeeping};
     ghost use Rattle.als_ckpt.specs.Writes.{states_of, is_sure};
 
     ghost Value = { Controlled };
@@ -44,10 +56,12 @@ impl<D: BlockDisk> Model for Control<D> {
       blocks = D.block_count c.disk;
       failures = D.failures c.disk;
       attempts = D.attempts c.disk;
+      held = c.regions;
+      begun = c.begun;
     } };
 
-    ghost invariant = { λ c. IsKept (D.slot c.disk 0) c.pages c.log_bytes (D.block_count c.disk) c.synced c.last
-        (states_of c.writes) (is_sure c.writes) };
+    ghost invariant = { λ c. IsKeeping (D.slot c.disk) c.pages c.log_bytes (D.block_count c.disk) c.synced c.last
+        (states_of c.writes) (is_sure c.writes) c.regions c.begun };
 }
 
 impl<D: BlockDisk> Control<D> {
@@ -72,35 +86,8 @@ impl<D: BlockDisk> Control<D> {
                 synced: state,
                 last: state,
                 writes: Writes::Nothing,
-            }),
-            Err(fault) => Err(Refused { disk, fault }),
-        }
-    }
-
-    /// Reads the control block of a database of so many pages, whose log device has so many bytes. The disk comes back
-    /// with a fault, as it was.
-    ///
-    /// `Device`: the disk failed. `BadControl`: the block is not such a control block.
-    pub fn read(mut disk: D, pages: u32, log_bytes: u64) -> Result<Control<D>, Refused<D>>
-        requires room { 321 ≤ D.block_count disk }
-        requires settled { IsSettled (D.slot disk 0) }
-        ensures ok { IfOk result (λ c. (c ≡ new_control pages log_bytes c.synced (D.block_count disk) (D.failures disk) (D.attempts disk))
-            × (D.slot disk 0 ≡ only (control_block pages c.synced)) × IsControlState log_bytes c.synced) }
-        ensures only { (s : AnyState) → IsControlState log_bytes s → D.slot disk 0 ≡ only (control_block pages s)
-            → IfOk result (λ c. c.synced ≡ s) }
-        ensures bad_control { IfErr result (λ r. r.fault ≡ Fault.BadControl → (D.failures r.disk ≡ D.failures disk)
-            × ((s : AnyState) → IsControlState log_bytes s → D.slot disk 0 ≢ only (control_block pages s))) }
-        ensures device { IfErr result (λ r. r.fault ≡ Fault.Device → D.failures disk < D.failures r.disk) }
-        ensures err { IfErr result (λ r. SameBlocks (D.slot disk) (D.slot r.disk) × (D.block_count r.disk ≡ D.block_count disk)) }
-    {
-        match read_state(&mut disk, pages, log_bytes) {
-            Ok(state) => Ok(Control {
-                disk,
-                pages,
-                log_bytes,
-                synced: state,
-                last: state,
-                writes: Writes::Nothing,
+                regions: Regions::unknown(),
+                begun: None,
             }),
             Err(fault) => Err(Refused { disk, fault }),
         }
@@ -126,6 +113,8 @@ impl<D: BlockDisk> Control<D> {
     fn write(&mut self, state: ControlState) -> Result<(), Fault>
         requires fits { IsControlState self.old.log_bytes state }
         requires rises { (newest self.old).mark.0 ≤ state.mark.0 }
+        requires named { IsPublished self.old.pages state.published state.position.0 (held_at self.old.held state.published) }
+        requires place { MayName self.old state }
         ensures ok { OnOk result (self.new ≡ with_state self.old state) }
         ensures err { OnErr result (self.new ≡ record (with_state self.old state) { sure = false; failures = self.new.failures }) }
         ensures fault { IfErr result (λ fault. fault ≡ Fault.Device) }
@@ -192,13 +181,80 @@ impl<D: BlockDisk> Control<D> {
         self.disk.sync()?;
         self.synced = self.last;
         self.writes = Writes::Nothing;
+        note_synced(&mut self.begun);
         Ok(())
     }
 
-    /// The disk. A crash leaves on it the control block of the synced state, or of one that was written since.
+    /// Begins a checkpoint: its bytes are made, and none is written. It goes to the region that is not published.
+    ///
+    /// `CkptBusy`: one is begun, or the last publish is not synced. `Memory`: a growth was refused.
+    pub fn begin(&mut self, alloc: Global, checkpoint: Checkpoint) -> Result<(), Fault>
+        requires { IsBeginning self.old.pages checkpoint }
+        ensures ok { OnOk result ((IsBusy self.old → ⊥) × (self.new ≡ with_begun self.old checkpoint)) }
+        ensures err { IfErr result (λ f. RefusesBegin f self.old self.new) }
+    {
+        if is_busy(&self.begun, self.last.published, self.synced.published) {
+            return Err(Fault::CkptBusy);
+        }
+        let region = Region::next(self.last.published);
+        let begun = Begun::new(alloc, region, checkpoint)?;
+        self.regions.forget(region);
+        self.begun = Some(begun);
+        Ok(())
+    }
+
+    /// Writes the next block of the checkpoint, by one write of the disk. It takes no memory.
+    ///
+    /// `NothingToDo`: none is begun, or each block is written. `Device`: the disk failed, and the block counts as unwritten.
+    pub fn write_next(&mut self) -> Result<(), Fault>
+        ensures ok { OnOk result (HasNext self.old × (self.new ≡ with_next self.old)) }
+        ensures err { IfErr result (λ f. RefusesNext f self.old self.new) }
+    {
+        let (place, block) = next_block(&self.begun)?;
+        self.disk.write(place, &block)?;
+        note_written(&mut self.begun);
+        Ok(())
+    }
+
+    /// Notes that the region of the checkpoint holds it.
+    fn note_whole(&mut self)
+        requires { IsSomeAnd self.old.begun IsWhole }
+        ensures { IsSomeAnd self.old.begun (λ b. self.new ≡ with_whole self.old b) }
+    {
+        match self.begun.take() {
+            Some(begun) => {
+                let (region, checkpoint) = begun.into_whole();
+                self.regions.hold(region, checkpoint);
+            }
+            None => {}
+        }
+    }
+
+    /// Publishes the checkpoint: writes the control block with its region and position, by one write of the disk. It takes no
+    /// memory.
+    ///
+    /// `NothingToDo`: none is begun. `CkptBusy`: a block of it is not written and synced. `LogBehind`: its position is above the
+    /// acknowledged LSN. `Device`: the disk failed, and the state may have been written or not.
+    pub fn publish(&mut self) -> Result<(), Fault>
+        ensures ok { OnOk result (IsSomeAnd self.old.begun (λ b. Publishes self.old b self.new)) }
+        ensures err { IfErr result (λ f. RefusesPublish f self.old self.new) }
+    {
+        let (region, position) = place_of(&self.begun, self.acknowledged())?;
+        let state = ControlState {
+            published: Some(region),
+            position,
+            ..self.last
+        };
+        self.note_whole();
+        self.write(state)
+    }
+
+    /// The disk. A crash leaves on it the control block of the synced state, or of one that was written since, with the whole
+    /// checkpoint that this state publishes.
     pub fn into_disk(self) -> D
         ensures candidates { (content : List ℕ) → Contains (D.slot result 0).candidates content
             → IsBlockOf self.pages (self.synced ∷ self.since) content }
+        ensures leaves { LeavesOneOf self (D.slot result) }
         ensures facts { IsControlled self }
         ensures count { D.block_count result ≡ self.blocks }
         ensures failures { D.failures result ≡ self.failures }

@@ -3,7 +3,7 @@ ghost use Rattle.als_ckpt.specs.Control.{first_state};
 
 use crate::phase::Phase;
 use crate::region::Region;
-use als_record::Lsn;
+use als_record::{FIRST_LSN, Lsn};
 
 /// What a control block says.
 #[derive(Clone, Copy, Debug, PartialEq, Eq)]
@@ -28,11 +28,12 @@ impl ControlState {
         ControlState {
             phase: Phase::Following,
             published: None,
-            mark: Lsn(16),
+            mark: FIRST_LSN,
             position: Lsn(0),
             seal: Lsn(0),
         }
     }
+
     /// The same state with another mark.
     pub(crate) fn with_mark(self, mark: Lsn) -> ControlState
         ensures { result ≡ record self { mark = mark } }

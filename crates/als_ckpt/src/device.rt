@@ -1,15 +1,16 @@
 // Control blocks on a disk.
 ghost use Rattle.std.specs.Prelude.{◌≡◌, ◌≢◌, ◌≤◌, ◌<◌, ◌+◌, ◌⊎◌, ℕ, IsErrOf, List, Contains, OnOk, OnErr, IfOk, IfErr};
 ghost use Rattle.als_disk.specs.Failures.{CountsFailure};
-ghost use Rattle.als_disk.specs.Slot.{only, written, FailsToWrite, IsSettled, SameBlocks};
+ghost use Rattle.als_disk.specs.Slot.{only, written, FailsToWrite, IsSettled, SameBlocks, SameBlocksBut};
 ghost use Rattle.als_disk.specs.Store.{zeros};
 ghost use Rattle.als_ckpt.specs.Control.{control_block, first_state, IsControlState};
 ghost use Rattle.als_ckpt.specs.declared.control_state.ControlState.{ControlState as AnyState};
 
-use crate::codec::{BLOCK, decode, encode};
+use crate::codec::{decode, encode};
 use crate::control_state::ControlState;
 use crate::fault::Fault;
 use als_disk::BlockDisk;
+use als_record::BLOCK_LEN;
 
 /// Puts zeros into block 0 and syncs the disk, so that no crash leaves a control block any more.
 ///
@@ -24,7 +25,7 @@ pub fn clear<D: BlockDisk>(disk: &mut D) -> Result<(), Fault>
     ensures failures { CountsFailure result (D.failures disk.old) (D.failures disk.new) }
     ensures attempts { OnOk result (D.attempts disk.new ≡ D.attempts disk.old + 2) }
 {
-    disk.write(0, &[0; BLOCK])?;
+    disk.write(0, &[0; BLOCK_LEN])?;
     disk.sync()?;
     Ok(())
 }
@@ -38,6 +39,7 @@ pub(crate) fn write_state<D: BlockDisk>(
     requires { 1 ≤ D.block_count disk.old }
     ensures ok { OnOk result (D.slot disk.new 0 ≡ written (D.slot disk.old 0) (control_block pages state.now)) }
     ensures err { OnErr result (FailsToWrite (D.slot disk.old 0) (D.slot disk.new 0) (control_block pages state.now)) }
+    ensures others { SameBlocksBut 0 (D.slot disk.old) (D.slot disk.new) }
     ensures fault { IfErr result (λ fault. fault ≡ Fault.Device) }
     ensures count { D.block_count disk.new ≡ D.block_count disk.old }
     ensures failures { CountsFailure result (D.failures disk.old) (D.failures disk.new) }
@@ -66,8 +68,10 @@ pub(crate) fn store_first<D: BlockDisk>(disk: &mut D, pages: u32) -> Result<Cont
     Ok(state)
 }
 
-/// The control state that block 0 holds.
-pub(crate) fn read_state<D: BlockDisk>(
+/// The control state that block 0 holds, of a database of so many pages, whose log device has so many bytes.
+///
+/// `Device`: the disk failed. `BadControl`: the block is not such a control block.
+pub fn read_state<D: BlockDisk>(
     disk: &mut D,
     pages: u32,
     log_bytes: u64,
@@ -85,7 +89,7 @@ pub(crate) fn read_state<D: BlockDisk>(
     ensures blocks { SameBlocks (D.slot disk.old) (D.slot disk.new) }
     ensures count { D.block_count disk.new ≡ D.block_count disk.old }
 {
-    let mut block = [0; BLOCK];
+    let mut block = [0; BLOCK_LEN];
     disk.read(0, &mut block)?;
     match decode(&block, pages, log_bytes) {
         Some(state) => Ok(state),

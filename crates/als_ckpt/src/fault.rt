@@ -1,14 +1,15 @@
 ghost use Rattle.std.specs.Prelude.{◌≡◌, Some};
 ghost use Rattle.als_fault.specs.Kinds.{number_of, name_of, text_of};
 ghost use Rattle.als_ckpt.specs.declared.fault.Fault.TheVariants.{Device, Memory as OutOfMemory};
-ghost use Rattle.als_ckpt.specs.FaultNames.{kind_of};
+ghost use Rattle.als_ckpt.specs.FaultNames.{kind_of, of_codec};
 
+use als_ckpt_codec::Fault as CodecFault;
 use als_disk::DeviceError;
 use als_fault::FaultKind;
 use std::alloc::{AllocError, AllocFailed};
 use std::fmt;
 
-/// Why there is no control block, or no checkpoint. The numbers are common to all crates.
+/// Why a call on a control block or a checkpoint is refused. The numbers are common to all crates.
 #[derive(Clone, Copy, Debug, PartialEq, Eq)]
 pub enum Fault {
     /// The device failed.
@@ -18,6 +19,12 @@ pub enum Fault {
     BadControl,
     /// A growth was refused.
     Memory,
+    /// No checkpoint is begun, or each of its blocks is written.
+    NothingToDo,
+    /// A checkpoint is begun, the last publish is not synced, or a block is not written and synced.
+    CkptBusy,
+    /// The checkpoint's position is above the acknowledged LSN.
+    LogBehind,
 }
 
 impl Fault {
@@ -29,6 +36,9 @@ impl Fault {
             Fault::Device => FaultKind::Device,
             Fault::BadControl => FaultKind::BadControl,
             Fault::Memory => FaultKind::Memory,
+            Fault::NothingToDo => FaultKind::NothingToDo,
+            Fault::CkptBusy => FaultKind::CkptBusy,
+            Fault::LogBehind => FaultKind::LogBehind,
         }
     }
 
@@ -79,5 +89,16 @@ impl<T: Drop> From<AllocFailed<T>> for Fault {
 
     fn from(_e: AllocFailed<T>) -> Fault {
         Fault::Memory
+    }
+}
+
+impl From<CodecFault> for Fault {
+    ghost from_gives = { λ fault e. e ≡ of_codec fault };
+
+    fn from(fault: CodecFault) -> Fault {
+        match fault {
+            CodecFault::BadControl => Fault::BadControl,
+            CodecFault::Memory => Fault::Memory,
+        }
     }
 }

@@ -1,5 +1,5 @@
-//! The control block of a database: the stable mark of its log, its phase, and the published checkpoint. And the bytes of a
-//! checkpoint.
+//! The control device of a database: the control block, with the stable mark of its log and its phase, and two regions for
+//! checkpoints, of which the control block names the one that is published.
 #![tactic(auto)]
 
 // Whether the log follows its source, is sealed, or was taken over.
@@ -14,14 +14,14 @@ mod fault;
 mod refused;
 // A control state as the bytes of a block, and back.
 mod codec;
-// What a checkpoint says of its log beside the tables.
-mod numbers;
-// A checkpoint.
-mod checkpoint;
-// Whether the rows of a checkpoint are in order.
-mod checkpoint_rows;
-// A checkpoint as bytes, and back.
-mod checkpoint_codec;
+// What stands in a region.
+mod content;
+// What stands in the two regions.
+mod regions;
+// A checkpoint on its way into a region.
+mod begun;
+// What comes next of a checkpoint that may be begun.
+mod progress;
 // The states written since the last sync.
 mod writes;
 // Control blocks on a disk.
@@ -31,14 +31,11 @@ mod control;
 // That a block is the control block of one state.
 mod laws;
 
-pub use checkpoint::Checkpoint;
-pub use checkpoint_codec::{decode_checkpoint, encode_checkpoint};
 pub use control::Control;
 pub use control_state::ControlState;
-pub use device::clear;
+pub use device::{clear, read_state};
 pub use fault::Fault;
 pub use laws::one_state;
-pub use numbers::Numbers;
 pub use phase::Phase;
 pub use refused::Refused;
 pub use region::Region;

@@ -2,12 +2,9 @@ ghost use Rattle.std.specs.Prelude.{◌≡◌, ◌<◌, ◌≤◌, ◌+◌, IfOk
 ghost use Rattle.als_disk.specs.Slot.{IsSettled};
 ghost use Rattle.als_ckpt.specs.Control.{first_state, new_control};
 
-use crate::{
-    Checkpoint, Control, ControlState, Fault, Numbers, Phase, Refused, Region, clear,
-    decode_checkpoint, encode_checkpoint,
-};
+use crate::{Control, ControlState, Fault, Phase, Refused, Region, clear, read_state};
 use als_disk::{BlockDisk, DeviceError, FailingDisk, Fuse, MemDisk, Restart};
-use als_record::{LoggedPage, LoggedTransaction, Lsn, PageRows, TransId, TransactionRows};
+use als_record::Lsn;
 use std::alloc::Global;
 use std::process::Abort;
 use std::test::Fail;
@@ -46,11 +43,8 @@ fn read_with(alloc: Global, edits: &[(u16, u8)]) -> Result<ControlState, Fault> 
             *place = byte;
         }
     }
-    let disk = disk_of(alloc, &block)?;
-    match Control::read(disk, 4, 4096) {
-        Ok(control) => Ok(control.newest()),
-        Err(refused) => Err(refused.fault),
-    }
+    let mut disk = disk_of(alloc, &block)?;
+    read_state(&mut disk, 4, 4096)
 }
 
 /// The control block of a new database of four pages, over a log of 4,096 bytes. `None`: the device failed.
@@ -182,9 +176,9 @@ fn life(disk: FailingDisk<MemDisk>) -> Result<Lsn, Fault>
     control.sync()?;
     control.write_phase(Phase::Sealed, Lsn(200), Lsn(200))?;
     control.sync()?;
-    let (disk, _) = crashed(control, &[]);
-    let control = Control::read(disk, 4, 4096).map_err(fault_of)?;
-    Ok(control.acknowledged())
+    let (mut disk, _) = crashed(control, &[]);
+    let state = read_state(&mut disk, 4, 4096)?;
+    Ok(state.mark)
 }
 
 /// The life over devices of which this call fails ends so. False also where memory was refused.
@@ -225,10 +219,10 @@ fn left_by(rt: &impl Abort, alloc: Global, pick: u8) -> Option<Lsn> {
     assert_eq!(rt; control.write_mark(Lsn(200)), Err(Fault::Device));
     assert_eq!(rt; control.newest().mark, Lsn(200));
     assert_eq!(rt; control.acknowledged(), Lsn(100));
-    let (disk, used) = crashed(control, &[pick]);
+    let (mut disk, used) = crashed(control, &[pick]);
     assert_eq!(rt; used, 1);
-    let control = Control::read(disk, 4, 4096).ok()?;
-    Some(control.acknowledged())
+    let state = read_state(&mut disk, 4, 4096).ok()?;
+    Some(state.mark)
 }
 
 #[test]
@@ -240,107 +234,5 @@ fn a_failed_write_may_be_left(rt: HostRuntime) {
             None => left_by(&rt, alloc, pick),
         };
         assert_eq!(rt; left, Some(Lsn(mark)));
-    }
-}
-
-fn numbers() -> Numbers {
-    Numbers {
-        position: Lsn(116),
-        greatest: TransId(9),
-        open_checkpoint: Lsn(60),
-        commits: 3,
-        last_commit: Lsn(88),
-    }
-}
-
-/// The 106 bytes of a checkpoint with two rows in each table, and zeros to a block's end.
-fn checkpoint_block(alloc: Global) -> Result<[u8; 512], Fault> {
-    let mut transactions = TransactionRows::new(alloc);
-    for (trans, state) in [(5, 1), (9, 3)] {
-        let row = LoggedTransaction {
-            trans: TransId(trans),
-            state,
-            last: Lsn(100),
-            undo_next: Lsn(72),
-        };
-        if transactions.as_slice().len() < TransactionRows::LIMIT {
-            transactions.push(row)?;
-        }
-    }
-    let mut pages = PageRows::new(alloc);
-    for page in [0, 2] {
-        let row = LoggedPage {
-            page,
-            rec_lsn: Lsn(60),
-        };
-        if pages.as_slice().len() < PageRows::LIMIT {
-            pages.push(row)?;
-        }
-    }
-    let bytes = encode_checkpoint(
-        alloc,
-        Checkpoint {
-            numbers: numbers(),
-            transactions,
-            pages,
-        },
-    )?;
-    let mut block = [0; 512];
-    for at in 0..512usize {
-        if let Some(byte) = bytes.get(at) {
-            block[at] = *byte;
-        }
-    }
-    Ok(block)
-}
-
-/// What is read from the checkpoint's bytes with another byte at a place: the numbers, and how many rows.
-fn read_checkpoint_with(
-    alloc: Global,
-    at: u16,
-    byte: u8,
-) -> Result<(Numbers, usize, usize), Fault> {
-    let mut block = checkpoint_block(alloc)?;
-    if let Some(place) = block.get_mut(at as usize) {
-        *place = byte;
-    }
-    let found = decode_checkpoint(alloc, &mut block, 4, Lsn(116))?;
-    Ok((
-        found.numbers,
-        found.transactions.as_slice().len(),
-        found.pages.as_slice().len(),
-    ))
-}
-
-/// The same, by a second try where memory was refused.
-fn read_again_with(alloc: Global, at: u16, byte: u8) -> Result<(Numbers, usize, usize), Fault> {
-    match read_checkpoint_with(alloc, at, byte) {
-        Err(Fault::Memory) => read_checkpoint_with(alloc, at, byte),
-        read => read,
-    }
-}
-
-#[test]
-fn a_checkpoint_is_read_back(rt: HostRuntime) {
-    assert_eq!(rt; read_again_with(rt.alloc(), 0, 0), Ok((numbers(), 2, 2)));
-    // a byte behind the rows is not looked at
-    assert_eq!(rt; read_again_with(rt.alloc(), 106, 1), Ok((numbers(), 2, 2)));
-    let rows: [(&str, u16, u8); 9] = [
-        ("another position", 7, 117),
-        ("more than 256 transactions", 36, 2),
-        ("more than 4,096 pages", 38, 17),
-        ("no state", 44, 0),
-        ("a state above 3", 44, 4),
-        ("transactions that fall", 64, 4),
-        ("a transaction twice", 64, 5),
-        ("a page twice", 97, 0),
-        ("a page past the database", 97, 4),
-    ];
-    for (what, at, byte) in rows {
-        assert_eq!(rt;
-            read_again_with(rt.alloc(), at, byte),
-            Err(Fault::BadControl),
-            "{what}"
-        );
     }
 }

@@ -1,0 +1,11 @@
+use als_ckpt_codec::Checkpoint;
+use std::snapshot::Snapshot;
+
+/// What a region holds whatever a crash leaves, for clauses alone.
+#[derive(Drop)]
+pub(crate) enum Content {
+    /// No checkpoint is known to stand there.
+    Unknown,
+    /// This one stands there.
+    Whole(Snapshot<Checkpoint>),
+}
