@@ -5,7 +5,6 @@ use Rattle.als_record.specs.LogText.{end_of}
 use Rattle.als_log.specs.Local.{next_written, whole_end}
 use Rattle.als_ckpt.specs.declared.control_state.ControlState.{ControlState}
 use Rattle.als_frames.specs.Outcomes.{NothingIsDue}
-use Rattle.als_pool.specs.Pooled.{Pooled}
 use Rattle.als_pool.specs.Outcomes.{Applies, RefusesApply, Flushes, FlushFails, IsBehind, SyncsPages, SyncPagesFails, ReadRefused}
 use Rattle.als_frames.specs.declared.fault.Fault.TheVariants.{Device as DiskFailed}
 use Rattle.als_pool.specs.declared.fault.Fault.{Fault as PoolFault}

@@ -4,4 +4,5 @@ pub mod Spare
 pub mod Events
 pub mod Devices
 pub mod Formatting
+pub mod Takeover
 pub mod Parts
