@@ -1,5 +1,5 @@
 -- What each call of the pool leaves: how many pages there are, how many changes wait, and what the devices counted.
-use Rattle.std.proofs.Common.{◌≡◌, ℕ, zero, suc, ◌+◌, ◌-◌, ◌<◌, ◌≤◌, ◌⊎◌, Bool, true, false, cond, List, [], ◌∷◌, length, filter, drop, take, Option, Some, None, refl, sym, ap, subst, ◌∙◌, inl, inr, arith, length-drop, length-set}
+use Rattle.std.proofs.Common.{◌≡◌, ℕ, zero, suc, ◌+◌, ◌<◌, ◌≤◌, Bool, List, [], ◌∷◌, length, filter, drop, Option, Some, None, refl, sym, ap, subst, ◌∙◌, inl, inr, arith, length-drop, length-set}
 use Rattle.std.specs.Prelude.{◌++◌, not, slice_set, IfSome, MatchOption}
 use Rattle.std.proofs.lemmas.Bool.{cases_lt}
 use Rattle.std.proofs.lemmas.List.Filters.{length-filter_both}
@@ -11,8 +11,8 @@ use Rattle.als_pool.specs.declared.fault.Fault.{Fault as PoolFault}
 use Rattle.als_pool.specs.declared.fault.Fault.TheVariants as pool_fault
 use Rattle.als_pool.specs.Queues.{pending_of, total_waiting, above}
 use Rattle.als_pool.specs.Pooled.{Pooled, Held}
-use Rattle.als_pool.specs.Outcomes.{Loads, MakesResident, Redoes, Applies, HasAll, NotFetched, RefusesApply, Flushes, RefusesFlush, SyncsPages, SyncPagesFails, CanRoute, with_change}
-use Rattle.als_pool.proofs.QueueLists.{total-set, nothing_past}
+use Rattle.als_pool.specs.Outcomes.{Loads, MakesResident, Redoes, Applies, RefusesApply, CanRoute}
+use Rattle.als_pool.proofs.QueueLists.{total-set}
 use Rattle.als_frames.specs.declared.fault.Fault.TheVariants.{Device as DiskFailed}
 use Rattle.als_pool.specs.Outcomes.{RefusesPage, ReadRefused}
 use Rattle.als_store.specs.declared.fault.Fault.TheVariants as fault

@@ -1,6 +1,6 @@
 -- The parts of a store, after each event.
 use Rattle.std.proofs.Common.{◌≡◌, ℕ, suc, ◌+◌, ◌<◌, ◌≤◌, ◌⊎◌, List, [], ◌∷◌, ◌++◌, length, Option, Some, None, refl, sym, ap, subst, ◌∙◌, inl, inr, arith, length-append, append_assoc}
-use Rattle.std.specs.Prelude.{Bool, ◌^◌, ◌*◌, true, false, slice_set, IfSome, Contains, IsTrue}
+use Rattle.std.specs.Prelude.{Bool, ◌^◌, ◌*◌, true, false, IfSome, Contains, IsTrue}
 use Rattle.std.proofs.lemmas.Bool.{cases_lt, le-leb, lt-leb}
 use Rattle.std.specs.List.{sum_by}
 use Rattle.als_disk.specs.SlotLaws.{Contains-one}
@@ -34,9 +34,11 @@ use Rattle.als_record.specs.Tail as tail
 use Rattle.als_record.specs.Transactions as transactions
 use Rattle.als_record.specs.Tail.{tail_len, reserve_of}
 use Rattle.als_store.specs.Stored.{Stored, formatted, routed, with_records, IsTooLong, FrontsFit}
+use Rattle.als_store.specs.Takeover.{AreTaken}
 use Rattle.als_store.specs.Parts.{IsStored, IsHeldPool, AreMarks, stored_of, spare_of}
 use Rattle.als_store.specs.Spare.{HasSpare}
 use Rattle.als_store.proofs.PoolSteps.{IsCalm, routed_count}
+use Rattle.als_store.proofs.TakeoverLaws.{taken_calm, taken_settled, taken_marked, taken_new}
 
 -- ---- the log
 
@@ -231,12 +233,13 @@ module _ (pages held : ℕ) (l : Local) (c : Controlled) (pool : Pooled) (valida
     held_is = h.held_is;
     few_pages = h.few_pages;
     marks = record { pages = h.marks.pages; bytes = h.marks.bytes; newest_synced = h.marks.newest_synced; fronts = h.marks.fronts };
+    taken = h.taken;
     sure = h.sure;
   })
 
   -- other pages, and perhaps a write or a sync that has failed
-  pub stored-pool : (pool' : Pooled) (broken' : Bool) → IsHeldPool pages l.log c.synced.mark.0 pool' broken' → (broken' ≡ false → broken ≡ false) → IsStored pages l held c pool' validator broken'
-  stored-pool pool' broken' paged whole = record {
+  pub stored-pool : (pool' : Pooled) (broken' : Bool) → IsHeldPool pages l.log c.synced.mark.0 pool' broken' → total_waiting pool'.waits ≤ total_waiting pool.waits → (broken' ≡ false → broken ≡ false) → IsStored pages l held c pool' validator broken'
+  stored-pool pool' broken' paged fewer whole = record {
     log_pages = h.log_pages;
     is_log = h.is_log;
     fit = h.fit;
@@ -245,12 +248,13 @@ module _ (pages held : ℕ) (l : Local) (c : Controlled) (pool : Pooled) (valida
     held_is = h.held_is;
     few_pages = h.few_pages;
     marks = h.marks;
+    taken = taken_calm l.log c.synced c.since (total_waiting pool.waits) h.taken (total_waiting pool'.waits) fewer;
     sure = λ e. h.sure (whole e);
   }
 
   -- pages of which nothing was written or synced
   pub stored-calm : (pool' : Pooled) → IsCalm pool pool' → IsPoolOf l.log c.synced.mark.0 pool' → IsStored pages l held c pool' validator broken
-  stored-calm pool' calm is = stored-pool pool' broken (pool-calm pages l.log c.synced.mark.0 pool pool' broken h.paged calm is) (λ e. e)
+  stored-calm pool' calm is = stored-pool pool' broken (pool-calm pages l.log c.synced.mark.0 pool pool' broken h.paged calm is) calm.few (λ e. e)
 
   log_more : (r : Record) → IsRecord pages r → r.lsn.0 ≡ end_of l.log → IsLog pool.frames.pages (l.log ++ r ∷ [])
   log_more r fits at = subst (λ (n : ℕ). IsLog n (l.log ++ r ∷ [])) (sym (h.paged.is_pool.paged ∙ h.paged.count)) (IsLog-push pages l.log r h.is_log.text fits at)
@@ -268,8 +272,9 @@ module _ (pages held : ℕ) (l : Local) (c : Controlled) (pool : Pooled) (valida
       → end_of l.log + record_len r + reserve_of (l.log ++ r ∷ []) ≤ 512 * l.blocks → l' ≡ record l { log = l.log ++ r ∷ []; room = l'.room } → IsValidatorOf pages validator' (l.log ++ r ∷ [])
       → IfSome (change_of r) (CanRoute pool) → pool' ≡ routed pool (change_of r)
       → ((log : List Record) (below : ℕ) → IsPoolOf log below pool → IsLog pool.frames.pages (log ++ r ∷ []) → r.lsn.0 ≡ end_of log → IsPoolOf (log ++ r ∷ []) below pool')
+      → AreTaken (l.log ++ r ∷ []) c.synced c.since (total_waiting pool'.waits)
       → IsStored pages l' (held + 1) c pool' validator' broken
-  stored-push l' r pool' validator' fits at good left e judged can same keeps =
+  stored-push l' r pool' validator' fits at good left e judged can same keeps taken =
       let k = routed_count pool (change_of r) can in
       subst (λ (x : Local). IsStored pages x (held + 1) c pool' validator' broken) (sym e) (record {
         log_pages = h.log_pages;
@@ -285,6 +290,7 @@ module _ (pages held : ℕ) (l : Local) (c : Controlled) (pool : Pooled) (valida
         held_is = omega (arith, h.held_is, length-append l.log (r ∷ []));
         few_pages = h.few_pages;
         marks = record { pages = h.marks.pages; bytes = h.marks.bytes; newest_synced = h.marks.newest_synced; fronts = λ s among. front-push l.log r s.mark.0 (h.marks.fronts s among) };
+        taken = taken;
         sure = h.sure;
       })
 
@@ -332,12 +338,13 @@ module _ (pages held : ℕ) (l : Local) (c : Controlled) (pool : Pooled) (valida
       newest_synced = omega (arith, h.marks.newest_synced, whole_end-covers l.log l.synced l.written facts.synced_front facts.synced);
       fronts = h.marks.fronts;
     };
+    taken = h.taken;
     sure = h.sure;
   })
 
-  with_control : (c' : Controlled) (broken' : Bool) → c.synced.mark.0 ≤ c'.synced.mark.0 → AreMarks l c' → (broken' ≡ false → c'.sure ≡ true) → IsPoolOf l.log c'.synced.mark.0 pool → (broken' ≡ false → broken ≡ false)
+  with_control : (c' : Controlled) (broken' : Bool) → c.synced.mark.0 ≤ c'.synced.mark.0 → AreMarks l c' → (broken' ≡ false → c'.sure ≡ true) → IsPoolOf l.log c'.synced.mark.0 pool → AreTaken l.log c'.synced c'.since (total_waiting pool.waits) → (broken' ≡ false → broken ≡ false)
       → IsStored pages l held c' pool validator broken'
-  with_control c' broken' rises marks sure is whole = record {
+  with_control c' broken' rises marks sure is taken whole = record {
     log_pages = h.log_pages;
     is_log = h.is_log;
     fit = fit-raised l.blocks c.synced.mark.0 c'.synced.mark.0 l.log rises h.fit;
@@ -346,29 +353,44 @@ module _ (pages held : ℕ) (l : Local) (c : Controlled) (pool : Pooled) (valida
     held_is = h.held_is;
     few_pages = h.few_pages;
     marks = marks;
+    taken = taken;
     sure = sure;
   }
 
   -- a mark written
-  marks-written : (t : ControlState) → IsLocal l → t.mark.0 ≡ l.synced → AreMarks l (with_state c t)
-  marks-written t facts is = record {
+  marks-written : (t : ControlState) → IsLocal l → IsFrontEnd l.log t.mark.0 → t.mark.0 ≤ l.synced → AreMarks l (with_state c t)
+  marks-written t facts front low = record {
     pages = h.marks.pages;
     bytes = h.marks.bytes;
-    newest_synced = omega (arith, ap (λ (s : ControlState). s.mark.0) (last_state-push c.synced c.since t), is);
+    newest_synced = omega (arith, ap (λ (s : ControlState). s.mark.0) (last_state-push c.synced c.since t), low);
     fronts = λ s among. elim (Contains-push_cases (c.synced ∷ c.since) t s among) [
       | inl old ↦ h.marks.fronts s old
-      | inr same ↦ subst (λ (m : ℕ). IsFrontEnd l.log m) (sym is ∙ ap (λ (x : ControlState). x.mark.0) same) facts.synced_front
+      | inr same ↦ subst (λ (x : ControlState). IsFrontEnd l.log x.mark.0) same front
     ];
   }
 
-  pub stored-marked : (c' : Controlled) (t : ControlState) → IsLocal l → t.mark.0 ≡ l.synced → c' ≡ with_state c t → IsStored pages l held c' pool validator broken
-  stored-marked c' t facts is e = subst (λ (x : Controlled). IsStored pages l held x pool validator broken) (sym e) (with_control (with_state c t) broken (omega arith) (marks-written t facts is) h.sure h.paged.is_pool (λ e. e))
+  -- a state written, which goes on from the newest
+  pub stored-written : (c' : Controlled) (t : ControlState) → IsLocal l → IsFrontEnd l.log t.mark.0 → t.mark.0 ≤ l.synced → AreTaken l.log c.synced (c.since ++ t ∷ []) (total_waiting pool.waits) → c' ≡ with_state c t → IsStored pages l held c' pool validator broken
+  stored-written c' t facts front low taken e = subst (λ (x : Controlled). IsStored pages l held x pool validator broken) (sym e) (with_control (with_state c t) broken (omega arith) (marks-written t facts front low) h.sure h.paged.is_pool taken (λ e. e))
 
-  pub stored-torn : (c' : Controlled) (t : ControlState) → IsLocal l → t.mark.0 ≡ l.synced → c' ≡ record (with_state c t) { sure = false; failures = c'.failures } → IsStored pages l held c' pool validator true
-  stored-torn c' t facts is e =
-      let m = marks-written t facts is in
+  pub stored-torn : (c' : Controlled) (t : ControlState) → IsLocal l → IsFrontEnd l.log t.mark.0 → t.mark.0 ≤ l.synced → AreTaken l.log c.synced (c.since ++ t ∷ []) (total_waiting pool.waits) → c' ≡ record (with_state c t) { sure = false; failures = c'.failures } → IsStored pages l held c' pool validator true
+  stored-torn c' t facts front low taken e =
+      let m = marks-written t facts front low in
       subst (λ (x : Controlled). IsStored pages l held x pool validator true) (sym e)
-      (with_control (record (with_state c t) { sure = false; failures = c'.failures }) true (omega arith) (record { pages = m.pages; bytes = m.bytes; newest_synced = m.newest_synced; fronts = m.fronts }) (λ wrong. absurd cc) h.paged.is_pool (λ wrong. absurd cc))
+      (with_control (record (with_state c t) { sure = false; failures = c'.failures }) true (omega arith) (record { pages = m.pages; bytes = m.bytes; newest_synced = m.newest_synced; fronts = m.fronts }) (λ wrong. absurd cc) h.paged.is_pool taken (λ wrong. absurd cc))
+
+  -- the newest state with the synced end as its mark
+  marked_taken : (mark : Lsn) → IsLocal l → mark.0 ≡ l.synced → AreTaken l.log c.synced (c.since ++ record (newest c) { mark = mark } ∷ []) (total_waiting pool.waits)
+  marked_taken mark facts is = taken_marked l.log c.synced c.since (total_waiting pool.waits) h.taken (record (newest c) { mark = mark }) refl refl (omega (arith, is, h.marks.newest_synced)) (omega (arith, is, facts.synced, facts.written))
+
+  synced_front : (mark : Lsn) → IsLocal l → mark.0 ≡ l.synced → IsFrontEnd l.log mark.0
+  synced_front mark facts is = subst (λ (m : ℕ). IsFrontEnd l.log m) (sym is) facts.synced_front
+
+  pub stored-marked : (c' : Controlled) (mark : Lsn) → IsLocal l → mark.0 ≡ l.synced → c' ≡ with_state c (record (newest c) { mark = mark }) → IsStored pages l held c' pool validator broken
+  stored-marked c' mark facts is e = stored-written c' (record (newest c) { mark = mark }) facts (synced_front mark facts is) (omega (arith, is)) (marked_taken mark facts is) e
+
+  pub stored-mark_torn : (c' : Controlled) (mark : Lsn) → IsLocal l → mark.0 ≡ l.synced → c' ≡ record (with_state c (record (newest c) { mark = mark })) { sure = false; failures = c'.failures } → IsStored pages l held c' pool validator true
+  stored-mark_torn c' mark facts is e = stored-torn c' (record (newest c) { mark = mark }) facts (synced_front mark facts is) (omega (arith, is)) (marked_taken mark facts is) e
 
   -- the control device synced
   pub stored-settled : (c' : Controlled) → c' ≡ settled c → c.synced.mark.0 ≤ (newest c).mark.0 → IsPoolOf l.log (newest c).mark.0 pool → IsStored pages l held c' pool validator broken
@@ -377,7 +399,7 @@ module _ (pages held : ℕ) (l : Local) (c : Controlled) (pool : Pooled) (valida
     bytes = h.marks.bytes;
     newest_synced = h.marks.newest_synced;
     fronts = λ s among. subst (λ (x : ControlState). IsFrontEnd l.log x.mark.0) (Contains-one among) (h.marks.fronts (newest c) (last_state-among c.synced c.since));
-  }) h.sure is (λ e. e))
+  }) h.sure is (taken_settled l.log c.synced c.since (total_waiting pool.waits) h.taken) (λ e. e))
 
   -- a write or a sync of the log's device or of the control device has failed
   pub stored-broken : (l' : Local) (c' : Controlled) → IsStored pages l' held c' pool validator broken → IsStored pages l' held c' pool validator true
@@ -390,6 +412,7 @@ module _ (pages held : ℕ) (l : Local) (c : Controlled) (pool : Pooled) (valida
     held_is = s.held_is;
     few_pages = s.few_pages;
     marks = s.marks;
+    taken = s.taken;
     sure = λ wrong. absurd cc;
   }
 
@@ -420,6 +443,7 @@ stored-new pages blocks log_failures log_attempts control_blocks control_failure
         newest_synced = omega arith;
         fronts = λ s among. record { front = []; rest = []; parts = refl; ends = end-nil ∙ ap (λ (x : ControlState). x.mark.0) (Contains-one among) };
       };
+      taken = subst (λ (n : ℕ). AreTaken [] first_state [] n) (sym (ap (λ (v : Pooled). total_waiting v.waits) ep ∙ total-empty pages)) taken_new;
       sure = λ e. refl;
     }))
 

@@ -4,5 +4,6 @@ pub mod Spare
 pub mod Events
 pub mod Devices
 pub mod Formatting
+pub mod Takeover
 pub mod Parts
 pub mod Views

@@ -12,6 +12,7 @@ use Rattle.als_pool.specs.Pooled.{Pooled, Room}
 use Rattle.als_pool.specs.Images.{IsPoolOf}
 use Rattle.als_store.specs.Stored.{Stored, FrontsFit}
 use Rattle.als_store.specs.Spare.{Spare}
+use Rattle.als_store.specs.Takeover.{AreTaken}
 
 -- what a caller sees
 abbrev pub stored_of : ℕ → Local → Controlled → Pooled → Bool → Stored
@@ -63,4 +64,5 @@ pub record IsStored (pages : ℕ) (l : Local) (held : ℕ) (c : Controlled) (poo
   pub held_is : held ≡ length l.log
   pub few_pages : pages ≤ 4096
   pub marks : AreMarks l c
+  pub taken : AreTaken l.log c.synced c.since (total_waiting pool.waits)
   pub sure : broken ≡ false → c.sure ≡ true

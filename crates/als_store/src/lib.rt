@@ -14,6 +14,7 @@ mod laying_out;
 // The log, the control block, the pages and the transaction table.
 mod store;
 
+pub use als_ckpt::Phase;
 pub use disks::Disks;
 pub use fault::Fault;
 pub use store::Store;

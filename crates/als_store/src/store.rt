@@ -21,10 +21,14 @@ ghost use Rattle.als_store.specs.Stored.{Stored, formatted, formatted_pool, ackn
 ghost use Rattle.als_store.specs.Events.{Breaks, FailsToRead, HasUnwritten, WritesLog, SyncsLog, HasUnmarked, WritesMark, BreaksMark, SyncsControl, AppliesFirst, NotApplied, FlushesPage, NotFlushed, SyncsDevice, BreaksSync, FailsToShow};
 ghost use Rattle.als_store.specs.Views.{ShowsRedo, ShowsWrite, ShowsSync};
 ghost use Rattle.als_store.specs.Devices.{AreKept, AreImages};
+ghost use Rattle.als_store.specs.Takeover.{is_following, GoesOn};
 ghost use Rattle.als_store.specs.Formatting.{IsHalfFormatted};
 ghost use Rattle.als_log.specs.Local.{HasRoomFor, next_written, whole_end};
 ghost use Rattle.als_log.specs.Reading.{record_at, HasRowsAt};
 ghost use Rattle.als_log.specs.Outcomes.{ReadFails, AttemptFails};
+
+// The takeover.
+mod takeover;
 
 use crate::disks::Disks;
 use crate::fault::Fault;
@@ -415,12 +419,13 @@ impl<D: BlockDisk> Store<D> {
 
     /// Holds a record that stands at the log's end, of which these are the bytes. It is refused for the first cause why it may
     /// not follow the log, else by LogFull where the log device has no room for it and for the tail that a takeover would then
-    /// append, and by Memory where a growth is refused. An `Err` changes nothing.
+    /// append, and by Memory where a growth is refused. An `Err` changes nothing. A log that was sealed takes no more records.
     #[inline(always)]
     pub fn admit(&mut self, logged: &Record, bytes: &[u8]) -> Result<(), Fault>
         requires fits { IsRecord self.old.stored.pages logged.now }
         requires at { logged.now.lsn.0 ≡ end_of self.old.stored.log }
         requires spelled { bytes.now ≡ spelling logged.now }
+        requires following { is_following self.old.stored ≡ true }
         ensures ok { OnOk result ((first_bad self.old.stored.log logged.now ≡ None) × (self.new.stored ≡ with_records self.old.stored (logged.now ∷ []))) }
         ensures err { OnErr result (self.new.stored ≡ self.old.stored) }
         ensures cause { IfErr result (IsRefused self.old.stored logged.now) }
@@ -511,6 +516,8 @@ impl<D: BlockDisk> Store<D> {
     pub fn ctl_sync(&mut self) -> Result<Lsn, Fault>
         requires { self.old.stored.broken ≡ false }
         ensures ok { IfOk result (λ lsn. SyncsControl self.old.stored lsn self.new.stored) }
+        // Of the synced states the phase never falls, and past Following the seal stays.
+        ensures goes_on { OnOk result (GoesOn self.old.stored.control self.new.stored.control) }
         ensures err { IfErr result (λ f. (f ≡ fault.Device) × Breaks self.old.stored self.new.stored) }
     {
         match self.control.sync() {

@@ -43,11 +43,13 @@ fn admit(
     let before = store.end();
     let logged = commit_at(before, prev);
     let bytes = spelled(rt, alloc, &logged);
+    assert!(rt; store.is_following());
     let answer = store.admit(&logged, bytes.as_slice());
     if answer != Err(Fault::Memory) {
         return answer;
     }
     assert_eq!(rt; store.end(), before);
+    assert!(rt; store.is_following());
     store.admit(&logged, bytes.as_slice())
 }
 
@@ -122,6 +124,7 @@ fn holds(rt: &impl Abort, alloc: Global) -> bool {
     }
     assert_eq!(rt; store.len(), 0);
     let bytes = spelled(rt, alloc, &logged);
+    assert!(rt; store.is_following());
     assert_eq!(rt; store.admit(&logged, bytes.as_slice()), Ok(()));
     assert_eq!(rt; store.len(), 1);
     true
@@ -130,4 +133,70 @@ fn holds(rt: &impl Abort, alloc: Global) -> bool {
 #[test]
 fn a_record_is_held_in_the_room_that_was_made(rt: HostRuntime) {
     assert!(rt; holds(&rt, rt.alloc()) || holds(&rt, rt.alloc()));
+}
+
+/// Seals the log.
+fn seal(rt: &impl Abort, store: &mut Store<MemDisk>) -> Result<(), Fault> {
+    assert!(rt; !store.is_broken());
+    assert!(rt; store.is_following());
+    assert!(rt; store.end().0 <= store.synced().0);
+    store.seal()
+}
+
+/// Holds the next record of the tail, again where memory is refused once: then nothing has changed.
+fn undo(rt: &impl Abort, store: &mut Store<MemDisk>) -> Result<Lsn, Fault> {
+    let before = store.end();
+    assert!(rt; !store.is_following());
+    let answer = store.undo_one();
+    if answer != Err(Fault::Memory) {
+        return answer;
+    }
+    assert_eq!(rt; store.end(), before);
+    assert!(rt; !store.is_following());
+    store.undo_one()
+}
+
+/// Ends the takeover.
+fn finish(rt: &impl Abort, store: &mut Store<MemDisk>) -> Result<(), Fault> {
+    assert!(rt; !store.is_broken());
+    assert!(rt; !store.is_following());
+    assert!(rt; !store.is_primary());
+    assert!(rt; store.is_drained());
+    store.finish()
+}
+
+/// A log with a committed transaction is sealed, its tail is held, and the takeover ends. False: memory was refused, and where that
+/// failed a write the store is broken.
+fn takes_over(rt: &impl Abort, alloc: Global) -> bool {
+    let Ok(mut store) = Store::format(alloc, devices(alloc), 4, 2) else {
+        return false;
+    };
+    assert_eq!(rt; admit(rt, alloc, &mut store, Lsn(0)), Ok(()));
+    assert!(rt; store.phase() == Phase::Following);
+    if stored(rt, &mut store).is_err() || seal(rt, &mut store).is_err() {
+        assert!(rt; store.is_broken());
+        return false;
+    }
+    assert!(rt; store.phase() == Phase::Sealed);
+    assert!(rt; store.has_unended());
+    assert!(rt; !store.is_drained());
+    assert_eq!(rt; undo(rt, &mut store), Ok(Lsn(44)));
+    assert_eq!(rt; undo(rt, &mut store), Err(Fault::NothingToDo));
+    assert_eq!(rt; store.end(), Lsn(72));
+    assert!(rt; !store.has_unended());
+    assert!(rt; !store.is_drained());
+    if stored(rt, &mut store).is_err()
+        || acknowledged(rt, &mut store).is_err()
+        || finish(rt, &mut store).is_err()
+    {
+        assert!(rt; store.is_broken());
+        return false;
+    }
+    assert!(rt; store.phase() == Phase::Primary);
+    true
+}
+
+#[test]
+fn a_takeover_holds_the_tail_and_ends(rt: HostRuntime) {
+    assert!(rt; takes_over(&rt, rt.alloc()) || takes_over(&rt, rt.alloc()));
 }

@@ -1,7 +1,17 @@
-use crate::undo::next_of;
+use crate::next_undo;
 use als_analysis::TransTable;
-use als_record::{Body, Image, Key, Lsn, Record, TransId, Value};
+use als_disk::MemDisk;
+use als_log::{LocalLog, NewLog};
+use als_record::{Body, Image, Key, Lsn, Record, TransId, Value, decode, encode};
+use std::alloc::Global;
 use std::process::Abort;
+
+// A log on a device, and its transaction table.
+#[derive(Drop)]
+struct Held {
+    table: TransTable,
+    log: LocalLog<MemDisk>,
+}
 
 // A value of one byte.
 fn byte(value: u8) -> Image {
@@ -12,38 +22,88 @@ fn byte(value: u8) -> Image {
     }
 }
 
-// An update of a key.
-fn update(lsn: u64, prev: u64, trans: u32, slot: u8, before: Image, after: u8) -> Record {
-    Record {
-        lsn: Lsn(lsn),
+// An update of a key of page 0.
+fn update(slot: u8, before: Image, after: u8) -> Body {
+    Body::Update {
+        key: Key { page: 0, slot },
+        before,
+        after: byte(after),
+    }
+}
+
+// The memory of an empty log of a database of four pages, made again where memory is refused once.
+fn new_log(rt: &impl Abort, alloc: Global) -> NewLog {
+    for _ in 0..2 {
+        if let Ok(new) = NewLog::new(alloc, 4) {
+            return new;
+        }
+    }
+    panic!(rt; "memory is refused twice")
+}
+
+// An empty log on a device of eight blocks. A device in memory fails where a growth is refused, once at most.
+fn empty(rt: &impl Abort, alloc: Global) -> Held {
+    for _ in 0..2 {
+        if let Ok(log) = LocalLog::lay_out(MemDisk::new(alloc, 8), new_log(rt, alloc)) {
+            let table = TransTable::new(alloc);
+            return Held { table, log };
+        }
+    }
+    panic!(rt; "the device fails twice")
+}
+
+// The bytes of a record, spelled again where memory is refused once.
+fn spelled(rt: &impl Abort, alloc: Global, logged: &Record) -> Vec<u8> {
+    for _ in 0..2 {
+        let mut bytes = Vec::new(alloc);
+        if encode(logged, &mut bytes).is_ok() {
+            return bytes;
+        }
+    }
+    panic!(rt; "memory is refused twice")
+}
+
+// Appends a record and notes it, again where memory is refused once.
+fn put(rt: &impl Abort, alloc: Global, held: &mut Held, made: &Record) {
+    let bytes = spelled(rt, alloc, made);
+    let end = held.log.end();
+    assert_eq!(rt; made.lsn, end);
+    match decode(alloc, bytes.as_slice(), end, held.log.pages()) {
+        Ok(Some((logged, _))) => {
+            if held.log.append(&logged, 0).is_err() {
+                assert!(rt; held.log.append(&logged, 0).is_ok());
+            }
+            if held.table.note(&logged.view()).is_err() {
+                assert!(rt; held.table.note(&logged.view()).is_ok());
+            }
+        }
+        _ => panic!(rt; "not a record"),
+    }
+}
+
+// Appends a record of a transaction.
+fn log(rt: &impl Abort, alloc: Global, held: &mut Held, prev: u64, trans: u32, body: Body) {
+    let logged = Record {
+        lsn: held.log.end(),
         prev: Lsn(prev),
         trans: TransId(trans),
-        body: Body::Update {
-            key: Key { page: 0, slot },
-            before,
-            after: byte(after),
-        },
-    }
+        body,
+    };
+    put(rt, alloc, held, &logged);
 }
 
-// Notes a record, again where memory is refused once.
-fn note(rt: &impl Abort, table: &mut TransTable, logged: &Record) {
-    if table.note(&logged.view()).is_err() {
-        assert!(rt; table.note(&logged.view()).is_ok());
-    }
-}
-
-// The next record of the tail stands here, follows that record, and undoes to there; an end undoes to nowhere.
+// The next record of the tail stands here, follows that record, and undoes to there; an end undoes to nowhere. It is appended.
 fn next(
     rt: &impl Abort,
-    table: &mut TransTable,
+    alloc: Global,
+    held: &mut Held,
     lsn: u64,
     trans: u32,
     prev: u64,
     undo_next: Option<u64>,
 ) {
-    match next_of(table.rows(), Lsn(lsn)) {
-        Some(made) => {
+    match next_undo(&held.table, &mut held.log) {
+        Ok(Some(made)) => {
             assert_eq!(rt; made.lsn, Lsn(lsn));
             assert_eq!(rt; made.trans, TransId(trans));
             assert_eq!(rt; made.prev, Lsn(prev));
@@ -52,27 +112,112 @@ fn next(
                 Body::End => assert!(rt; undo_next.is_none()),
                 _ => panic!(rt; "another kind of record"),
             }
-            note(rt, table, &made);
+            put(rt, alloc, held, &made);
         }
-        None => panic!(rt; "no record"),
+        _ => panic!(rt; "no record"),
+    }
+}
+
+// The tail is at its end, and the log ends here.
+fn is_over(rt: &impl Abort, held: &mut Held, end: u64) {
+    assert_eq!(rt; held.log.end(), Lsn(end));
+    match next_undo(&held.table, &mut held.log) {
+        Ok(None) => {}
+        _ => panic!(rt; "one more record"),
+    }
+}
+
+// The key's image after the next compensation.
+fn gives_back(rt: &impl Abort, held: &mut Held, slot: u8, image: Image) {
+    match next_undo(&held.table, &mut held.log) {
+        Ok(Some(made)) => match &made.body {
+            Body::Compensation { key, after, .. } => {
+                assert_eq!(rt; *key, Key { page: 0, slot });
+                assert!(rt; *after == image);
+            }
+            _ => panic!(rt; "another kind of record"),
+        },
+        _ => panic!(rt; "no record"),
     }
 }
 
 #[test]
 fn two_losers_are_undone_in_one_sweep(rt: HostRuntime) {
-    let mut table = TransTable::new(rt.alloc());
-    assert!(rt; next_of(table.rows(), Lsn(16)).is_none());
-    note(&rt, &mut table, &update(16, 0, 1, 0, None, 0x11));
-    note(&rt, &mut table, &update(52, 0, 2, 1, None, 0x22));
-    note(&rt, &mut table, &update(88, 16, 1, 0, byte(0x11), 0x33));
-    note(&rt, &mut table, &update(125, 52, 2, 3, None, 0x44));
-    note(&rt, &mut table, &update(161, 88, 1, 2, None, 0x55));
-    next(&rt, &mut table, 197, 1, 161, Some(88));
-    next(&rt, &mut table, 239, 2, 125, Some(52));
-    next(&rt, &mut table, 281, 1, 197, Some(16));
-    next(&rt, &mut table, 324, 2, 239, Some(0));
-    next(&rt, &mut table, 366, 2, 324, None);
-    next(&rt, &mut table, 394, 1, 281, Some(0));
-    next(&rt, &mut table, 436, 1, 394, None);
-    assert!(rt; next_of(table.rows(), Lsn(464)).is_none());
+    let a = rt.alloc();
+    let mut held = empty(&rt, a);
+    is_over(&rt, &mut held, 16);
+    log(&rt, a, &mut held, 0, 1, update(0, None, 0x11));
+    log(&rt, a, &mut held, 0, 2, update(1, None, 0x22));
+    log(&rt, a, &mut held, 16, 1, update(0, byte(0x11), 0x33));
+    log(&rt, a, &mut held, 52, 2, update(3, None, 0x44));
+    log(&rt, a, &mut held, 88, 1, update(2, None, 0x55));
+    next(&rt, a, &mut held, 197, 1, 161, Some(88));
+    next(&rt, a, &mut held, 239, 2, 125, Some(52));
+    gives_back(&rt, &mut held, 0, byte(0x11));
+    next(&rt, a, &mut held, 281, 1, 197, Some(16));
+    next(&rt, a, &mut held, 324, 2, 239, Some(0));
+    next(&rt, a, &mut held, 366, 2, 324, None);
+    next(&rt, a, &mut held, 394, 1, 281, Some(0));
+    next(&rt, a, &mut held, 436, 1, 394, None);
+    is_over(&rt, &mut held, 464);
+}
+
+#[test]
+fn three_losers_are_undone_in_one_sweep_behind_the_ends(rt: HostRuntime) {
+    let a = rt.alloc();
+    let mut held = empty(&rt, a);
+    log(&rt, a, &mut held, 0, 1, update(0, None, 0x11));
+    log(&rt, a, &mut held, 0, 2, update(1, None, 0x22));
+    log(&rt, a, &mut held, 0, 3, update(2, None, 0x33));
+    log(&rt, a, &mut held, 0, 4, Body::Commit);
+    log(&rt, a, &mut held, 0, 5, Body::Rollback);
+    log(&rt, a, &mut held, 52, 2, update(3, None, 0x44));
+    log(&rt, a, &mut held, 16, 1, update(4, None, 0x55));
+    next(&rt, a, &mut held, 252, 4, 124, None);
+    next(&rt, a, &mut held, 280, 5, 152, None);
+    next(&rt, a, &mut held, 308, 1, 216, Some(16));
+    next(&rt, a, &mut held, 350, 2, 180, Some(52));
+    next(&rt, a, &mut held, 392, 3, 88, Some(0));
+    next(&rt, a, &mut held, 434, 3, 392, None);
+    next(&rt, a, &mut held, 462, 2, 350, Some(0));
+    next(&rt, a, &mut held, 504, 2, 462, None);
+    next(&rt, a, &mut held, 532, 1, 308, Some(0));
+    next(&rt, a, &mut held, 574, 1, 532, None);
+    is_over(&rt, &mut held, 602);
+}
+
+#[test]
+fn a_committed_transaction_ends_and_a_loser_is_undone(rt: HostRuntime) {
+    let a = rt.alloc();
+    let mut held = empty(&rt, a);
+    log(&rt, a, &mut held, 0, 1, update(0, None, 0xaa));
+    log(&rt, a, &mut held, 16, 1, Body::Commit);
+    log(&rt, a, &mut held, 0, 2, update(1, None, 0xbb));
+    log(&rt, a, &mut held, 80, 2, update(0, byte(0xaa), 0xcc));
+    next(&rt, a, &mut held, 153, 1, 52, None);
+    gives_back(&rt, &mut held, 0, byte(0xaa));
+    next(&rt, a, &mut held, 181, 2, 116, Some(80));
+    gives_back(&rt, &mut held, 1, None);
+    next(&rt, a, &mut held, 224, 2, 181, Some(0));
+    next(&rt, a, &mut held, 266, 2, 224, None);
+    is_over(&rt, &mut held, 294);
+}
+
+#[test]
+fn what_a_compensation_has_undone_is_passed_over(rt: HostRuntime) {
+    let a = rt.alloc();
+    let mut held = empty(&rt, a);
+    log(&rt, a, &mut held, 0, 1, update(0, None, 0x11));
+    log(&rt, a, &mut held, 16, 1, update(1, None, 0x22));
+    let undone = Body::Compensation {
+        undo_next: Lsn(16),
+        key: Key { page: 0, slot: 1 },
+        after: None,
+    };
+    log(&rt, a, &mut held, 52, 1, undone);
+    log(&rt, a, &mut held, 88, 1, update(2, None, 0x33));
+    next(&rt, a, &mut held, 166, 1, 130, Some(88));
+    next(&rt, a, &mut held, 208, 1, 166, Some(0));
+    next(&rt, a, &mut held, 250, 1, 208, None);
+    is_over(&rt, &mut held, 278);
 }

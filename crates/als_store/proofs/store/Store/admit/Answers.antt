@@ -1,5 +1,5 @@
 use Rattle.std.proofs.Common.{◌≡◌, ℕ, List, ◌+◌, ◌≤◌, ◌∷◌, ◌++◌, [], sym, subst, refl, ap, ◌∙◌, arith, inl, inr}
-use Rattle.std.specs.Prelude.{◌*◌}
+use Rattle.std.specs.Prelude.{◌*◌, true}
 use Rattle.als_record.specs.Spelling.{IsRecord, record_len}
 use Rattle.als_record.specs.declared.record.Record.{Record}
 use Rattle.als_record.specs.LogText.{end_of, IsLog}
@@ -8,10 +8,13 @@ use Rattle.als_record.specs.Pages.{change_of}
 use Rattle.als_record.specs.Validity.{first_bad}
 use Rattle.als_pool.specs.Pooled.{Pooled}
 use Rattle.als_pool.specs.Images.{IsPoolOf}
-use Rattle.als_store.specs.Stored.{Stored, routed}
+use Rattle.als_store.specs.Stored.{routed}
 use Rattle.als_store.specs.Spare.{Holding}
 use Rattle.als_store.specs.Parts.{stored_of}
 use Rattle.als_store.proofs.StoredParts.{can_route_change, valid_push, stored-again, stored-push, view-push, length-below_end, appended, too_long, not_too_long, short_push}
+use Rattle.als_store.proofs.TakeoverLaws.{taken_fed}
+use Rattle.als_pool.specs.Queues.{total_waiting}
+use Rattle.als_store.specs.Takeover.{is_following}
 use Rattle.als_store.proofs.JudgingLaws.{good_from}
 use Rattle.als_store.proofs.store.Store.admit.Goals as goal
 
@@ -65,9 +68,11 @@ invariant_of-self-2 g c =
     let judged = c.admit.ensures s.pages s.log.log judged-room (valid_push s.pages s.log.log r c.self.invariant.is_log fits at good) in
     let can = can_route_change s.pages s.count s.log s.control s.pool.pool s.validator s.broken c.self.invariant r (change_of r) refl fits at (omega (arith, c.end.ensures.facts.fits, c.end.ensures.facts.few)) c.change_can_be_routed.ensures in
     let same = c.in_ok-make_room.ensures.pages in
+    let following = subst (λ (h : Holding). is_following h.stored ≡ true) (sym c.self.view_is) c.requires.following in
     let keeps = subst (λ (v : Pooled). (log : List Record) (below : ℕ) → IsPoolOf log below v → IsLog v.frames.pages (log ++ r ∷ []) → r.lsn.0 ≡ end_of log → IsPoolOf (log ++ r ∷ []) below c.route_change.new.pool.pool) same c.route_change.ensures.keeps in
     stored-push s.pages s.count s.log s.control s.pool.pool s.validator s.broken c.self.invariant c.append.new.log r c.route_change.new.pool.pool c.admit.new.validator fits at good left
     (appended s.log c.make_room.new.log c.append.new.log r c.in_ok-make_room.ensures.log c.append.ensures) judged can (c.route_change.ensures.value ∙ ap (λ (v : Pooled). routed v (change_of r)) same) keeps
+    (taken_fed s.log.log s.control.synced s.control.since (total_waiting s.pool.pool.waits) c.self.invariant.taken r (total_waiting c.route_change.new.pool.pool.waits) following)
 
 pub returns-clause-ok : goal.returns-clause-ok
 returns-clause-ok g c =

@@ -1,4 +1,4 @@
-use Rattle.std.proofs.Common.{ℕ, ◌+◌, refl}
+use Rattle.std.proofs.Common.{◌+◌, refl}
 use Rattle.als_disk.specs.Slot.{only}
 use Rattle.als_disk.specs.Store.{zeros}
 use Rattle.als_frames.specs.Frames.{without_frames}

@@ -1,5 +1,5 @@
 use Rattle.std.proofs.Common.{arith}
-use Rattle.als_store.proofs.StoredParts.{stored-marked, stored-torn}
+use Rattle.als_store.proofs.StoredParts.{stored-marked, stored-mark_torn}
 use Rattle.als_store.proofs.store.Store.mark_write.Goals as goal
 
 pub write_mark-requires-clause-in_log : goal.write_mark-requires-clause-in_log
@@ -15,4 +15,4 @@ invariant_of-self g c =
 pub invariant_of-self-in-Err : goal.invariant_of-self-in-Err
 invariant_of-self-in-Err g c =
     let s = c.self.inside in
-    stored-torn s.pages s.count s.log s.control s.pool.pool s.validator s.broken c.self.invariant c.write_mark.new.self _ c.end.ensures.facts c.synced-synced.ensures c.in-Err.ensures.err
+    stored-mark_torn s.pages s.count s.log s.control s.pool.pool s.validator s.broken c.self.invariant c.write_mark.new.self _ c.end.ensures.facts c.synced-synced.ensures c.in-Err.ensures.err

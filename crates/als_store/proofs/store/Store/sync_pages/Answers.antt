@@ -1,4 +1,6 @@
-use Rattle.std.proofs.Common.{◌≡◌, ap, subst, ◌∙◌}
+use Rattle.std.proofs.Common.{◌≡◌, ap, subst, ◌∙◌, arith}
+use Rattle.als_pool.specs.Queues.{total_waiting}
+use Rattle.als_pool.specs.Pooled.{Pooled}
 use Rattle.als_store.specs.Spare.{Holding}
 use Rattle.als_store.specs.Views.{ShowsSync}
 use Rattle.als_store.proofs.Showing.{shows_sync}
@@ -12,7 +14,7 @@ invariant_of-self g c =
     let whole = ap (λ (x : Holding). x.stored.broken) c.self.view_is ∙ c.requires in
     stored-pool s.pages s.count s.log s.control s.pool.pool s.validator s.broken h c.sync_pages.new.self.pool s.broken
     (pool-synced s.pages s.log.log s.control.synced.mark.0 s.pool.pool c.sync_pages.new.self.pool s.broken h.paged c.in-Ok.ensures.ok
-    (c.in-Ok.ensures.keeps s.log.log s.control.synced.mark.0 (h.paged.sure whole) h.paged.is_pool)) (λ e. e)
+    (c.in-Ok.ensures.keeps s.log.log s.control.synced.mark.0 (h.paged.sure whole) h.paged.is_pool)) (omega (arith, ap (λ (v : Pooled). total_waiting v.waits) c.in-Ok.ensures.ok.same)) (λ e. e)
 
 pub returns-in-Ok-clause-views : goal.returns-in-Ok-clause-views
 returns-in-Ok-clause-views g c =

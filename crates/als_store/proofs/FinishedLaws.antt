@@ -1,0 +1,102 @@
+-- What a finished takeover leaves.
+use Rattle.std.proofs.Common.{◌≡◌, ℕ, ◌-◌, ◌<◌, ◌≤◌, nat_lt, Bool, true, List, [], ◌∷◌, length, filter, map, Option, Some, None, refl, sym, ap, subst, ◌∙◌, inl, inr, arith, lt-ltb}
+use Rattle.std.specs.List.{AllByRecursion}
+use Rattle.std.proofs.lemmas.Bool.{cases_Bool}
+use Rattle.als_record.specs.declared.change.Change.{Change}
+use Rattle.als_record.specs.declared.key.Key.{Key}
+use Rattle.als_record.specs.declared.lsn.Lsn.{Lsn}
+use Rattle.als_record.specs.declared.record.Record.{Record}
+use Rattle.als_record.specs.Images.{won, image_now}
+use Rattle.als_record.specs.Pages.{changes_on, changes_above}
+use Rattle.als_record.specs.Table.{row_of, table_of}
+use Rattle.als_record.specs.Tail.{tail_of}
+use Rattle.als_record.specs.Transactions.{unended}
+use Rattle.als_record.specs.Validity.{IsValidLog}
+use Rattle.als_record.proofs.PageImages.{page_at-image_now}
+use Rattle.als_record.proofs.TailFirst.{unended-tail_of, IsValidLog-front}
+use Rattle.als_record.proofs.Takeover.{tail_of-takes_over, image_now-without_tail}
+use Rattle.als_validator.specs.declared.validator.Validator.{Validator}
+use Rattle.als_log.specs.Local.{Local}
+use Rattle.als_ckpt.specs.declared.phase.Phase.{Phase}
+use Rattle.als_ckpt.specs.Control.{Controlled, newest}
+use Rattle.als_frames.specs.Frames.{Framed, frame_of}
+use Rattle.als_frames.specs.Images.{lsn_or, synced_lsn, lsn_now}
+use Rattle.als_dirty.specs.Entries.{entry_of}
+use Rattle.als_pool.specs.Queues.{total_waiting, pending_of}
+use Rattle.als_pool.specs.Pooled.{Pooled, unread_of}
+use Rattle.als_pool.specs.Images.{IsPageOf}
+use Rattle.als_pool.proofs.QueueLists.{total-set}
+use Rattle.als_store.specs.Takeover.{is_done, IsTaken, IsTakenOver, IsFinished}
+use Rattle.als_store.specs.Parts.{IsStored, stored_of}
+use Rattle.als_store.proofs.TakeoverLaws.{contains_last, done_primary, taken_over-whole}
+
+nothing : {X : Type 0} (xs : List X) → length xs ≤ 0 → xs ≡ []
+nothing [] le = refl
+nothing (x ∷ xs) le = absurd (omega (arith, le))
+
+-- where nothing waits over all pages, nothing waits for any
+none_waits : (waits : List (List Change)) (page : ℕ) → page < length waits → total_waiting waits ≡ 0 → pending_of waits page ≡ []
+none_waits waits page lt none = nothing (pending_of waits page) (omega (arith, none, total-set waits page [] lt))
+
+-- changes from an LSN on are above the one before it
+all_above : (from : ℕ) (cs : List Change) → 1 ≤ from → AllByRecursion (λ c. from ≤ c.lsn.0) cs → filter (λ (c : Change). nat_lt (from - 1) c.lsn.0) cs ≡ cs
+all_above from [] some all = refl
+all_above from (c ∷ cs) some all = rw (lt-ltb (from - 1) c.lsn.0 (omega (arith, some, all.0))) (ap (λ (xs : List Change). c ∷ xs) (all_above from cs some all.1))
+
+filter_twice : (p q : Change → Bool) (cs : List Change) → filter q cs ≡ [] → filter q (filter p cs) ≡ []
+filter_twice p q [] none = refl
+filter_twice p q (c ∷ cs) none = elim (cases_Bool (q c)) [
+  | inl y ↦ let wrong : c ∷ filter q cs ≡ [] = (rw y at none) in absurd (cc wrong)
+  | inr n ↦
+      let rest : filter q cs ≡ [] = (rw n at none) in
+      elim (cases_Bool (p c)) [
+        | inl y ↦ rw y (rw n (filter_twice p q cs rest))
+        | inr z ↦ rw z (filter_twice p q cs rest)
+      ]
+]
+
+-- an unread page for which nothing waits lacks nothing
+lacks_none : (log : List Record) (page synced from : ℕ) → 1 ≤ from → AllByRecursion (λ c. from ≤ c.lsn.0) (changes_above log page synced) → changes_above log page (from - 1) ≡ [] → changes_above log page synced ≡ []
+unfolding changes_above
+lacks_none log page synced from some all none =
+    sym (all_above from (filter (λ (c : Change). nat_lt synced c.lsn.0) (changes_on page log)) some all)
+    ∙ filter_twice (λ (c : Change). nat_lt synced c.lsn.0) (λ (c : Change). nat_lt (from - 1) c.lsn.0) (changes_on page log) none
+
+-- a page for which nothing waits has all that the log has for it
+page_has_all : (log : List Record) (v : Pooled) (page : ℕ) (unread : Option Lsn) → IsPageOf log page (frame_of v.frames page) (synced_lsn v.frames page) (entry_of v.dirty page) (pending_of v.waits page) unread → pending_of v.waits page ≡ []
+    → changes_above log page (lsn_now v.frames page) ≡ []
+page_has_all log v page None is none = sym is.wait ∙ none
+page_has_all log v page (Some from) is none =
+    ap (λ (f : Option Framed). changes_above log page (lsn_or f (synced_lsn v.frames page))) is.absent
+    ∙ lacks_none log page (synced_lsn v.frames page) from.0 (omega (arith, is.first)) is.lacks (sym is.wait ∙ none)
+
+table_none : (log : List Record) → unended log ≡ [] → table_of log ≡ []
+unfolding table_of
+table_none log e = ap (map (row_of log)) e
+
+module _ (pages held : ℕ) (l : Local) (c : Controlled) (pool : Pooled) (validator : Validator) (broken : Bool) (h : IsStored pages l held c pool validator broken) (done : is_done (newest c).phase ≡ true) where
+  over : IsTakenOver l.log (newest c).mark.0 (newest c).seal.0
+  over = subst (λ (p : Phase). IsTaken p l.log (newest c).mark.0 (newest c).seal.0) (done_primary (newest c).phase done) (h.taken.each (newest c) (contains_last c.synced c.since))
+
+  ended : unended l.log ≡ []
+  ended = unended-tail_of l.log (taken_over-whole l.log (newest c).mark.0 (newest c).seal.0 over)
+
+  sealed_valid : IsValidLog pages over.sealed
+  sealed_valid = IsValidLog-front pages over.sealed (tail_of over.sealed) (subst (IsValidLog pages) over.parts h.is_log)
+
+  now_won : (k : Key) → image_now l.log k ≡ won over.sealed k
+  now_won k = ap (λ (log : List Record). image_now log k) over.parts ∙ (tail_of-takes_over over.sealed sealed_valid.valid).images k
+
+  pub finished : IsFinished (stored_of pages l c pool broken)
+  finished = record {
+    sealed = over.sealed;
+    ends = over.ends;
+    parts = over.parts;
+    table = table_none l.log ended;
+    images = λ k in_range low.
+        let lt : k.page < length pool.waits = omega (arith, h.paged.count, in_range) in
+        page_at-image_now l.log k (lsn_now pool.frames k.page) low
+        (page_has_all l.log pool k.page (unread_of pool.unread k.page) (h.paged.is_pool.each k.page lt) (none_waits pool.waits k.page lt (h.taken.drained done)))
+        ∙ now_won k;
+    same = λ k. sym (image_now-without_tail l.log h.is_log.valid ended k) ∙ now_won k;
+  }

@@ -1,0 +1,206 @@
+-- The store when its log is sealed, and when the takeover is done.
+use Rattle.std.proofs.Common.{◌≡◌, ℕ, ◌+◌, ◌<◌, ◌≤◌, Bool, true, false, List, [], ◌∷◌, ◌++◌, length, Option, Some, None, refl, sym, ap, ◌∙◌, arith, append-nil}
+use Rattle.std.specs.Prelude.{◌*◌, ◌==◌, ◌&&◌, not, nat_le, map}
+use Rattle.std.proofs.lemmas.Bool.{and_parts, leb-true, le-leb, lt-leb, ne_eqb}
+use Rattle.als_record.specs.declared.lsn.Lsn.{Lsn}
+use Rattle.als_record.specs.declared.record.Record.{Record}
+use Rattle.als_record.specs.LogText.{end_of}
+use Rattle.als_record.specs.Tail.{tail_of, reserve_of}
+use Rattle.als_record.specs.Transactions.{unended}
+use Rattle.als_record.specs.Spelling.{record_len}
+use Rattle.als_record.specs.Spelling.{IsRecord}
+use Rattle.als_record.specs.Table.{row_of, table_of}
+use Rattle.als_record.specs.Validity.{first_bad}
+use Rattle.als_record.proofs.Validity.{first_bad-admitted}
+use Rattle.als_record.proofs.TailFirst.{tail_of-none, unended-tail_of, room-next, tail_of-admitted, tail_of-IsRecord}
+use Rattle.als_takeover.specs.Next.{first_of}
+use Rattle.als_analysis.specs.Open.{Open, rows_of}
+use Rattle.als_record.proofs.PageLaws.{end_of-push}
+use Rattle.als_validator.specs.declared.validator.Validator.{Validator}
+use Rattle.als_log.specs.Local.{Local, IsLocal, IsFrontEnd}
+use Rattle.als_ckpt.specs.declared.phase.Phase.{Phase}
+use Rattle.als_ckpt.specs.declared.phase.Phase.TheVariants.{Following, Sealed, Primary}
+use Rattle.als_ckpt.specs.declared.region.Region.{Region}
+use Rattle.als_ckpt.specs.Control.{Controlled, newest, phase_byte, IsPosition, IsSeal, IsControlState, IsControlled, with_state}
+use Rattle.als_pool.specs.Queues.{total_waiting}
+use Rattle.als_pool.specs.Pooled.{Pooled}
+use Rattle.als_store.specs.Takeover.{follows, is_done, is_none, IsTakenOver, IsTaken, AreTaken, is_drained}
+use Rattle.als_store.specs.Parts.{IsStored, stored_of}
+use Rattle.als_store.proofs.TakeoverLaws.{contains_last, follows_low, rest_is_tail, taken_written}
+use Rattle.als_store.proofs.StoredParts.{stored-written, stored-torn}
+
+position_raised : (published : Option Region) (mark higher position : ℕ) → mark ≤ higher → IsPosition published mark position → IsPosition published higher position
+position_raised None mark higher position le h = h
+position_raised (Some region) mark higher position le h = let at : position ≤ mark = h.1 in (h.0, omega (arith, le, at))
+
+sealed_seal : (p : Phase) (mark seal : ℕ) → follows p ≡ false → IsSeal p mark seal → IsSeal Primary mark seal
+sealed_seal Following mark seal e h = absurd cc
+sealed_seal Sealed mark seal e h = h
+sealed_seal Primary mark seal e h = h
+
+phase_high : (p : Phase) → phase_byte p ≤ 3
+phase_high Following = omega arith
+phase_high Sealed = omega arith
+phase_high Primary = omega arith
+
+-- a sealed log of which no transaction is unended has its whole tail
+whole_tail : (p : Phase) (log : List Record) (mark seal : ℕ) → follows p ≡ false → is_done p ≡ false → unended log ≡ [] → mark ≡ end_of log → IsTaken p log mark seal → IsTakenOver log mark seal
+whole_tail Following log mark seal e f none at is = absurd cc
+whole_tail Primary log mark seal e f none at is = absurd cc
+whole_tail Sealed log mark seal e f none at is =
+    let rest : is.rest ≡ [] = sym (rest_is_tail log seal is) ∙ tail_of-none log none in
+    let all : is.undone ≡ tail_of is.sealed = sym (append-nil is.undone) ∙ ap (λ (xs : List Record). is.undone ++ xs) (sym rest) ∙ is.tail in
+    record {
+      sealed = is.sealed;
+      parts = is.parts ∙ ap (λ (xs : List Record). is.sealed ++ xs) all;
+      ends = is.ends;
+      whole = at;
+    }
+
+none_is : (ts : List ℕ) → is_none ts ≡ true → ts ≡ []
+none_is [] e = refl
+none_is (t ∷ ts) e = absurd cc
+
+pub record Drained (log : List Record) (waiting acknowledged : ℕ) : Type 0 where
+  pub ended : unended log ≡ []
+  pub waits : waiting ≡ 0
+  pub whole : end_of log ≤ acknowledged
+
+drained_parts : (log : List Record) (waiting acknowledged : ℕ) → (is_none (unended log) && nat_le waiting 0 && nat_le (end_of log) acknowledged) ≡ true → Drained log waiting acknowledged
+drained_parts log waiting acknowledged e =
+    let first = and_parts (is_none (unended log) && nat_le waiting 0) (nat_le (end_of log) acknowledged) e in
+    let second = and_parts (is_none (unended log)) (nat_le waiting 0) first.0 in
+    record { ended = none_is (unended log) second.0; waits = omega (arith, leb-true waiting 0 second.1); whole = leb-true (end_of log) acknowledged first.1 }
+
+first_cons : (rs : List Record) (r : Record) → first_of rs ≡ Some r → (rest : List Record) × (rs ≡ r ∷ rest)
+first_cons [] r e = absurd (cc e)
+first_cons (x ∷ rs) r e = let same : x ≡ r = cc e in (rs, ap (λ (y : Record). y ∷ rs) same)
+
+module _ (pages held : ℕ) (l : Local) (c : Controlled) (pool : Pooled) (validator : Validator) (broken : Bool) (h : IsStored pages l held c pool validator broken) (local : IsLocal l) (controlled : IsControlled c) where
+  now : IsControlState c.log_bytes (newest c)
+  now = controlled.fits (newest c) (contains_last c.synced c.since)
+
+  end_front : (at : Lsn) → at.0 ≡ end_of l.log → IsFrontEnd l.log at.0
+  end_front at is = record { front = l.log; rest = []; parts = sym (append-nil l.log); ends = sym is }
+
+  -- ---- the seal
+
+  pub seal_rises : (end : Lsn) → end.0 ≡ end_of l.log → (newest c).mark.0 ≤ end.0
+  seal_rises end is = omega (arith, is, h.marks.newest_synced, local.synced, local.written)
+
+  pub seal_fits : (end : Lsn) → end.0 ≡ end_of l.log → IsControlState c.log_bytes (record (newest c) { phase = Sealed; mark = end; seal = end })
+  seal_fits end is =
+      let rises : (newest c).mark.0 ≤ end.0 = seal_rises end is in
+      record {
+        begins = omega (arith, now.begins, rises);
+        in_log = omega (arith, is, local.fits, h.marks.bytes);
+        position = position_raised (newest c).published (newest c).mark.0 end.0 (newest c).position.0 rises now.position;
+        seal = (omega (arith, now.begins, rises), omega arith);
+      }
+
+  seal_taken : (end : Lsn) → end.0 ≡ end_of l.log → follows (newest c).phase ≡ true → AreTaken l.log c.synced (c.since ++ record (newest c) { phase = Sealed; mark = end; seal = end } ∷ []) (total_waiting pool.waits)
+  seal_taken end is on = taken_written l.log c.synced c.since (total_waiting pool.waits) h.taken (record (newest c) { phase = Sealed; mark = end; seal = end })
+      (record { phase = omega (arith, follows_low (newest c).phase on); seal = λ past. absurd (omega (arith, past, follows_low (newest c).phase on)) })
+      (record { sealed = l.log; undone = []; rest = tail_of l.log; parts = sym (append-nil l.log); ends = sym is; tail = refl })
+      (λ done. absurd cc)
+
+  pub stored-sealed : (c' : Controlled) (end : Lsn) → end.0 ≡ end_of l.log → end_of l.log ≤ l.synced → follows (newest c).phase ≡ true → c' ≡ with_state c (record (newest c) { phase = Sealed; mark = end; seal = end }) → IsStored pages l held c' pool validator broken
+  stored-sealed c' end is low on e = stored-written pages held l c pool validator broken h c' (record (newest c) { phase = Sealed; mark = end; seal = end }) local (end_front end is) (omega (arith, is, low)) (seal_taken end is on) e
+
+  pub stored-seal_torn : (c' : Controlled) (end : Lsn) → end.0 ≡ end_of l.log → end_of l.log ≤ l.synced → follows (newest c).phase ≡ true → c' ≡ record (with_state c (record (newest c) { phase = Sealed; mark = end; seal = end })) { sure = false; failures = c'.failures } → IsStored pages l held c' pool validator true
+  stored-seal_torn c' end is low on e = stored-torn pages held l c pool validator broken h c' (record (newest c) { phase = Sealed; mark = end; seal = end }) local (end_front end is) (omega (arith, is, low)) (seal_taken end is on) e
+
+  -- ---- the end of a takeover
+
+  pub finish_fits : follows (newest c).phase ≡ false → IsControlState c.log_bytes (record (newest c) { phase = Primary })
+  finish_fits past = record {
+    begins = now.begins;
+    in_log = now.in_log;
+    position = now.position;
+    seal = sealed_seal (newest c).phase (newest c).mark.0 (newest c).seal.0 past now.seal;
+  }
+
+  module _ (past : follows (newest c).phase ≡ false) (unfinished : is_done (newest c).phase ≡ false) (drained : is_drained (stored_of pages l c pool broken) ≡ true) where
+    parts_of : Drained l.log (total_waiting pool.waits) c.synced.mark.0
+    parts_of = drained_parts l.log (total_waiting pool.waits) c.synced.mark.0 drained
+
+    mark_is : (newest c).mark.0 ≡ end_of l.log
+    mark_is = omega (arith, parts_of.whole, controlled.from_synced (newest c) (contains_last c.synced c.since), h.marks.newest_synced, local.synced, local.written)
+
+    finish_taken : AreTaken l.log c.synced (c.since ++ record (newest c) { phase = Primary } ∷ []) (total_waiting pool.waits)
+    finish_taken = taken_written l.log c.synced c.since (total_waiting pool.waits) h.taken (record (newest c) { phase = Primary })
+        (record { phase = phase_high (newest c).phase; seal = λ on. refl })
+        (whole_tail (newest c).phase l.log (newest c).mark.0 (newest c).seal.0 past unfinished parts_of.ended mark_is (h.taken.each (newest c) (contains_last c.synced c.since)))
+        (λ done. parts_of.waits)
+
+    pub stored-finished : (c' : Controlled) → c' ≡ with_state c (record (newest c) { phase = Primary }) → IsStored pages l held c' pool validator broken
+    stored-finished c' e = stored-written pages held l c pool validator broken h c' (record (newest c) { phase = Primary }) local (end_front (newest c).mark mark_is) h.marks.newest_synced finish_taken e
+
+    pub stored-finish_torn : (c' : Controlled) → c' ≡ record (with_state c (record (newest c) { phase = Primary })) { sure = false; failures = c'.failures } → IsStored pages l held c' pool validator true
+    stored-finish_torn c' e = stored-torn pages held l c pool validator broken h c' (record (newest c) { phase = Primary }) local (end_front (newest c).mark mark_is) h.marks.newest_synced finish_taken e
+
+  -- ---- the next record of the tail
+
+  -- it stands at the log's end, fits its spelling and may follow; the device has room for it, and for the rest behind it
+  pub record Next (r : Record) : Type 0 where
+    pub rest : List Record
+    pub first : tail_of l.log ≡ r ∷ rest
+    pub fits : IsRecord pages r
+    pub at : r.lsn.0 ≡ end_of l.log
+    pub good : first_bad l.log r ≡ None
+    pub left : end_of l.log + record_len r + reserve_of (l.log ++ r ∷ []) ≤ 512 * l.blocks
+
+  pub next_of : (r : Record) → first_of (tail_of l.log) ≡ Some r → Next r
+  next_of r e =
+      let f = first_cons (tail_of l.log) r e in
+      let a = tail_of-admitted l.log r f.0 f.1 h.is_log.valid in
+      record {
+        rest = f.0;
+        first = f.1;
+        fits = tail_of-IsRecord pages l.log r f.0 h.is_log (omega (arith, local.fits, local.few)) f.1;
+        at = a.place;
+        good = first_bad-admitted l.log r a;
+        left = omega (
+          arith,
+          end_of-push l.log r,
+          room-next l.log r f.0 f.1,
+          h.fit l.log [] (sym (append-nil l.log)) (omega (arith, controlled.from_synced (newest c) (contains_last c.synced c.since), h.marks.newest_synced, local.synced, local.written)),
+        );
+      }
+
+-- ---- whether a transaction is unended
+
+pub none_first : (log : List Record) → None ≡ first_of (tail_of log) → unended log ≡ []
+none_first log e = unended-tail_of log (no_first (tail_of log) e)
+  where
+    no_first : (rs : List Record) → None ≡ first_of rs → rs ≡ []
+    no_first [] e = refl
+    no_first (r ∷ rs) e = absurd (cc e)
+
+pub some_unended : (log : List Record) (r : Record) (rest : List Record) → tail_of log ≡ r ∷ rest → unended log ≡ [] → ⊥
+some_unended log r rest e none = let wrong : r ∷ rest ≡ [] = sym e ∙ tail_of-none log none in cc wrong
+
+pub rows_empty : (log : List Record) (entries : List Open) → rows_of entries ≡ table_of log → (length entries == 0) ≡ is_none (unended log)
+unfolding table_of
+rows_empty log entries e = go entries (unended log) e
+  where
+    go : (os : List Open) (ts : List ℕ) → rows_of os ≡ map (row_of log) ts → (length os == 0) ≡ is_none ts
+    go [] [] e = refl
+    go [] (t ∷ ts) e = absurd (cc e)
+    go (o ∷ os) [] e = absurd (cc e)
+    go (o ∷ os) (t ∷ ts) e = ne_eqb (length (o ∷ os)) 0 (λ none. omega (arith, none))
+
+-- ---- whether a takeover can end
+
+pub unended_not_drained : (ended waits whole : Bool) → true ≡ not ended → false ≡ (ended && waits && whole)
+unended_not_drained true waits whole e = absurd cc
+unended_not_drained false waits whole e = refl
+
+pub waits_not_drained : (ended : Bool) (waiting : ℕ) (whole : Bool) → 0 < waiting → false ≡ (ended && nat_le waiting 0 && whole)
+waits_not_drained true waiting whole lt = rw (lt-leb waiting 0 lt) refl
+waits_not_drained false waiting whole lt = refl
+
+pub drained_is : (ended : Bool) (waiting end acknowledged end' acknowledged' : ℕ) → false ≡ not ended → waiting ≤ 0 → end' ≡ end → acknowledged' ≡ acknowledged
+    → nat_le end' acknowledged' ≡ (ended && nat_le waiting 0 && nat_le end acknowledged)
+drained_is true waiting end acknowledged end' acknowledged' e le p q = rw (le-leb waiting 0 le, p, q) refl
+drained_is false waiting end acknowledged end' acknowledged' e le p q = absurd cc

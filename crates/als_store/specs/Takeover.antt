@@ -1,0 +1,150 @@
+-- A takeover: the log at its seal, and what of its tail stands behind it.
+use Rattle.std.specs.Prelude.{◌≡◌, ◌≢◌, ℕ, ◌+◌, ◌≤◌, ◌<◌, nat_le, Bool, true, false, ◌&&◌, List, [], ◌∷◌, ◌++◌, Contains, None, slice_index_or}
+use Rattle.als_record.specs.declared.key.Key.{Key}
+use Rattle.als_record.specs.declared.lsn.Lsn.{Lsn}
+use Rattle.als_record.specs.declared.record.Record.{Record}
+use Rattle.als_record.specs.Spelling.{Image}
+use Rattle.als_record.specs.LogText.{end_of}
+use Rattle.als_record.specs.Images.{won}
+use Rattle.als_record.specs.Pages.{page_at}
+use Rattle.als_record.specs.Table.{table_of}
+use Rattle.als_record.specs.Tail.{tail_of}
+use Rattle.als_record.specs.Transactions.{unended}
+use Rattle.als_frames.specs.Images.{lsn_now}
+use Rattle.als_ckpt.specs.declared.phase.Phase.{Phase}
+use Rattle.als_ckpt.specs.declared.phase.Phase.TheVariants.{Following, Sealed, Primary}
+use Rattle.als_ckpt.specs.declared.control_state.ControlState.{ControlState}
+use Rattle.als_ckpt.specs.Control.{phase_byte, last_state}
+use Rattle.als_store.specs.declared.fault.Fault.{Fault}
+use Rattle.als_store.specs.declared.fault.Fault.TheVariants as fault
+use Rattle.als_store.specs.Spare.{Spare, HasSpare}
+use Rattle.als_store.specs.Stored.{Stored, newest, acknowledged, with_records, pending_of}
+
+-- ---- phases
+
+abbrev pub follows : Phase → Bool
+follows Following = true
+follows Sealed = false
+follows Primary = false
+
+abbrev pub is_done : Phase → Bool
+is_done Following = false
+is_done Sealed = false
+is_done Primary = true
+
+-- the log still follows its source: the newest control state is in the first phase
+abbrev pub is_following : Stored → Bool
+is_following s = follows (newest s).phase
+
+-- the takeover is done: the newest control state is in the last phase
+abbrev pub is_primary : Stored → Bool
+is_primary s = is_done (newest s).phase
+
+-- ---- one takeover log
+
+-- the log is the one that was sealed at an offset and a front of its tail; the rest of the tail is still to come
+pub record IsSealed (log : List Record) (seal : ℕ) : Type 0 where
+  pub sealed : List Record
+  pub undone : List Record
+  pub rest : List Record
+  pub parts : log ≡ sealed ++ undone
+  pub ends : end_of sealed ≡ seal
+  pub tail : undone ++ rest ≡ tail_of sealed
+
+-- the log is the one that was sealed at an offset and its whole tail, and the mark is its end
+pub record IsTakenOver (log : List Record) (mark seal : ℕ) : Type 0 where
+  pub sealed : List Record
+  pub parts : log ≡ sealed ++ tail_of sealed
+  pub ends : end_of sealed ≡ seal
+  pub whole : mark ≡ end_of log
+
+abbrev pub IsTaken : Phase → List Record → ℕ → ℕ → Type 0
+IsTaken Following log mark seal = Unit {0}
+IsTaken Sealed log mark seal = IsSealed log seal
+IsTaken Primary log mark seal = IsTakenOver log mark seal
+
+-- what a control state says of the log: past Following the log is the sealed one and a front of its tail, and in Primary its whole
+-- tail, all of it below the mark
+abbrev pub IsTakenFrom : List Record → ControlState → Type 0
+IsTakenFrom log c = IsTaken c.phase log c.mark.0 c.seal.0
+
+-- from one control state to the next the phase does not fall, and past Following the seal stays
+pub record GoesOn (before after : ControlState) : Type 0 where
+  pub phase : phase_byte before.phase ≤ phase_byte after.phase
+  pub seal : 1 < phase_byte before.phase → after.seal ≡ before.seal
+
+-- so it is along the states of a control block
+abbrev pub PhasesRise : ControlState → List ControlState → Type 0
+PhasesRise state [] = Unit {0}
+PhasesRise state (next ∷ rest) = GoesOn state next × PhasesRise next rest
+
+-- What each control state that a crash may leave says is true of the log, phases never fall along them and there is one seal; and
+-- in Primary no change waits for redo.
+pub record AreTaken (log : List Record) (synced : ControlState) (since : List ControlState) (waiting : ℕ) : Type 0 where
+  pub each : (c : ControlState) → Contains (synced ∷ since) c → IsTakenFrom log c
+  pub phases : PhasesRise synced since
+  pub drained : is_done (last_state synced since).phase ≡ true → waiting ≡ 0
+
+abbrev pub IsUnderTakeover : Stored → Type 0
+IsUnderTakeover s = AreTaken s.log s.control s.since (pending_of s)
+
+-- ---- a finished takeover
+
+-- what a key's slot has in its page as it is now
+abbrev pub slot_now : Stored → Key → Image
+slot_now s key = slice_index_or (page_at s.log key.page (lsn_now s.pool.frames key.page)).slots key.slot None
+
+-- The log is the one at the seal with its tail, no transaction is unended, and each slot of each page as it is now has what the
+-- committed transactions left there: those of the log at the seal, which are those of the whole log.
+pub record IsFinished (s : Stored) : Type 0 where
+  pub sealed : List Record
+  pub ends : end_of sealed ≡ (newest s).seal.0
+  pub parts : s.log ≡ sealed ++ tail_of sealed
+  pub table : table_of s.log ≡ []
+  pub images : (key : Key) → key.page < s.pages → key.slot < 15 → slot_now s key ≡ won sealed key
+  pub same : (key : Key) → won s.log key ≡ won sealed key
+
+-- ---- the events
+
+-- one more control state is written, by one write
+pub record WritesState (state : ControlState) (old new : Stored) : Type 0 where
+  pub after : new ≡ record old { since = old.since ++ state ∷ []; attempts = old.attempts + 1 }
+
+-- that write failed: a crash may leave the state all the same
+pub record BreaksState (state : ControlState) (old new : Stored) : Type 0 where
+  pub failed : old.failures < new.failures
+  pub after : new ≡ record old { since = old.since ++ state ∷ []; broken = true; failures = new.failures; attempts = old.attempts + 1 }
+
+-- the newest control state, sealed at the log's end, up to which the log is stable
+abbrev pub sealed_state : Stored → ControlState
+sealed_state s = record (newest s) { phase = Sealed; mark = record { 0 = end_of s.log }; seal = record { 0 = end_of s.log } }
+
+-- the newest control state, with the takeover done
+abbrev pub finished_state : Stored → ControlState
+finished_state s = record (newest s) { phase = Primary }
+
+abbrev pub is_none : List ℕ → Bool
+is_none [] = true
+is_none (t ∷ rest) = false
+
+-- no transaction is unended, no change waits for redo, and the whole log is acknowledged
+abbrev pub is_drained : Stored → Bool
+is_drained s = is_none (unended s.log) && nat_le (pending_of s) 0 && nat_le (end_of s.log) (acknowledged s)
+
+-- the first record of the log's tail is held
+pub record UndoesOne (old : Stored) (lsn : Lsn) (new : Stored) : Type 0 where
+  pub made : Record
+  pub rest : List Record
+  pub first : tail_of old.log ≡ made ∷ rest
+  pub place : lsn ≡ made.lsn
+  pub after : new ≡ with_records old (made ∷ [])
+
+-- no record is held: no transaction is unended, or a growth was refused
+abbrev pub NotUndone : Stored → Fault → Stored → Type 0
+NotUndone old fault.NothingToDo new = (unended old.log ≡ []) × (new ≡ old)
+NotUndone old fault.Memory new = (unended old.log ≢ []) × (new ≡ old)
+NotUndone old fault new = ⊥
+
+-- there is room for the next record of the tail
+abbrev pub HasRoomToUndo : Stored → Spare → Type 0
+HasRoomToUndo s spare = (made : Record) (rest : List Record) → tail_of s.log ≡ made ∷ rest → HasSpare spare made

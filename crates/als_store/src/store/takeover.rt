@@ -1,0 +1,227 @@
+ghost use Rattle.std.specs.Prelude.{◌≡◌, ℕ, ◌≤◌, ◌+◌, true, false, IsTrue, List, [], ◌∷◌, ◌++◌, IfOk, IfErr, OnOk, IfSome, Some, IsOk, not};
+ghost use Rattle.std.specs.Result.{IsErrOf};
+ghost use Rattle.als_record.specs.declared.record.Record.{Record as AnyRecord};
+ghost use Rattle.als_record.specs.Spelling.{record_len, IsRecord};
+ghost use Rattle.als_record.specs.LogText.{end_of};
+ghost use Rattle.als_record.specs.Tail.{tail_of};
+ghost use Rattle.als_record.specs.Transactions.{unended};
+ghost use Rattle.als_store.specs.Stored.{newest, with_records};
+ghost use Rattle.als_store.specs.Spare.{HasSpare};
+ghost use Rattle.als_record.specs.Validity.{is_valid};
+ghost use Rattle.als_validator.specs.Validated.{IsValidatorOf};
+ghost use Rattle.als_log.specs.Local.{HasRoomFor};
+ghost use Rattle.als_takeover.specs.Next.{first_of};
+ghost use Rattle.als_store.specs.declared.fault.Fault.TheVariants as fault;
+ghost use Rattle.als_store.specs.Takeover.{is_following, is_primary, is_drained, is_none, IsUnderTakeover, IsFinished, WritesState, BreaksState, sealed_state, finished_state, UndoesOne, NotUndone, HasRoomToUndo};
+
+use super::{Store, admit, make_room, reserve_after, route_change};
+use crate::fault::Fault;
+use als_ckpt::Phase;
+use als_disk::BlockDisk;
+use als_log::LocalLog;
+use als_pool::change_can_be_routed;
+use als_record::{Lsn, Record, encoded_len};
+use als_takeover::next_undo;
+use als_validator::Validator;
+
+/// The next record of the log's tail.
+fn next_of_tail<D: BlockDisk>(validator: &Validator, log: &mut LocalLog<D>) -> Option<Record>
+    ensures next { (pages : ℕ) → IsTrue (is_valid log.old.log) → IsValidatorOf pages validator.now log.old.log → result ≡ first_of (tail_of log.old.log) }
+    ensures same { log.new ≡ log.old }
+{
+    match next_undo(validator.table(), log) {
+        Ok(next) => next,
+        Err(_) => unreachable!(),
+    }
+}
+
+/// Lets a record go: its drop is proved here alone.
+fn let_go(_logged: Record) {}
+
+/// A transaction of the log is unended.
+fn has_unended(validator: &Validator) -> bool
+    ensures { (pages : ℕ) (log : List AnyRecord) → IsValidatorOf pages validator.now log → result ≡ not (is_none (unended log)) }
+{
+    !validator.rows().is_empty()
+}
+
+/// Appends a record for which there is room on the device and in memory.
+fn append_made<D: BlockDisk>(log: &mut LocalLog<D>, logged: &Record, reserve_after: u64)
+    requires fits { IsRecord log.old.pages logged.now }
+    requires place { logged.now.lsn.0 ≡ end_of log.old.log }
+    requires device { HasRoomFor log.old (record_len logged.now) reserve_after }
+    requires memory { record_len logged.now ≤ log.old.room }
+    ensures { log.new ≡ record log.old { log = log.old.log ++ logged.now ∷ []; room = log.new.room } }
+{
+    match log.append(logged, reserve_after) {
+        Ok(()) => {}
+        Err(_) => unreachable!(),
+    }
+}
+
+impl<D: BlockDisk> Store<D> {
+    /// The log still follows its source: it was not sealed.
+    pub fn is_following(&self) -> bool
+        ensures is { result ≡ is_following self.now.stored }
+        // What each control state that a crash may leave says of the log.
+        ensures taken { IsUnderTakeover self.now.stored }
+    {
+        match self.control.newest().phase {
+            Phase::Following => true,
+            Phase::Sealed | Phase::Primary => false,
+        }
+    }
+
+    /// The takeover is done.
+    pub fn is_primary(&self) -> bool
+        ensures is { result ≡ is_primary self.now.stored }
+        // Then no transaction is unended, and each slot of each page has what the committed transactions of the sealed log left.
+        ensures finished { is_primary self.now.stored ≡ true → IsFinished self.now.stored }
+    {
+        match self.control.newest().phase {
+            Phase::Primary => true,
+            Phase::Following | Phase::Sealed => false,
+        }
+    }
+
+    /// No transaction is unended, no change waits for redo, and the whole log is acknowledged.
+    pub fn is_drained(&self) -> bool
+        ensures { result ≡ is_drained self.now.stored }
+    {
+        if has_unended(&self.validator) {
+            return false;
+        }
+        if self.pool.waiting() > 0 {
+            return false;
+        }
+        self.log.end().0 <= self.control.acknowledged().0
+    }
+
+    /// Whether the log follows its source, was sealed, or is taken over.
+    pub fn phase(&self) -> Phase
+        ensures { result ≡ (newest self.now.stored).phase }
+    {
+        self.control.newest().phase
+    }
+
+    /// A transaction is unended.
+    pub fn has_unended(&self) -> bool
+        ensures { result ≡ not (is_none (unended self.now.stored.log)) }
+    {
+        has_unended(&self.validator)
+    }
+
+    /// The end of the last record that was wholly written at the log's last sync.
+    pub fn synced(&self) -> Lsn
+        ensures { result.0 ≡ self.now.stored.synced }
+    {
+        self.log.synced()
+    }
+
+    /// Seals the log, which is synced up to its end: writes the control block with phase Sealed, and with the log's end as its
+    /// mark and its seal, by one write of the control device. From then on the log takes only its own tail. It takes no memory
+    /// and no room of the log.
+    ///
+    /// Device: the device failed, and the state may have been written or not.
+    pub fn seal(&mut self) -> Result<(), Fault>
+        requires whole { self.old.stored.broken ≡ false }
+        requires following { is_following self.old.stored ≡ true }
+        requires synced { end_of self.old.stored.log ≤ self.old.stored.synced }
+        ensures ok { OnOk result (WritesState (sealed_state self.old.stored) self.old.stored self.new.stored) }
+        ensures err { IfErr result (λ f. (f ≡ fault.Device) × BreaksState (sealed_state self.old.stored) self.old.stored self.new.stored) }
+        ensures rises { (newest self.old.stored).mark.0 ≤ end_of self.old.stored.log }
+    {
+        let end = self.log.end();
+        // For the prover alone: what always holds of the control block.
+        let _ = self.control.newest();
+        match self.control.write_phase(Phase::Sealed, end, end) {
+            Ok(()) => Ok(()),
+            Err(_) => {
+                self.broken = true;
+                Err(Fault::Device)
+            }
+        }
+    }
+
+    /// Holds the next record of the sealed log's tail, and answers its LSN. NothingToDo: no transaction is unended. Memory: a
+    /// growth was refused, in a part that had no room for the record; nothing has changed. The log device has room for the
+    /// whole tail.
+    pub fn undo_one(&mut self) -> Result<Lsn, Fault>
+        requires sealed { is_following self.old.stored ≡ false }
+        ensures ok { IfOk result (λ lsn. UndoesOne self.old.stored lsn self.new.stored) }
+        ensures err { IfErr result (λ f. NotUndone self.old.stored f self.new.stored) }
+        ensures reserved { HasRoomToUndo self.old.stored self.old.spare → IsErrOf result fault.Memory → ⊥ }
+    {
+        // For the prover alone: what always holds of the log and of the control block.
+        let _ = self.log.end();
+        let _ = self.control.newest();
+        match next_of_tail(&self.validator, &mut self.log) {
+            Some(logged) => {
+                let lsn = logged.lsn;
+                let held = self.hold_next(&logged);
+                let_go(logged);
+                match held {
+                    Ok(()) => Ok(lsn),
+                    Err(fault) => Err(fault),
+                }
+            }
+            None => Err(Fault::NothingToDo),
+        }
+    }
+
+    /// Holds the next record of the tail. Memory: a growth was refused, and nothing has changed.
+    fn hold_next(&mut self, logged: &Record) -> Result<(), Fault>
+        requires first { first_of (tail_of self.old.stored.log) ≡ Some logged.now }
+        requires fits { IsRecord self.old.stored.pages logged.now }
+        requires at { logged.now.lsn.0 ≡ end_of self.old.stored.log }
+        ensures ok { OnOk result (self.new.stored ≡ with_records self.old.stored (logged.now ∷ [])) }
+        ensures err { IfErr result (λ f. (f ≡ fault.Memory) × (self.new.stored ≡ self.old.stored)) }
+        ensures reserved { HasSpare self.old.spare logged.now → IsOk result }
+    {
+        // For the prover alone: what always holds of the log and of the control block.
+        let _ = self.log.end();
+        let _ = self.control.newest();
+        let reserve_after = reserve_after(&self.validator, logged);
+        let len = encoded_len(logged);
+        make_room(
+            &mut self.log,
+            &mut self.validator,
+            &mut self.pool,
+            logged,
+            len,
+        )?;
+        admit(&mut self.validator, logged);
+        change_can_be_routed();
+        route_change(&mut self.pool, logged);
+        append_made(&mut self.log, logged, reserve_after);
+        self.count += 1;
+        Ok(())
+    }
+
+    /// Ends the takeover of a sealed log whose tail is held and acknowledged: writes the control block with phase Primary, by one
+    /// write of the control device. It takes no memory and no room of the log.
+    ///
+    /// Device: the device failed, and the state may have been written or not.
+    pub fn finish(&mut self) -> Result<(), Fault>
+        requires whole { self.old.stored.broken ≡ false }
+        requires sealed { is_following self.old.stored ≡ false }
+        requires unfinished { is_primary self.old.stored ≡ false }
+        requires drained { is_drained self.old.stored ≡ true }
+        ensures ok { OnOk result (WritesState (finished_state self.old.stored) self.old.stored self.new.stored) }
+        ensures err { IfErr result (λ f. (f ≡ fault.Device) × BreaksState (finished_state self.old.stored) self.old.stored self.new.stored) }
+    {
+        // For the prover alone: what always holds of the log.
+        let _ = self.log.end();
+        let newest = self.control.newest();
+        match self
+            .control
+            .write_phase(Phase::Primary, newest.mark, newest.seal)
+        {
+            Ok(()) => Ok(()),
+            Err(_) => {
+                self.broken = true;
+                Err(Fault::Device)
+            }
+        }
+    }
+}
