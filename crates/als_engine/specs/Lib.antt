@@ -7,3 +7,4 @@ pub mod Refusals
 pub mod Events
 pub mod TakingIn
 pub mod Runs
+pub mod Telling

@@ -1,4 +1,4 @@
-ghost use Rattle.std.specs.Prelude.{◌≡◌, ℕ, ◌<◌, ◌≤◌, ◌+◌, ◌⊎◌, true, false, List, [], ◌∷◌, ◌++◌, length, Some, None, Ok, Err, IfOk, IfErr, OnOk, OnErr, IsErrOf, IsOk};
+ghost use Rattle.std.specs.Prelude.{◌≡◌, ℕ, ◌<◌, ◌≤◌, ◌+◌, ◌^◌, ◌⊎◌, true, false, List, [], ◌∷◌, ◌++◌, length, Some, None, Ok, Err, IfOk, IfErr, OnOk, OnErr, IsErrOf, IsOk};
 ghost use Rattle.als_record.specs.LogText.{end_of};
 ghost use Rattle.als_record.specs.Table.{table_of};
 ghost use Rattle.als_analysis.specs.Open.{rows_of};
@@ -308,7 +308,11 @@ impl<D: BlockDisk> Engine<D> {
         ensures acknowledged { result.acknowledged.0 ≡ acknowledged self.now.machine.held }
         ensures pending { result.pending ≡ pending_of self.now.machine.held }
         ensures leases { result.leases ≡ 0 }
+        // Log texts have less than 2^64 bytes, those of the partial record too.
+        ensures fits { result.end.0 + result.partial < 2 ^ 64 }
     {
+        // For the prover alone: the receiver counts up to there.
+        let _ = self.receiver.position();
         let end = self.store.end();
         Status {
             state: state(self.store.is_broken(), self.refused, end),

@@ -15,6 +15,10 @@ mod fed;
 mod taking_in;
 // The engine and its events.
 mod engine;
+// What a standby is driven by.
+mod events;
+// An engine's events.
+mod engine_events;
 // One step of a run, and its reply.
 mod step;
 // Runs of steps.
@@ -23,6 +27,7 @@ mod world;
 pub use als_store::Disks;
 pub use config::{CONTROL_BLOCKS, Config, LOG_BLOCK_LIMIT};
 pub use engine::Engine;
+pub use events::Events;
 pub use fault::Fault;
 pub use fed::{Fed, FeedFault};
 pub use refused::Refused;

@@ -1,0 +1,94 @@
+ghost use Rattle.std.specs.Prelude.{◌≡◌, ⊤, IfOk, IfErr};
+ghost use Rattle.als_analysis.specs.Open.{rows_of};
+ghost use Rattle.als_engine.specs.declared.fault.Fault.TheVariants as fault;
+
+use crate::engine::Engine;
+use crate::events::Events;
+use crate::fault::Fault;
+use crate::fed::{Fed, FeedFault};
+use crate::status::Status;
+use als_analysis::OpenTransaction;
+use als_disk::BlockDisk;
+use als_page::Page;
+use als_record::{LoggedPage, Lsn, Record, TransactionRow};
+use std::alloc::Global;
+
+/// The rows of a table, copied.
+fn rows(alloc: Global, table: &[OpenTransaction]) -> Result<Vec<TransactionRow>, Fault>
+    ensures rows { IfOk result (λ rows. rows.items ≡ rows_of table.now) }
+    ensures fails { IfErr result (λ f. f ≡ fault.Memory) }
+{
+    let rows = table.iter().map(|open| open.row()).collect(alloc)?;
+    Ok(rows)
+}
+
+// An engine is driven by its owner alone.
+impl<D: BlockDisk> Events for Engine<D> {
+    ghost alone = { ⊤ };
+
+    ghost machine = { λ engine. engine.machine };
+
+    fn feed(&mut self, piece: &[u8]) -> Result<Fed, FeedFault> {
+        Engine::feed(self, piece)
+    }
+
+    fn resync(&mut self) -> Result<(), Fault> {
+        Engine::resync(self)
+    }
+
+    fn apply(&mut self, page: u32) -> Result<Lsn, Fault> {
+        Engine::apply(self, page)
+    }
+
+    fn flush(&mut self, page: u32) -> Result<(), Fault> {
+        Engine::flush(self, page)
+    }
+
+    fn sync_pages(&mut self) -> Result<(), Fault> {
+        Engine::sync_pages(self)
+    }
+
+    fn log_write(&mut self) -> Result<(), Fault> {
+        Engine::log_write(self)
+    }
+
+    fn log_sync(&mut self) -> Result<(), Fault> {
+        Engine::log_sync(self)
+    }
+
+    fn mark_write(&mut self) -> Result<(), Fault> {
+        Engine::mark_write(self)
+    }
+
+    fn ctl_sync(&mut self) -> Result<Lsn, Fault> {
+        Engine::ctl_sync(self)
+    }
+
+    fn status(&self) -> Status {
+        Engine::status(self)
+    }
+
+    fn table(&self, alloc: Global) -> Result<Vec<TransactionRow>, Fault> {
+        rows(alloc, Engine::table(self))
+    }
+
+    fn pages(&self) -> u32 {
+        Engine::pages(self)
+    }
+
+    fn dirty(&self, from: u32) -> Option<LoggedPage> {
+        Engine::dirty(self, from)
+    }
+
+    fn next_pending(&self, from: u32) -> Option<u32> {
+        Engine::next_pending(self, from)
+    }
+
+    fn page_now(&mut self, page: u32) -> Result<Page, Fault> {
+        Engine::page_now(self, page)
+    }
+
+    fn record_at(&mut self, lsn: Lsn) -> Result<Option<Record>, Fault> {
+        Engine::record_at(self, lsn)
+    }
+}

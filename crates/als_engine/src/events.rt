@@ -1,0 +1,98 @@
+ghost use Rattle.std.specs.Prelude.{◌≡◌, ◌+◌, ◌<◌, ◌^◌, IfOk, IfErr};
+ghost use Rattle.als_record.specs.Table.{table_of};
+ghost use Rattle.als_pool.specs.Queues.{WaitsFirst};
+ghost use Rattle.als_dirty.specs.Rows.{IsNextRow};
+ghost use Rattle.als_engine.specs.declared.fault.Fault.TheVariants as fault;
+ghost use Rattle.als_engine.specs.Machine.{Machine};
+ghost use Rattle.als_engine.specs.Refusals.{feed_refusal};
+ghost use Rattle.als_engine.specs.Feeds.{Feeds};
+ghost use Rattle.als_engine.specs.Events.{Resyncs, Applies, FlushesOne, PagesSync, LogWrites, LogSyncs, MarkWrites, ControlSyncs, Reads, ShowsPage};
+ghost use Rattle.als_engine.specs.Telling.{Tells};
+
+use crate::fault::Fault;
+use crate::fed::{Fed, FeedFault};
+use crate::status::Status;
+use als_page::Page;
+use als_record::{LoggedPage, Lsn, Record, TransactionRow};
+use std::alloc::Global;
+
+/// What a standby is driven by: its events, and the queries that ask it. An engine has them; so has a handle of an engine that
+/// others drive too, of which the small machine says nothing.
+pub trait Events {
+    /// Nobody else makes events: each call is one step of the small machine.
+    ghost alone: { Type 0 };
+
+    /// That machine, where nobody else makes events.
+    ghost machine: { Self → Machine };
+
+    // ---- the events
+
+    /// Takes a piece of the primary's log.
+    fn feed(&mut self, piece: &[u8]) -> Result<Fed, FeedFault>
+        ensures feeds { alone → Feeds (machine self.old) piece.now (feed_refusal (machine self.old)) result (machine self.new) };
+
+    /// Drops the partial record, and takes the log again after a refusal.
+    fn resync(&mut self) -> Result<(), Fault>
+        ensures resyncs { alone → Resyncs (machine self.old) result (machine self.new) };
+
+    /// Redoes the first changes that a page waits for, and answers its page_LSN.
+    fn apply(&mut self, page: u32) -> Result<Lsn, Fault>
+        ensures applies { alone → Applies (machine self.old) page result (machine self.new) };
+
+    /// Writes a page to its block, if the log is acknowledged past its page_LSN.
+    fn flush(&mut self, page: u32) -> Result<(), Fault>
+        ensures flushes { alone → FlushesOne (machine self.old) page result (machine self.new) };
+
+    /// Syncs the pages' device.
+    fn sync_pages(&mut self) -> Result<(), Fault>
+        ensures syncs { alone → PagesSync (machine self.old) result (machine self.new) };
+
+    /// Writes the first block of the log with unwritten bytes.
+    fn log_write(&mut self) -> Result<(), Fault>
+        ensures writes { alone → LogWrites (machine self.old) result (machine self.new) };
+
+    /// Syncs the log.
+    fn log_sync(&mut self) -> Result<(), Fault>
+        ensures syncs { alone → LogSyncs (machine self.old) result (machine self.new) };
+
+    /// Writes the control block with the log's synced end as its mark.
+    fn mark_write(&mut self) -> Result<(), Fault>
+        ensures writes { alone → MarkWrites (machine self.old) result (machine self.new) };
+
+    /// Syncs the control block, and answers its mark: the acknowledged LSN.
+    fn ctl_sync(&mut self) -> Result<Lsn, Fault>
+        ensures syncs { alone → ControlSyncs (machine self.old) result (machine self.new) };
+
+    // ---- the queries
+
+    /// What it tells of itself. Log texts have less than 2^64 bytes, those of the partial record too.
+    fn status(&self) -> Status
+        ensures fits { result.end.0 + result.partial < 2 ^ 64 }
+        ensures tells { alone → Tells (machine self.now) result };
+
+    /// The transaction table of the held log, in rising TransID. Only want of memory for the copy is refused.
+    fn table(&self, alloc: Global) -> Result<Vec<TransactionRow>, Fault>
+        ensures rows { IfOk result (λ rows. alone → rows.items ≡ table_of (machine self.now).held.log) }
+        ensures fails { IfErr result (λ f. f ≡ fault.Memory) };
+
+    /// The database's page count.
+    fn pages(&self) -> u32
+        ensures pages { alone → result ≡ (machine self.now).held.pages };
+
+    /// The dirty page table: the first row of a page from there on.
+    fn dirty(&self, from: u32) -> Option<LoggedPage>
+        ensures row { alone → IsNextRow (machine self.now).held.pool.dirty from result };
+
+    /// The first page from there on with pending changes.
+    fn next_pending(&self, from: u32) -> Option<u32>
+        ensures first { alone → WaitsFirst (machine self.now).held.pool.waits from result };
+
+    /// The page as it is now, which may have to be read from its block.
+    fn page_now(&mut self, page: u32) -> Result<Page, Fault>
+        requires { alone → page < (machine self.old).held.pages }
+        ensures shows { alone → ShowsPage (machine self.old) page result (machine self.new) };
+
+    /// The held record at an LSN, which may have to be read from the log device.
+    fn record_at(&mut self, lsn: Lsn) -> Result<Option<Record>, Fault>
+        ensures reads { alone → Reads (machine self.old) lsn result (machine self.new) };
+}

@@ -1,0 +1,95 @@
+ghost use Rattle.std.specs.Prelude.{◌≡◌, Some};
+ghost use Rattle.als_fault.specs.Kinds.{number_of, name_of, text_of};
+ghost use Rattle.als_ship.specs.declared.fault.Fault.TheVariants.{Memory};
+ghost use Rattle.als_ship.specs.Faults.{kind_of, IsOfStream};
+
+use als_fault::FaultKind;
+use std::alloc::{AllocError, AllocFailed};
+use std::io::ErrorKind;
+use std::{fmt, io};
+
+/// Why a session ends early. The numbers are common to all crates.
+#[derive(Clone, Copy, Debug, PartialEq, Eq)]
+pub enum Fault {
+    /// The header of the other end's log is damaged, or it is of another database.
+    BadHeader,
+    /// A growth was refused.
+    Memory,
+    /// A frame begins past the follower's position, or the follower holds more than there is.
+    Gap,
+    /// A frame is not the one that may come.
+    BadFrame,
+    /// The stream ended where more was wanted.
+    Cut,
+    /// The stream or the source failed, or the session has too many frames.
+    Stream,
+}
+
+impl Fault {
+    /// Which of the faults of all crates it is.
+    pub fn kind(self) -> FaultKind
+        ensures { result ≡ kind_of self }
+    {
+        match self {
+            Fault::BadHeader => FaultKind::BadHeader,
+            Fault::Memory => FaultKind::Memory,
+            Fault::Gap => FaultKind::Gap,
+            Fault::BadFrame => FaultKind::BadFrame,
+            Fault::Cut => FaultKind::Cut,
+            Fault::Stream => FaultKind::Stream,
+        }
+    }
+
+    /// The fault's number.
+    pub fn number(self) -> u32
+        ensures { result ≡ number_of (kind_of self) }
+    {
+        self.kind().number()
+    }
+
+    /// The fault's name, as programs print it.
+    pub fn name(self) -> &'static str
+        ensures { result.now ≡ name_of (kind_of self) }
+    {
+        self.kind().name()
+    }
+}
+
+impl fmt::Display for Fault {
+    ghost output = { λ fault. Some (text_of (kind_of fault)) };
+
+    fn fmt<W: fmt::Write>(&self, f: &mut fmt::Formatter<W>) -> fmt::Result {
+        let kind = self.kind();
+        write!(f, "{kind}")
+    }
+}
+
+impl std::error::Error for Fault {}
+
+impl From<io::Error> for Fault {
+    ghost from_gives = { λ _ fault. IsOfStream fault };
+
+    fn from(e: io::Error) -> Fault {
+        if e.kind() == ErrorKind::UnexpectedEof {
+            Fault::Cut
+        } else {
+            Fault::Stream
+        }
+    }
+}
+
+impl From<AllocError> for Fault {
+    ghost from_gives = { λ _ fault. fault ≡ Memory };
+
+    fn from(_e: AllocError) -> Fault {
+        Fault::Memory
+    }
+}
+
+impl<T: Drop> From<AllocFailed<T>> for Fault {
+    ghost from_gives = { λ _ fault. fault ≡ Memory };
+
+    fn from(_e: AllocFailed<T>) -> Fault {
+        Fault::Memory
+    }
+}

@@ -1,0 +1,26 @@
+ghost use Rattle.std.specs.Prelude.{◌≡◌};
+ghost use Rattle.als_ship.specs.Frames.{byte_of};
+
+/// What a frame begins with: one byte that says what it is.
+#[derive(Clone, Copy, Debug, PartialEq, Eq)]
+pub enum Tag {
+    /// Log bytes.
+    Data,
+    /// An answer to log bytes.
+    Acknowledged,
+    /// The begin of a session.
+    Resume,
+}
+
+impl Tag {
+    /// The byte.
+    pub(crate) fn byte(self) -> u8
+        ensures { result ≡ byte_of self }
+    {
+        match self {
+            Tag::Data => b'D',
+            Tag::Acknowledged => b'A',
+            Tag::Resume => b'R',
+        }
+    }
+}
