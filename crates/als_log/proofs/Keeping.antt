@@ -200,3 +200,22 @@ module _ {pages : ℕ} {log : List Record} {base written synced cursor blocks : 
   -- after a reading
   pub held-read : (next : ℕ) (now : ℕ → Slot) → IsFrontEnd log next → SameBlocks slots now → IsHeld pages log base written synced next blocks bytes now
   held-read next now front same = record { order = h.order; tail = h.tail; stored = same-readable slots now same (log_text pages log) written synced h.stored; walked = front }
+
+-- ---- a log that stands on a device
+
+pub held-reopened : (pages blocks end : ℕ) (log : List Record) (bytes : List ℕ) (slots now : ℕ → Slot) → IsLog pages log → end ≡ end_of log → end ≤ 512 * blocks → blocks ≤ 4194304 → bytes ≡ drop (512 * (end / 512)) (log_text pages log)
+    → SameBlocks slots now → IsStored slots (log_text pages log) end end → IsHeld pages log (512 * (end / 512)) end end 16 blocks bytes now
+held-reopened pages blocks end log bytes slots now is at fits few held same stored = record {
+  order = record {
+    is_log = is;
+    fits = omega (arith, at, fits);
+    within = omega (arith, at);
+    order = omega arith;
+    front = record { front = log; rest = []; parts = sym (append-nil log); ends = sym at };
+    few = few;
+    some = omega (arith, at, fits, end_of_is log);
+  };
+  tail = record { held = held; block = omega arith; low = omega arith };
+  stored = same-readable slots now same (log_text pages log) end end stored;
+  walked = record { front = []; rest = log; parts = refl; ends = end-nil };
+}

@@ -46,3 +46,18 @@ pub readable-reach : (pages : ℕ) (log : List Record) (slots : ℕ → Slot) (b
 readable-reach pages log slots blocks bytes base r =
     let len : length bytes ≡ length (log_text pages log) - base = ap length r.source.held ∙ length-drop base (log_text pages log) in
     omega (arith, len, r.source.reach, length-text pages log)
+
+-- the last bytes of a text, in a block that was read
+pub front_is : (text block : List ℕ) (i len : ℕ) → length block ≡ 512 → len ≤ 512 → length text ≡ 512 * i + len → ((o : ℕ) → o < 512 → 512 * i + o < 512 * i + len → slice_index block o ≡ slice_index text (512 * i + o)) → take len block ≡ drop (512 * i) text
+front_is text block i len whole few size has =
+    let a : length (take len block) ≡ len = omega (arith, length-take len block, whole, few) in
+    let b : length (drop (512 * i) text) ≡ len = omega (arith, length-drop (512 * i) text, size) in
+    ext_get_or 0 (take len block) (drop (512 * i) text) (a ∙ sym b) (λ k lt.
+    let below : k < len = omega (arith, lt, a) in
+    get_or-take len block k 0 below ∙ has k (omega (arith, below, few)) (omega (arith, below)) ∙ sym (get_or-drop (512 * i) text k 0))
+
+pub front_none : (text block : List ℕ) (i len : ℕ) → len ≡ 0 → length text ≡ 512 * i + len → take len block ≡ drop (512 * i) text
+front_none text block i len none size =
+    let a : length (take len block) ≡ 0 = omega (arith, length-take len block, none) in
+    let b : length (drop (512 * i) text) ≡ 0 = omega (arith, length-drop (512 * i) text, size, none) in
+    ext_get_or 0 (take len block) (drop (512 * i) text) (a ∙ sym b) (λ k lt. absurd (omega (arith, lt, a)))

@@ -43,3 +43,10 @@ RefusesReading at Device old new = ReadFails old new
 RefusesReading at Memory old new = HasRowsAt old.log at × (new ≡ old)
 RefusesReading at NothingToDo old new = ⊥
 RefusesReading at LogFull old new = ⊥
+
+-- a log was not taken up again from a device: the device has failed, or there was no memory
+abbrev pub FailsToOpen : Fault → ℕ → ℕ → Type 0
+FailsToOpen Device before now = before < now
+FailsToOpen Memory before now = now ≡ before
+FailsToOpen NothingToDo before now = ⊥
+FailsToOpen LogFull before now = ⊥

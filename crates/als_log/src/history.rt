@@ -6,21 +6,21 @@ use std::snapshot::Snapshot;
 
 /// The records of a log, for clauses alone: they take no bytes and no time.
 #[derive(Drop)]
-pub(crate) enum History {
+pub enum History {
     Start,
     Then(Snapshot<History>, Snapshot<Record>),
 }
 
 impl History {
     /// No record.
-    pub(crate) fn new() -> History
+    pub fn new() -> History
         ensures { records_in result ≡ [] }
     {
         History::Start
     }
 
     /// Notes one more.
-    pub(crate) fn push(&mut self, logged: &Record)
+    pub fn push(&mut self, logged: &Record)
         ensures { records_in self.new ≡ records_in self.old ++ logged.now ∷ [] }
     {
         let before = Snapshot::of(self);

@@ -18,11 +18,17 @@ mod part;
 mod reading;
 // What a new log has in memory.
 mod new_log;
+// The last bytes of a text that stands on a device.
+mod reopening;
+// A device whose log could not be taken up again.
+mod unopened;
 // The log.
 mod local_log;
 #[cfg(test)]
 mod tests;
 
 pub use fault::Fault;
+pub use history::History;
 pub use local_log::LocalLog;
 pub use new_log::NewLog;
+pub use unopened::Unopened;

@@ -1,10 +1,13 @@
 ghost use Rattle.std.specs.Prelude.{◌≡◌, ◌<◌, ◌≤◌, ◌+◌, ◌*◌, [], ◌∷◌, ◌++◌, IsTrue, ◌↔◌, Some, IsOk, IfOk, IfErr, OnOk, OnErr, vec_len, vec_capacity};
 ghost use Rattle.std.specs.Result.{IsErrOf};
 ghost use Rattle.als_record.specs.Spelling.{spelling, record_len, IsRecord};
-ghost use Rattle.als_record.specs.LogText.{end_of, log_text};
+ghost use Rattle.als_record.specs.LogText.{end_of, log_text, IsLog};
+ghost use Rattle.als_disk.specs.Slot.{SameBlocks};
+ghost use Rattle.als_log.specs.History.{records_in};
+ghost use Rattle.als_log.specs.Held.{IsStored};
 ghost use Rattle.als_log.specs.declared.fault.Fault.TheVariants.{LogFull, Memory as OutOfMemory};
 ghost use Rattle.als_log.specs.Local.{Local, IsLocal, HasRoomFor, next_written, whole_end};
-ghost use Rattle.als_log.specs.Outcomes.{RefusesRecord, RefusesBlock, RefusesSync, RefusesReading};
+ghost use Rattle.als_log.specs.Outcomes.{RefusesRecord, RefusesBlock, RefusesSync, RefusesReading, FailsToOpen};
 ghost use Rattle.als_log.specs.Reading.{record_at, HasRecord};
 ghost use Rattle.als_log.specs.Texts.{AllHaveText};
 
@@ -13,7 +16,8 @@ use crate::history::History;
 use crate::new_log::NewLog;
 use crate::part::Part;
 use crate::source::Source;
-use crate::{blocks, reading, tail};
+use crate::unopened::Unopened;
+use crate::{blocks, reading, reopening, tail};
 use als_disk::BlockDisk;
 use als_record::{Lsn, Record, encode, encoded_len};
 use std::alloc::{AllocError, Global};
@@ -111,6 +115,53 @@ impl<D: BlockDisk> LocalLog<D> {
             part,
             history: History::new(),
         })
+    }
+
+    /// Takes up again the log of which the text stands on a device up to `end`, all of it certain to survive a crash. Memory then
+    /// holds the bytes of its last block, which is read if it has any. The records are named for clauses alone.
+    ///
+    /// `Device`: the device failed. `Memory`: a growth was refused. Both hand the device back as it was.
+    pub fn reopen(
+        alloc: Global,
+        disk: D,
+        pages: u32,
+        history: History,
+        end: u64,
+    ) -> Result<LocalLog<D>, Unopened<D>>
+        requires log { IsLog pages (records_in history) }
+        requires end { end ≡ end_of (records_in history) }
+        requires fits { end ≤ 512 * D.block_count disk }
+        requires few { D.block_count disk ≤ 4194304 }
+        requires stored { IsStored (D.slot disk) (log_text pages (records_in history)) end end }
+        ensures ok { IfOk result (λ l. l ≡ record { pages = pages; log = records_in history; written = end; synced = end; blocks = D.block_count disk; failures = D.failures disk; attempts = D.attempts disk; room = l.room }) }
+        ensures err { IfErr result (λ u. FailsToOpen u.fault (D.failures disk) (D.failures u.disk)) }
+        ensures same { IfErr result (λ u. SameBlocks (D.slot disk) (D.slot u.disk)) }
+        ensures counts { IfErr result (λ u. (D.block_count u.disk ≡ D.block_count disk) × (D.attempts u.disk ≡ D.attempts disk)) }
+    {
+        let mut disk = disk;
+        let part = match Part::new(alloc) {
+            Ok(part) => part,
+            Err(_) => {
+                let fault = Fault::Memory;
+                return Err(Unopened { disk, fault });
+            }
+        };
+        let i = end / 512;
+        match reopening::read_front(alloc, &mut disk, i, (end % 512) as usize) {
+            Ok(tail) => Ok(LocalLog {
+                alloc,
+                disk,
+                pages,
+                base: 512 * i,
+                tail,
+                written: end,
+                synced: end,
+                cursor: 16,
+                part,
+                history,
+            }),
+            Err(fault) => Err(Unopened { disk, fault }),
+        }
     }
 
     /// The offset after the last record, 16 if there is none: the LSN of the next one.

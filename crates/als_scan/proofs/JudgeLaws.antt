@@ -1,0 +1,114 @@
+-- A judge, record by record.
+use Rattle.std.proofs.Common.{◌≡◌, ◌≢◌, ℕ, ◌+◌, List, [], ◌∷◌, ◌++◌, drop, Option, Some, None, Result, Ok, Err, refl, sym, ap, subst, ◌∙◌}
+use Rattle.std.specs.Prelude.{MatchOption}
+use Rattle.als_record.specs.declared.fault.Fault.{Fault as ShapeFault}
+use Rattle.als_record.specs.declared.fault.Fault.TheVariants as shape
+use Rattle.als_record.specs.declared.record.Record.{Record}
+use Rattle.als_record.specs.Spelling.{record_len, spelling}
+use Rattle.als_record.specs.Reading.{read_record}
+use Rattle.als_record.specs.LogText.{end_of, follow_from}
+use Rattle.als_record.specs.Validity.{IsValidLog, first_bad, is_valid, may_follow_all}
+use Rattle.als_record.proofs.LogLaws.{end_of_push}
+use Rattle.als_record.proofs.Validity.{first_bad-none, may_follow-admitted}
+use Rattle.als_record.proofs.TailFirst.{IsValidLog-push}
+use Rattle.als_receiver.specs.declared.refusal.Refusal.{Refusal}
+use Rattle.als_receiver.specs.Reception.{Reception, fresh, behind, CanHandOut, IsRefusal}
+use Rattle.als_receiver.specs.Reception.{Waits as Pauses}
+use Rattle.als_validator.specs.Validated.{IsValidatorOf}
+use Rattle.als_validator.specs.declared.validator.Validator.{Validator}
+use Rattle.als_scan.specs.declared.fault.Fault.{Fault}
+use Rattle.als_scan.specs.declared.fault.Fault.TheVariants.{Shape, Invalid, BadControl, Device, Memory}
+use Rattle.als_scan.specs.FaultNames.{of_shape}
+use Rattle.als_scan.specs.Judged.{Judged, IsJudge, Takes, Refuses, IsCauseAt, reading_of}
+
+-- ---- the beginning
+
+pub valid-nil : (pages : ℕ) → IsValidLog pages []
+unfolding follow_from is_valid may_follow_all
+valid-nil pages = record { text = record { laid_out = refl; records = tt }; valid = refl }
+
+pub end-nil : end_of [] ≡ 16
+unfolding end_of
+end-nil = refl
+
+pub judge_new : (pages : ℕ) (r : Reception) (v : Validator) (log : List Record) → r ≡ fresh 16 pages → log ≡ [] → IsValidatorOf pages v [] → IsJudge r v log
+judge_new pages r v log is none known =
+    let count : pages ≡ r.pages = sym (ap (λ (x : Reception). x.pages) is) in
+    record {
+      valid = subst (IsValidLog r.pages) (sym none) (valid-nil r.pages);
+      known = subst (IsValidatorOf r.pages v) (sym none) (subst (λ n. IsValidatorOf n v []) count known);
+      wanted = ap (λ (x : Reception). x.wanted) is ∙ sym end-nil ∙ ap end_of (sym none);
+      unrefused = ap (λ (x : Reception). x.refusal) is;
+    }
+
+-- ---- a look at the next record
+
+pub refusal_reading : (r : Reception) (refusal : Refusal) → r.refusal ≡ None → IsRefusal r refusal → read_record r.pages r.wanted r.kept ≡ Err refusal.fault
+refusal_reading r refusal none is =
+    (subst (λ (o : Option Refusal). MatchOption o ((refusal.lsn.0 ≡ r.wanted) × (read_record r.pages r.wanted r.kept ≡ Err refusal.fault)) (λ before. refusal ≡ before)) none is).1
+
+module _ (r : Reception) (v : Validator) (log : List Record) (is : IsJudge r v log) where
+  here : (x : Result (Option (Record × ℕ)) ShapeFault) → read_record r.pages r.wanted r.kept ≡ x → read_record r.pages (end_of log) r.kept ≡ x
+  here x e = ap (λ n. read_record r.pages n r.kept) (sym is.wanted) ∙ e
+
+  pub pauses_there : Pauses r r → read_record r.pages (end_of log) r.kept ≡ Ok None
+  pauses_there w = here (Ok None) w.reading
+
+  pub shows_there : (s : Record) (len : ℕ) → CanHandOut r s len → read_record r.pages (end_of log) r.kept ≡ Ok (Some (s, record_len s))
+  shows_there s len can = here (Ok (Some (s, record_len s))) can.out.reading
+
+  pub refuses_there : (refusal : Refusal) → IsRefusal r refusal → read_record r.pages (end_of log) r.kept ≡ Err refusal.fault
+  refuses_there refusal h = here (Err refusal.fault) (refusal_reading r refusal is.unrefused h)
+
+  pub shown_is_some : (s : Record) (len : ℕ) → CanHandOut r s len → read_record r.pages (end_of log) r.kept ≢ Ok None
+  shown_is_some s len can none = let e : ◌≡◌ {A = Result (Option (Record × ℕ)) ShapeFault} (Ok (Some (s, record_len s))) (Ok None) = sym (shows_there s len can) ∙ none in cc e
+
+  pub refused_is_some : (refusal : Refusal) → IsRefusal r refusal → read_record r.pages (end_of log) r.kept ≢ Ok None
+  refused_is_some refusal h none = let e : ◌≡◌ {A = Result (Option (Record × ℕ)) ShapeFault} (Err refusal.fault) (Ok None) = sym (refuses_there refusal h) ∙ none in cc e
+
+  -- ---- a record that is taken
+
+  pub valid_there : (s : Record) (len : ℕ) → CanHandOut r s len → first_bad log s ≡ None → IsValidLog r.pages (log ++ s ∷ [])
+  valid_there s len can good = IsValidLog-push r.pages log s is.valid (may_follow-admitted log s (first_bad-none log s (can.out.place ∙ is.wanted) good)) can.out.fits
+
+  pub took_judge : (new : Reception) (w : Validator) (longer : List Record) (found s : Record) (len : ℕ) → CanHandOut r s len → found ≡ s → new ≡ behind r len → longer ≡ log ++ found ∷ []
+      → first_bad log s ≡ None → IsValidatorOf r.pages w (log ++ s ∷ []) → IsJudge new w longer
+  took_judge new w longer found s len can copy e h good known =
+      let same : log ++ s ∷ [] ≡ longer = ap (λ (x : Record). log ++ x ∷ []) (sym copy) ∙ sym h in
+      let count : r.pages ≡ new.pages = sym (ap (λ (x : Reception). x.pages) e) in
+      record {
+        valid = subst (IsValidLog new.pages) same (subst (λ n. IsValidLog n (log ++ s ∷ [])) count (valid_there s len can good));
+        known = subst (IsValidatorOf new.pages w) same (subst (λ n. IsValidatorOf n w (log ++ s ∷ [])) count known);
+        wanted = ap (λ (x : Reception). x.wanted) e ∙ ap (λ n. n + len) is.wanted ∙ ap (λ n. end_of log + n) can.size ∙ sym (end_of_push log s) ∙ ap end_of same;
+        unrefused = ap (λ (x : Reception). x.refusal) e;
+      }
+
+  pub takes_there : (new : Reception) (longer : List Record) (found s : Record) (len : ℕ) → CanHandOut r s len → found ≡ s → new ≡ behind r len → longer ≡ log ++ found ∷ [] → first_bad log s ≡ None
+      → Takes (record { pages = r.pages; log = log; kept = r.kept }) found (record { pages = new.pages; log = longer; kept = new.kept })
+  takes_there new longer found s len can copy e h good =
+      let kept : drop len r.kept ≡ new.kept = sym (ap (λ (x : Reception). x.kept) e) in
+      record {
+        reading = shows_there s len can ∙ ap (λ (x : Record). Ok (Some (x, record_len x))) (sym copy);
+        good = ap (first_bad log) copy ∙ good;
+        bytes = can.out.bytes ∙ ap (λ (x : Record). spelling x ++ drop len r.kept) (sym copy) ∙ ap (λ (xs : List ℕ). spelling found ++ xs) kept;
+        after = ap (λ n. record { pages = n; log = longer; kept = new.kept }) (ap (λ (x : Reception). x.pages) e) ∙ ap (λ (l : List Record). record { pages = r.pages; log = l; kept = new.kept }) h;
+      }
+
+  -- ---- one that is not
+
+  pub cause_there : (s : Record) (len : ℕ) (fault : Fault) → CanHandOut r s len → IsCauseAt log s fault → Refuses (record { pages = r.pages; log = log; kept = r.kept }) fault
+  cause_there s len (Invalid cause) can is_cause = record { bad = s; reading = shows_there s len can; cause_is = is_cause }
+  cause_there s len Memory can is_cause = tt
+  cause_there s len (Shape fault) can is_cause = absurd is_cause
+  cause_there s len BadControl can is_cause = absurd is_cause
+  cause_there s len Device can is_cause = absurd is_cause
+
+pub refuses_shape : (j : Judged) (fault : ShapeFault) → fault ≢ shape.Memory → reading_of j ≡ Err fault → Refuses j (of_shape fault)
+refuses_shape j shape.Memory some e = absurd (some refl)
+refuses_shape j shape.BadHeader some e = e
+refuses_shape j shape.BadLength some e = e
+refuses_shape j shape.BadType some e = e
+refuses_shape j shape.BadReserved some e = e
+refuses_shape j shape.WrongLsn some e = e
+refuses_shape j shape.BadKey some e = e
+refuses_shape j shape.BadValue some e = e

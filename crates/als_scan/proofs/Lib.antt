@@ -1,0 +1,5 @@
+mod FrontLaws
+mod JudgeLaws
+mod ReadingLaws
+mod ScanLaws
+mod TextLaws

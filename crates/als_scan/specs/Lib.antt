@@ -1,0 +1,4 @@
+pub mod FaultNames
+pub mod Judged
+pub mod Scanned
+pub mod Texts

@@ -1,0 +1,167 @@
+ghost use Rattle.std.specs.Prelude.{◌≡◌, ◌≢◌, ℕ, ◌<◌, ◌+◌, ◌^◌, List, [], ◌∷◌, ◌++◌, length, MatchBool, None, Ok, OnOk, OnErr, IfOk, IfErr};
+ghost use Rattle.als_record.specs.declared.record.Record.{Record as AnyRecord};
+ghost use Rattle.als_record.specs.Spelling.{IsRecord};
+ghost use Rattle.als_record.specs.LogText.{end_of};
+ghost use Rattle.als_record.specs.Shown.{shown};
+ghost use Rattle.als_record.specs.Validity.{IsValidLog, first_bad};
+ghost use Rattle.als_validator.specs.Validated.{IsValidatorOf};
+ghost use Rattle.als_log.specs.History.{records_in};
+ghost use Rattle.als_scan.specs.declared.fault.Fault.TheVariants.{Memory as OutOfMemory};
+ghost use Rattle.als_scan.specs.Judged.{Judged, begun, position_of, reading_of, TakesNext, Refuses, IsCauseAt};
+
+use crate::fault::Fault;
+use als_log::History;
+use als_receiver::Receiver;
+use als_record::{Lsn, Record, RecordView};
+use als_validator::Validator;
+use std::alloc::Global;
+use std::marker::Model;
+
+/// A valid log of which the bytes come in pieces. It keeps no record: what a validator knows of them, and the bytes of a
+/// record that is not whole.
+pub(crate) struct Judge {
+    receiver: Receiver,
+    validator: Validator,
+    history: History,
+}
+
+impl Model for Judge {
+    ghost use Rattle.als_log.specs.History.{records_in};
+    ghost use Rattle.als_scan.specs.Judged.{Judged, IsJudge};
+
+    ghost Value = { Judged };
+
+    ghost view = { λ j. record { pages = j.receiver.pages; log = records_in j.history; kept = j.receiver.kept } };
+
+    ghost invariant = { λ j. IsJudge j.receiver j.validator (records_in j.history) };
+}
+
+// Written out: a derived drop is proved wherever a judge is let go of, this one only here.
+impl Drop for Judge {
+    fn drop(self) {
+        let Judge {
+            receiver,
+            validator,
+            history,
+        } = self;
+        drop(receiver);
+        drop(validator);
+        drop(history);
+    }
+}
+
+/// Lets a validator take the record that is seen, where it may follow the log, and copies it.
+fn admit(validator: &mut Validator, seen: &RecordView<'_>, alloc: Global) -> Result<Record, Fault>
+    ensures copy { IfOk result (λ r. r ≡ shown seen.now) }
+    ensures good { OnOk result ((pages : ℕ) (log : List AnyRecord) → IsValidatorOf pages validator.old log → IsValidLog pages log → IsRecord pages (shown seen.now)
+        → first_bad log (shown seen.now) ≡ None) }
+    ensures ok { OnOk result ((pages : ℕ) (log : List AnyRecord) → IsValidatorOf pages validator.old log → IsValidLog pages (log ++ shown seen.now ∷ [])
+        → IsValidatorOf pages validator.new (log ++ shown seen.now ∷ [])) }
+    ensures err { IfErr result (λ fault. (pages : ℕ) (log : List AnyRecord) → IsValidatorOf pages validator.old log → IsValidLog pages log → IsRecord pages (shown seen.now)
+        → IsCauseAt log (shown seen.now) fault) }
+    ensures same { OnErr result ((pages : ℕ) (log : List AnyRecord) → IsValidatorOf pages validator.old log → IsValidatorOf pages validator.new log) }
+{
+    validator.check(seen)?;
+    validator.reserve()?;
+    let found = seen.to_record(alloc)?;
+    validator.admit(seen);
+    Ok(found)
+}
+
+impl Judge {
+    /// A judge of a log of which the header was read.
+    pub(crate) fn new(alloc: Global, pages: u32) -> Result<Judge, Fault>
+        ensures ok { IfOk result (λ j. j ≡ begun pages) }
+        ensures err { IfErr result (λ fault. fault ≡ OutOfMemory) }
+    {
+        let validator = Validator::new(alloc, pages)?;
+        Ok(Judge {
+            receiver: Receiver::new(alloc, Lsn(16), pages),
+            validator,
+            history: History::new(),
+        })
+    }
+
+    /// The offset of the byte that comes next.
+    pub(crate) fn position(&self) -> u64
+        ensures { result ≡ position_of self.now }
+    {
+        self.receiver.position()
+    }
+
+    /// The offset behind the records judged.
+    pub(crate) fn end(&self) -> Lsn
+        ensures { result.0 ≡ end_of self.now.log }
+    {
+        self.receiver.next_lsn()
+    }
+
+    /// Whether they are less than a record.
+    pub(crate) fn waits(&self) -> bool
+        ensures { MatchBool result (reading_of self.now ≡ Ok None) (reading_of self.now ≢ Ok None) }
+    {
+        match self.receiver.peek() {
+            Ok(None) => true,
+            Ok(Some(_)) => false,
+            Err(_) => false,
+        }
+    }
+
+    /// Takes the next bytes.
+    pub(crate) fn push(&mut self, piece: &[u8]) -> Result<(), Fault>
+        requires { position_of self.old + length piece.now < 2 ^ 64 }
+        ensures ok { OnOk result (self.new ≡ record self.old { kept = self.old.kept ++ piece.now }) }
+        ensures err { IfErr result (λ fault. fault ≡ OutOfMemory) }
+        ensures same { OnErr result (self.new ≡ self.old) }
+    {
+        self.receiver.push(piece)?;
+        Ok(())
+    }
+
+    /// Judges the next record, and takes it where it may follow; `None` where no byte is left. No more bytes come for it: what is
+    /// left and less than a record is refused.
+    pub(crate) fn take_one(&mut self, alloc: Global) -> Result<Option<Record>, Fault>
+        ensures ok { IfOk result (λ found. TakesNext self.old found self.new) }
+        ensures err { IfErr result (λ fault. Refuses self.old fault) }
+        ensures same { OnErr result (self.new ≡ self.old) }
+        ensures valid { IsValidLog self.new.pages self.new.log }
+    {
+        match self.receiver.peek() {
+            Ok(Some((seen, len))) => {
+                let found = admit(&mut self.validator, &seen, alloc)?;
+                self.history.push(&found);
+                self.receiver.advance(len);
+                Ok(Some(found))
+            }
+            Ok(None) => {
+                if self.receiver.partial() == 0 {
+                    return Ok(None);
+                }
+                Err(Fault::BadControl)
+            }
+            Err(refusal) => Err(Fault::from(refusal.fault)),
+        }
+    }
+
+    /// What the validator knows of the records judged.
+    pub(crate) fn validator(&self) -> &Validator
+        ensures known { IsValidatorOf self.now.pages result.now self.now.log }
+    {
+        &self.validator
+    }
+
+    /// The validator and the records judged.
+    pub(crate) fn into_parts(self) -> (Validator, History)
+        ensures known { IsValidatorOf self.pages result.0 self.log }
+        ensures history { records_in result.1 ≡ self.log }
+        ensures valid { IsValidLog self.pages self.log }
+    {
+        let Judge {
+            receiver,
+            validator,
+            history,
+        } = self;
+        drop(receiver);
+        (validator, history)
+    }
+}
