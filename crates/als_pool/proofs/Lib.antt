@@ -10,3 +10,5 @@ pub mod PoolLaws
 pub mod Reading
 pub mod Restarting
 pub mod Opened
+pub mod TakingIn
+pub mod NextFlag
