@@ -11,3 +11,5 @@ pub mod Reading
 pub mod Refusing
 pub mod Restarting
 pub mod Opened
+pub mod TakingIn
+pub mod NextFlag

@@ -1,11 +1,11 @@
 -- What a change of one queue makes of all.
-use Rattle.std.proofs.Common.{◌≡◌, ℕ, zero, suc, ◌+◌, ◌<◌, ◌≤◌, Bool, true, false, List, [], ◌∷◌, length, get_or, map, take, drop, replicate, refl, sym, ap, ap₂, ◌∙◌, subst, length-set, inl, inr, arith}
+use Rattle.std.proofs.Common.{◌≡◌, ℕ, zero, suc, ◌+◌, ◌<◌, ◌≤◌, Bool, true, false, List, [], ◌∷◌, ◌++◌, length, get_or, map, take, drop, replicate, refl, sym, ap, ap₂, ◌∙◌, subst, length-set, inl, inr, arith}
 use Rattle.std.specs.Prelude.{slice_set, min, nat_le}
 use Rattle.std.proofs.lemmas.Bool.{cases_lt, cond-true, cond-false, lt-leb, le-leb}
 use Rattle.std.proofs.lemmas.List.{map-set, length-map, get_or-set_same, set-get_or, drop_all, take_min, length-replicate}
 use Rattle.als_record.specs.declared.lsn.Lsn.{Lsn}
 use Rattle.als_record.specs.declared.change.Change.{Change}
-use Rattle.als_pool.specs.Queues.{Queue, Waiting, empty_queue, pending_of, has_place, total_waiting, count_up_to}
+use Rattle.als_pool.specs.Queues.{Queue, Waiting, empty_queue, pending_of, has_place, total_waiting, count_up_to, flag_of, flags_of}
 use Rattle.als_pool.proofs.QueueLists.{queue_at, place_at, total-set, total-empty, map-empty, map-no_place}
 
 abbrev pub waits_in : List Queue → List (List Change)
@@ -52,6 +52,46 @@ total-new queues count is few = (
   omega (arith, few, ap (λ (qs : List Queue). length qs) is, length-replicate count empty_queue),
   sym (ap (λ (qs : List Queue). total_waiting (waits_in qs)) is ∙ ap total_waiting (map-empty count) ∙ total-empty count),
 )
+
+-- ---- for which pages changes wait
+
+-- after one queue has changed
+pub flags-after : (queues : List Queue) (page : ℕ) (q : Queue) (flags : List ℕ) (n : ℕ) → flags ≡ flags_of (waits_in queues) → n ≡ flag_of q.pending
+    → slice_set flags page n ≡ flags_of (waits_in (slice_set queues page q))
+flags-after queues page q flags n is here =
+    ap₂ (λ (fs : List ℕ) (k : ℕ). slice_set fs page k) is here
+    ∙ sym (map-set flag_of (waits_in queues) page q.pending)
+    ∙ sym (ap flags_of (waits-set queues page q q.pending refl))
+
+pub flags-same : (queues : List Queue) (page : ℕ) (old q : Queue) (flags : List ℕ) → page < length queues → old ≡ get_or queues page old → q.pending ≡ old.pending
+    → flags ≡ flags_of (waits_in queues) → flags ≡ flags_of (waits_in (slice_set queues page q))
+flags-same queues page old q flags lt at same is = is ∙ sym (ap flags_of (waits-same queues page old q lt at same))
+
+pub flag-more : (w : List Change) (c : Change) → 1 ≡ flag_of (w ++ c ∷ [])
+flag-more [] c = refl
+flag-more (d ∷ w) c = refl
+
+flags-empty : (count : ℕ) → flags_of (replicate count []) ≡ replicate count 0
+flags-empty zero = refl
+flags-empty (suc count) = ap (λ (fs : List ℕ). 0 ∷ fs) (flags-empty count)
+
+pub flags-new : (queues : List Queue) (flags : List ℕ) (count : ℕ) → queues ≡ replicate count empty_queue → flags ≡ replicate count 0 → flags ≡ flags_of (waits_in queues)
+flags-new queues flags count is all = all ∙ sym (flags-empty count) ∙ sym (ap flags_of (ap waits_in is ∙ map-empty count))
+
+-- what a flag says of the page
+pub flag-none : (waits : List (List Change)) (page : ℕ) → (get_or (flags_of waits) page 0 ≡ 1 → ⊥) → pending_of waits page ≡ []
+flag-none [] page no' = refl
+flag-none ([] ∷ waits) zero no' = refl
+flag-none ((c ∷ w) ∷ waits) zero no' = absurd (no' refl)
+flag-none (w ∷ waits) (suc page) no' = flag-none waits page no'
+
+pub flag-some : (waits : List (List Change)) (page : ℕ) → get_or (flags_of waits) page 0 ≡ 1 → (page < length waits) × (pending_of waits page ≡ [] → ⊥)
+flag-some [] page is = absurd (omega (arith, is))
+flag-some ([] ∷ waits) zero is = absurd (omega (arith, is))
+flag-some ((c ∷ w) ∷ waits) zero is = let lt : zero < suc (length waits) = omega arith in (lt, λ none. absurd cc)
+flag-some (w ∷ waits) (suc page) is =
+    let later = flag-some waits page is in
+    let lt : suc page < suc (length waits) = omega (arith, later.0) in (lt, later.1)
 
 -- ---- counting the first changes up to an LSN
 

@@ -1,5 +1,5 @@
 -- The changes that wait for pages.
-use Rattle.std.specs.Prelude.{◌≡◌, ℕ, suc, ◌<◌, ◌≤◌, Bool, false, List, [], ◌∷◌, length, nat_le, nat_lt, if◌then◌else◌, slice_index_or, filter, Option, Some, None}
+use Rattle.std.specs.Prelude.{◌≡◌, ℕ, suc, ◌<◌, ◌≤◌, Bool, false, List, [], ◌∷◌, length, map, nat_le, nat_lt, if◌then◌else◌, slice_index_or, filter, Option, Some, None}
 use Rattle.std.specs.List.{sum_by}
 use Rattle.als_record.specs.declared.change.Change.{Change}
 use Rattle.als_record.specs.declared.lsn.Lsn.{Lsn}
@@ -25,6 +25,19 @@ pending_of waits page = slice_index_or waits page []
 -- there is room for one more change of a page
 abbrev pub has_place : List Bool → ℕ → Bool
 has_place places page = slice_index_or places page false
+
+-- 1 where changes wait for a page, else 0
+abbrev pub flag_of : List Change → ℕ
+flag_of [] = 0
+flag_of (c ∷ rest) = 1
+
+abbrev pub flags_of : List (List Change) → List ℕ
+flags_of waits = map flag_of waits
+
+-- the first page from a number on whose flag is set
+abbrev pub IsNextFlag : List ℕ → ℕ → Option ℕ → Type 0
+IsNextFlag flags from None = (page : ℕ) → from ≤ page → slice_index_or flags page 0 ≡ 1 → ⊥
+IsNextFlag flags from (Some page) = (from ≤ page) × (page < length flags) × (slice_index_or flags page 0 ≡ 1) × ((other : ℕ) → from ≤ other → other < page → slice_index_or flags other 0 ≡ 1 → ⊥)
 
 -- how many changes wait, over all pages
 abbrev pub total_waiting : List (List Change) → ℕ

@@ -1,12 +1,12 @@
 -- What a restart makes of the pages: none of them was read, and what waits for each begins at its row in the checkpoint.
-use Rattle.std.specs.Prelude.{◌≡◌, ℕ, ◌-◌, ◌<◌, ◌≤◌, max, List, [], ◌∷◌, length, replicate, if◌then◌else◌, ◌==◌, slice_set, Contains, Option, Some, None, MatchOption}
+use Rattle.std.specs.Prelude.{◌≡◌, ◌⊎◌, ℕ, ◌-◌, ◌<◌, ◌≤◌, max, List, [], ◌∷◌, length, replicate, if◌then◌else◌, ◌==◌, slice_set, Contains, Option, Some, None, MatchOption}
 use Rattle.std.specs.List.{AllByRecursion}
 use Rattle.als_record.specs.declared.change.Change.{Change}
 use Rattle.als_record.specs.declared.lsn.Lsn.{Lsn}
 use Rattle.als_record.specs.declared.record.Record.{Record}
 use Rattle.als_record.specs.declared.rows.LoggedPage.{LoggedPage}
 use Rattle.als_record.specs.LogText.{end_of, IsLog}
-use Rattle.als_record.specs.Pages.{changes_above}
+use Rattle.als_record.specs.Pages.{change_of, changes_above}
 use Rattle.als_disk.specs.Slot.{Slot, IsSettled}
 use Rattle.als_frames.specs.Frames.{Framed, Paged, frame_of}
 use Rattle.als_frames.specs.Images.{image_of, synced_lsn, IsStable, AreFramesOf}
@@ -15,7 +15,8 @@ use Rattle.als_dirty.specs.Entries.{untouched_page, entry_of, after_load}
 use Rattle.als_dirty.specs.Images.{first_lsn}
 use Rattle.als_pool.specs.Queues.{pending_of}
 use Rattle.als_pool.specs.Pooled.{Pooled, unread_of}
-use Rattle.als_pool.specs.Images.{AllLackFrom}
+use Rattle.als_pool.specs.Outcomes.{CanRoute, with_change}
+use Rattle.als_pool.specs.Images.{IsFromOn, IsBelow, AllLackFrom}
 
 -- ---- where what waits begins
 
@@ -103,6 +104,18 @@ pub record HoldsImagesOf (log : List Record) (below : ℕ) (v : Pooled) : Type 0
   pub told : length v.unread ≡ length v.waits
   pub frames : AreFramesOf log (synced_lsn v.frames) below v.frames
   pub lacks : AllLackFrom log v
+
+-- ---- the log is read
+
+-- A record of a log is taken in: its change goes behind those that its page waits for, if it does not stand below the LSN from which on
+-- they wait; if it does, or if the record changes no page, nothing changes.
+abbrev pub TakesIn : Pooled → Record → Pooled → Type 0
+TakesIn old r new = MatchOption (change_of r) (new ≡ old) (λ c. (CanRoute old c × IsFromOn old c × (new ≡ with_change old c)) ⊎ (IsBelow old c × (new ≡ old)))
+
+-- records of a log are taken in one after another
+abbrev pub TakesInAll : Pooled → List Record → Pooled → Type 0
+TakesInAll old [] new = new ≡ old
+TakesInAll old (r ∷ rest) new = (next : Pooled) × TakesIn old r next × TakesInAll next rest new
 
 -- ---- in memory
 

@@ -13,7 +13,7 @@ ghost use Rattle.als_pool.specs.Refusals.{has_waiting, is_full, is_due};
 ghost use Rattle.als_pool.specs.Outcomes.{CanRoute};
 ghost use Rattle.als_pool.specs.Queues.{pending_of};
 ghost use Rattle.als_pool.specs.Images.{IsPoolOf, IsRowSound, IsRowExact, QueuesOf, IsBelow, IsFromOn, AllLackFrom};
-ghost use Rattle.als_pool.specs.Restart.{row_in, start_of, HasRowsFrom, IsRowOfRestart, HoldsImagesOf};
+ghost use Rattle.als_pool.specs.Restart.{row_in, start_of, HasRowsFrom, IsRowOfRestart, HoldsImagesOf, TakesInAll};
 ghost use Rattle.als_record.specs.declared.lsn.Lsn.{Lsn as AnyLsn};
 ghost use Rattle.als_record.specs.declared.rows.LoggedPage.{LoggedPage as AnyRow};
 
@@ -81,6 +81,12 @@ pub fn change_can_be_read()
     ensures { (front : List AnyRecord) (r : AnyRecord) (change : AnyChange) (position : AnyLsn) (rows : List AnyRow) (pool : Pooled) → HasRowsFrom position rows pool
         → QueuesOf front pool → IsLog pool.frames.pages (front ++ r ∷ []) → r.lsn.0 ≡ end_of front → change_of r ≡ Some change → IsFromOn pool change
         → total_waiting pool.waits + 1 < 2 ^ 64 → CanRoute pool change }
+{}
+
+/// A law, the whole of a restart: where the records of a log were taken in one after another, each change by `route` if it does not stand
+/// below the LSN from which on its page's changes wait, the pool is that of the log.
+pub fn a_log_is_taken_in()
+    ensures { (log : List AnyRecord) (below : ℕ) (old new : Pooled) → HoldsImagesOf log below old → QueuesOf [] old → TakesInAll old log new → IsPoolOf log below new }
 {}
 
 /// A law: until a page was read after a restart, its row is the one in the checkpoint that it was opened with, or else the first record of

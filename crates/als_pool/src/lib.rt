@@ -20,9 +20,9 @@ mod laws;
 
 pub use fault::Fault;
 pub use laws::{
-    change_can_be_read, change_can_be_routed, each_row_is_exact, each_row_is_sound,
-    mark_changes_nothing, other_records_pass, other_records_wait_nowhere, queues_join_images,
-    refusals_compute, unread_rows_are_the_checkpoints,
+    a_log_is_taken_in, change_can_be_read, change_can_be_routed, each_row_is_exact,
+    each_row_is_sound, mark_changes_nothing, other_records_pass, other_records_wait_nowhere,
+    queues_join_images, refusals_compute, unread_rows_are_the_checkpoints,
 };
 pub use new_pool::NewPool;
 pub use pool::Pool;

@@ -1,7 +1,7 @@
 ghost use Rattle.std.specs.Prelude.{◌≡◌, ◌<◌, ◌≤◌, ◌++◌, ◌∷◌, [], true, false, length, drop, IsOk, OnOk, OnErr};
 ghost use Rattle.std.specs.Vec.{vec_len, vec_capacity};
 ghost use Rattle.als_dirty.specs.Images.{first_lsn};
-ghost use Rattle.als_pool.specs.Queues.{empty_queue, count_up_to};
+ghost use Rattle.als_pool.specs.Queues.{empty_queue, count_up_to, flag_of};
 
 use als_record::{Change, Lsn};
 use std::alloc::{AllocError, Global};
@@ -114,6 +114,19 @@ impl PageQueue {
     {
         let taken = self.taken + count;
         self.taken = compact(&mut self.changes, taken);
+    }
+
+    /// The same, and answers the flag of what is left: 1 where changes wait, else 0.
+    pub fn drop_and_flag(&mut self, count: usize) -> u8
+        requires { count ≤ length self.old.pending }
+        ensures value { self.new ≡ record self.old { pending = drop count self.old.pending } }
+        ensures flag { result ≡ flag_of self.new.pending }
+    {
+        self.drop_front(count);
+        match self.first() {
+            Some(_) => 1,
+            None => 0,
+        }
     }
 }
 

@@ -1,9 +1,11 @@
 ghost use Rattle.std.specs.Prelude.{◌≡◌, ◌<◌, ◌≤◌, ◌+◌, ◌^◌, ◌++◌, ◌∷◌, [], true, false, length, replicate, take, drop, slice_set, IsOk, IfOk, OnOk, OnErr, IsTrue, ◌↔◌, ◌≢◌};
+ghost use Rattle.std.specs.Vec.{vec_len};
 ghost use Rattle.als_dirty.specs.Images.{first_lsn};
-ghost use Rattle.als_pool.specs.Queues.{empty_queue, pending_of, has_place, total_waiting, count_up_to, WaitsFirst};
+ghost use Rattle.als_pool.specs.Queues.{empty_queue, pending_of, has_place, total_waiting, count_up_to, WaitsFirst, IsNextFlag};
 
 use crate::page_queue::PageQueue;
 use als_record::{Change, Lsn};
+use memchr::memchr;
 use std::alloc::{AllocError, Global};
 use std::marker::Model;
 
@@ -14,19 +16,22 @@ const BATCH: usize = 64;
 #[derive(Drop)]
 pub struct Queues {
     queues: Vec<PageQueue>,
+    // 1 for a page for which changes wait, else 0: the next one is found without a look at the queues.
+    flags: Vec<u8>,
     // How many wait, over all pages.
     total: usize,
 }
 
 impl Model for Queues {
     ghost use Rattle.std.specs.Prelude.{◌≡◌, ◌≤◌, length, map};
-    ghost use Rattle.als_pool.specs.Queues.{Waiting, total_waiting};
+    ghost use Rattle.als_pool.specs.Queues.{Waiting, total_waiting, flags_of};
 
     ghost Value = { Waiting };
 
     ghost view = { λ q. record { waits = map (λ p. p.pending) q.queues.items; places = map (λ p. p.has_room) q.queues.items } };
 
-    ghost invariant = { λ q. (length q.queues.items ≤ 4096) × (q.total ≡ total_waiting (map (λ p. p.pending) q.queues.items)) };
+    ghost invariant = { λ q. (length q.queues.items ≤ 4096) × (q.total ≡ total_waiting (map (λ p. p.pending) q.queues.items))
+        × (q.flags.items ≡ flags_of (map (λ p. p.pending) q.queues.items)) };
 }
 
 impl Queues {
@@ -36,10 +41,16 @@ impl Queues {
         ensures { IfOk result (λ q. q ≡ record { waits = replicate pages []; places = replicate pages false }) }
     {
         let mut queues = Vec::with_capacity(alloc, pages as usize)?;
+        let mut flags = Vec::with_capacity(alloc, pages as usize)?;
         for _page in 0..pages {
             queues.push(PageQueue::empty(alloc))?;
+            flags.push(0)?;
         }
-        Ok(Queues { queues, total: 0 })
+        Ok(Queues {
+            queues,
+            flags,
+            total: 0,
+        })
     }
 
     /// How many changes wait, over all pages.
@@ -71,12 +82,11 @@ impl Queues {
     pub fn next_pending(&self, from: u32) -> Option<u32>
         ensures { WaitsFirst self.now.waits from result }
     {
-        for page in from as usize..self.queues.len() {
-            if self.queues[page].len() > 0 {
-                return Some(page as u32);
-            }
+        let from = (from as usize).min(self.flags.len());
+        match next_flag(&self.flags, from) {
+            Some(page) => Some(page as u32),
+            None => None,
         }
-        None
     }
 
     /// Makes room for one more change of a page. An `Err` changes nothing.
@@ -103,6 +113,7 @@ impl Queues {
         let page = change.key.page as usize;
         self.total += 1;
         self.queues[page].push(change);
+        self.flags[page] = 1;
     }
 
     /// Takes out so many of the first changes that wait for a page. It takes no memory.
@@ -112,8 +123,9 @@ impl Queues {
         ensures waits { self.new.waits ≡ slice_set self.old.waits page (drop count (pending_of self.old.waits page)) }
         ensures places { self.new.places ≡ self.old.places }
     {
+        let page = page as usize;
         self.total -= count;
-        self.queues[page as usize].drop_front(count);
+        self.flags[page] = self.queues[page].drop_and_flag(count);
     }
 
     /// How many of the first changes that wait for a page stand at or below an LSN.
@@ -123,4 +135,23 @@ impl Queues {
     {
         self.queues[page as usize].count_up_to(lsn)
     }
+}
+
+// The first page from a number on whose flag is set.
+fn next_flag(flags: &Vec<u8>, from: usize) -> Option<usize>
+    requires { from ≤ vec_len flags.now }
+    ensures { IsNextFlag flags.now.items from result }
+{
+    match memchr(1, tail(flags, from)) {
+        Some(found) => Some(from + found),
+        None => None,
+    }
+}
+
+// The flags from a page on.
+fn tail(flags: &Vec<u8>, from: usize) -> &[u8]
+    requires { from ≤ vec_len flags.now }
+    ensures { result.now ≡ drop from flags.now.items }
+{
+    &flags[from..]
 }

@@ -1,7 +1,7 @@
 use Rattle.std.proofs.Common.{◌≡◌, ◌<◌, length, true, ap, ap₂, arith, List, Bool}
 use Rattle.als_record.specs.declared.change.Change.{Change}
 use Rattle.als_pool.specs.Queues.{Queue, Waiting}
-use Rattle.als_pool.proofs.QueueSteps.{waits-same, places-set, kept-total, inside_of, place-set}
+use Rattle.als_pool.proofs.QueueSteps.{waits-same, places-set, kept-total, inside_of, place-set, flags-same}
 use Rattle.als_pool.proofs.queues.Queues.reserve.Goals as goal
 
 pub invariant_of-self-2 : goal.invariant_of-self-2
@@ -10,7 +10,8 @@ invariant_of-self-2 c =
     let old = c.index_mut-queue.result.now in
     let inside : c.args.page < length s.queues.items = inside_of s.queues.items c.args.self.now c.args.page c.self.view_is c.requires in
     let same : length c.reserve.new.self.pending ≡ length old.pending = ap (λ (q : Queue). length q.pending) c.in_ok-reserve.ensures.ok in
-    kept-total s.queues.items c.args.page s.total s.total old c.reserve.new.self inside c.index_mut-queue.ensures.value c.self.invariant.0 c.self.invariant.1 (omega (arith, same))
+    let (few, total) = kept-total s.queues.items c.args.page s.total s.total old c.reserve.new.self inside c.index_mut-queue.ensures.value c.self.invariant.0 c.self.invariant.1 (omega (arith, same)) in
+    (few, total, flags-same s.queues.items c.args.page old c.reserve.new.self s.flags.items inside c.index_mut-queue.ensures.value (ap (λ (q : Queue). q.pending) c.in_ok-reserve.ensures.ok) c.self.invariant.2)
 
 pub returns-clause-ok : goal.returns-clause-ok
 returns-clause-ok c =
