@@ -1,6 +1,9 @@
 ghost use Rattle.std.specs.Prelude.{◌≡◌, ℕ};
 ghost use Rattle.als_record.specs.Spelling.{IsRecord, spelling};
 
+// What refuses redo, a write and a sync, in order.
+mod refusals;
+
 use super::*;
 use als_disk::{BlockDisk, MemDisk};
 use als_record::{Body, Cause, Lsn, Record, TransId, encode};

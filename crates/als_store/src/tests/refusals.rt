@@ -1,0 +1,103 @@
+ghost use Rattle.std.specs.Prelude.{◌≡◌, ◌<◌, ℕ, IfOk};
+ghost use Rattle.als_record.specs.Spelling.{IsRecord};
+
+use super::spelled;
+use crate::{Disks, Fault, Store};
+use als_disk::{BlockDisk, FailingDisk, Fuse, MemDisk};
+use als_record::{Body, Key, LoggedPage, Lsn, Record, TransId};
+use std::alloc::{AllocError, Global};
+use std::process::Abort;
+
+/// An update of a page by transaction 1, which leaves no value.
+fn update_at(lsn: Lsn, prev: Lsn, page: u32) -> Record
+    requires { page < 4 }
+    ensures fits { IsRecord 4 result }
+    ensures lsn { result.lsn ≡ lsn }
+{
+    let key = Key { page, slot: 0 };
+    let (before, after) = (None, None);
+    Record {
+        lsn,
+        prev,
+        trans: TransId(1),
+        body: Body::Update { key, before, after },
+    }
+}
+
+/// Devices in memory with one fuse for all.
+fn failing(alloc: Global, fuse: &Fuse) -> Result<Disks<FailingDisk<MemDisk>>, AllocError>
+    ensures log { IfOk result (λ d. ⟦<FailingDisk<MemDisk> as BlockDisk>⟧.block_count d.log ≡ 8) }
+    ensures control { IfOk result (λ d. ⟦<FailingDisk<MemDisk> as BlockDisk>⟧.block_count d.control ≡ 321) }
+    ensures pages { IfOk result (λ d. ⟦<FailingDisk<MemDisk> as BlockDisk>⟧.block_count d.pages ≡ 4) }
+{
+    let (log, control, pages) = (fuse.clone()?, fuse.clone()?, fuse.clone()?);
+    Ok(Disks {
+        log: FailingDisk::new(MemDisk::new(alloc, 8), log),
+        control: FailingDisk::new(MemDisk::new(alloc, 321), control),
+        pages: FailingDisk::new(MemDisk::new(alloc, 4), pages),
+    })
+}
+
+/// Admits an update of a page, and tells where it stands. None: memory was refused.
+fn update(
+    rt: &impl Abort,
+    alloc: Global,
+    store: &mut Store<FailingDisk<MemDisk>>,
+    prev: Lsn,
+    page: u32,
+) -> Option<Lsn>
+    requires { page < 4 }
+{
+    assert_eq!(rt; store.pages(), 4);
+    let at = store.end();
+    let logged = update_at(at, prev, page);
+    let bytes = spelled(rt, alloc, &logged);
+    assert!(rt; store.is_following());
+    match store.admit(&logged, bytes.as_slice()) {
+        Ok(()) => Some(at),
+        Err(_) => None,
+    }
+}
+
+/// Redo, a write and a sync are refused in the order of their causes, though the device would fail. None: memory was refused.
+fn refuses(rt: &impl Abort, alloc: Global) -> Option<()> {
+    let Ok(fuse) = Fuse::new(alloc) else {
+        return None;
+    };
+    let Ok(disks) = failing(alloc, &fuse) else {
+        return None;
+    };
+    let Ok(mut store) = Store::format(alloc, disks, 4, 1) else {
+        return None;
+    };
+    let first = update(rt, alloc, &mut store, Lsn(0), 0)?;
+    let _ = update(rt, alloc, &mut store, first, 1)?;
+    fuse.fail_at(1);
+    assert_eq!(rt; store.apply(2), Err(Fault::NothingToDo));
+    assert_eq!(rt; store.apply(9), Err(Fault::NothingToDo));
+    assert_eq!(rt; store.apply(0), Err(Fault::Device));
+    match store.apply(0) {
+        Err(Fault::Memory) => return None,
+        answer => assert_eq!(rt; answer, Ok(Lsn(16))),
+    }
+    fuse.fail_at(1);
+    assert_eq!(rt; store.apply(1), Err(Fault::PoolFull));
+    assert_eq!(rt; store.apply(0), Err(Fault::NothingToDo));
+    assert!(rt; !store.is_broken());
+    assert_eq!(rt; store.flush(1), Err(Fault::NothingToDo));
+    assert!(rt; !store.is_broken());
+    assert_eq!(rt; store.flush(9), Err(Fault::NothingToDo));
+    assert!(rt; !store.is_broken());
+    assert_eq!(rt; store.flush(0), Err(Fault::LogBehind));
+    assert!(rt; !store.is_broken());
+    assert_eq!(rt; store.sync_pages(), Err(Fault::Device));
+    assert!(rt; store.is_broken());
+    let (page, rec_lsn) = (0, Lsn(16));
+    assert_eq!(rt; store.next_row(0), Some(LoggedPage { page, rec_lsn }));
+    Some(())
+}
+
+#[test]
+fn pages_are_refused_in_order(rt: HostRuntime) {
+    assert!(rt; refuses(&rt, rt.alloc()).is_some() || refuses(&rt, rt.alloc()).is_some());
+}
