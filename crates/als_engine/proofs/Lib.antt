@@ -5,3 +5,4 @@ pub mod FeedLaws
 pub mod KeepLaws
 pub mod RefusalLaws
 pub mod RunLaws
+pub mod StepLaws

@@ -5,5 +5,6 @@ pub mod Serving
 pub mod Feeds
 pub mod Refusals
 pub mod Events
+pub mod Takeover
 pub mod TakingIn
 pub mod Runs
