@@ -1,14 +1,25 @@
 -- What each step keeps: what is acknowledged, the log's records, and that an engine has stopped.
-use Rattle.std.proofs.Common.{◌≡◌, ℕ, ◌≤◌, List, [], ◌++◌, sym, ap, subst, ◌∙◌, append_assoc, append-nil, arith}
+use Rattle.std.proofs.Common.{◌≡◌, ℕ, ◌≤◌, List, [], ◌++◌, refl, sym, ap, subst, ◌∙◌, append_assoc, append-nil, arith}
 use Rattle.als_record.specs.declared.record.Record.{Record}
+use Rattle.als_ckpt.specs.declared.control_state.ControlState.{ControlState}
+use Rattle.als_store.specs.Takeover.{GoesOn}
 use Rattle.als_store.specs.Stored.{acknowledged}
 use Rattle.als_engine.specs.Machine.{Machine, Keeps}
 
 pub le_refl : (n : ℕ) → n ≤ n
 le_refl n = omega arith
 
+pub goes_on_same : (s : ControlState) → GoesOn s s
+goes_on_same s = record { phase = omega arith; seal = λ past. refl }
+
+goes_on_both : (a b c : ControlState) → GoesOn a b → GoesOn b c → GoesOn a c
+goes_on_both a b c p q = record {
+  phase = omega (arith, p.phase, q.phase);
+  seal = λ past. q.seal (omega (arith, p.phase, past)) ∙ p.seal past;
+}
+
 pub keeps_same : (m : Machine) → Keeps m m
-keeps_same m = record { acknowledged = le_refl (acknowledged m.held); more = []; log = sym (append-nil m.held.log); stopped = λ s. s }
+keeps_same m = record { acknowledged = le_refl (acknowledged m.held); more = []; log = sym (append-nil m.held.log); stopped = λ s. s; takeover = goes_on_same m.held.control }
 
 pub keeps_equal : (old new : Machine) → new ≡ old → Keeps old new
 keeps_equal old new e = subst (λ (m : Machine). Keeps old m) (sym e) (keeps_same old)
@@ -19,4 +30,5 @@ keeps_both a b c p q = record {
   more = p.more ++ q.more;
   log = q.log ∙ ap (λ (log : List Record). log ++ q.more) p.log ∙ append_assoc a.held.log p.more q.more;
   stopped = λ s. q.stopped (p.stopped s);
+  takeover = goes_on_both a.held.control b.held.control c.held.control p.takeover q.takeover;
 }

@@ -6,3 +6,4 @@ pub mod KeepLaws
 pub mod RefusalLaws
 pub mod RunLaws
 pub mod PageLaws
+pub mod StepLaws

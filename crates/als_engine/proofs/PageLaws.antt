@@ -4,7 +4,9 @@ use Rattle.std.specs.Prelude.{Result, MatchOption}
 use Rattle.als_record.specs.declared.lsn.Lsn.{Lsn}
 use Rattle.als_store.specs.declared.fault.Fault.{Fault as StoreFault}
 use Rattle.als_store.specs.declared.fault.Fault.TheVariants as store_fault
-use Rattle.als_store.specs.Stored.{Stored, acknowledged}
+use Rattle.als_ckpt.specs.declared.control_state.ControlState.{ControlState}
+use Rattle.als_store.specs.Stored.{Stored}
+use Rattle.als_store.specs.Takeover.{GoesOn}
 use Rattle.als_store.specs.Events.{CanApply, AppliesFirst, ReadsInVain, CanFlush, FlushesPage}
 use Rattle.als_engine.specs.declared.fault.Fault.{Fault}
 use Rattle.als_engine.specs.declared.step.Step.{Step}
@@ -12,7 +14,7 @@ use Rattle.als_engine.specs.declared.step.Step.TheVariants as step
 use Rattle.als_engine.specs.Machine.{Machine, IsStopped, Keeps}
 use Rattle.als_engine.specs.Refusals.{refusal, Does}
 use Rattle.als_engine.specs.Events.{Applies, Redoes, FlushesOne, WritesPage}
-use Rattle.als_engine.proofs.KeepLaws.{keeps_equal}
+use Rattle.als_engine.proofs.KeepLaws.{goes_on_same, keeps_equal}
 
 -- an event that is not refused acts
 acting : {A : Type 0} (old : Machine) (event : Step) (acts : Result A Fault → Machine → Type 0) (result : Result A Fault) (new : Machine)
@@ -43,21 +45,27 @@ flushes m page held running done =
 
 -- ---- what they keep
 
--- the same log, the same acknowledged offset, and a stopped engine stays stopped
-keeps_log : (old new : Machine) → acknowledged new.held ≡ acknowledged old.held → new.held.log ≡ old.held.log → (IsStopped old → IsStopped new) → Keeps old new
-keeps_log old new mark log stopped = record { acknowledged = omega (arith, mark); more = []; log = log ∙ sym (append-nil old.held.log); stopped = stopped }
+-- the same log, the same synced control state, and a stopped engine stays stopped
+keeps_log : (old new : Machine) → new.held.control ≡ old.held.control → new.held.log ≡ old.held.log → (IsStopped old → IsStopped new) → Keeps old new
+keeps_log old new control log stopped = record {
+  acknowledged = omega (arith, ap (λ (c : ControlState). c.mark.0) control);
+  more = [];
+  log = log ∙ sym (append-nil old.held.log);
+  stopped = stopped;
+  takeover = subst (λ (c : ControlState). GoesOn old.held.control c) (sym control) (goes_on_same old.held.control);
+}
 
-keeps_pool : (old new : Machine) (held : Stored) → new ≡ record old { held = held } → acknowledged held ≡ acknowledged old.held → held.log ≡ old.held.log
+keeps_pool : (old new : Machine) (held : Stored) → new ≡ record old { held = held } → held.control ≡ old.held.control → held.log ≡ old.held.log
     → (old.held.broken ≡ true → held.broken ≡ true) → Keeps old new
-keeps_pool old new held after mark log stopped = subst (λ (m : Machine). Keeps old m) (sym after) (keeps_log old (with_held old held) mark log stopped)
+keeps_pool old new held after control log stopped = subst (λ (m : Machine). Keeps old m) (sym after) (keeps_log old (with_held old held) control log stopped)
 
 -- a page that was read in vain: all but the pages is as it was
 in_vain : (old held : Stored) (page : ℕ) (cause : StoreFault) → ReadsInVain old page cause held
-    → (acknowledged held ≡ acknowledged old) × (held.log ≡ old.log) × (held.broken ≡ old.broken) × (held.attempts ≡ old.attempts)
-in_vain old held page store_fault.NothingToDo r = (ap acknowledged r.after, ap (λ (s : Stored). s.log) r.after, ap (λ (s : Stored). s.broken) r.after, ap (λ (s : Stored). s.attempts) r.after)
-in_vain old held page store_fault.Device r = (ap acknowledged r.after, ap (λ (s : Stored). s.log) r.after, ap (λ (s : Stored). s.broken) r.after, ap (λ (s : Stored). s.attempts) r.after)
-in_vain old held page (store_fault.BadPage p) r = (ap acknowledged r.1, ap (λ (s : Stored). s.log) r.1, ap (λ (s : Stored). s.broken) r.1, ap (λ (s : Stored). s.attempts) r.1)
-in_vain old held page store_fault.Memory r = (ap acknowledged r, ap (λ (s : Stored). s.log) r, ap (λ (s : Stored). s.broken) r, ap (λ (s : Stored). s.attempts) r)
+    → (held.control ≡ old.control) × (held.log ≡ old.log) × (held.broken ≡ old.broken) × (held.attempts ≡ old.attempts)
+in_vain old held page store_fault.NothingToDo r = (ap (λ (s : Stored). s.control) r.after, ap (λ (s : Stored). s.log) r.after, ap (λ (s : Stored). s.broken) r.after, ap (λ (s : Stored). s.attempts) r.after)
+in_vain old held page store_fault.Device r = (ap (λ (s : Stored). s.control) r.after, ap (λ (s : Stored). s.log) r.after, ap (λ (s : Stored). s.broken) r.after, ap (λ (s : Stored). s.attempts) r.after)
+in_vain old held page (store_fault.BadPage p) r = (ap (λ (s : Stored). s.control) r.1, ap (λ (s : Stored). s.log) r.1, ap (λ (s : Stored). s.broken) r.1, ap (λ (s : Stored). s.attempts) r.1)
+in_vain old held page store_fault.Memory r = (ap (λ (s : Stored). s.control) r, ap (λ (s : Stored). s.log) r, ap (λ (s : Stored). s.broken) r, ap (λ (s : Stored). s.attempts) r)
 in_vain old held page (store_fault.Invalid c) r = absurd r
 in_vain old held page store_fault.LogBehind r = absurd r
 in_vain old held page store_fault.PoolFull r = absurd r
@@ -78,9 +86,9 @@ not_applied_keeps old new page f r = refused_keeps old new page f (refusal old (
 
 flush_keeps : (old new : Machine) (page : ℕ) (answer : Result (Unit {0}) Fault) (o : Option Fault) → MatchOption o (WritesPage old page answer new) (λ cause. (answer ≡ Err cause) × (new ≡ old)) → Keeps old new
 flush_keeps old new page (Ok x) None r =
-    keeps_pool old new r.held r.after (ap acknowledged r.becomes.after) (ap (λ (s : Stored). s.log) r.becomes.after) (λ s. ap (λ (h : Stored). h.broken) r.becomes.after ∙ s)
+    keeps_pool old new r.held r.after (ap (λ (s : Stored). s.control) r.becomes.after) (ap (λ (s : Stored). s.log) r.becomes.after) (λ s. ap (λ (h : Stored). h.broken) r.becomes.after ∙ s)
 flush_keeps old new page (Err f) None r =
-    keeps_pool old new r.1.held r.1.after (ap acknowledged r.1.becomes.after) (ap (λ (s : Stored). s.log) r.1.becomes.after) (λ s. ap (λ (h : Stored). h.broken) r.1.becomes.after)
+    keeps_pool old new r.1.held r.1.after (ap (λ (s : Stored). s.control) r.1.becomes.after) (ap (λ (s : Stored). s.log) r.1.becomes.after) (λ s. ap (λ (h : Stored). h.broken) r.1.becomes.after)
 flush_keeps old new page (Ok x) (Some cause) r = keeps_equal old new r.1
 flush_keeps old new page (Err f) (Some cause) r = keeps_equal old new r.1
 

@@ -1,5 +1,7 @@
 -- An engine is ready again after each event.
 use Rattle.std.proofs.Common.{◌≡◌, ℕ, ◌≤◌, ◌⊎◌, List, [], ◌∷◌, ◌++◌, Option, Some, None, inl, inr, refl, sym, subst, arith}
+use Rattle.std.specs.Prelude.{◌+◌, Bool, true}
+use Rattle.als_record.specs.declared.lsn.Lsn.{Lsn}
 use Rattle.als_record.specs.declared.record.Record.{Record}
 use Rattle.als_record.specs.LogText.{end_of}
 use Rattle.als_receiver.specs.Reception.{Reception, fresh}
@@ -9,6 +11,9 @@ use Rattle.als_pool.specs.Pooled.{Pooled}
 use Rattle.als_store.specs.declared.fault.Fault.{Fault as StoreFault}
 use Rattle.als_store.specs.declared.fault.Fault.TheVariants.{NothingToDo, Device}
 use Rattle.als_store.specs.Stored.{Stored, formatted, acknowledged, newest}
+use Rattle.als_store.specs.Takeover.{WritesState, BreaksState, UndoesOne, NotUndone}
+use Rattle.als_store.specs.declared.fault.Fault.TheVariants as store_fault
+use Rattle.als_engine.specs.Faults.{from_store}
 use Rattle.als_store.specs.Events.{marked, HasUnmarked, WritesMark, BreaksMark}
 use Rattle.als_engine.specs.declared.fault.Fault.{Fault}
 use Rattle.als_engine.specs.declared.fault.Fault.TheVariants.{Memory}
@@ -72,3 +77,45 @@ ready_failed held new receiver refused fault ready failed = elim failed [
   | inl nothing ↦ subst (λ (h : Stored). IsReady h receiver refused) (sym nothing.2) ready
   | inr breaks ↦ ready_broken held new receiver refused ready breaks.1
 ]
+
+-- ---- a takeover
+
+-- a receiver of the same log, where a control state more is written
+rests_written : (held : Stored) (state : ControlState) (attempts failures : ℕ) (broken : Bool) (receiver : Reception) → Rests held receiver → Rests (record held { since = held.since ++ state ∷ []; broken = broken; failures = failures; attempts = attempts }) receiver
+rests_written held state attempts failures broken receiver r =
+    record { meets = record { wanted = r.meets.wanted; pages = r.meets.pages; takes = r.meets.takes }; waits = r.waits; short = r.short }
+
+state_above : (held : Stored) (state : ControlState) → acknowledged held ≤ state.mark.0 → acknowledged held ≤ (last_state held.control (held.since ++ state ∷ [])).mark.0
+state_above held state low = rw (last_state-push held.control held.since state) low
+
+pub ready_written : (held new : Stored) (state : ControlState) (receiver after : Reception) (refused : Option Fault) → Rests held after → (refused ≡ Some Memory → ⊥) → acknowledged held ≤ state.mark.0 → WritesState state held new → IsReady new after refused
+ready_written held new state receiver after refused rests no_want low writes = subst (λ (h : Stored). IsReady h after refused) (sym writes.after) (record {
+  rests = rests_written held state (held.attempts + 1) held.failures held.broken after rests;
+  marks = state_above held state low;
+  no_want = no_want;
+})
+
+pub ready_torn : (held new : Stored) (state : ControlState) (receiver : Reception) (refused : Option Fault) → IsReady held receiver refused → acknowledged held ≤ state.mark.0 → BreaksState state held new → IsReady new receiver refused
+ready_torn held new state receiver refused ready low breaks = subst (λ (h : Stored). IsReady h receiver refused) (sym breaks.after) (record {
+  rests = rests_written held state (held.attempts + 1) new.failures true receiver ready.rests;
+  marks = state_above held state low;
+  no_want = ready.no_want;
+})
+
+pub ready_undone : (held new : Stored) (receiver after : Reception) (refused : Option Fault) (lsn : Lsn) (end pages : ℕ) → IsReady held receiver refused → UndoesOne held lsn new → after ≡ fresh end pages → end ≡ end_of new.log → pages ≡ new.pages → IsReady new after refused
+ready_undone held new receiver after refused lsn end pages ready undoes f at same = record {
+  rests = rests_again new after end pages f at same;
+  marks = subst (λ (h : Stored). acknowledged h ≤ (newest h).mark.0) (sym undoes.after) ready.marks;
+  no_want = ready.no_want;
+}
+
+-- an undo that is refused for want of memory
+pub undo_wants : (old new : Stored) (fault : StoreFault) → NotUndone old fault new → from_store fault ≡ Memory → fault ≡ store_fault.Memory
+undo_wants old new store_fault.NothingToDo n e = absurd cc
+undo_wants old new store_fault.Memory n e = refl
+undo_wants old new (store_fault.Invalid cause) n e = absurd n
+undo_wants old new store_fault.LogBehind n e = absurd n
+undo_wants old new store_fault.PoolFull n e = absurd n
+undo_wants old new store_fault.LogFull n e = absurd n
+undo_wants old new store_fault.Device n e = absurd n
+undo_wants old new (store_fault.BadPage page) n e = absurd n

@@ -33,6 +33,9 @@ room_behind old new before after one room =
 
 -- want of memory is not kept
 pub kept_fault-want : (f : Fault) → kept_fault f ≡ Some fault.Memory → ⊥
+kept_fault-want fault.Sealed e = cc e
+kept_fault-want fault.NotDrained e = cc e
+kept_fault-want fault.NotSealed e = cc e
 kept_fault-want fault.LogBehind e = cc e
 kept_fault-want fault.PoolFull e = cc e
 kept_fault-want (fault.BadPage page) e = cc e

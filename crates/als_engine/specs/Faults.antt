@@ -8,7 +8,7 @@ use Rattle.als_record.specs.declared.cause.Cause.TheVariants as cause
 use Rattle.als_store.specs.declared.fault.Fault.{Fault as StoreFault}
 use Rattle.als_store.specs.declared.fault.Fault.TheVariants as store_fault
 use Rattle.als_engine.specs.declared.fault.Fault.{Fault}
-use Rattle.als_engine.specs.declared.fault.Fault.TheVariants.{BadHeader, BadLength, BadType, BadReserved, WrongLsn, BadKey, BadValue, BadPrev, OldTransaction, WrongState, WrongUndoNext, WrongCompensation, RecordHeld, BeforeImage, TooManyTransactions, BadCheckpoint, LogBehind, PoolFull, NothingToDo, LogFull, Device, Stopped, Memory, BadPage, Backlog, BadConfig}
+use Rattle.als_engine.specs.declared.fault.Fault.TheVariants.{BadHeader, BadLength, BadType, BadReserved, WrongLsn, BadKey, BadValue, BadPrev, OldTransaction, WrongState, WrongUndoNext, WrongCompensation, RecordHeld, BeforeImage, TooManyTransactions, BadCheckpoint, Sealed, LogBehind, NotDrained, PoolFull, NothingToDo, LogFull, Device, Stopped, Memory, BadPage, Backlog, BadConfig, NotSealed}
 
 abbrev pub kind_of : Fault → FaultKind
 kind_of BadHeader = kind.BadHeader
@@ -27,7 +27,9 @@ kind_of (RecordHeld by) = kind.RecordHeld by.0
 kind_of BeforeImage = kind.BeforeImage
 kind_of TooManyTransactions = kind.TooManyTransactions
 kind_of BadCheckpoint = kind.BadCheckpoint
+kind_of Sealed = kind.Sealed
 kind_of LogBehind = kind.LogBehind
+kind_of NotDrained = kind.NotDrained
 kind_of PoolFull = kind.PoolFull
 kind_of NothingToDo = kind.NothingToDo
 kind_of LogFull = kind.LogFull
@@ -37,6 +39,7 @@ kind_of Memory = kind.Memory
 kind_of (BadPage page) = kind.BadPage page
 kind_of Backlog = kind.Backlog
 kind_of BadConfig = kind.BadConfig
+kind_of NotSealed = kind.NotSealed
 
 -- the same fault, as the engine answers it
 abbrev pub from_record : RecordFault → Fault

@@ -5,6 +5,7 @@ pub mod Serving
 pub mod Feeds
 pub mod Refusals
 pub mod Events
+pub mod Takeover
 pub mod TakingIn
 pub mod Runs
 pub mod Telling

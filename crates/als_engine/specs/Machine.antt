@@ -4,11 +4,14 @@ use Rattle.std.specs.Prelude.{◌≡◌, ℕ, ◌≤◌, ◌++◌, Bool, true, f
 use Rattle.als_record.specs.declared.record.Record.{Record}
 use Rattle.als_record.specs.LogText.{end_of}
 use Rattle.als_pool.specs.Pooled.{Pooled}
-use Rattle.als_store.specs.Stored.{Stored, formatted, acknowledged}
+use Rattle.als_store.specs.Stored.{Stored, formatted, acknowledged, newest}
 use Rattle.als_engine.specs.declared.config.Config.{Config}
 use Rattle.als_engine.specs.declared.fault.Fault.{Fault}
 use Rattle.als_engine.specs.declared.status.State.{State}
-use Rattle.als_engine.specs.declared.status.State.TheVariants.{Following, Refusing, Stopped}
+use Rattle.als_engine.specs.declared.status.State.TheVariants as state
+use Rattle.als_ckpt.specs.declared.phase.Phase.{Phase}
+use Rattle.als_ckpt.specs.declared.phase.Phase.TheVariants.{Following, Sealed, Primary}
+use Rattle.als_store.specs.Takeover.{GoesOn}
 
 pub record Machine : Type 0 where
   -- the held log and its pages, and how much of it is on the devices; broken once a write or a sync has failed
@@ -33,17 +36,24 @@ IsRunning m = m.held.broken ≡ false
 abbrev pub IsStopped : Machine → Type 0
 IsStopped m = m.held.broken ≡ true
 
-abbrev pub state_from : Bool → Option Fault → ℕ → State
-state_from true refused end = Stopped
-state_from false None end = Following
-state_from false (Some fault) end = Refusing (record { 0 = end }) fault
+abbrev pub state_in : Phase → Option Fault → ℕ → State
+state_in Following None end = state.Following
+state_in Following (Some fault) end = state.Refusing (record { 0 = end }) fault
+state_in Sealed refused end = state.Sealed
+state_in Primary refused end = state.Primary
+
+abbrev pub state_from : Bool → Phase → Option Fault → ℕ → State
+state_from true phase refused end = state.Stopped
+state_from false phase refused end = state_in phase refused end
 
 abbrev pub state_of : Machine → State
-state_of m = state_from m.held.broken m.refused (end_of m.held.log)
+state_of m = state_from m.held.broken (newest m.held).phase m.refused (end_of m.held.log)
 
--- What is acknowledged stays so, the log only grows, and a stopped engine stays stopped.
+-- What is acknowledged stays so, the log only grows, and a stopped engine stays stopped. What is acknowledged of a takeover stays
+-- so too: the synced phase never falls, and past Following the seal stays.
 pub record Keeps (old new : Machine) : Type 0 where
   pub acknowledged : acknowledged old.held ≤ acknowledged new.held
   pub more : List Record
   pub log : new.held.log ≡ old.held.log ++ more
   pub stopped : IsStopped old → IsStopped new
+  pub takeover : GoesOn old.held.control new.held.control

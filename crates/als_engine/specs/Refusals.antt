@@ -1,11 +1,13 @@
 -- Why an event is refused before it does anything.
 use Rattle.std.specs.Prelude.{◌≡◌, nat_lt, nat_le, Bool, true, not, List, [], ◌∷◌, ◌++◌, Option, Some, None, MatchOption, Result, Err, if◌then◌else◌}
 use Rattle.als_record.specs.LogText.{end_of}
+use Rattle.als_record.specs.Transactions.{unended}
 use Rattle.als_pool.specs.Pooled.{view_of}
 use Rattle.als_pool.specs.Refusals.{has_waiting, is_full as has_no_frame, is_due, is_behind}
 use Rattle.als_store.specs.Stored.{Stored, newest, pending_of, acknowledged}
+use Rattle.als_store.specs.Takeover.{is_following, is_primary, is_drained, is_none}
 use Rattle.als_engine.specs.declared.fault.Fault.{Fault}
-use Rattle.als_engine.specs.declared.fault.Fault.TheVariants.{LogBehind, PoolFull, NothingToDo, Stopped, Backlog}
+use Rattle.als_engine.specs.declared.fault.Fault.TheVariants.{Sealed, LogBehind, NotDrained, PoolFull, NothingToDo, Stopped, Backlog, NotSealed}
 use Rattle.als_engine.specs.declared.step.Step.{Step}
 use Rattle.als_engine.specs.declared.step.Step.TheVariants as step
 use Rattle.als_engine.specs.Machine.{Machine}
@@ -15,6 +17,18 @@ use Rattle.als_engine.specs.Machine.{Machine}
 -- a write or a sync has failed
 abbrev pub has_stopped : Machine → Bool × Fault
 has_stopped m = (m.held.broken, Stopped)
+
+-- the log was sealed
+abbrev pub has_sealed : Machine → Bool × Fault
+has_sealed m = (not (is_following m.held), Sealed)
+
+-- it was not sealed yet
+abbrev pub is_unsealed : Machine → Bool × Fault
+is_unsealed m = (is_following m.held, NotSealed)
+
+-- the log is not synced to its end
+abbrev pub is_unsynced : Stored → Bool
+is_unsynced held = nat_lt held.synced (end_of held.log)
 
 -- a fault of the log was met, and is kept until a resync
 abbrev pub has_refused : Option Fault → List (Bool × Fault)
@@ -37,11 +51,11 @@ is_unmarked held = nat_lt (newest held).mark.0 held.synced
 
 -- of a feed, whatever the piece
 abbrev pub feed_causes : Machine → List (Bool × Fault)
-feed_causes m = has_stopped m ∷ has_refused m.refused ++ (is_full m, Backlog) ∷ []
+feed_causes m = has_stopped m ∷ has_sealed m ∷ has_refused m.refused ++ (is_full m, Backlog) ∷ []
 
 abbrev pub causes : Machine → Step → List (Bool × Fault)
 causes m (step.Feed piece) = feed_causes m
-causes m step.Resync = has_stopped m ∷ []
+causes m step.Resync = has_stopped m ∷ has_sealed m ∷ []
 causes m (step.Apply page) = has_stopped m ∷ (not (has_waiting m.held.pool page), NothingToDo) ∷ (has_no_frame m.held.pool page, PoolFull) ∷ []
 causes m (step.Flush page) =
     has_stopped m ∷ (not (is_due (view_of m.held.pool page)), NothingToDo) ∷ (is_behind (view_of m.held.pool page) (acknowledged m.held), LogBehind) ∷ []
@@ -50,6 +64,9 @@ causes m step.LogWrite = has_stopped m ∷ (not (is_unwritten m.held), NothingTo
 causes m step.LogSync = has_stopped m ∷ []
 causes m step.MarkWrite = has_stopped m ∷ (not (is_unmarked m.held), NothingToDo) ∷ []
 causes m step.ControlSync = has_stopped m ∷ []
+causes m step.Seal = has_stopped m ∷ has_sealed m ∷ (is_unsynced m.held, LogBehind) ∷ []
+causes m step.UndoOne = has_stopped m ∷ is_unsealed m ∷ (is_none (unended m.held.log), NothingToDo) ∷ []
+causes m step.Finish = has_stopped m ∷ is_unsealed m ∷ (is_primary m.held, NothingToDo) ∷ (not (is_drained m.held), NotDrained) ∷ []
 
 -- the fault of the first cause that stands
 abbrev pub first_of : List (Bool × Fault) → Option Fault

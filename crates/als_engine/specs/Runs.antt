@@ -9,6 +9,7 @@ use Rattle.als_engine.specs.Machine.{Machine}
 use Rattle.als_engine.specs.Refusals.{feed_refusal}
 use Rattle.als_engine.specs.Feeds.{Feeds}
 use Rattle.als_engine.specs.Events.{Resyncs, Applies, FlushesOne, PagesSync, LogWrites, LogSyncs, MarkWrites, ControlSyncs}
+use Rattle.als_engine.specs.Takeover.{Seals, UndoesOneOf, Finishes}
 
 -- the reply to an event that answers no value
 abbrev pub reply_of : Result (Unit {0}) Fault → Reply
@@ -35,6 +36,12 @@ Steps old step.MarkWrite reply.Done new = MarkWrites old (Ok tt) new
 Steps old step.MarkWrite (reply.Refused fault) new = MarkWrites old (Err fault) new
 Steps old step.ControlSync (reply.Acknowledged lsn) new = ControlSyncs old (Ok lsn) new
 Steps old step.ControlSync (reply.Refused fault) new = ControlSyncs old (Err fault) new
+Steps old step.Seal reply.Done new = Seals old (Ok tt) new
+Steps old step.Seal (reply.Refused fault) new = Seals old (Err fault) new
+Steps old step.UndoOne (reply.Undone lsn) new = UndoesOneOf old (Ok lsn) new
+Steps old step.UndoOne (reply.Refused fault) new = UndoesOneOf old (Err fault) new
+Steps old step.Finish reply.Done new = Finishes old (Ok tt) new
+Steps old step.Finish (reply.Refused fault) new = Finishes old (Err fault) new
 -- no other reply comes
 Steps _ _ _ _ = ⊥
 

@@ -14,6 +14,8 @@ ghost use Rattle.als_engine.specs.Serving.{HasRoomForPiece};
 ghost use Rattle.als_engine.specs.Refusals.{feed_refusal};
 ghost use Rattle.als_engine.specs.Feeds.{Feeds, kept_fault};
 ghost use Rattle.als_engine.specs.Events.{Resyncs, Applies, FlushesOne, PagesSync, LogWrites, LogSyncs, MarkWrites, ControlSyncs, Reads, ShowsPage};
+ghost use Rattle.als_engine.specs.Takeover.{Seals, UndoesOneOf, Finishes};
+ghost use Rattle.als_store.specs.Takeover.{IsUnderTakeover, IsFinished, is_primary, HasRoomToUndo, GoesOn};
 ghost use Rattle.als_engine.specs.Runs.{Steps, reply_of};
 
 use crate::config::Config;
@@ -28,7 +30,7 @@ use als_disk::BlockDisk;
 use als_page::Page;
 use als_receiver::Receiver;
 use als_record::{FIRST_LSN, LoggedPage, Lsn, Record};
-use als_store::{Disks, Store};
+use als_store::{Disks, Phase, Store};
 use std::alloc::Global;
 use std::marker::Model;
 
@@ -127,7 +129,7 @@ impl<D: BlockDisk> Engine<D> {
     }
 
     /// Takes a piece of the primary's log: each record that is whole now goes into the held log, and the rest waits as a
-    /// partial record. Stopped is answered first, then in Refusing the kept fault, then Backlog where the pending changes have
+    /// partial record. Stopped is answered first, then Sealed of a log that was sealed, then in Refusing the kept fault, then Backlog where the pending changes have
     /// reached the limit: then nothing is taken. After another fault the whole records in front of it are held and no partial
     /// record is kept; a fault of the record (2 to 16) is kept, LogFull and Memory are not. Memory does not come where there
     /// is room for the piece.
@@ -139,6 +141,9 @@ impl<D: BlockDisk> Engine<D> {
         let stopped = self.store.is_broken();
         if stopped {
             return Err(refused_whole(Fault::Stopped));
+        }
+        if !self.store.is_following() {
+            return Err(refused_whole(Fault::Sealed));
         }
         if let Some(fault) = self.refused {
             return Err(refused_whole(fault));
@@ -167,7 +172,8 @@ impl<D: BlockDisk> Engine<D> {
         }
     }
 
-    /// Drops the partial record, and takes the log again after a refusal. Stopped changes nothing.
+    /// Drops the partial record, and takes the log again after a refusal. Stopped, and then Sealed of a log that was sealed, change
+    /// nothing.
     pub fn resync(&mut self) -> Result<(), Fault>
         ensures resyncs { Resyncs self.old.machine result self.new.machine }
         // The room of the bytes that were dropped is free again.
@@ -176,8 +182,11 @@ impl<D: BlockDisk> Engine<D> {
         if self.store.is_broken() {
             return Err(Fault::Stopped);
         }
+        if !self.store.is_following() {
+            return Err(Fault::Sealed);
+        }
         self.receiver.drop_partial();
-        self.refused = None;
+        self.refused = None; // What is fed next is looked at.
         Ok(())
     }
 
@@ -259,13 +268,86 @@ impl<D: BlockDisk> Engine<D> {
     /// Syncs the control block, and answers its mark: the acknowledged LSN from now on. It makes one sync of a device. Device:
     /// the sync failed, and the engine has stopped.
     pub fn ctl_sync(&mut self) -> Result<Lsn, Fault>
-        ensures { ControlSyncs self.old.machine result self.new.machine }
+        ensures syncs { ControlSyncs self.old.machine result self.new.machine }
+        // Of the synced states the phase never falls, and past Following the seal stays.
+        ensures goes_on { GoesOn self.old.machine.held.control self.new.machine.held.control }
     {
         if self.store.is_broken() {
             return Err(Fault::Stopped);
         }
         let acknowledged = self.store.ctl_sync()?;
         Ok(acknowledged)
+    }
+
+    /// Seals the log: writes the control block with phase Sealed and with the log's end as its mark and its seal, drops the partial
+    /// record, and takes no more of the source. It makes one write of a device, takes no memory and no room of the log.
+    ///
+    /// Stopped. Sealed: the log was sealed before. LogBehind: it is not synced to its end. Device: the write failed, and the
+    /// engine has stopped. They come in this order.
+    pub fn seal(&mut self) -> Result<(), Fault>
+        ensures { Seals self.old.machine result self.new.machine }
+    {
+        if self.store.is_broken() {
+            return Err(Fault::Stopped);
+        }
+        if !self.store.is_following() {
+            return Err(Fault::Sealed);
+        }
+        if self.store.synced().0 < self.store.end().0 {
+            return Err(Fault::LogBehind);
+        }
+        self.store.seal()?;
+        self.receiver.drop_partial();
+        self.refused = None;
+        Ok(())
+    }
+
+    /// Holds the next record of the sealed log's tail, and answers its LSN: an end, or the compensation of the newest surviving
+    /// update of all losers. The log device has room for the whole tail.
+    ///
+    /// Stopped. NotSealed: the log was not sealed. NothingToDo: no transaction is unended. Memory: a growth was refused; nothing
+    /// has changed. They come in this order.
+    pub fn undo_one(&mut self) -> Result<Lsn, Fault>
+        ensures undoes { UndoesOneOf self.old.machine result self.new.machine }
+        ensures reserved { HasRoomToUndo self.old.machine.held self.old.spare → IsErrOf result Fault.Memory → ⊥ }
+    {
+        if self.store.is_broken() {
+            return Err(Fault::Stopped);
+        }
+        if self.store.is_following() {
+            return Err(Fault::NotSealed);
+        }
+        if !self.store.has_unended() {
+            return Err(Fault::NothingToDo);
+        }
+        let lsn = self.store.undo_one()?;
+        self.receiver = Receiver::new(self.alloc, self.store.end(), self.store.pages());
+        Ok(lsn)
+    }
+
+    /// Ends the takeover: writes the control block with phase Primary, by one write of a device. It takes no memory and no room of
+    /// the log.
+    ///
+    /// Stopped. NotSealed: the log was not sealed. NothingToDo: the takeover is done. NotDrained: a transaction is unended, a change
+    /// waits for redo, or the log is not acknowledged to its end. Device: the write failed, and the engine has stopped. They
+    /// come in this order.
+    pub fn finish(&mut self) -> Result<(), Fault>
+        ensures { Finishes self.old.machine result self.new.machine }
+    {
+        if self.store.is_broken() {
+            return Err(Fault::Stopped);
+        }
+        if self.store.is_following() {
+            return Err(Fault::NotSealed);
+        }
+        if self.store.is_primary() {
+            return Err(Fault::NothingToDo);
+        }
+        if !self.store.is_drained() {
+            return Err(Fault::NotDrained);
+        }
+        self.store.finish()?;
+        Ok(())
     }
 
     /// One step of the small machine.
@@ -297,6 +379,12 @@ impl<D: BlockDisk> Engine<D> {
                 Ok(lsn) => Reply::Acknowledged(lsn),
                 Err(fault) => Reply::Refused(fault),
             },
+            Step::Seal => done(self.seal()),
+            Step::UndoOne => match self.undo_one() {
+                Ok(lsn) => Reply::Undone(lsn),
+                Err(fault) => Reply::Refused(fault),
+            },
+            Step::Finish => done(self.finish()),
         }
     }
 
@@ -310,12 +398,24 @@ impl<D: BlockDisk> Engine<D> {
         ensures leases { result.leases ≡ 0 }
         // Log texts have less than 2^64 bytes, those of the partial record too.
         ensures fits { result.end.0 + result.partial < 2 ^ 64 }
+        // What each control state that a crash may leave says of the log is true: past Following the log is the sealed one and a front
+        // of its tail.
+        ensures taken { IsUnderTakeover self.now.machine.held }
+        // A finished takeover holds exactly what the committed transactions of the sealed log left.
+        ensures finished { is_primary self.now.machine.held ≡ true → IsFinished self.now.machine.held }
     {
-        // For the prover alone: the receiver counts up to there.
+        // For the prover alone: the receiver counts up to there, and what always holds of a takeover.
         let _ = self.receiver.position();
+        let _ = self.store.is_following();
+        let _ = self.store.is_primary();
         let end = self.store.end();
         Status {
-            state: state(self.store.is_broken(), self.refused, end),
+            state: state(
+                self.store.is_broken(),
+                self.store.phase(),
+                self.refused,
+                end,
+            ),
             end,
             partial: self.receiver.partial(),
             acknowledged: self.store.acknowledged(),
@@ -407,14 +507,18 @@ fn done(answer: Result<(), Fault>) -> Reply
 }
 
 /// What an engine is doing.
-fn state(broken: bool, refused: Option<Fault>, end: Lsn) -> State
-    ensures { result ≡ state_from broken refused end.0 }
+fn state(broken: bool, phase: Phase, refused: Option<Fault>, end: Lsn) -> State
+    ensures { result ≡ state_from broken phase refused end.0 }
 {
     if broken {
         return State::Stopped;
     }
-    match refused {
-        None => State::Following,
-        Some(fault) => State::Refusing { lsn: end, fault },
+    match phase {
+        Phase::Following => match refused {
+            None => State::Following,
+            Some(fault) => State::Refusing { lsn: end, fault },
+        },
+        Phase::Sealed => State::Sealed,
+        Phase::Primary => State::Primary,
     }
 }

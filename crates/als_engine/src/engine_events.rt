@@ -64,6 +64,18 @@ impl<D: BlockDisk> Events for Engine<D> {
         Engine::ctl_sync(self)
     }
 
+    fn seal(&mut self) -> Result<(), Fault> {
+        Engine::seal(self)
+    }
+
+    fn undo_one(&mut self) -> Result<Lsn, Fault> {
+        Engine::undo_one(self)
+    }
+
+    fn finish(&mut self) -> Result<(), Fault> {
+        Engine::finish(self)
+    }
+
     fn status(&self) -> Status {
         Engine::status(self)
     }

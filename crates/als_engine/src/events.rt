@@ -7,6 +7,7 @@ ghost use Rattle.als_engine.specs.Machine.{Machine};
 ghost use Rattle.als_engine.specs.Refusals.{feed_refusal};
 ghost use Rattle.als_engine.specs.Feeds.{Feeds};
 ghost use Rattle.als_engine.specs.Events.{Resyncs, Applies, FlushesOne, PagesSync, LogWrites, LogSyncs, MarkWrites, ControlSyncs, Reads, ShowsPage};
+ghost use Rattle.als_engine.specs.Takeover.{Seals, UndoesOneOf, Finishes};
 ghost use Rattle.als_engine.specs.Telling.{Tells};
 
 use crate::fault::Fault;
@@ -62,6 +63,18 @@ pub trait Events {
     /// Syncs the control block, and answers its mark: the acknowledged LSN.
     fn ctl_sync(&mut self) -> Result<Lsn, Fault>
         ensures syncs { alone → ControlSyncs (machine self.old) result (machine self.new) };
+
+    /// Seals the log at its end: from now on no piece of the primary's log is taken.
+    fn seal(&mut self) -> Result<(), Fault>
+        ensures seals { alone → Seals (machine self.old) result (machine self.new) };
+
+    /// Holds the next record of the sealed log's tail, and answers its LSN.
+    fn undo_one(&mut self) -> Result<Lsn, Fault>
+        ensures undoes { alone → UndoesOneOf (machine self.old) result (machine self.new) };
+
+    /// Ends the takeover.
+    fn finish(&mut self) -> Result<(), Fault>
+        ensures finishes { alone → Finishes (machine self.old) result (machine self.new) };
 
     // ---- the queries
 

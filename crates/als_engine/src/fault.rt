@@ -47,8 +47,12 @@ pub enum Fault {
     TooManyTransactions,
     /// A checkpoint's record that does not fit those before it.
     BadCheckpoint,
-    /// The log is not acknowledged past the page_LSN of the page.
+    /// The log was sealed, and takes no more records of its source.
+    Sealed,
+    /// The log is not acknowledged past the page_LSN of the page; or it is not synced to its end.
     LogBehind,
+    /// A transaction is unended, a change waits for redo, or the log is not acknowledged to its end.
+    NotDrained,
     /// All frames are used, and none is clean.
     PoolFull,
     /// There is nothing for the event to do.
@@ -69,6 +73,8 @@ pub enum Fault {
     Backlog,
     /// A number of the configuration is out of its range.
     BadConfig,
+    /// The log was not sealed yet.
+    NotSealed,
 }
 
 impl Fault {
@@ -93,7 +99,9 @@ impl Fault {
             Fault::BeforeImage => FaultKind::BeforeImage,
             Fault::TooManyTransactions => FaultKind::TooManyTransactions,
             Fault::BadCheckpoint => FaultKind::BadCheckpoint,
+            Fault::Sealed => FaultKind::Sealed,
             Fault::LogBehind => FaultKind::LogBehind,
+            Fault::NotDrained => FaultKind::NotDrained,
             Fault::PoolFull => FaultKind::PoolFull,
             Fault::NothingToDo => FaultKind::NothingToDo,
             Fault::LogFull => FaultKind::LogFull,
@@ -103,6 +111,7 @@ impl Fault {
             Fault::BadPage { page } => FaultKind::BadPage { page },
             Fault::Backlog => FaultKind::Backlog,
             Fault::BadConfig => FaultKind::BadConfig,
+            Fault::NotSealed => FaultKind::NotSealed,
         }
     }
 

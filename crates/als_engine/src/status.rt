@@ -8,6 +8,10 @@ pub enum State {
     Following,
     /// A record at this LSN was refused, and so is all that is fed until a resync.
     Refusing { lsn: Lsn, fault: Fault },
+    /// The log was sealed: what was not committed is undone.
+    Sealed,
+    /// The takeover is done.
+    Primary,
     /// A write or a sync failed: each event is refused, and the queries go on.
     Stopped,
 }

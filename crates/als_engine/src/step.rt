@@ -23,6 +23,12 @@ pub enum Step<'a> {
     MarkWrite,
     /// Syncs the control block.
     ControlSync,
+    /// Seals the log: from then on it takes only its own tail.
+    Seal,
+    /// Holds the next record of the sealed log's tail.
+    UndoOne,
+    /// Ends the takeover.
+    Finish,
 }
 
 /// What a step answers.
@@ -35,5 +41,7 @@ pub enum Reply {
     Applied(Lsn),
     /// The offset below which no log byte can be lost.
     Acknowledged(Lsn),
+    /// The LSN of the record of the tail that is held now.
+    Undone(Lsn),
     Refused(Fault),
 }

@@ -1,8 +1,9 @@
-ghost use Rattle.std.specs.Prelude.{◌≡◌, ◌≤◌, ◌++◌, length, OnOk, IfOk, IfErr, MatchBool};
+ghost use Rattle.std.specs.Prelude.{◌≡◌, true, ◌≤◌, ◌++◌, length, OnOk, IfOk, IfErr, MatchBool};
 ghost use Rattle.std.specs.Result.{IsErrOf};
 ghost use Rattle.als_engine.specs.declared.fault.Fault.TheVariants as fault;
 ghost use Rattle.als_engine.specs.Serving.{HasRoomForBytes};
 ghost use Rattle.als_engine.specs.Feeds.{IsCause};
+ghost use Rattle.als_store.specs.Takeover.{is_following};
 ghost use Rattle.als_engine.specs.TakingIn.{Meets, Rests, TakesOne, TakesAll, TakesFront};
 
 use crate::fault::Fault;
@@ -21,7 +22,8 @@ pub(crate) fn take_piece<D: BlockDisk>(
     receiver: &mut Receiver,
     piece: &[u8],
 ) -> Result<(), Fault>
-    requires { Rests held.old.stored receiver.old }
+    requires rests { Rests held.old.stored receiver.old }
+    requires following { is_following held.old.stored ≡ true }
     ensures ok { OnOk result (TakesAll held.old.stored (receiver.old.kept ++ piece.now) held.new.stored receiver.new) }
     ensures err { IfErr result (TakesFront held.old.stored (receiver.old.kept ++ piece.now) held.new.stored) }
     ensures reserved { length piece.now ≤ 65536 → length piece.now ≤ receiver.old.room → HasRoomForBytes held.old.stored held.old.spare (receiver.old.kept ++ piece.now) → IsErrOf result fault.Memory → ⊥ }
@@ -47,6 +49,7 @@ fn take_chunk<D: BlockDisk>(
 ) -> Result<(), Fault>
     requires rests { Rests held.old.stored receiver.old }
     requires few { length chunk.now ≤ 65536 }
+    requires following { is_following held.old.stored ≡ true }
     ensures ok { OnOk result (TakesAll held.old.stored (receiver.old.kept ++ chunk.now) held.new.stored receiver.new) }
     ensures err { IfErr result (TakesFront held.old.stored (receiver.old.kept ++ chunk.now) held.new.stored) }
     ensures reserved { length chunk.now ≤ receiver.old.room → HasRoomForBytes held.old.stored held.old.spare (receiver.old.kept ++ chunk.now) → IsErrOf result fault.Memory → ⊥ }
@@ -63,7 +66,8 @@ fn take_records<D: BlockDisk>(
     held: &mut Store<D>,
     receiver: &mut Receiver,
 ) -> Result<(), Fault>
-    requires { Meets held.old.stored receiver.old }
+    requires meets { Meets held.old.stored receiver.old }
+    requires following { is_following held.old.stored ≡ true }
     ensures ok { OnOk result (TakesAll held.old.stored receiver.old.kept held.new.stored receiver.new) }
     ensures err { IfErr result (TakesFront held.old.stored receiver.old.kept held.new.stored) }
     ensures reserved { HasRoomForBytes held.old.stored held.old.spare receiver.old.kept → IsErrOf result fault.Memory → ⊥ }
@@ -78,7 +82,8 @@ fn take_record<D: BlockDisk>(
     held: &mut Store<D>,
     receiver: &mut Receiver,
 ) -> Result<bool, Fault>
-    requires { Meets held.old.stored receiver.old }
+    requires meets { Meets held.old.stored receiver.old }
+    requires following { is_following held.old.stored ≡ true }
     ensures ok { IfOk result (λ more. MatchBool more (TakesOne held.old.stored receiver.old held.new.stored receiver.new) ((held.new.stored ≡ held.old.stored) × (receiver.new ≡ receiver.old) × Rests held.old.stored receiver.old)) }
     ensures err { IfErr result (λ fault. (held.new.stored ≡ held.old.stored) × IsCause held.old.stored receiver.old.kept fault) }
     ensures reserved { HasRoomForBytes held.old.stored held.old.spare receiver.old.kept → IsErrOf result fault.Memory → ⊥ }

@@ -7,6 +7,8 @@ pub enum CombinedLine {
     Drain,
     /// Write and sync the log, then the control block.
     Force,
+    /// Seal the log, undo what was not committed, and end the takeover.
+    Takeover,
 }
 
 impl CombinedLine {
@@ -16,6 +18,7 @@ impl CombinedLine {
         let combined = match words.next()? {
             "drain" => CombinedLine::Drain,
             "force" => CombinedLine::Force,
+            "takeover" => CombinedLine::Takeover,
             _ => return None,
         };
         words.ending(combined)

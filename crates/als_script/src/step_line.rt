@@ -17,6 +17,10 @@ pub enum StepLine {
     MarkWrite,
     /// `ctl-sync`
     ControlSync,
+    Seal,
+    /// `undo`
+    UndoOne,
+    Finish,
 }
 
 impl StepLine {
@@ -40,6 +44,9 @@ impl StepLine {
             "log-sync" => StepLine::LogSync,
             "mark-write" => StepLine::MarkWrite,
             "ctl-sync" => StepLine::ControlSync,
+            "seal" => StepLine::Seal,
+            "undo" => StepLine::UndoOne,
+            "finish" => StepLine::Finish,
             _ => return None,
         };
         words.ending(step)

@@ -5,7 +5,7 @@ use Rattle.als_engine.proofs.TakingLaws.{all_start, all_then_all, all_then_front
 use Rattle.als_engine.proofs.taking_in.take_piece.Goals as goal
 
 pub loop-rest-init : goal.loop-rest-init
-loop-rest-init g c = record { done = c.args.receiver.now.kept; whole = refl; takes = all_start c.args.held.now.stored c.args.receiver.now c.requires }
+loop-rest-init g c = record { done = c.args.receiver.now.kept; whole = refl; takes = all_start c.args.held.now.stored c.args.receiver.now c.requires.rests }
 
 pub loop-rest-preserved : goal.loop-rest-preserved
 loop-rest-preserved g c =

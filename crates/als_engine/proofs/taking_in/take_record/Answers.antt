@@ -12,4 +12,4 @@ returns-in_ok-admit-in-Ok-Some-clause-ok g c =
     let taken = subst (λ (new : Reception). HandsOut c.args.receiver.now (shown c.in-Ok-Some.view) new) (sym c.advance.ensures) can.out in
     let out = subst (λ (r : Record). HandsOut c.args.receiver.now r c.advance.new.self) (sym c.in_ok-logged-in-Ok-Some.ensures.ok) taken in
     let held = c.in_ok-admit-in-Ok-Some.ensures.ok in
-    hands_one c.args.held.now.stored c.admit.new.self.stored c.args.receiver.now c.advance.new.self logged c.requires held.0 (fits_held c.args.held.now.stored logged held.0 c.in_ok-admit-in-Ok-Some.ensures.full) out held.1
+    hands_one c.args.held.now.stored c.admit.new.self.stored c.args.receiver.now c.advance.new.self logged c.requires.meets held.0 (fits_held c.args.held.now.stored logged held.0 c.in_ok-admit-in-Ok-Some.ensures.full) out held.1

@@ -4,7 +4,7 @@ use Rattle.als_engine.proofs.RoomLaws.{room_behind}
 use Rattle.als_engine.proofs.taking_in.take_records.Goals as goal
 
 pub loop-init : goal.loop-init
-loop-init g c = record { so_far = so_far_start c.args.held.now.stored c.args.receiver.now c.requires; room = λ room. room }
+loop-init g c = record { so_far = so_far_start c.args.held.now.stored c.args.receiver.now c.requires.meets; room = λ room. room }
 
 pub loop-smaller : goal.loop-smaller
 loop-smaller g c =

@@ -25,7 +25,7 @@ pub returns-in-Ok-clause-feeds : goal.returns-in-Ok-clause-feeds
 returns-in-Ok-clause-feeds g c =
     let s = c.self.inside in
     let m = machine s.store.stored s.limit s.receiver.kept s.refused in
-    let looked = feed_not_refused m (sym c.is_broken-stopped.ensures ∙ c.if-stopped.false) c.in_default.is (omega (arith, c.pending.ensures, c.if-pending-self.false)) in
+    let looked = feed_not_refused m (sym c.is_broken-stopped.ensures ∙ c.if-stopped.false) (sym c.if-not-is_following.ensures.is) c.in_default.is (omega (arith, c.pending.ensures, c.if-pending-self.false)) in
     rw (← c.self.view_is)
     (rw looked
     (feeds_all s.store.stored c.take_piece.new.held.stored s.limit s.receiver.kept c.args.piece.now s.refused c.take_piece.new.receiver _ _
@@ -35,7 +35,7 @@ pub returns-in-Err-clause-feeds : goal.returns-in-Err-clause-feeds
 returns-in-Err-clause-feeds g c =
     let s = c.self.inside in
     let m = machine s.store.stored s.limit s.receiver.kept s.refused in
-    let looked = feed_not_refused m (sym c.is_broken-stopped.ensures ∙ c.if-stopped.false) c.in_default.is (omega (arith, c.pending.ensures, c.if-pending-self.false)) in
+    let looked = feed_not_refused m (sym c.is_broken-stopped.ensures ∙ c.if-stopped.false) (sym c.if-not-is_following.ensures.is) c.in_default.is (omega (arith, c.pending.ensures, c.if-pending-self.false)) in
     rw (← c.self.view_is)
     (rw (looked, c.new.ensures, c.kept-self-inside.ensures)
     (feeds_front s.store.stored c.take_piece.new.held.stored s.limit s.receiver.kept c.args.piece.now s.refused c.in-Err.fault _ _ (c.end.result.0 - c.end-end.result.0)

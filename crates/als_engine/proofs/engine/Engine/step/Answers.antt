@@ -1,6 +1,7 @@
 use Rattle.als_engine.specs.Refusals.{feed_refusal}
 use Rattle.als_engine.proofs.RefusalLaws.{keeps_refused}
 use Rattle.als_engine.proofs.PageLaws.{not_applied_keeps, flushes_keeps}
+use Rattle.als_engine.proofs.StepLaws.{keeps_resync, keeps_sync_pages, keeps_log_write, keeps_log_sync, keeps_mark_write, keeps_seal, keeps_not_undone, keeps_finish, attempts_refused}
 use Rattle.als_engine.proofs.engine.Engine.step.Goals as goal
 
 pub returns-in-Err-clause-keeps : goal.returns-in-Err-clause-keeps
@@ -15,3 +16,30 @@ returns-in-Err-apply-clause-attempts g c = (not_applied_keeps c.args.self.now.ma
 
 pub returns-in-Flush-clause-keeps : goal.returns-in-Flush-clause-keeps
 returns-in-Flush-clause-keeps g c = flushes_keeps c.args.self.now.machine c.flush.new.self.machine c.in-Flush.page c.flush.result c.flush.ensures
+
+pub returns-in-Err-clause-attempts : goal.returns-in-Err-clause-attempts
+returns-in-Err-clause-attempts g c = attempts_refused c.args.self.now.machine c.feed.new.self.machine c.in-Feed.piece.now (feed_refusal c.args.self.now.machine) c.in-Err.refusal c.in-Err.ensures.feeds
+
+pub returns-in-Resync-clause-keeps : goal.returns-in-Resync-clause-keeps
+returns-in-Resync-clause-keeps g c = keeps_resync c.args.self.now.machine c.resync.new.self.machine c.resync.result c.resync.ensures.resyncs
+
+pub returns-in-SyncPages-clause-keeps : goal.returns-in-SyncPages-clause-keeps
+returns-in-SyncPages-clause-keeps g c = keeps_sync_pages c.args.self.now.machine c.sync_pages.new.self.machine c.sync_pages.result c.sync_pages.ensures
+
+pub returns-in-LogWrite-clause-keeps : goal.returns-in-LogWrite-clause-keeps
+returns-in-LogWrite-clause-keeps g c = keeps_log_write c.args.self.now.machine c.log_write.new.self.machine c.log_write.result c.log_write.ensures
+
+pub returns-in-LogSync-clause-keeps : goal.returns-in-LogSync-clause-keeps
+returns-in-LogSync-clause-keeps g c = keeps_log_sync c.args.self.now.machine c.log_sync.new.self.machine c.log_sync.result c.log_sync.ensures
+
+pub returns-in-MarkWrite-clause-keeps : goal.returns-in-MarkWrite-clause-keeps
+returns-in-MarkWrite-clause-keeps g c = keeps_mark_write c.args.self.now.machine c.mark_write.new.self.machine c.mark_write.result c.mark_write.ensures
+
+pub returns-in-Seal-clause-keeps : goal.returns-in-Seal-clause-keeps
+returns-in-Seal-clause-keeps g c = keeps_seal c.args.self.now.machine c.seal.new.self.machine c.seal.result c.seal.ensures
+
+pub returns-in-Err-undo_one-clause-keeps : goal.returns-in-Err-undo_one-clause-keeps
+returns-in-Err-undo_one-clause-keeps g c = keeps_not_undone c.args.self.now.machine c.undo_one.new.self.machine c.in-Err-undo_one.fault c.in-Err-undo_one.ensures.undoes
+
+pub returns-in-Finish-clause-keeps : goal.returns-in-Finish-clause-keeps
+returns-in-Finish-clause-keeps g c = keeps_finish c.args.self.now.machine c.finish.new.self.machine c.finish.result c.finish.ensures

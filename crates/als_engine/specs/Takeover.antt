@@ -1,0 +1,48 @@
+-- What the events of a takeover make of the small machine.
+use Rattle.std.specs.Prelude.{◌≡◌, [], None, Result, Ok, Err}
+use Rattle.als_record.specs.declared.lsn.Lsn.{Lsn}
+use Rattle.als_store.specs.Stored.{Stored}
+use Rattle.als_store.specs.Takeover.{WritesState, BreaksState, sealed_state, finished_state, UndoesOne}
+use Rattle.als_engine.specs.declared.fault.Fault.{Fault}
+use Rattle.als_engine.specs.declared.fault.Fault.TheVariants.{Memory}
+use Rattle.als_engine.specs.declared.step.Step.TheVariants as step
+use Rattle.als_engine.specs.Machine.{Machine}
+use Rattle.als_engine.specs.Refusals.{Does}
+use Rattle.als_engine.specs.Events.{Changes, FailsIn}
+
+-- the control block is written with the log's end as its mark and its seal; the partial record is dropped, and nothing is refused
+-- any more
+pub record SealsHeld (old new : Machine) : Type 0 where
+  pub held : Stored
+  pub seals : WritesState (sealed_state old.held) old.held held
+  pub after : new ≡ record old { held = held; partial = []; refused = None }
+
+abbrev pub SealsLog : Machine → Result (Unit {0}) Fault → Machine → Type 0
+SealsLog old (Ok done) new = SealsHeld old new
+SealsLog old (Err fault) new = FailsIn old fault (λ held after. BreaksState (sealed_state held) held after) new
+
+-- the next record of the sealed log's tail is held; there is no partial record
+pub record UndoesNext (old : Machine) (lsn : Lsn) (new : Machine) : Type 0 where
+  pub held : Stored
+  pub undoes : UndoesOne old.held lsn held
+  pub after : new ≡ record old { held = held; partial = [] }
+
+abbrev pub Undoes : Machine → Result Lsn Fault → Machine → Type 0
+Undoes old (Ok lsn) new = UndoesNext old lsn new
+Undoes old (Err fault) new = (fault ≡ Memory) × (new ≡ old)
+
+-- the control block is written with phase Primary
+abbrev pub FinishesTakeover : Machine → Result (Unit {0}) Fault → Machine → Type 0
+FinishesTakeover old (Ok done) new = Changes old (λ held after. WritesState (finished_state held) held after) new
+FinishesTakeover old (Err fault) new = FailsIn old fault (λ held after. BreaksState (finished_state held) held after) new
+
+-- ---- refused or not
+
+abbrev pub Seals : Machine → Result (Unit {0}) Fault → Machine → Type 0
+Seals old result new = Does old step.Seal (SealsLog old) result new
+
+abbrev pub UndoesOneOf : Machine → Result Lsn Fault → Machine → Type 0
+UndoesOneOf old result new = Does old step.UndoOne (Undoes old) result new
+
+abbrev pub Finishes : Machine → Result (Unit {0}) Fault → Machine → Type 0
+Finishes old result new = Does old step.Finish (FinishesTakeover old) result new
