@@ -1,3 +1,10 @@
 pub mod Failing
 pub mod Putting
 pub mod OneFrame
+pub mod Pieces
+pub mod SentParts
+pub mod Beginning
+pub mod LogForcing
+pub mod Fronts
+pub mod Stopping
+pub mod Sessions

@@ -2,8 +2,9 @@
 use Rattle.std.specs.Prelude.{◌≡◌, ◌⊎◌}
 use Rattle.als_fault.specs.declared.fault_kind.FaultKind.{FaultKind}
 use Rattle.als_fault.specs.declared.fault_kind.FaultKind.TheVariants as kind
+use Rattle.als_engine.specs.Faults.{kind_of as engine_kind_of}
 use Rattle.als_ship.specs.declared.fault.Fault.{Fault}
-use Rattle.als_ship.specs.declared.fault.Fault.TheVariants.{BadHeader, Memory, Gap, BadFrame, Cut, Stream}
+use Rattle.als_ship.specs.declared.fault.Fault.TheVariants.{BadHeader, Memory, Gap, BadFrame, Cut, Stream, Refused}
 
 abbrev pub kind_of : Fault → FaultKind
 kind_of BadHeader = kind.BadHeader
@@ -12,6 +13,7 @@ kind_of Gap = kind.Gap
 kind_of BadFrame = kind.BadFrame
 kind_of Cut = kind.Cut
 kind_of Stream = kind.Stream
+kind_of (Refused fault) = engine_kind_of fault
 
 -- the stream has ended or failed
 abbrev pub IsOfStream : Fault → Type 0

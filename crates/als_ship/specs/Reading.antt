@@ -6,7 +6,7 @@ use Rattle.als_record.specs.HeaderReading.{read_header}
 use Rattle.als_ship.specs.declared.tag.Tag.{Tag}
 use Rattle.als_ship.specs.declared.tag.Tag.TheVariants as tag
 use Rattle.als_ship.specs.declared.fault.Fault.{Fault}
-use Rattle.als_ship.specs.declared.fault.Fault.TheVariants.{BadHeader, Memory, Gap, BadFrame, Cut, Stream}
+use Rattle.als_ship.specs.declared.fault.Fault.TheVariants.{BadHeader, Memory, Gap, BadFrame, Cut, Stream, Refused}
 use Rattle.als_ship.specs.Faults.{IsOfStream}
 use Rattle.als_ship.specs.Frames.{byte_of, head_bytes, resume_head, IsPiece}
 
@@ -59,6 +59,7 @@ FailsToRead wanted Gap old new = ⊥
 FailsToRead wanted BadFrame old new = (bytes : List ℕ) × IsNoFrame wanted bytes × Consumes old new bytes
 FailsToRead wanted Cut old new = Unit {0}
 FailsToRead wanted Stream old new = Unit {0}
+FailsToRead wanted (Refused cause) old new = ⊥
 
 -- the stream has ended or failed, or there was no memory for what comes from it
 abbrev pub FailsToFill : Fault → Option (List ℕ) → Option (List ℕ) → Type 0

@@ -1,8 +1,9 @@
 ghost use Rattle.std.specs.Prelude.{◌≡◌, Some};
 ghost use Rattle.als_fault.specs.Kinds.{number_of, name_of, text_of};
-ghost use Rattle.als_ship.specs.declared.fault.Fault.TheVariants.{Memory};
+ghost use Rattle.als_ship.specs.declared.fault.Fault.TheVariants.{Memory, Refused};
 ghost use Rattle.als_ship.specs.Faults.{kind_of, IsOfStream};
 
+use als_engine::Fault as EngineFault;
 use als_fault::FaultKind;
 use std::alloc::{AllocError, AllocFailed};
 use std::io::ErrorKind;
@@ -23,6 +24,8 @@ pub enum Fault {
     Cut,
     /// The stream or the source failed, or the session has too many frames.
     Stream,
+    /// The standby refused an event.
+    Refused(EngineFault),
 }
 
 impl Fault {
@@ -37,6 +40,7 @@ impl Fault {
             Fault::BadFrame => FaultKind::BadFrame,
             Fault::Cut => FaultKind::Cut,
             Fault::Stream => FaultKind::Stream,
+            Fault::Refused(fault) => fault.kind(),
         }
     }
 
@@ -91,5 +95,13 @@ impl<T: Drop> From<AllocFailed<T>> for Fault {
 
     fn from(_e: AllocFailed<T>) -> Fault {
         Fault::Memory
+    }
+}
+
+impl From<EngineFault> for Fault {
+    ghost from_gives = { λ refused fault. fault ≡ Refused refused };
+
+    fn from(fault: EngineFault) -> Fault {
+        Fault::Refused(fault)
     }
 }

@@ -15,10 +15,24 @@ mod frame;
 mod reading;
 // Frames into a stream.
 mod writing;
-// What holds of all frames.
+// Where a shipper reads the log.
+mod source;
+// The sending end.
+mod shipper;
+// A standby's log onto its devices.
+mod forcing;
+// The receiving end.
+mod follower;
+// What holds of all frames, and over every schedule of them.
 mod laws;
 
 pub use fault::Fault;
+pub use follower::Follower;
+pub use forcing::force;
 pub use frame::{Frame, PIECE_LIMIT};
-pub use laws::{no_refusal_of_a_frame, one_frame};
+pub use laws::{
+    held_text_stays_a_front, no_refusal_of_a_frame, one_frame, sent_bytes_are_the_source,
+};
+pub use shipper::Shipper;
+pub use source::{LogBytes, Source};
 pub use tag::Tag;

@@ -1,0 +1,92 @@
+use Rattle.std.proofs.Common.{refl}
+use Rattle.std.proofs.lemmas.Result.{err_from_is_err_and}
+use Rattle.als_ship.proofs.Stopping.{stops_at_once}
+use Rattle.als_ship.proofs.LogForcing.{same_refl}
+use Rattle.als_ship.proofs.Sessions.{keeps_nothing, keeps_both, nothing_so_far, more_so_far, keeps_so_far, follows_all, stops_early}
+use Rattle.als_ship.specs.declared.fault.Fault.TheVariants.{Stream}
+use Rattle.als_ship.proofs.follower.session.Goals as goal
+
+pub returns-in_err-write_resume-clause-front : goal.returns-in_err-write_resume-clause-front
+returns-in_err-write_resume-clause-front g c =
+    let m = g.E.Events.machine c.args.events.now in
+    (g.R.Read.remaining c.args.reader.now, keeps_nothing g.E.Events.alone (g.R.Read.remaining c.args.reader.now) m m (λ a. same_refl m))
+
+pub loop-init : goal.loop-init
+loop-init g c = nothing_so_far g.E.Events.alone (g.R.Read.remaining c.args.reader.now) (g.W.Write.contents c.write_resume.new.writer) (g.E.Events.machine c.args.events.now)
+
+pub returns-in_err-last-clause-front : goal.returns-in_err-last-clause-front
+returns-in_err-last-clause-front g c =
+    let alone = g.E.Events.alone in
+    let before = g.R.Read.remaining c.args.reader.now in
+    let between = g.R.Read.remaining c.loop.reader in
+    let behind = g.R.Read.remaining c.turn.new.reader in
+    let written = g.W.Write.contents c.write_resume.new.writer in
+    let then = g.W.Write.contents c.loop.writer in
+    let more = g.W.Write.contents c.turn.new.writer in
+    let old = g.E.Events.machine c.args.events.now in
+    let mid = g.E.Events.machine c.loop.events in
+    let new = g.E.Events.machine c.turn.new.events in
+    let kept = c.turn.ensures.front in
+    (kept.0, keeps_both alone before between kept.0 old mid new (keeps_so_far alone before between written then old mid c.loop.invariant) kept.1)
+
+pub returns-then-last-clause-done : goal.returns-then-last-clause-done
+returns-then-last-clause-done g c =
+    let alone = g.E.Events.alone in
+    let before = g.R.Read.remaining c.args.reader.now in
+    let between = g.R.Read.remaining c.loop.reader in
+    let behind = g.R.Read.remaining c.turn.new.reader in
+    let written = g.W.Write.contents c.write_resume.new.writer in
+    let then = g.W.Write.contents c.loop.writer in
+    let more = g.W.Write.contents c.turn.new.writer in
+    let old = g.E.Events.machine c.args.events.now in
+    let mid = g.E.Events.machine c.loop.events in
+    let new = g.E.Events.machine c.turn.new.events in
+    follows_all alone c.args.header c.status.result.end c.in_ok-last.last before between behind (g.W.Write.contents c.args.writer.now) written then more old mid new c.in_ok-write_resume.ensures.all (λ a. (c.status.ensures.tells a).end) c.loop.invariant c.if-last.true c.in_ok-last.ensures.ok
+
+pub returns-then-last-clause-front : goal.returns-then-last-clause-front
+returns-then-last-clause-front g c =
+    let alone = g.E.Events.alone in
+    let before = g.R.Read.remaining c.args.reader.now in
+    let between = g.R.Read.remaining c.loop.reader in
+    let behind = g.R.Read.remaining c.turn.new.reader in
+    let written = g.W.Write.contents c.write_resume.new.writer in
+    let then = g.W.Write.contents c.loop.writer in
+    let more = g.W.Write.contents c.turn.new.writer in
+    let old = g.E.Events.machine c.args.events.now in
+    let mid = g.E.Events.machine c.loop.events in
+    let new = g.E.Events.machine c.turn.new.events in
+    (behind, keeps_so_far alone before behind written more old new (more_so_far alone c.in_ok-last.last before between behind written then more old mid new c.loop.invariant c.in_ok-last.ensures.ok))
+
+pub loop-preserved : goal.loop-preserved
+loop-preserved g c =
+    let alone = g.E.Events.alone in
+    let before = g.R.Read.remaining c.args.reader.now in
+    let between = g.R.Read.remaining c.loop.reader in
+    let behind = g.R.Read.remaining c.turn.new.reader in
+    let written = g.W.Write.contents c.write_resume.new.writer in
+    let then = g.W.Write.contents c.loop.writer in
+    let more = g.W.Write.contents c.turn.new.writer in
+    let old = g.E.Events.machine c.args.events.now in
+    let mid = g.E.Events.machine c.loop.events in
+    let new = g.E.Events.machine c.turn.new.events in
+    more_so_far alone c.in_ok-last.last before between behind written then more old mid new c.loop.invariant c.in_ok-last.ensures.ok
+
+pub returns-clause-front : goal.returns-clause-front
+returns-clause-front g c =
+    (g.R.Read.remaining c.loop.reader, keeps_so_far g.E.Events.alone (g.R.Read.remaining c.args.reader.now) (g.R.Read.remaining c.loop.reader) (g.W.Write.contents c.write_resume.new.writer) (g.W.Write.contents c.loop.writer) (g.E.Events.machine c.args.events.now) (g.E.Events.machine c.loop.events) c.loop.invariant)
+
+pub returns-in_err-write_resume-clause-fails : goal.returns-in_err-write_resume-clause-fails
+returns-in_err-write_resume-clause-fails g c =
+    let alone = g.E.Events.alone in
+    let before = g.R.Read.remaining c.args.reader.now in
+    let written = g.W.Write.contents c.args.writer.now in
+    let m = g.E.Events.machine c.args.events.now in
+    let found = stops_early alone before before written written m m m c.in_err-write_resume.field-0.0 (nothing_so_far alone before written m) (λ a. stops_at_once m c.in_err-write_resume.field-0.0 c.in_err-write_resume.ensures.fails) in
+    let p = err_from_is_err_and c.from_residual.result c.from_residual.ensures.1 in rw (p.1, p.2) found
+
+pub returns-clause-fails : goal.returns-clause-fails
+returns-clause-fails g c =
+    let alone = g.E.Events.alone in
+    let before = g.R.Read.remaining c.args.reader.now in
+    let m = g.E.Events.machine c.loop.events in
+    stops_early alone before (g.R.Read.remaining c.loop.reader) (g.W.Write.contents c.write_resume.new.writer) (g.W.Write.contents c.loop.writer) (g.E.Events.machine c.args.events.now) m m Stream c.loop.invariant (λ a. stops_at_once m Stream refl)

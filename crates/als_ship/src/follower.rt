@@ -1,0 +1,205 @@
+ghost use Rattle.std.specs.Prelude.{◌≡◌, ◌≤◌, ◌<◌, ◌+◌, ℕ, Option, List, length, IfOk, IfErr, OnOk, Ok, Err};
+ghost use Rattle.als_engine.specs.declared.fault.Fault.{Fault as AnyFault};
+ghost use Rattle.als_ship.specs.declared.fault.Fault.TheVariants.{Refused};
+ghost use Rattle.als_ship.specs.declared.frame.Frame.TheVariants.{Data};
+ghost use Rattle.als_ship.specs.Frames.{IsPiece};
+ghost use Rattle.als_ship.specs.Follows.{held_text, position, IsFront, IsTrueFrame, FeedsRest, Takes, Handles, WasResynced};
+ghost use Rattle.als_ship.specs.Sessions.{KeepsFront, TakesOne, Follows, Stops, StopsEarly, GivesUp, EndsEarly};
+
+use crate::fault::Fault;
+use crate::forcing::force;
+use crate::frame::{Frame, is_piece};
+use crate::tag::Tag;
+use crate::writing::{write_acknowledged, write_resume};
+use als_engine::Events;
+use als_record::{LogHeader, Lsn};
+use std::alloc::Global;
+use std::io::{Read, Write};
+use std::marker::Model;
+
+/// The receiving end of a session.
+#[derive(Drop)]
+pub struct Follower {
+    header: LogHeader,
+}
+
+impl Model for Follower {
+    ghost use Rattle.als_record.specs.declared.header.LogHeader.{LogHeader};
+
+    ghost Value = { LogHeader };
+
+    ghost view = { λ f. f.header };
+}
+
+/// How many frames a session has at most.
+const FRAME_LIMIT: u32 = 1000000;
+
+impl Follower {
+    /// A follower of a log with this header.
+    pub fn new(header: LogHeader) -> Follower
+        ensures { result ≡ header }
+    {
+        Follower { header }
+    }
+
+    /// Takes one frame, and answers the position after it: what is past the position is fed.
+    ///
+    /// BadFrame: it is none for a follower, or it has more than 65,536 bytes or ends past the greatest offset; `resync` was called.
+    /// Gap: it begins past the position, and nothing has changed. Else the refusal of the feed; what that admitted is held.
+    #[tactic(auto, using(crate::proofs::Fronts::handles_front))]
+    pub fn frame<E: Events>(&self, events: &mut E, frame: Frame) -> Result<Lsn, Fault>
+        ensures handles { E.alone → Handles (E.machine events.old) frame result (E.machine events.new) }
+        // Over true frames the held text stays a front of the source's.
+        ensures front { (text : List ℕ) → E.alone → IsTrueFrame text frame → IsFront (held_text (E.machine events.old)) text
+            → IsFront (held_text (E.machine events.new)) text }
+    {
+        handle(events, frame)
+    }
+
+    /// Follows one session: it asks for what is behind the held log, takes each frame, forces the log and acknowledges, up to a frame
+    /// with no bytes.
+    ///
+    /// BadFrame: another frame came than a Data frame that may come. Cut: the stream ended. Stream: it failed, or a session has more
+    /// than 1,000,000 frames. After these three `resync` was called. Gap: a frame begins past the position, and it has changed
+    /// nothing. Memory: there was none for a frame's bytes. Else the refusal of an event; what a feed admitted is held.
+    pub fn follow<E: Events, R: Read, W: Write>(
+        &self,
+        alloc: Global,
+        events: &mut E,
+        reader: &mut R,
+        writer: &mut W,
+    ) -> Result<(), Fault>
+        ensures done { OnOk result (Follows E.alone self.now (E.machine events.old) (E.machine events.new) (R.remaining reader.old)
+            (R.remaining reader.new) (W.contents writer.old) (W.contents writer.new)) }
+        ensures fails { IfErr result (λ f. EndsEarly E.alone f (E.machine events.old) (E.machine events.new) (R.remaining reader.old)) }
+        // Over true frames the held text stays a front of the source's.
+        ensures front { (behind : Option (List ℕ)) × KeepsFront E.alone (R.remaining reader.old) behind (E.machine events.old) (E.machine events.new) }
+    {
+        match session(alloc, self.header, events, reader, writer) {
+            Ok(()) => Ok(()),
+            Err(fault) => {
+                give_up(events, fault);
+                Err(fault)
+            }
+        }
+    }
+}
+
+/// Calls `resync` after a fault of the stream.
+fn give_up<E: Events>(events: &mut E, fault: Fault)
+    ensures { E.alone → GivesUp (E.machine events.old) fault (E.machine events.new) }
+{
+    match fault {
+        Fault::BadFrame => resync(events),
+        Fault::Cut => resync(events),
+        Fault::Stream => resync(events),
+        Fault::BadHeader | Fault::Memory | Fault::Gap | Fault::Refused(_) => {}
+    }
+}
+
+/// Asks for what is behind the held log, and takes frames to the end of the source.
+fn session<E: Events, R: Read, W: Write>(
+    alloc: Global,
+    header: LogHeader,
+    events: &mut E,
+    reader: &mut R,
+    writer: &mut W,
+) -> Result<(), Fault>
+    ensures done { OnOk result (Follows E.alone header (E.machine events.old) (E.machine events.new) (R.remaining reader.old)
+        (R.remaining reader.new) (W.contents writer.old) (W.contents writer.new)) }
+    ensures fails { IfErr result (λ f. StopsEarly E.alone f (E.machine events.old) (E.machine events.new) (R.remaining reader.old)) }
+    ensures front { (behind : Option (List ℕ)) × KeepsFront E.alone (R.remaining reader.old) behind (E.machine events.old) (E.machine events.new) }
+{
+    let from = events.status().end;
+    write_resume(writer, from, header)?;
+    for _ in 0..FRAME_LIMIT {
+        let last = turn(alloc, events, reader, writer)?;
+        if last {
+            return Ok(());
+        }
+    }
+    Err(Fault::Stream)
+}
+
+/// Takes one frame, forces the log and acknowledges. It answers whether that was the last one.
+fn turn<E: Events, R: Read, W: Write>(
+    alloc: Global,
+    events: &mut E,
+    reader: &mut R,
+    writer: &mut W,
+) -> Result<bool, Fault>
+    ensures ok { IfOk result (λ last. TakesOne E.alone last (E.machine events.old) (E.machine events.new) (R.remaining reader.old)
+        (R.remaining reader.new) (W.contents writer.old) (W.contents writer.new)) }
+    ensures fails { IfErr result (λ f. E.alone → Stops (E.machine events.old) f (E.machine events.new)) }
+    ensures front { (behind : Option (List ℕ)) × KeepsFront E.alone (R.remaining reader.old) behind (E.machine events.old) (E.machine events.new) }
+{
+    let frame = Frame::read(alloc, reader, Tag::Data)?;
+    let last = frame.is_last();
+    handle(events, frame)?;
+    let lsn = force(events)?;
+    write_acknowledged(writer, lsn)?;
+    Ok(last)
+}
+
+/// Takes one frame, and answers the position after it.
+fn handle<E: Events>(events: &mut E, frame: Frame) -> Result<Lsn, Fault>
+    ensures { E.alone → Handles (E.machine events.old) frame result (E.machine events.new) }
+{
+    match frame {
+        Frame::Data { offset, bytes } => take(events, offset, bytes.as_slice()),
+        Frame::Acknowledged(_) => {
+            resync(events);
+            Err(Fault::BadFrame)
+        }
+        Frame::Resume { from: _, header: _ } => {
+            resync(events);
+            Err(Fault::BadFrame)
+        }
+    }
+}
+
+/// Drops the partial record, if it can be.
+fn resync<E: Events>(events: &mut E)
+    ensures { E.alone → WasResynced (E.machine events.old) (E.machine events.new) }
+{
+    let _ = events.resync();
+}
+
+/// Takes bytes that stand at an offset, and answers the position after them.
+fn take<E: Events>(events: &mut E, offset: u64, bytes: &[u8]) -> Result<Lsn, Fault>
+    ensures { E.alone → Takes (E.machine events.old) offset bytes.now result (E.machine events.new) }
+{
+    if !is_piece(offset, bytes.len()) {
+        resync(events);
+        return Err(Fault::BadFrame);
+    }
+    let at = position(events);
+    if offset > at {
+        return Err(Fault::Gap);
+    }
+    let past = at - offset;
+    if past < bytes.len() as u64 {
+        feed(events, &bytes[past as usize..])?;
+    }
+    Ok(Lsn(position(events)))
+}
+
+/// The offset of the next byte that is wanted.
+fn position<E: Events>(events: &E) -> u64
+    ensures { E.alone → result ≡ position (E.machine events.now) }
+{
+    let status = events.status();
+    status.end.0 + status.partial as u64
+}
+
+/// Feeds bytes that follow those held.
+fn feed<E: Events>(events: &mut E, bytes: &[u8]) -> Result<(), Fault>
+    requires { 0 < length bytes.now }
+    ensures ok { OnOk result (E.alone → FeedsRest (E.machine events.old) bytes.now (Ok tt) (E.machine events.new)) }
+    ensures err { IfErr result (λ f. (fault : AnyFault) × (f ≡ Refused fault) × (E.alone → FeedsRest (E.machine events.old) bytes.now (Err fault) (E.machine events.new))) }
+{
+    match events.feed(bytes) {
+        Ok(_) => Ok(()),
+        Err(refusal) => Err(Fault::Refused(refusal.fault)),
+    }
+}

@@ -1,0 +1,69 @@
+ghost use Rattle.std.specs.Prelude.{◌≡◌, IfOk, IfErr, OnOk, Ok};
+ghost use Rattle.als_engine.specs.Events.{ControlSyncs};
+ghost use Rattle.als_ship.specs.Follows.{SameText};
+ghost use Rattle.als_ship.specs.Forcing.{WritesAll, Syncs, Forces, FailsToForce};
+
+use crate::fault::Fault;
+use als_engine::{Events, Fault as EngineFault};
+use als_record::Lsn;
+
+/// Forces the log: what is held is put on the devices, and the acknowledged LSN answered. The standby's refusal: an event was
+/// refused, and not for want of something to do.
+#[tactic(auto, using(crate::proofs::LogForcing::same_trans))]
+pub fn force<E: Events>(events: &mut E) -> Result<Lsn, Fault>
+    ensures same { E.alone → SameText (E.machine events.old) (E.machine events.new) }
+    ensures forces { IfOk result (λ lsn. E.alone → Forces (E.machine events.old) lsn (E.machine events.new)) }
+    ensures fails { IfErr result (λ f. E.alone → FailsToForce f (E.machine events.new)) }
+{
+    write_log(events)?;
+    sync_log(events)?;
+    acknowledge(events)
+}
+
+/// Writes what is unwritten of the log.
+#[tactic(auto, using(crate::proofs::LogForcing::has_written_none, crate::proofs::LogForcing::has_written_more, crate::proofs::LogForcing::has_written_text, crate::proofs::LogForcing::has_written_all, crate::proofs::LogForcing::log_write_same, crate::proofs::LogForcing::same_trans, crate::proofs::LogForcing::write_refused))]
+fn write_log<E: Events>(events: &mut E) -> Result<(), Fault>
+    ensures same { E.alone → SameText (E.machine events.old) (E.machine events.new) }
+    ensures writes { OnOk result (E.alone → WritesAll (E.machine events.old) (E.machine events.new)) }
+    ensures fails { IfErr result (λ f. E.alone → FailsToForce f (E.machine events.new)) }
+{
+    for _ in 0..u64::MAX {
+        match events.log_write() {
+            Ok(()) => {}
+            Err(EngineFault::NothingToDo) => return Ok(()),
+            Err(fault) => return Err(Fault::Refused(fault)),
+        }
+    }
+    Err(Fault::Stream)
+}
+
+/// Syncs the log, and writes its mark.
+#[tactic(auto, using(crate::proofs::LogForcing::log_sync_same, crate::proofs::LogForcing::mark_write_same, crate::proofs::LogForcing::same_trans, crate::proofs::LogForcing::syncs_marked, crate::proofs::LogForcing::syncs_unmarked, crate::proofs::LogForcing::sync_refused, crate::proofs::LogForcing::mark_refused))]
+fn sync_log<E: Events>(events: &mut E) -> Result<(), Fault>
+    ensures same { E.alone → SameText (E.machine events.old) (E.machine events.new) }
+    ensures syncs { OnOk result (E.alone → Syncs (E.machine events.old) (E.machine events.new)) }
+    ensures fails { IfErr result (λ f. E.alone → FailsToForce f (E.machine events.new)) }
+{
+    match events.log_sync() {
+        Ok(()) => {}
+        Err(fault) => return Err(Fault::Refused(fault)),
+    }
+    match events.mark_write() {
+        Ok(()) => Ok(()),
+        Err(EngineFault::NothingToDo) => Ok(()),
+        Err(fault) => Err(Fault::Refused(fault)),
+    }
+}
+
+/// Syncs the control block.
+#[tactic(auto, using(crate::proofs::LogForcing::ctl_sync_same, crate::proofs::LogForcing::control_refused))]
+fn acknowledge<E: Events>(events: &mut E) -> Result<Lsn, Fault>
+    ensures same { E.alone → SameText (E.machine events.old) (E.machine events.new) }
+    ensures acknowledges { IfOk result (λ lsn. E.alone → ControlSyncs (E.machine events.old) (Ok lsn) (E.machine events.new)) }
+    ensures fails { IfErr result (λ f. E.alone → FailsToForce f (E.machine events.new)) }
+{
+    match events.ctl_sync() {
+        Ok(lsn) => Ok(lsn),
+        Err(fault) => Err(Fault::Refused(fault)),
+    }
+}
