@@ -16,5 +16,7 @@ mod asking;
 mod streams;
 // Records that may not follow, and the transaction table.
 mod judging;
+// Takeovers.
+mod taking_over;
 // Requests that want memory.
 mod memory;

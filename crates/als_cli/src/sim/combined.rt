@@ -1,6 +1,6 @@
 use super::disk::Disk;
 use super::stepping::one_step;
-use als_engine::{Fault, Reply, Step, World};
+use als_engine::{Fault, Reply, State, Step, World};
 use als_record::BLOCK_LEN;
 use std::alloc::Global;
 
@@ -67,6 +67,92 @@ fn redo_each(alloc: Global, world: World<Disk>) -> (World<Disk>, Reply) {
         from = page.saturating_add(1);
     }
     (world, Reply::Done)
+}
+
+/// A part of a takeover.
+#[derive(Clone, Copy)]
+enum Part {
+    Drain,
+    Force,
+    Seal,
+    Undo,
+    Finish,
+}
+
+/// The parts of a takeover, in order.
+const PARTS: [Part; 7] = [
+    Part::Drain,
+    Part::Force,
+    Part::Seal,
+    Part::Undo,
+    Part::Force,
+    Part::Drain,
+    Part::Finish,
+];
+
+/// Takes over: seals the log once all of it is stable, undoes what was not committed, and ends the takeover once that is stable
+/// and redone. Answers the first refusal that is not passed over, after which it stops.
+pub fn takeover(alloc: Global, world: World<Disk>) -> (World<Disk>, Reply) {
+    let mut world = world;
+    for part in PARTS {
+        let (after, reply) = do_part(alloc, world, part);
+        world = after;
+        if is_refusal(&reply) {
+            return (world, reply);
+        }
+    }
+    (world, Reply::Done)
+}
+
+/// One part of a takeover.
+fn do_part(alloc: Global, world: World<Disk>, part: Part) -> (World<Disk>, Reply) {
+    match part {
+        Part::Drain => drain(alloc, world),
+        Part::Force => force(alloc, world),
+        Part::Seal => seal(alloc, world),
+        Part::Undo => undo(alloc, world),
+        Part::Finish => finish(alloc, world),
+    }
+}
+
+/// Seals the log, where it was not sealed.
+fn seal(alloc: Global, world: World<Disk>) -> (World<Disk>, Reply) {
+    match world.engine().status().state {
+        State::Following | State::Refusing { .. } => step_and_sync(alloc, world, Step::Seal),
+        State::Sealed | State::Primary | State::Stopped => (world, Reply::Done),
+    }
+}
+
+/// Holds each record of the log's tail.
+fn undo(alloc: Global, world: World<Disk>) -> (World<Disk>, Reply) {
+    let mut world = world;
+    // A tail has at most two records for each one of the log, and each of these takes 28 bytes and more.
+    for _ in 0..world.engine().status().end.0 {
+        let (after, reply) = one_step(alloc, world, Step::UndoOne);
+        world = after;
+        match reply {
+            Reply::Undone(_) => {}
+            reply => return (world, reply),
+        }
+    }
+    (world, Reply::Done)
+}
+
+/// Ends the takeover, where it was not ended.
+fn finish(alloc: Global, world: World<Disk>) -> (World<Disk>, Reply) {
+    match world.engine().status().state {
+        State::Primary => (world, Reply::Done),
+        _ => step_and_sync(alloc, world, Step::Finish),
+    }
+}
+
+/// A step that writes the control block, and the sync of it.
+fn step_and_sync(alloc: Global, world: World<Disk>, step: Step) -> (World<Disk>, Reply) {
+    let (world, reply) = one_step(alloc, world, step);
+    if is_refusal(&reply) {
+        return (world, reply);
+    }
+    one_step(alloc, world, Step::ControlSync)
 }
 
 /// Whether a reply ends a combined line: a step that had nothing to do is passed over.

@@ -9,7 +9,7 @@ pub fn reply<W: Write>(output: &mut W, reply: &Reply, end: Lsn) -> io::Result<()
     let end = end.0;
     match reply {
         Reply::Done => writeln!(output, "ok"),
-        Reply::Applied(lsn) => writeln!(output, "ok lsn={}", lsn.0),
+        Reply::Applied(lsn) | Reply::Undone(lsn) => writeln!(output, "ok lsn={}", lsn.0),
         Reply::Acknowledged(lsn) => writeln!(output, "ok ack={}", lsn.0),
         Reply::Fed(Fed { taken, records }) => {
             writeln!(output, "ok taken={taken} records={records} end={end}")
@@ -25,6 +25,14 @@ pub fn reply<W: Write>(output: &mut W, reply: &Reply, end: Lsn) -> io::Result<()
             writeln!(output, "{line} taken={taken} records={records} end={end}")
         }
         Reply::Refused(fault) => refused(output, *fault),
+    }
+}
+
+/// The line of a takeover; `end` is where the log then ends.
+pub fn taken_over<W: Write>(output: &mut W, reply: &Reply, end: Lsn) -> io::Result<()> {
+    match reply {
+        Reply::Refused(fault) => refused(output, *fault),
+        _ => writeln!(output, "ok end={}", end.0),
     }
 }
 

@@ -31,6 +31,8 @@ fn state_name(state: State) -> &'static str {
     match state {
         State::Following => "Following",
         State::Refusing { .. } => "Refusing",
+        State::Sealed => "Sealed",
+        State::Primary => "Primary",
         State::Stopped => "Stopped",
     }
 }

@@ -114,8 +114,13 @@ impl Simulation {
         let (world, reply) = match line {
             CombinedLine::Drain => combined::drain(alloc, world),
             CombinedLine::Force => combined::force(alloc, world),
+            CombinedLine::Takeover => combined::takeover(alloc, world),
         };
-        printing::reply(output, &reply, world.engine().status().end)?;
+        let end = world.engine().status().end;
+        match line {
+            CombinedLine::Takeover => printing::taken_over(output, &reply, end)?,
+            CombinedLine::Drain | CombinedLine::Force => printing::reply(output, &reply, end)?,
+        }
         Ok(Simulation {
             alloc,
             world,

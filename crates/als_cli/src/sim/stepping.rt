@@ -19,6 +19,9 @@ pub fn step_of(line: StepLine, text: &[u8]) -> Option<Step<'_>> {
         StepLine::LogSync => Step::LogSync,
         StepLine::MarkWrite => Step::MarkWrite,
         StepLine::ControlSync => Step::ControlSync,
+        StepLine::Seal => Step::Seal,
+        StepLine::UndoOne => Step::UndoOne,
+        StepLine::Finish => Step::Finish,
     })
 }
 
