@@ -18,5 +18,7 @@ mod streams;
 mod judging;
 // Takeovers.
 mod taking_over;
+// The scripts of the folder of examples.
+mod examples;
 // Requests that want memory.
 mod memory;
