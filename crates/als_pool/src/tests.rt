@@ -4,8 +4,9 @@ ghost use Rattle.als_frames.specs.Frames.{frame_of};
 ghost use Rattle.als_pool.specs.Outcomes.{HasPlace};
 
 use crate::{
-    Fault, Pool, change_can_be_routed, each_row_is_exact, each_row_is_sound, mark_changes_nothing,
-    other_records_pass, other_records_wait_nowhere, queues_join_images,
+    Fault, Pool, a_log_is_taken_in, change_can_be_read, change_can_be_routed, each_row_is_exact,
+    each_row_is_sound, mark_changes_nothing, other_records_pass, other_records_wait_nowhere,
+    queues_join_images, unread_rows_are_the_checkpoints,
 };
 use als_disk::{BlockDisk, FailingDisk, Fuse, MemDisk};
 use als_record::{Change, Image, Key, LoggedPage, Lsn, PageRows, Value};
@@ -253,6 +254,80 @@ fn laws_take_nothing() {
     mark_changes_nothing();
     other_records_wait_nowhere();
     queues_join_images();
+    change_can_be_read();
+    a_log_is_taken_in();
+    unread_rows_are_the_checkpoints();
+}
+
+// Two pages of a database that was laid out before, after a restart. A call that is refused once is made again.
+fn opened<D: BlockDisk + Drop>(
+    rt: &impl Abort,
+    alloc: Global,
+    disk: D,
+    position: u64,
+    rows: &[LoggedPage],
+) -> Pool<D>
+    ensures { (page : ℕ) → page < 2 → (pending_of result.pool.waits page ≡ []) × (frame_of result.pool.frames page ≡ None) }
+{
+    assert!(rt; 2 <= disk.blocks());
+    match Pool::open(alloc, disk, 2, 2, Lsn(position), rows) {
+        Ok(pool) => pool,
+        Err(disk) => match Pool::open(alloc, disk, 2, 2, Lsn(position), rows) {
+            Ok(pool) => pool,
+            Err(_) => panic!(rt; "not opened"),
+        },
+    }
+}
+
+// A device on which page 1 was stored with its change at 52.
+fn stored(rt: &impl Abort, alloc: Global) -> MemDisk {
+    let mut pool = in_memory(rt, alloc, 2);
+    assert_eq!(rt; apply(&mut pool, 1), Ok(Lsn(52)));
+    assert_eq!(rt; flush(&mut pool, 1, 116), Ok(()));
+    assert!(rt; pool.sync_pages().is_ok());
+    pool.into_disk()
+}
+
+#[test]
+fn what_waits_begins_at_the_row_or_the_position(rt: HostRuntime) {
+    let rows = [row(1, 30), row(1, 52), row(7, 40)];
+    let pool = opened(&rt, rt.alloc(), stored(&rt, rt.alloc()), 60, &rows);
+    assert_eq!(rt; pool.waits_from(0), Some(Lsn(60)));
+    assert_eq!(rt; pool.waits_from(1), Some(Lsn(52)));
+    assert_eq!(rt; pool.waits_from(2), None);
+    assert_eq!(rt; pool.next_row(0), Some(row(1, 52)));
+    assert_eq!(rt; pool.waiting(), 0);
+}
+
+#[test]
+fn nothing_waits_from_below_the_first_record(rt: HostRuntime) {
+    let pool = opened(&rt, rt.alloc(), stored(&rt, rt.alloc()), 0, &[row(0, 3)]);
+    assert_eq!(rt; pool.waits_from(0), Some(Lsn(16)));
+    assert_eq!(rt; pool.waits_from(1), Some(Lsn(16)));
+    assert_eq!(rt; pool.next_row(0), Some(row(0, 16)));
+    assert_eq!(rt; pool.next_row(1), None);
+}
+
+#[test]
+fn the_first_change_from_the_position_on_is_the_row(rt: HostRuntime) {
+    let mut pool = opened(&rt, rt.alloc(), stored(&rt, rt.alloc()), 60, &[]);
+    route(&rt, &mut pool, 0, 80);
+    assert_eq!(rt; pool.next_row(0), Some(row(0, 80)));
+    assert_eq!(rt; pool.waits_from(0), Some(Lsn(60)));
+    assert_eq!(rt; apply(&mut pool, 0), Ok(Lsn(80)));
+    assert_eq!(rt; pool.waits_from(0), None);
+    assert_eq!(rt; pool.next_row(0), Some(row(0, 80)));
+}
+
+#[test]
+fn a_row_of_the_checkpoint_goes_when_the_page_has_all(rt: HostRuntime) {
+    let mut pool = opened(&rt, rt.alloc(), stored(&rt, rt.alloc()), 60, &[row(1, 16)]);
+    route(&rt, &mut pool, 1, 52);
+    assert_eq!(rt; pool.next_row(0), Some(row(1, 16)));
+    assert_eq!(rt; apply(&mut pool, 1), Err(Fault::NothingToDo));
+    assert_eq!(rt; pool.next_row(0), None);
+    assert_eq!(rt; pool.waits_from(1), None);
+    assert_eq!(rt; pool.waiting(), 0);
 }
 
 fn can_be_sent<T: Send + Drop>(_: T) {}
