@@ -6,3 +6,4 @@ pub mod KeptLaws
 pub mod RegionLaws
 pub mod StateLaws
 mod WorkedBlocks
+mod WorkedRegions

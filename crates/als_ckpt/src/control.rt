@@ -28,7 +28,6 @@ use std::snapshot::Snapshot;
 ///
 /// A crash leaves the state of the last sync or one that was written since. The mark of the synced state is the
 /// acknowledged LSN: the log up to it survives each crash.
-#[derive(Drop)]
 pub struct Control<D: BlockDisk> {
     disk: D,
     pages: u32,
@@ -62,6 +61,26 @@ impl<D: BlockDisk> Model for Control<D> {
 
     ghost invariant = { λ c. IsKeeping (D.slot c.disk) c.pages c.log_bytes (D.block_count c.disk) c.synced c.last
         (states_of c.writes) (is_sure c.writes) c.regions c.begun };
+}
+
+// Written out: a derived drop is proved part by part wherever a control is let go of, this one only here.
+impl<D: BlockDisk + Drop> Drop for Control<D> {
+    fn drop(self) {
+        let Control {
+            disk,
+            pages: _,
+            log_bytes: _,
+            synced: _,
+            last: _,
+            writes,
+            regions,
+            begun,
+        } = self;
+        drop(disk);
+        drop(writes);
+        drop(regions);
+        drop(begun);
+    }
 }
 
 impl<D: BlockDisk> Control<D> {
@@ -260,7 +279,19 @@ impl<D: BlockDisk> Control<D> {
         ensures failures { D.failures result ≡ self.failures }
         ensures attempts { D.attempts result ≡ self.attempts }
     {
-        let Control { disk, .. } = self;
+        let Control {
+            disk,
+            pages: _,
+            log_bytes: _,
+            synced: _,
+            last: _,
+            writes,
+            regions,
+            begun,
+        } = self;
+        drop(writes);
+        drop(regions);
+        drop(begun);
         disk
     }
 }

@@ -236,3 +236,12 @@ fn a_failed_write_may_be_left(rt: HostRuntime) {
         assert_eq!(rt; left, Some(Lsn(mark)));
     }
 }
+
+// Checkpoints to begin, and controls on which one is published.
+mod checkpoints;
+// What is published, and where.
+mod publishing;
+// When a call for a checkpoint is refused.
+mod refusals;
+// What a crash leaves of checkpoints.
+mod crashes;
