@@ -1,7 +1,7 @@
 use super::row::run_scripts;
 
 /// The scripts of the folder of examples, with what they print.
-const EXAMPLES: [(&str, &str); 2] = [
+const EXAMPLES: [(&str, &str); 3] = [
     // `acknowledge.als`
     (
         "# What is acknowledged, when a page may be written, and what a failing device does.
@@ -92,6 +92,38 @@ trans 2 active last=52 undo=52
 ok
 0/0 11
 0/1 22
+",
+    ),
+    // `takeover.als`
+    (
+        "# A takeover: what is committed is ended, what is not is undone. Records stand at 16, 52, 80 and 116.
+world pages=4 log=8 frames=4 workers=2 pending=1000
+u 1 0 0 - aa
+commit 1
+u 2 0 1 - bb
+u 2 0 0 aa cc
+feed 16 153
+show table
+# It drains, forces, seals, undoes, forces, drains and finishes.
+takeover
+show status
+# The tail: an end, two compensations with what they undo in falling LSN, an end.
+show log 153
+show db
+# No more log is taken.
+feed 116 153
+",
+        "ok taken=137 records=4 end=153
+trans 1 committed last=52 undo=16
+trans 2 active last=116 undo=116
+ok end=294
+state=Primary end=294 ack=294 pending=0 leases=0
+153 end trans=1 prev=52
+181 clr trans=2 0/0 aa prev=116 next=80
+224 clr trans=2 0/1 - prev=181 next=0
+266 end trans=2 prev=224
+0/0 aa
+refused 21 Sealed taken=0 records=0 end=294
 ",
     ),
 ];
