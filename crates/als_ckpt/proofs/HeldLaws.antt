@@ -3,16 +3,16 @@ use Rattle.std.proofs.Common.{◌≡◌, ◌≢◌, ℕ, ◌+◌, ◌<◌, ◌�
 use Rattle.std.specs.Prelude.{Contains, ◌⊎◌}
 use Rattle.std.proofs.lemmas.Bool.{cases_lt}
 use Rattle.std.proofs.lemmas.List.Elements.{Contains-push_cases}
-use Rattle.als_disk.specs.Slot.{Slot, only, written, KeepsReadable, KeepsCandidate, SameBlocksBut, GivesCandidates}
+use Rattle.als_disk.specs.Slot.{Slot, written, KeepsReadable, KeepsCandidate, SameBlocksBut, GivesCandidates}
 use Rattle.als_disk.specs.SlotLaws.{Contains-one, readable-write}
 use Rattle.als_ckpt_codec.specs.declared.checkpoint.Checkpoint.{Checkpoint}
 use Rattle.als_ckpt_codec.specs.Checkpoint.{checkpoint_bytes}
 use Rattle.als_ckpt.specs.declared.region.Region.{Region}
 use Rattle.als_ckpt.specs.declared.region.Region.TheVariants.{First, Second}
 use Rattle.als_ckpt.specs.declared.control_state.ControlState.{ControlState}
-use Rattle.als_ckpt.specs.Regions.{first_block, next_region, part_of, blocks_of, Held, nothing_held, held_in, held_at, with_held, with_block, block_written, blocks_synced, Begun, IsBegun, IsWhole, HasBlockLeft, HoldsContent, HoldsPublished, IsPublished}
-use Rattle.als_ckpt.specs.Control.{last_state, IsApart, IsApartIf, IsBeginning}
-use Rattle.als_ckpt.specs.Kept.{AreHeld, IsBegunOn, IsBegunIf}
+use Rattle.als_ckpt.specs.Regions.{first_block, next_region, part_of, blocks_of, Held, nothing_held, held_in, held_at, with_held, with_block, blocks_synced, Begun, IsWhole, HasBlockLeft, HoldsContent, HoldsPublished, IsPublished}
+use Rattle.als_ckpt.specs.Control.{last_state, IsApartIf, IsBeginning}
+use Rattle.als_ckpt.specs.Kept.{AreHeld, IsBegunIf}
 use Rattle.als_ckpt.proofs.StateLaws.{Contains-last_state}
 use Rattle.als_ckpt.proofs.RegionLaws.{same_region, blocks-apart, block-above, next_region-apart, held_in-same, held_in-other, held_at-other, HoldsContent-fewer}
 

@@ -1,19 +1,19 @@
 -- What is kept true of the whole device, from one call to the next.
-use Rattle.std.proofs.Common.{◌≡◌, ◌≢◌, ℕ, ◌+◌, ◌≤◌, Bool, true, false, IsTrue, List, [], ◌∷◌, ◌++◌, Option, None, Some, IsSomeAnd, arith, refl, sym, ap, subst, ◌∙◌, inl, inr}
+use Rattle.std.proofs.Common.{◌≡◌, ℕ, ◌+◌, ◌≤◌, Bool, true, false, IsTrue, List, [], ◌∷◌, ◌++◌, Option, None, Some, IsSomeAnd, arith, sym, ap, subst, ◌∙◌}
 use Rattle.std.specs.Prelude.{Contains, ◌⊎◌}
-use Rattle.als_disk.specs.Slot.{Slot, only, written, FailsToWrite, KeepsReadable, SameBlocks, SameBlocksBut, GivesCandidates}
+use Rattle.als_disk.specs.Slot.{Slot, written, FailsToWrite, KeepsReadable, SameBlocks, SameBlocksBut, GivesCandidates}
 use Rattle.als_ckpt_codec.specs.declared.checkpoint.Checkpoint.{Checkpoint}
 use Rattle.als_ckpt_codec.specs.Checkpoint.{checkpoint_bytes}
 use Rattle.als_ckpt.specs.declared.region.Region.{Region}
 use Rattle.als_ckpt.specs.declared.control_state.ControlState.{ControlState}
-use Rattle.als_ckpt.specs.Regions.{first_block, next_region, part_of, Held, nothing_held, held_at, with_held, with_block, block_written, blocks_synced, Begun, IsBegun, IsWhole, HasBlockLeft, IsPublished, blocks_of, position_of}
+use Rattle.als_ckpt.specs.Regions.{first_block, next_region, part_of, Held, held_at, with_held, block_written, blocks_synced, Begun, IsBegun, IsWhole, HasBlockLeft, IsPublished, blocks_of, position_of}
 use Rattle.als_ckpt.specs.Control.{Controlled, newest, control_block, with_whole, IsControlState, IsControlled, IsApartIf, IsBeginning}
 use Rattle.als_ckpt.specs.Kept.{IsKept, IsKeeping, AreHeld}
-use Rattle.als_ckpt.proofs.KeptLaws.{IsKept-only, IsKept-written, IsKept-failed, IsKept-synced}
+use Rattle.als_ckpt.proofs.KeptLaws.{IsKept-written, IsKept-failed, IsKept-synced}
 use Rattle.als_ckpt.proofs.RegionLaws.{block-above}
 use Rattle.als_ckpt.proofs.StateLaws.{Contains-last_state}
 use Rattle.als_record.specs.declared.lsn.Lsn.{Lsn}
-use Rattle.als_ckpt.proofs.HeldLaws.{AreHeld-none, AreHeld-same, AreHeld-written, AreHeld-tried, AreHeld-block, AreHeld-synced, AreHeld-begun, AreHeld-whole}
+use Rattle.als_ckpt.proofs.HeldLaws.{AreHeld-same, AreHeld-written, AreHeld-tried, AreHeld-block, AreHeld-synced, AreHeld-begun, AreHeld-whole}
 
 module _ (old new : ℕ → Slot) (pages log_bytes blocks : ℕ) (synced newest : ControlState) (since : List ControlState) (sure : Bool) (held : Held) (begun : Option Begun)
     (kept : IsKeeping old pages log_bytes blocks synced newest since sure held begun) where

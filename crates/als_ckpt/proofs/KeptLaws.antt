@@ -8,7 +8,7 @@ use Rattle.als_ckpt.specs.declared.control_state.ControlState.{ControlState}
 use Rattle.als_ckpt.specs.Control.{control_block, IsControlState, IsBlockOf, MarksRise, IsControlled, IsApartIf}
 use Rattle.als_ckpt.specs.Kept.{IsKept, IsKeeping}
 use Rattle.als_ckpt.specs.Regions.{Held, Begun, IsPublished, held_at}
-use Rattle.als_ckpt.specs.Holding.{HoldsControl, HoldsOneOf, LeavesOneOf}
+use Rattle.als_ckpt.specs.Holding.{LeavesOneOf}
 use Rattle.als_ckpt.proofs.HeldLaws.{HoldsPublished-left}
 use Rattle.als_ckpt.proofs.StateLaws.{last_state-push, MarksRise-push, MarksRise-from, MarksRise-to, Contains-last_state}
 

@@ -2,14 +2,13 @@
 use Rattle.std.proofs.Common.{◌≡◌, ◌≢◌, ℕ, ◌+◌, ◌-◌, ◌*◌, ◌<◌, ◌≤◌, List, ◌++◌, length, take, drop, min, replicate, Option, None, Some, refl, sym, ap, subst, ◌∙◌, arith, inl, inr}
 use Rattle.std.specs.Prelude.{Contains, ◌⊎◌}
 use Rattle.std.proofs.lemmas.Bool.{cases_lt}
-use Rattle.std.proofs.lemmas.List.{drop-replicate, take_all, length-drop}
+use Rattle.std.proofs.lemmas.List.{drop-replicate, take_all}
 use Rattle.als_record.specs.declared.lsn.Lsn.{Lsn}
 use Rattle.als_disk.specs.Slot.{Slot}
 use Rattle.als_ckpt_codec.specs.declared.checkpoint.Checkpoint.{Checkpoint}
-use Rattle.als_ckpt_codec.specs.Checkpoint.{checkpoint_bytes}
 use Rattle.als_ckpt.specs.declared.region.Region.{Region}
 use Rattle.als_ckpt.specs.declared.region.Region.TheVariants.{First, Second}
-use Rattle.als_ckpt.specs.Regions.{first_block, next_region, padded, part_of, blocks_for, blocks_of, Held, held_in, held_at, with_held, Begun, IsBegun, HoldsContent}
+use Rattle.als_ckpt.specs.Regions.{first_block, next_region, padded, blocks_for, blocks_of, Held, held_in, held_at, with_held, IsBegun, HoldsContent}
 use Rattle.als_ckpt.specs.Kept.{IsSpelled}
 
 -- ---- blocks

@@ -1,10 +1,8 @@
 -- Worked regions: where a checkpoint goes, how many blocks it takes, what stands in each, and when none can be begun.
-use Rattle.std.proofs.Common.{◌≡◌, ℕ, List, [], ◌∷◌, ◌++◌, replicate, Option, None, Some, refl, inl, inr}
-use Rattle.std.specs.Prelude.{◌≢◌, ◌⊎◌}
-use Rattle.als_ckpt.specs.declared.region.Region.{Region}
+use Rattle.std.proofs.Common.{◌≡◌, ℕ, List, [], ◌∷◌, ◌++◌, replicate, None, Some, refl, inl, inr}
 use Rattle.als_ckpt.specs.declared.region.Region.TheVariants.{First, Second}
 use Rattle.als_ckpt_codec.specs.declared.checkpoint.Checkpoint.{Checkpoint}
-use Rattle.als_ckpt.specs.Control.{Controlled, first_state, new_control, newest, with_state, settled, IsBusy, with_begun, with_next, with_whole, published, publishing}
+use Rattle.als_ckpt.specs.Control.{Controlled, first_state, new_control, newest, with_state, settled, IsBusy, with_begun, with_next, published}
 use Rattle.als_ckpt.specs.Regions.{Begun, first_block, next_region, blocks_for, padded, part_of}
 
 -- the first checkpoint goes to region 1, then they go to each region in turn

@@ -1,5 +1,5 @@
 -- What the blocks of a control device hold.
-use Rattle.std.specs.Prelude.{◌≡◌, ℕ, List, Contains, ◌∷◌}
+use Rattle.std.specs.Prelude.{◌≡◌, ℕ}
 use Rattle.als_disk.specs.Slot.{Slot, only, KeepsCandidate}
 use Rattle.als_ckpt.specs.declared.control_state.ControlState.{ControlState}
 use Rattle.als_ckpt.specs.Regions.{Said, IsPublished, HoldsPublished}

@@ -1,9 +1,9 @@
 -- When a call on a checkpoint is refused, and what it leaves then.
-use Rattle.std.specs.Prelude.{◌≡◌, ◌≢◌, ℕ, ◌<◌, ◌≤◌, ◌+◌, false, Option, None, Some, IsSomeAnd}
+use Rattle.std.specs.Prelude.{◌≡◌, ℕ, ◌<◌, ◌≤◌, ◌+◌, false, Option, None, IsSomeAnd}
 use Rattle.als_ckpt.specs.declared.fault.Fault.{Fault}
 use Rattle.als_ckpt.specs.declared.fault.Fault.TheVariants.{Device, BadControl, Memory, NothingToDo, CkptBusy, LogBehind}
 use Rattle.als_ckpt.specs.Regions.{Begun, HasBlockLeft, IsWhole, position_of}
-use Rattle.als_ckpt.specs.Control.{Controlled, newest, IsBusy, published}
+use Rattle.als_ckpt.specs.Control.{Controlled, IsBusy, published}
 
 -- no checkpoint was begun: one is already or the last publish is not synced; or, where neither is so, a growth was refused
 abbrev pub RefusesBegin : Fault → Controlled → Controlled → Type 0

@@ -1,6 +1,6 @@
 -- The checkpoints of a control device: two regions of 160 blocks, of which the control block names one at most.
 use Rattle.std.specs.Prelude.{◌≡◌, ℕ, ◌+◌, ◌-◌, ◌*◌, ◌/◌, ◌<◌, ◌≤◌, List, ◌++◌, length, take, drop, replicate, Option, None, Some, IsSomeAnd, Contains}
-use Rattle.als_disk.specs.Slot.{Slot, only}
+use Rattle.als_disk.specs.Slot.{Slot}
 use Rattle.als_ckpt_codec.specs.declared.checkpoint.Checkpoint.{Checkpoint}
 use Rattle.als_ckpt_codec.specs.Checkpoint.{checkpoint_bytes, IsCheckpoint}
 use Rattle.als_ckpt.specs.declared.region.Region.{Region}
