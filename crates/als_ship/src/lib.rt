@@ -36,3 +36,6 @@ pub use laws::{
 pub use shipper::Shipper;
 pub use source::{LogBytes, Source};
 pub use tag::Tag;
+
+#[cfg(test)]
+mod tests;

@@ -1,5 +1,5 @@
 -- The images of a view, one write and one commit after another.
-use Rattle.std.proofs.Common.{◌≡◌, ℕ, ◌+◌, ◌*◌, ◌≤◌, ◌<◌, ◌==◌, ◌%◌, ◌^◌, length-append, nat_lt, Bool, true, false, cond, ◌&&◌, List, [], ◌∷◌, ◌++◌, length, get_or, set, fold, flat_map, None, refl, sym, ap, ◌∙◌, inl, inr, arith}
+use Rattle.std.proofs.Common.{◌≡◌, ℕ, suc, take, drop, ◌+◌, ◌-◌, ◌*◌, ◌≤◌, ◌<◌, ◌==◌, ◌%◌, ◌^◌, length-append, nat_lt, Bool, true, false, cond, ◌&&◌, List, [], ◌∷◌, ◌++◌, length, get_or, set, fold, flat_map, None, Some, IsSome, Option, option_to_list, refl, sym, ap, ◌∙◌, inl, inr, arith}
 use Rattle.std.proofs.lemmas.Bool.{cases_Bool, eqb-true, eq-eqb, false≢true, and_parts, and_from, ltb-true, lt-ltb}
 use Rattle.std.proofs.lemmas.List.{get_or-set_other, length-set}
 use Rattle.std.proofs.lemmas.Grind.{get_or-set_at, flat_map-append}
@@ -97,3 +97,22 @@ count-after commits front more e =
 pub last-after : (front more : List Commit) → fold (λ (last : ℕ) (c : Commit). c.lsn.0) (last_of front) more ≡ last_of (front ++ more)
 unfolding last_of
 last-after front more = sym (fold-append (λ (last : ℕ) (c : Commit). c.lsn.0) 0 front more)
+
+-- the first of those taken, and the others
+module _ (n k : ℕ) (xs ys : List Commit) (r : Option Commit) {x : Commit} (less : k < n) (s : r ≡ Some x) (i : xs ≡ option_to_list r ++ ys) where
+  one_more : n - k ≡ suc (n - (k + 1))
+  one_more = omega (arith, less)
+
+  first_is : xs ≡ x ∷ ys
+  first_is = i ∙ ap (λ (o : Option Commit). option_to_list o ++ ys) s
+
+  pub first-taken : take (n - k) xs ≡ x ∷ take (n - (k + 1)) ys
+  first-taken = ap (λ (l : List Commit). take (n - k) l) first_is ∙ ap (λ (j : ℕ). take j (x ∷ ys)) one_more
+
+  pub first-dropped : drop (n - k) xs ≡ drop (n - (k + 1)) ys
+  first-dropped = ap (λ (l : List Commit). drop (n - k) l) first_is ∙ ap (λ (j : ℕ). drop j (x ∷ ys)) one_more
+
+-- a value that is there is not missing
+pub never-none : (r : Option Commit) → IsSome r → ((x : Commit) → r ≡ Some x → ⊥) → ⊥
+never-none None t h = false≢true t
+never-none (Some x) t h = h x refl

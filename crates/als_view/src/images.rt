@@ -1,12 +1,13 @@
-ghost use Rattle.std.specs.Prelude.{◌≡◌, ℕ, ◌++◌, ◌∷◌, [], List, IfOk, IfErr, fold};
-ghost use Rattle.als_record.specs.Commits.{Commit as AnyCommit};
+ghost use Rattle.std.specs.Prelude.{◌≡◌, ◌+◌, ◌≤◌, [], IfOk, IfErr, fold, take, drop, length};
 ghost use Rattle.als_view.specs.declared.fault.Fault.TheVariants.{Memory};
-ghost use Rattle.als_view.specs.Fronts.{AreImagesAfter, place_of, written, written_by};
+ghost use Rattle.std.specs.VecDeque.{deque_len, deque_capacity};
+ghost use Rattle.als_view.specs.Fronts.{AreImagesAfter, place_of, written, written_by, last_from, count_below};
 
 use crate::commit::Commit;
 use crate::fault::Fault;
-use als_record::{Image, Key, SLOT_COUNT};
+use als_record::{Image, Key, Lsn, SLOT_COUNT};
 use std::alloc::Global;
+use std::collections::VecDeque;
 
 /// Where the image of a key is.
 pub(crate) fn place(key: Key) -> usize
@@ -38,27 +39,51 @@ pub(crate) fn write(images: &mut [Image], key: Key, after: Image)
     }
 }
 
-/// Gives the keys that a commit writes their images, in order.
-pub(crate) fn write_all(images: &mut [Image], commit: Commit)
-    ensures { images.new ≡ fold written images.old commit.writes }
+/// Gives the keys that a commit writes their images, in order. Answers its LSN.
+pub(crate) fn write_all(images: &mut [Image], commit: Commit) -> u64
+    ensures images { images.new ≡ written_by images.old commit }
+    ensures lsn { result ≡ commit.lsn.0 }
 {
+    let lsn = commit.lsn.0;
     for (key, after) in commit.writes {
         write(images, key, after);
     }
+    lsn
 }
 
-/// The same for each commit, in order.
-pub(crate) fn write_commits(images: &mut [Image], queued: Vec<Commit>)
-    ensures { images.new ≡ fold written_by images.old queued.items }
+/// Takes so many of the first commits out of a queue and gives the keys that they write their images, in order. Answers the
+/// LSN of the last of them, that of the one before without one.
+pub(crate) fn write_first(
+    images: &mut [Image],
+    queued: &mut VecDeque<Commit, Global>,
+    count: usize,
+    before: u64,
+) -> u64
+    requires { count ≤ length queued.old.items }
+    ensures images { images.new ≡ fold written_by images.old (take count queued.old.items) }
+    ensures left { queued.new.items ≡ drop count queued.old.items }
+    ensures len { deque_len queued.new + count ≡ deque_len queued.old }
+    ensures capacity { deque_capacity queued.new ≡ deque_capacity queued.old }
+    ensures last { result ≡ last_from before (take count queued.old.items) }
 {
-    for commit in queued {
-        write_all(images, commit);
+    let mut last = before;
+    for _ in 0..count {
+        if let Some(commit) = queued.pop_front() {
+            last = write_all(images, commit);
+        }
     }
+    last
 }
 
-/// The LSN of the last of these commits, that of the one before without one.
-pub(crate) fn last_after(queued: &[Commit], before: u64) -> u64
-    ensures { result ≡ fold (λ (last : ℕ) (c : AnyCommit). c.lsn.0) before queued.now }
+/// How many of the first commits have a commit record that begins below an LSN, up to the first that does not.
+pub(crate) fn count_below(queued: &VecDeque<Commit, Global>, lsn: Lsn) -> usize
+    ensures { result ≡ count_below lsn queued.now.items }
 {
-    queued.iter().fold(before, |_, commit| commit.lsn.0)
+    for i in 0..queued.len() {
+        match queued.get(i) {
+            Some(commit) if commit.lsn.0 < lsn.0 => {}
+            _ => return i,
+        }
+    }
+    queued.len()
 }

@@ -7,6 +7,8 @@ mod commit;
 mod fault;
 // The keys' images.
 mod images;
+#[cfg(test)]
+mod tests;
 // The view.
 mod view;
 

@@ -1,15 +1,15 @@
-ghost use Rattle.std.specs.Prelude.{◌≡◌, ℕ, ◌<◌, ◌%◌, ◌^◌, ◌++◌, ◌∷◌, [], List, true, false, Ok, Err, None, IfOk, IfErr, OnOk, OnErr, if◌then◌else◌, ◌&&◌, nat_lt, length, MatchResult};
+ghost use Rattle.std.specs.Prelude.{◌≡◌, ℕ, ◌<◌, ◌%◌, ◌^◌, ◌++◌, ◌∷◌, ◌+◌, ◌-◌, ◌≤◌, [], List, take, drop, IsOk, true, false, Ok, Err, None, IfOk, IfErr, OnOk, OnErr, if◌then◌else◌, ◌&&◌, nat_lt, length, MatchResult};
 ghost use Rattle.als_record.specs.Commits.{Commit as AnyCommit, seen_after};
 ghost use Rattle.als_view.specs.declared.fault.Fault.TheVariants.{Memory, Warming};
-ghost use Rattle.als_view.specs.Fronts.{HasPublished, Answers, last_of};
+ghost use Rattle.als_view.specs.Fronts.{HasPublished, Answers, count_below};
 
 use crate::commit::Commit;
 use crate::fault::Fault;
 use crate::images;
 use als_record::{Image, ImageView, Key, Lsn, SLOT_COUNT};
 use std::alloc::Global;
+use std::collections::VecDeque;
 use std::marker::Model;
-use std::mem;
 
 /// What a reader is answered: the value of a key after the published commits, how many these are, and the LSN of the last of
 /// them, 0 without one.
@@ -24,7 +24,6 @@ pub struct Answer {
 /// next publishing.
 #[derive(Drop)]
 pub struct View {
-    alloc: Global,
     pages: u32,
     // Whether there is a list of published commits, if only the empty one.
     listed: bool,
@@ -32,18 +31,21 @@ pub struct View {
     // Modulo 2^64, which is exact for the commits of a device's log.
     commits: u64,
     last: Lsn,
-    queued: Vec<Commit>,
+    queued: VecDeque<Commit, Global>,
+    // The queue takes so many more commits without memory.
+    room: usize,
 }
 
 impl Model for View {
-    ghost use Rattle.std.specs.Prelude.{◌≡◌, ◌*◌, length};
+    ghost use Rattle.std.specs.Prelude.{◌≡◌, ◌*◌, ◌+◌, ◌≤◌, length};
+    ghost use Rattle.std.specs.VecDeque.{deque_len, deque_capacity};
     ghost use Rattle.als_view.specs.Fronts.{View};
 
     ghost Value = { View };
 
-    ghost view = { λ v. record { pages = v.pages; listed = v.listed; images = v.images.items; commits = v.commits; last = v.last.0; queued = v.queued.items } };
+    ghost view = { λ v. record { pages = v.pages; listed = v.listed; images = v.images.items; commits = v.commits; last = v.last.0; queued = v.queued.items; room = v.room } };
 
-    ghost invariant = { λ v. length v.images.items ≡ v.pages * 15 };
+    ghost invariant = { λ v. (length v.images.items ≡ v.pages * 15) × (deque_len v.queued + v.room ≤ deque_capacity v.queued) };
 }
 
 impl View {
@@ -53,41 +55,92 @@ impl View {
         ensures err { IfErr result (λ e. e ≡ Memory) }
     {
         Ok(View {
-            alloc,
             pages,
             listed,
             images: images::unwritten(alloc, pages)?,
             commits: 0,
             last: Lsn(0),
-            queued: Vec::new(alloc),
+            queued: VecDeque::new(alloc),
+            room: 0,
         })
     }
 
-    /// Queues a commit behind the others. Where memory for that is refused, it is handed back and nothing changes.
-    pub fn queue(&mut self, commit: Commit) -> Result<(), Commit>
-        ensures ok { OnOk result (self.new ≡ record self.old { queued = self.old.queued ++ commit ∷ [] }) }
-        ensures err { IfErr result (λ back. (back ≡ commit) × (self.new ≡ self.old)) }
+    /// Makes room for so many more commits: the next so many `queue` take no memory. An `Err` changes nothing.
+    pub fn reserve(&mut self, count: usize) -> Result<(), Fault>
+        ensures ok { OnOk result (self.new ≡ record self.old { room = if nat_lt self.old.room count then count else self.old.room }) }
+        ensures err { IfErr result (λ e. (e ≡ Memory) × (self.new ≡ self.old)) }
+        ensures reserved { count ≤ self.old.room → IsOk result }
     {
-        if self.queued.reserve(1).is_err() {
-            return Err(commit);
+        if self.room < count {
+            self.queued.reserve(count)?;
+            self.room = count;
         }
-        self.queued.push_reserved(commit);
         Ok(())
     }
 
-    /// Publishes all queued commits at once, in order, and opens the list if need be. It takes no memory. It costs what the
-    /// commits write.
+    /// Queues a commit behind the others. It takes no memory where there is room. Where memory for it is refused, it is handed
+    /// back and nothing changes.
+    pub fn queue(&mut self, commit: Commit) -> Result<(), Commit>
+        ensures ok { OnOk result (self.new ≡ record self.old { queued = self.old.queued ++ commit ∷ []; room = self.old.room - 1 }) }
+        ensures err { IfErr result (λ back. (back ≡ commit) × (self.new ≡ self.old)) }
+        ensures reserved { 0 < self.old.room → IsOk result }
+    {
+        if self.room == 0 {
+            if self.queued.reserve(1).is_err() {
+                return Err(commit);
+            }
+            self.room = 1;
+        }
+        self.queued.push_back_reserved(commit);
+        self.room -= 1;
+        Ok(())
+    }
+
+    /// How many commits are queued.
+    pub fn queued(&self) -> usize
+        ensures { result ≡ length self.now.queued }
+    {
+        self.queued.len()
+    }
+
+    /// How many of the first queued commits have a commit record that begins below an LSN, up to the first that does not.
+    pub fn count_below(&self, lsn: Lsn) -> usize
+        ensures { result ≡ count_below lsn self.now.queued }
+    {
+        images::count_below(&self.queued, lsn)
+    }
+
+    /// Publishes so many of the first queued commits at once, in order, and opens the list if need be. It takes no memory, and
+    /// their places in the queue are room again. It costs what these commits write.
+    pub fn publish_first(&mut self, count: usize)
+        requires { count ≤ length self.old.queued }
+        ensures shown { (commits : List AnyCommit) → HasPublished self.old commits → HasPublished self.new (commits ++ take count self.old.queued) }
+        ensures listed { self.new.listed ≡ true }
+        ensures queued { self.new.queued ≡ drop count self.old.queued }
+        ensures pages { self.new.pages ≡ self.old.pages }
+        ensures room { self.new.room ≡ self.old.room + count }
+    {
+        self.last = Lsn(images::write_first(
+            &mut self.images,
+            &mut self.queued,
+            count,
+            self.last.0,
+        ));
+        self.commits = self.commits.wrapping_add(count as u64);
+        self.room += count;
+        self.listed = true;
+    }
+
+    /// Publishes all queued commits.
     pub fn publish(&mut self)
         ensures shown { (commits : List AnyCommit) → HasPublished self.old commits → HasPublished self.new (commits ++ self.old.queued) }
         ensures listed { self.new.listed ≡ true }
         ensures queued { self.new.queued ≡ [] }
         ensures pages { self.new.pages ≡ self.old.pages }
+        ensures room { self.new.room ≡ self.old.room + length self.old.queued }
     {
-        self.last = Lsn(images::last_after(self.queued.as_slice(), self.last.0));
-        self.commits = self.commits.wrapping_add(self.queued.len() as u64);
-        let queued = mem::replace(&mut self.queued, Vec::new(self.alloc));
-        images::write_commits(&mut self.images, queued);
-        self.listed = true;
+        let count = self.queued.len();
+        self.publish_first(count);
     }
 
     /// What a key has after the published commits: one look-up, however many they are. A key outside the database has

@@ -1,0 +1,277 @@
+use super::*;
+use als_disk::MemDisk;
+use als_engine::{Config, Disks, Engine, Events};
+use als_record::{LogHeader, Lsn};
+use bytes::Bytes;
+use std::alloc::Global;
+use std::net::{Ipv4Addr, Net, SocketAddr, TcpListener, TcpStream};
+use std::process::Abort;
+use std::test::Fail;
+use std::{io, thread};
+
+// A log of a database of four pages: its header, an update of 0/0 to `aa` at 16, its commit at 52 and its end at 80.
+const TEXT: [u8; 108] = [
+    65, 76, 83, 76, 79, 71, 48, 49, 0, 0, 0, 4, 0, 0, 0, 0, 0, 0, 0, 36, 1, 0, 0, 0, 0, 0, 0, 0, 0,
+    0, 0, 16, 0, 0, 0, 0, 0, 0, 0, 0, 0, 0, 0, 1, 0, 0, 0, 0, 0, 255, 1, 170, 0, 0, 0, 28, 3, 0, 0,
+    0, 0, 0, 0, 0, 0, 0, 0, 52, 0, 0, 0, 0, 0, 0, 0, 16, 0, 0, 0, 1, 0, 0, 0, 28, 5, 0, 0, 0, 0, 0,
+    0, 0, 0, 0, 0, 80, 0, 0, 0, 0, 0, 0, 0, 52, 0, 0, 0, 1,
+];
+
+const HEADER: LogHeader = LogHeader { pages: 4 };
+
+// A Resume frame from 16 on, and two Acknowledged frames of 108.
+const TOLD: [u8; 43] = [
+    0x52, 0, 0, 0, 0, 0, 0, 0, 16, 65, 76, 83, 76, 79, 71, 48, 49, 0, 0, 0, 4, 0, 0, 0, 0, //
+    0x41, 0, 0, 0, 0, 0, 0, 0, 108, //
+    0x41, 0, 0, 0, 0, 0, 0, 0, 108,
+];
+
+// The Data frame of the bytes from 16 to 108, and the last one, which has none.
+const SENT: [u8; 118] = [
+    68, 0, 0, 0, 0, 0, 0, 0, 16, 0, 0, 0, 92, 0, 0, 0, 36, 1, 0, 0, 0, 0, 0, 0, 0, 0, 0, 0, 16, 0,
+    0, 0, 0, 0, 0, 0, 0, 0, 0, 0, 1, 0, 0, 0, 0, 0, 255, 1, 170, 0, 0, 0, 28, 3, 0, 0, 0, 0, 0, 0,
+    0, 0, 0, 0, 52, 0, 0, 0, 0, 0, 0, 0, 16, 0, 0, 0, 1, 0, 0, 0, 28, 5, 0, 0, 0, 0, 0, 0, 0, 0, 0,
+    0, 80, 0, 0, 0, 0, 0, 0, 0, 52, 0, 0, 0, 1, 68, 0, 0, 0, 0, 0, 0, 0, 108, 0, 0, 0, 0,
+];
+
+// A standby of four pages with nothing in it. `None`: memory was refused.
+fn standby(alloc: Global) -> Option<Engine<MemDisk>> {
+    let disks = Disks {
+        log: MemDisk::new(alloc, 8),
+        control: MemDisk::new(alloc, 321),
+        pages: MemDisk::new(alloc, 4),
+    };
+    let config = Config {
+        pages: 4,
+        frames: 4,
+        pending: 1000,
+        readers: 1,
+    };
+    Engine::format(alloc, disks, config).ok()
+}
+
+// The log as a source. `None`: memory was refused.
+fn source(alloc: Global) -> Option<LogBytes> {
+    let bytes = Vec::from_slice(alloc, &TEXT).ok()?;
+    LogBytes::new(bytes).ok()
+}
+
+// The bytes of the log from one offset to another, as a frame. `None`: memory was refused.
+fn data(alloc: Global, from: usize, to: usize) -> Option<Frame> {
+    let bytes = Bytes::copy_from_slice(alloc, TEXT.get(from..to)?).ok()?;
+    Some(Frame::Data {
+        offset: from as u64,
+        bytes,
+    })
+}
+
+// Frames in some order, some of them again and some that overlap: the position after each, and then a gap. `None`: memory was refused.
+fn takes_frames(rt: &impl Abort, alloc: Global) -> Option<()> {
+    let mut engine = standby(alloc)?;
+    let follower = Follower::new(HEADER);
+    let rows = [(16, 40, 40), (16, 40, 40), (40, 70, 70), (16, 108, 108)];
+    for (from, to, wanted) in rows {
+        let position = follower.frame(&mut engine, data(alloc, from, to)?).ok()?;
+        assert_eq!(rt; position, Lsn(wanted));
+    }
+    let gap = Frame::Data {
+        offset: 110,
+        bytes: Bytes::from_static(b"abcde"),
+    };
+    assert_eq!(rt; follower.frame(&mut engine, gap), Err(Fault::Gap));
+    assert_eq!(rt; engine.status().end, Lsn(108));
+    Some(())
+}
+
+#[test]
+fn frames_come_again_and_overlap(rt: HostRuntime) {
+    let alloc = rt.alloc();
+    // A refused growth is met once at most.
+    assert!(rt; takes_frames(&rt, alloc).is_some() || takes_frames(&rt, alloc).is_some());
+}
+
+// A session over memory, byte for byte: what a shipper writes to a follower's bytes. `None`: memory was refused.
+fn ships(rt: &impl Abort, alloc: Global) -> Option<Vec<u8>> {
+    let mut source = source(alloc)?;
+    let mut sent = Vec::new(alloc);
+    let count = Shipper::serve(alloc, &mut source, &mut TOLD.as_slice(), &mut sent).ok()?;
+    assert_eq!(rt; count, 92);
+    assert_eq!(rt; sent.len(), 118);
+    assert!(rt; sent.as_slice() == SENT.as_slice());
+    Some(sent)
+}
+
+// What a follower writes in that session. `None`: memory was refused.
+fn follows(rt: &impl Abort, alloc: Global) -> Option<()> {
+    let mut engine = standby(alloc)?;
+    let mut told = Vec::new(alloc);
+    let mut reader = SENT.as_slice();
+    let follower = Follower::new(HEADER);
+    follower
+        .follow(alloc, &mut engine, &mut reader, &mut told)
+        .ok()?;
+    assert_eq!(rt; told.as_slice(), TOLD.as_slice());
+    let status = engine.status();
+    assert_eq!(rt; status.end, Lsn(108));
+    assert_eq!(rt; status.acknowledged, Lsn(108));
+    Some(())
+}
+
+#[test]
+fn a_session_over_memory(rt: HostRuntime) {
+    let alloc = rt.alloc();
+    assert!(rt; ships(&rt, alloc).is_some() || ships(&rt, alloc).is_some());
+    assert!(rt; follows(&rt, alloc).is_some() || follows(&rt, alloc).is_some());
+}
+
+// What a follower that holds the log answers to a stream, which leaves its position as it was. `None`: memory was refused.
+fn meets(rt: &impl Abort, alloc: Global, stream: &[u8], wanted: Fault) -> Option<()> {
+    let mut engine = standby(alloc)?;
+    let follower = Follower::new(HEADER);
+    follower.frame(&mut engine, data(alloc, 16, 108)?).ok()?;
+    let mut told = Vec::new(alloc);
+    let mut reader = stream;
+    match follower.follow(alloc, &mut engine, &mut reader, &mut told) {
+        Err(Fault::Memory) => return None,
+        Err(Fault::Refused(_)) => return None,
+        Err(Fault::Stream) => return None,
+        answer => assert_eq!(rt; answer, Err(wanted)),
+    }
+    let status = engine.status();
+    assert_eq!(rt; status.end, Lsn(108));
+    assert_eq!(rt; status.partial, 0);
+    Some(())
+}
+
+#[test]
+fn hostile_frames(rt: HostRuntime) {
+    let alloc = rt.alloc();
+    let rows: [(&[u8], Fault); 7] = [
+        (&[68, 0, 0, 0, 0, 0, 0, 0, 0, 0, 1, 0, 1], Fault::BadFrame),
+        (
+            &[68, 255, 255, 255, 255, 255, 255, 255, 255, 0, 0, 0, 1],
+            Fault::BadFrame,
+        ),
+        (
+            &[68, 255, 255, 255, 255, 255, 255, 255, 255, 0, 0, 0, 0],
+            Fault::Gap,
+        ),
+        (&[68, 0, 0, 0, 0, 0, 0, 0, 109, 0, 0, 0, 0], Fault::Gap),
+        (
+            &[
+                68, 0, 0, 0, 0, 0, 0, 0, 50, 0, 0, 0, 58, 1, 2, 3, 4, 5, 6, 7, 8, 9, 1, 2, 3, 4, 5,
+                6, 7, 8, 9, 1, 2, 3, 4, 5, 6, 7, 8, 9, 1, 2, 3, 4, 5, 6, 7, 8, 9, 1, 2, 3, 4, 5, 6,
+                7, 8, 9, 1, 2, 3, 4, 5, 6, 7, 8, 9, 1, 2, 3, 4,
+            ],
+            Fault::Cut,
+        ),
+        (&[0x58], Fault::BadFrame),
+        (
+            &[
+                68, 0, 0, 0, 0, 0, 0, 0, 108, 0, 0, 0, 28, 1, 2, 3, 4, 5, 6, 7, 8, 9, 1, 2, 3, 4,
+                5, 6, 7, 8, 9, 1, 2,
+            ],
+            Fault::Cut,
+        ),
+    ];
+    for (stream, fault) in rows {
+        assert!(rt;
+            meets(&rt, alloc, stream, fault).is_some() || meets(&rt, alloc, stream, fault).is_some()
+        );
+    }
+}
+
+// Why a shipper refuses a follower, to which nothing was sent. `None`: memory was refused.
+fn refuses(rt: &impl Abort, alloc: Global, asked: &[u8], wanted: Fault) -> Option<()> {
+    let mut source = source(alloc)?;
+    let mut sent = Vec::new(alloc);
+    let mut reader = asked;
+    match Shipper::serve(alloc, &mut source, &mut reader, &mut sent) {
+        Err(Fault::Memory) => return None,
+        answer => assert_eq!(rt; answer, Err(wanted)),
+    }
+    assert_eq!(rt; sent.len(), 0);
+    Some(())
+}
+
+#[test]
+fn followers_that_are_refused(rt: HostRuntime) {
+    let alloc = rt.alloc();
+    let mut other = [0; 25];
+    other.copy_from_slice(&TOLD[..25]);
+    other[20] = 5;
+    let mut ahead = [0; 25];
+    ahead.copy_from_slice(&TOLD[..25]);
+    ahead[8] = 109;
+    let rows: [(&[u8], Fault); 4] = [
+        (&other, Fault::BadHeader),
+        (&ahead, Fault::Gap),
+        (&TOLD[25..], Fault::BadFrame),
+        (&TOLD[..24], Fault::Cut),
+    ];
+    for (asked, fault) in rows {
+        assert!(rt;
+            refuses(&rt, alloc, asked, fault).is_some()
+                || refuses(&rt, alloc, asked, fault).is_some()
+        );
+    }
+}
+
+#[test]
+fn faults_have_numbers_and_names(rt: HostRuntime) {
+    assert_eq!(rt; Fault::BadHeader.number(), 1);
+    assert_eq!(rt; Fault::Memory.number(), 32);
+    assert_eq!(rt; Fault::Gap.number(), 40);
+    assert_eq!(rt; Fault::BadFrame.number(), 41);
+    assert_eq!(rt; Fault::Cut.number(), 43);
+    assert_eq!(rt; Fault::Stream.number(), 44);
+    assert_eq!(rt;
+        Fault::Refused(als_engine::Fault::Backlog).name(),
+        "Backlog"
+    );
+}
+
+fn listen<N>(rt: &N) -> io::Result<(TcpListener, SocketAddr)>
+where
+    N: Net<Listener = TcpListener, Stream = TcpStream>,
+{
+    let listener = TcpListener::bind(rt, SocketAddr::from((Ipv4Addr::LOCALHOST, 0)))?;
+    let addr = listener.local_addr()?;
+    Ok((listener, addr))
+}
+
+// Serves the next follower that comes.
+fn serve_once(alloc: Global, listener: &TcpListener, source: &mut LogBytes) -> Result<u64, Fault> {
+    let (stream, _) = listener.accept()?;
+    stream.set_nodelay(true)?;
+    Shipper::serve(alloc, source, &mut &stream, &mut &stream)
+}
+
+// Follows one session of the shipper at an address.
+fn follow_at<R: Net<Stream = TcpStream>, E: Events>(
+    rt: &R,
+    alloc: Global,
+    addr: SocketAddr,
+    events: &mut E,
+) -> Result<(), Fault> {
+    let stream = TcpStream::connect(rt, addr)?;
+    stream.set_nodelay(true)?;
+    Follower::new(HEADER).follow(alloc, events, &mut &stream, &mut &stream)
+}
+
+#[test]
+fn a_session_over_tcp(rt: HostRuntime) -> Result<(), Fail> {
+    let alloc = rt.alloc();
+    let mut engine = standby(alloc).expect(&rt, "a standby");
+    let mut source = source(alloc).expect(&rt, "a source");
+    let (listener, addr) = listen(&rt)?;
+    let (rt, listener, source, engine) = (&rt, &listener, &mut source, &mut engine);
+    let (sent, followed) = thread::join(
+        rt,
+        move || serve_once(alloc, listener, source),
+        move || follow_at(rt, alloc, addr, engine),
+    );
+    assert_eq!(rt; sent, Ok(92));
+    assert_eq!(rt; followed, Ok(()));
+    Ok(())
+}
