@@ -52,6 +52,9 @@ text, and
   flush P, sync-pages     write page P to its block, sync the pages
   mark-write, ctl-sync    write the log's synced end as its mark, sync the mark
   force                   log-write until all is written, and then those three
+  seal, undo, finish      seal the log, hold the next record of its tail, end
+                          the takeover
+  takeover                drain, force, seal, undo, force, drain and finish
   fail log|control|pages K
                           make the K-th next call of that device fail
   show status|table|dirty|db, show page P, show log A
