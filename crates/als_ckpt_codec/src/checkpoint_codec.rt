@@ -12,7 +12,9 @@ use crate::checkpoint::Checkpoint;
 use crate::checkpoint_rows::{are_pages, are_transactions};
 use crate::fault::Fault;
 use crate::numbers::Numbers;
-use als_record::{Body, Lsn, PageRows, Record, TransId, TransactionRows, decode, encode, encoded_len};
+use als_record::{
+    Body, Lsn, PageRows, Record, TransId, TransactionRows, decode, encode, encoded_len,
+};
 use byteorder::{BigEndian, ByteOrder};
 use std::alloc::Global;
 
