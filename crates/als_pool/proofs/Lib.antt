@@ -7,9 +7,12 @@ pub mod PoolSteps
 pub mod Keeping
 pub mod Lsns
 pub mod PoolLaws
+pub mod StartRows
 pub mod Reading
 pub mod Refusing
 pub mod Restarting
 pub mod Opened
 pub mod TakingIn
+pub mod Bounding
+pub mod Stopping
 pub mod NextFlag

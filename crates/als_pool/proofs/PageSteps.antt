@@ -71,6 +71,17 @@ module _ (log : List Record) (r : Record) (placed : r.lsn.0 ≡ end_of log) wher
   pushed-row c from e w (inl is) = inl (ap (λ (n : Option Lsn). first_of n c.lsn) is)
   pushed-row c from e w (inr is) = inr (ap (λ (n : Option Lsn). first_of n c.lsn) is ∙ sym (first_lsn-push w c))
 
+  -- a row that a checkpoint gave stays below the log's end
+  more-row : (c : Change) (from : Lsn) (e : DirtyPage) (w : List Change) → ((e.synced ≡ Some from) × (from.0 < end_of log)) ⊎ (e.synced ≡ first_lsn w)
+      → ((first_of e.synced c.lsn ≡ Some from) × (from.0 < end_of (log ++ r ∷ []))) ⊎ (first_of e.synced c.lsn ≡ first_lsn (w ++ c ∷ []))
+  more-row c from e w (inl is) = let lt : from.0 < end_of (log ++ r ∷ []) = omega (arith, is.1, longer) in inl (ap (λ (n : Option Lsn). first_of n c.lsn) is.0, lt)
+  more-row c from e w (inr is) = inr (ap (λ (n : Option Lsn). first_of n c.lsn) is ∙ sym (first_lsn-push w c))
+
+  same-row : (from : Lsn) (e : DirtyPage) (w : List Change) → ((e.synced ≡ Some from) × (from.0 < end_of log)) ⊎ (e.synced ≡ first_lsn w)
+      → ((e.synced ≡ Some from) × (from.0 < end_of (log ++ r ∷ []))) ⊎ (e.synced ≡ first_lsn w)
+  same-row from e w (inl is) = let lt : from.0 < end_of (log ++ r ∷ []) = omega (arith, is.1, longer) in inl (is.0, lt)
+  same-row from e w (inr is) = inr is
+
   -- that changes the page
   pub pushed : (c : Change) (o : Option Framed) (s : ℕ) (e : DirtyPage) (w : List Change) (u : Option Lsn) → change_of r ≡ Some c → s < end_of log → lsn_or o s < end_of log
       → IsPageOf log c.key.page o s e w u → IsPageOf (log ++ r ∷ []) c.key.page o s (after_record e c.lsn) (w ++ c ∷ []) u
@@ -90,7 +101,7 @@ module _ (log : List Record) (r : Record) (placed : r.lsn.0 ≡ end_of log) wher
         lacks = subst (λ (cs : List Change). AllByRecursion (λ d. from.0 ≤ d.lsn.0) cs) (ap (λ (cs : List Change). changes_above log c.key.page s ++ cs) (sym on) ∙ more_waits c.key.page s (changes_above log c.key.page s) lt refl)
             (all-push (λ d. from.0 ≤ d.lsn.0) (changes_above log c.key.page s) c h.lacks here);
         wait = ap (λ (cs : List Change). w ++ cs) (sym on) ∙ more_waits c.key.page (from.0 - 1) w low h.wait;
-        row = pushed-row c from e w h.row;
+        row = more-row c from e w h.row;
         one = ap (λ (n : Option Lsn). first_of n c.lsn) h.one;
       }
 
@@ -107,7 +118,7 @@ module _ (log : List Record) (r : Record) (placed : r.lsn.0 ≡ end_of log) wher
     reached = omega (arith, h.reached, longer);
     lacks = subst (λ (cs : List Change). AllByRecursion (λ d. from.0 ≤ d.lsn.0) cs) (sym (changes_above-other log r p s none)) h.lacks;
     wait = h.wait ∙ sym (changes_above-other log r p (from.0 - 1) none);
-    row = h.row;
+    row = same-row from e w h.row;
     one = h.one;
   }
 
@@ -160,8 +171,8 @@ module _ (log : List Record) (p : ℕ) where
     one = refl;
   }
     where
-      rowed : (e.synced ≡ Some from) ⊎ (e.synced ≡ first_lsn w) → (e.written ≡ Some from) ⊎ (e.written ≡ first_lsn w)
-      rowed (inl is) = inl (h.one ∙ is)
+      rowed : ((e.synced ≡ Some from) × (from.0 < end_of log)) ⊎ (e.synced ≡ first_lsn w) → ((e.written ≡ Some from) × (from.0 < end_of log)) ⊎ (e.written ≡ first_lsn w)
+      rowed (inl is) = inl (h.one ∙ is.0, is.1)
       rowed (inr is) = inr (h.one ∙ is)
 
   -- the page is read into a frame

@@ -46,7 +46,7 @@ covered-first log page s lsn from rec_lsn h le least lacks is =
     ]
 
 -- by what the table has of the page
-covered-page : (log : List Record) (page s lsn : ℕ) (o : Option Framed) (e : DirtyPage) (w : List Change) (u : Option Lsn) → IsTrue (follow_from 16 log) → s ≤ lsn
+pub covered-page : (log : List Record) (page s lsn : ℕ) (o : Option Framed) (e : DirtyPage) (w : List Change) (u : Option Lsn) → IsTrue (follow_from 16 log) → s ≤ lsn
     → IsPageOf log page o s e w u → IsCovered log page lsn e.synced
 covered-page log page s lsn o e w None h le is = covered log page s lsn e.synced h le is.row.synced_first.first
 covered-page log page s lsn o e w (Some from) h le is = by_row is.row
@@ -54,8 +54,8 @@ covered-page log page s lsn o e w (Some from) h le is = by_row is.row
     lacks : AllByRecursion (λ c. from.0 ≤ c.lsn.0) (changes_above log page lsn)
     lacks = changes_above-later (λ c. from.0 ≤ c.lsn.0) log page s lsn le is.lacks
 
-    by_row : (e.synced ≡ Some from) ⊎ (e.synced ≡ first_lsn w) → IsCovered log page lsn e.synced
-    by_row (inl given) = subst (λ (r : Option Lsn). IsCovered log page lsn r) (sym given) lacks
+    by_row : ((e.synced ≡ Some from) × (from.0 < end_of log)) ⊎ (e.synced ≡ first_lsn w) → IsCovered log page lsn e.synced
+    by_row (inl given) = subst (λ (r : Option Lsn). IsCovered log page lsn r) (sym given.0) lacks
     by_row (inr first) = covered-first log page s lsn from e.synced h le is.first lacks (first ∙ ap first_lsn is.wait)
 
 pub row_is_sound : (log : List Record) (below : ℕ) (v : Pooled) (page : ℕ) (content : List ℕ) → IsPoolOf log below v → page < length v.waits
@@ -91,18 +91,21 @@ all-last : (P : Change → Type 0) (xs ys : List Change) (c : Change) → AllByR
 all-last P [] ys c h = h.0
 all-last P (x ∷ xs) ys c h = all-last P xs ys c h.1
 
-log-start : (log : List Record) → 16 ≤ end_of log
+pub log-start : (log : List Record) → 16 ≤ end_of log
 unfolding end_of
 log-start log = omega arith
 
--- the page of a record's change is one of the database
-pub change_inside : (pages : ℕ) (log : List Record) (r : Record) (c : Change) → IsLog pages (log ++ r ∷ []) → r.lsn.0 ≡ end_of log → change_of r ≡ Some c → c.key.page < pages
-change_inside pages log r c is_log at change =
+-- a record's change fits the database
+pub change_fits : (pages : ℕ) (log : List Record) (r : Record) (c : Change) → IsLog pages (log ++ r ∷ []) → r.lsn.0 ≡ end_of log → change_of r ≡ Some c → IsFittingChange pages c
+change_fits pages log r c is_log at change =
     let lt : 0 < r.lsn.0 = omega (arith, at, log-start log) in
     let all = changes_above-fit pages (log ++ r ∷ []) c.key.page 0 is_log.records in
     let parts = changes_above-push log r c.key.page 0 lt ∙ ap (λ (cs : List Change). changes_above log c.key.page 0 ++ cs) (changes_on-same c.key.page r c change refl) in
-    let fits : IsFittingChange pages c = all-last (IsFittingChange pages) (changes_above log c.key.page 0) [] c (subst (λ cs. AllByRecursion (IsFittingChange pages) cs) parts all) in
-    fits.key.page
+    all-last (IsFittingChange pages) (changes_above log c.key.page 0) [] c (subst (λ cs. AllByRecursion (IsFittingChange pages) cs) parts all)
+
+-- its page is one of the database
+pub change_inside : (pages : ℕ) (log : List Record) (r : Record) (c : Change) → IsLog pages (log ++ r ∷ []) → r.lsn.0 ≡ end_of log → change_of r ≡ Some c → c.key.page < pages
+change_inside pages log r c is_log at change = (change_fits pages log r c is_log at change).key.page
 
 -- what waits with the change behind it can be redone, by what the page is
 next-page : (log : List Record) (pages s : ℕ) (r : Record) (c : Change) (o : Option Framed) (e : DirtyPage) (w : List Change) (u : Option Lsn) → IsLog pages (log ++ r ∷ []) → r.lsn.0 ≡ end_of log

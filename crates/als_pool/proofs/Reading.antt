@@ -1,17 +1,20 @@
 -- What waits for pages as a log is read at a restart.
-use Rattle.std.proofs.Common.{◌≡◌, ℕ, ◌-◌, ◌<◌, ◌≤◌, List, [], ◌∷◌, ◌++◌, length, Option, Some, None, inl, inr, refl, sym, ap, subst, ◌∙◌, length-set, arith}
-use Rattle.std.specs.Prelude.{slice_set, MatchOption}
+use Rattle.std.proofs.Common.{◌≡◌, ◌⊎◌, ℕ, ◌-◌, ◌<◌, ◌≤◌, List, [], ◌∷◌, ◌++◌, length, Option, Some, None, inl, inr, refl, sym, ap, subst, ◌∙◌, length-set, arith}
+use Rattle.std.specs.Prelude.{slice_set, MatchOption, IfSome}
+use Rattle.std.specs.List.{AllByRecursion}
 use Rattle.std.proofs.lemmas.Bool.{cases_eq}
 use Rattle.std.proofs.lemmas.List.{get_or-set_same, get_or-set_other}
 use Rattle.als_record.specs.declared.lsn.Lsn.{Lsn}
 use Rattle.als_record.specs.declared.change.Change.{Change}
 use Rattle.als_record.specs.declared.record.Record.{Record}
+use Rattle.als_record.specs.declared.rows.LoggedPage.{LoggedPage}
 use Rattle.als_record.specs.LogText.{end_of}
 use Rattle.als_record.specs.Pages.{change_of, changes_on, changes_above}
 use Rattle.als_record.proofs.PageLaws.{changes_on-append, changes_on-none, changes_on-same, changes_on-other}
 use Rattle.als_frames.specs.Frames.{frame_of}
 use Rattle.als_frames.specs.Images.{synced_lsn, AreFramesOf}
 use Rattle.als_dirty.specs.declared.dirty_page.DirtyPage.{DirtyPage}
+use Rattle.als_dirty.specs.Images.{first_lsn}
 use Rattle.als_dirty.specs.Entries.{untouched_page, entry_of, first_of, after_record}
 use Rattle.als_dirty.proofs.ImageSteps.{changes_above-other}
 use Rattle.als_pool.specs.Queues.{pending_of, above}
@@ -19,7 +22,9 @@ use Rattle.als_pool.specs.Pooled.{Pooled, unread_of}
 use Rattle.als_pool.specs.Outcomes.{with_change}
 use Rattle.als_pool.specs.Images.{IsQueueOf, QueuesOf, LacksFrom, AllLackFrom, IsPageOf, IsPoolOf}
 use Rattle.als_pool.proofs.Waiting.{above-last}
+use Rattle.als_pool.specs.Restart.{at_first, row_in, or_from, or_first, IsUnreadRow, HasRowsFrom, IsRowBelow}
 use Rattle.als_pool.proofs.PageSteps.{more_waits, pushed-row, change_lsn}
+use Rattle.als_pool.proofs.StartRows.{row-under}
 
 -- what waits for a page with this row, as a front of the log has it
 abbrev IsQueued : List Record → ℕ → DirtyPage → List Change → Option Lsn → Type 0
@@ -111,26 +116,36 @@ module _ (front : List Record) (r : Record) (placed : r.lsn.0 ≡ end_of front) 
       ]
 
 -- the whole log was read
-joined : (log : List Record) (v : Pooled) (p : ℕ) (u : Option Lsn) → IsQueued log p (entry_of v.dirty p) (pending_of v.waits p) u
-    → MatchOption u ⊥ (λ from. LacksFrom log p (frame_of v.frames p) (synced_lsn v.frames p) from)
-    → IsPageOf log p (frame_of v.frames p) (synced_lsn v.frames p) (entry_of v.dirty p) (pending_of v.waits p) u
-joined log v p None h lacks = absurd h
-joined log v p (Some from) h lacks = record {
-  absent = lacks.absent;
-  first = h.first;
-  reached = lacks.reached;
-  lacks = lacks.lacks;
-  wait = h.wait;
-  row = h.row;
-  one = h.one;
-}
+module _ (position : Lsn) (rows : List LoggedPage) where
+  -- a row that the checkpoint gave is below the log's end
+  row-low : (end : ℕ) (given : Option Lsn) (e : DirtyPage) (w : List Change) (from : Lsn) → IfSome given (λ row. row.0 < end) → from ≡ or_from given (at_first position) → e.synced ≡ or_first given (first_lsn w)
+      → ((e.synced ≡ Some from) × (from.0 < end)) ⊎ (e.synced ≡ first_lsn w)
+  row-low end None e w from low start row = inr row
+  row-low end (Some g) e w from low start row =
+      let lt : from.0 < end = omega (arith, low, ap (λ (l : Lsn). l.0) start) in
+      inl (row ∙ ap (λ (l : Lsn). Some l) (sym start), lt)
 
-pub reads-all : (log : List Record) (below : ℕ) (v : Pooled) → v.frames.pages ≡ length v.waits → length v.unread ≡ length v.waits
-    → AreFramesOf log (synced_lsn v.frames) below v.frames → QueuesOf log v → AllLackFrom log v → IsPoolOf log below v
-reads-all log below v paged told are h lacks = record {
-  paged = paged;
-  tabled = h.tabled;
-  told = told;
-  frames = are;
-  each = λ p lt. joined log v p (unread_of v.unread p) (h.each p lt) (lacks p lt);
-}
+  joined : (log : List Record) (v : Pooled) (p : ℕ) (u : Option Lsn) → IfSome (row_in rows p) (λ row. row.0 < end_of log) → IsQueued log p (entry_of v.dirty p) (pending_of v.waits p) u
+      → MatchOption u ⊥ (λ from. LacksFrom log p (frame_of v.frames p) (synced_lsn v.frames p) from)
+      → MatchOption u (Unit {0}) (λ from. IsUnreadRow position (row_in rows p) (frame_of v.frames p) (entry_of v.dirty p) (pending_of v.waits p) from)
+      → IsPageOf log p (frame_of v.frames p) (synced_lsn v.frames p) (entry_of v.dirty p) (pending_of v.waits p) u
+  joined log v p None low h lacks given = absurd h
+  joined log v p (Some from) low h lacks given = record {
+    absent = lacks.absent;
+    first = h.first;
+    reached = lacks.reached;
+    lacks = lacks.lacks;
+    wait = h.wait;
+    row = row-low (end_of log) (row_in rows p) (entry_of v.dirty p) (pending_of v.waits p) from low given.start given.row;
+    one = h.one;
+  }
+
+  pub reads-all : (log : List Record) (below : ℕ) (v : Pooled) → position.0 ≤ end_of log → AllByRecursion (IsRowBelow position) rows → HasRowsFrom position rows v
+      → AreFramesOf log (synced_lsn v.frames) below v.frames → QueuesOf log v → AllLackFrom log v → IsPoolOf log below v
+  reads-all log below v reached listed given are h lacks = record {
+    paged = given.paged;
+    tabled = h.tabled;
+    told = given.told;
+    frames = are;
+    each = λ p lt. joined log v p (unread_of v.unread p) (row-under rows position p (end_of log) reached listed) (h.each p lt) (lacks p lt) (given.each p lt);
+  }

@@ -1,12 +1,12 @@
 -- The tests by which a page is not redone, or not written, are exact.
-use Rattle.std.proofs.Common.{◌≡◌, ℕ, ◌<◌, ◌≤◌, Bool, true, false, true≢false, cond, List, [], ◌∷◌, length, Option, Some, None, nat_eq, inl, inr, refl, sym, ap, subst, ◌∙◌}
+use Rattle.std.proofs.Common.{◌≡◌, ℕ, true, false, true≢false, cond, List, [], ◌∷◌, length, Option, Some, None, nat_eq, inl, inr, refl, sym, ap, subst, ◌∙◌}
 use Rattle.std.specs.Prelude.{not, ◌&&◌, ◌↔◌, nat_le, is_none, is_some}
 use Rattle.std.specs.Map.{lookup}
-use Rattle.std.proofs.lemmas.Bool.{eqb-true, eqb-false, eq-eqb, ne_eqb, le-leb, leb-true, leb-false, lt-leb, cases_Bool, and_parts, and_from, and_cases, and_right, not-true, not-false, not_from_false, not_from_true, false_from_ne_true}
+use Rattle.std.proofs.lemmas.Bool.{eqb-true, eqb-false, eq-eqb, ne_eqb, le-leb, leb-true, cases_Bool, and_parts, and_from, not-true, not-false, not_from_false, not_from_true, false_from_ne_true}
 use Rattle.std.proofs.lemmas.Option.{same_Some}
 use Rattle.als_record.specs.declared.change.Change.{Change}
 use Rattle.als_frames.specs.Frames.{Framed, IsFree, Paged, frame_of}
-use Rattle.als_frames.specs.Images.{lsn_or, written_or, lsn_now, synced_lsn}
+use Rattle.als_frames.specs.Images.{lsn_or, written_or, synced_lsn}
 use Rattle.als_frames.specs.Outcomes.{IsFull, NothingIsDue}
 use Rattle.als_pool.specs.Queues.{pending_of}
 use Rattle.als_pool.specs.Pooled.{Pooled, view_of}

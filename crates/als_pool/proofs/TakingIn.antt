@@ -26,7 +26,7 @@ queue-more front r old new (Some c) placed is (inr (low, same)) h = subst (λ (v
 
 holds-more : (log : List Record) (below : ℕ) (old new : Pooled) (o : Option Change) → Takes old o new → HoldsImagesOf log below old → HoldsImagesOf log below new
 holds-more log below old new None same h = subst (λ (v : Pooled). HoldsImagesOf log below v) (sym same) h
-holds-more log below old new (Some c) (inl (can, from, same)) h = subst (λ (v : Pooled). HoldsImagesOf log below v) (sym same) (holds-route log below old c h)
+holds-more log below old new (Some c) (inl (can, from, same)) h = subst (λ (v : Pooled). HoldsImagesOf log below v) (sym same) (holds-route log below old c can.in_range h)
 holds-more log below old new (Some c) (inr (low, same)) h = subst (λ (v : Pooled). HoldsImagesOf log below v) (sym same) h
 
 queue-all : (rest front : List Record) (old new : Pooled) → IsTrue (follow_from (end_of front) rest) → TakesInAll old rest new → QueuesOf front old → QueuesOf (front ++ rest) new
@@ -52,4 +52,4 @@ pub taken_in : (log : List Record) (below : ℕ) (old new : Pooled) → HoldsIma
 taken_in log below old new held queues takes =
     let follow : IsTrue (follow_from (end_of []) log) = subst (λ (n : ℕ). IsTrue (follow_from n log)) (sym empty-end) held.frames.is_log.laid_out in
     let now = holds-all log log below old new takes held in
-    reads-all log below new now.paged now.told now.frames (queue-all log [] old new follow takes queues) now.lacks
+    reads-all now.position now.rows log below new now.reached now.listed now.given now.frames (queue-all log [] old new follow takes queues) now.lacks

@@ -5,7 +5,7 @@ use Rattle.std.proofs.lemmas.Bool.{cases_lt, cond-true, cond-false, lt-leb, le-l
 use Rattle.als_record.specs.declared.lsn.Lsn.{Lsn}
 use Rattle.als_record.specs.declared.change.Change.{Change}
 use Rattle.als_record.specs.declared.record.Record.{Record}
-use Rattle.als_record.specs.Pages.{changes_on, changes_above, lsn_after}
+use Rattle.als_record.specs.Pages.{changes_on, changes_above, lsn_after, IsChangeAbove}
 use Rattle.als_frames.specs.Batch.{AreNext}
 use Rattle.als_pool.specs.Queues.{count_up_to, above}
 
@@ -129,3 +129,35 @@ above-last lsn (d ∷ cs) c le =
       | inl lt ↦ above-in lsn d (cs ++ c ∷ []) lt ∙ ap (λ (ds : List Change). d ∷ ds) (above-last lsn cs c le) ∙ sym (above-in lsn d cs lt)
       | inr ge ↦ above-out lsn d (cs ++ c ∷ []) ge ∙ above-last lsn cs c le ∙ sym (above-out lsn d cs ge)
     ]
+
+-- ---- how far changes go
+
+-- those above an LSN go no further
+pub last-above : (page low lsn end : ℕ) (cs : List Change) → AreNext page low cs → lsn < end → lsn_after low cs < end → lsn_after lsn (above lsn cs) < end
+last-above page low lsn end [] h lt last = lt
+last-above page low lsn end (c ∷ cs) h lt last =
+    elim (cases_lt lsn c.lsn.0) [
+      | inl lt' ↦
+          let le : lsn ≤ c.lsn.0 = omega (arith, lt') in
+          rw (above-in lsn c cs lt' ∙ ap (λ (ds : List Change). c ∷ ds) (none-out page c.lsn.0 lsn cs le h.4)) last
+      | inr le ↦ rw (above-out lsn c cs le) (last-above page c.lsn.0 lsn end cs h.4 lt last)
+    ]
+
+-- nor do they from a lower LSN on
+pub last-lower : (low lsn end : ℕ) (cs : List Change) → lsn ≤ low → lsn_after low cs < end → lsn_after lsn cs < end
+last-lower low lsn end [] le last = omega (arith, le, last)
+last-lower low lsn end (c ∷ cs) le last = last
+
+pub last-append : (lsn : ℕ) (front rest : List Change) → lsn_after lsn (front ++ rest) ≡ lsn_after (lsn_after lsn front) rest
+last-append lsn [] rest = refl
+last-append lsn (c ∷ front) rest = last-append c.lsn.0 front rest
+
+-- changes of a log stay below its end
+pub last-under : (page low lsn end : ℕ) (cs : List Change) → AllByRecursion (IsChangeAbove page low end) cs → lsn < end → lsn_after lsn cs < end
+last-under page low lsn end [] each lt = lt
+last-under page low lsn end (c ∷ cs) each lt = last-under page low c.lsn.0 end cs each.1 each.0.last
+
+-- one more change behind the others
+pub next-push : (page lsn : ℕ) (cs : List Change) (c : Change) → AreNext page lsn cs → c.key.page ≡ page → c.key.slot ≤ 14 → 16 ≤ c.lsn.0 → lsn_after lsn cs < c.lsn.0 → AreNext page lsn (cs ++ c ∷ [])
+next-push page lsn [] c h of slot first lt = (of, slot, first, lt, tt)
+next-push page lsn (d ∷ cs) c h of slot first lt = (h.0, h.1, h.2, h.3, next-push page d.lsn.0 cs c h.4 of slot first lt)

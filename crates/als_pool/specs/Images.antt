@@ -15,15 +15,15 @@ use Rattle.als_pool.specs.Queues.{pending_of}
 use Rattle.als_pool.specs.Pooled.{Pooled, unread_of}
 
 -- A page that was not read since a restart: it has no frame, and its image has a page_LSN; all changes of the log above that stand
--- at or above an LSN; from that LSN on they wait. Its row is the one that a checkpoint gave it, with this LSN, or else the first
--- change that waits.
+-- at or above an LSN; from that LSN on they wait. Its row is the one that a checkpoint gave it, with this LSN, which is below the
+-- log's end; or else the first change that waits.
 pub record IsUnread (log : List Record) (page : ℕ) (frame : Option Framed) (synced : ℕ) (from : Lsn) (e : DirtyPage) (waits : List Change) : Type 0 where
   pub absent : frame ≡ None
   pub first : 16 ≤ from.0
   pub reached : from.0 ≤ end_of log
   pub lacks : AllByRecursion (λ c. from.0 ≤ c.lsn.0) (changes_above log page synced)
   pub wait : waits ≡ changes_above log page (from.0 - 1)
-  pub row : (e.synced ≡ Some from) ⊎ (e.synced ≡ first_lsn waits)
+  pub row : ((e.synced ≡ Some from) × (from.0 < end_of log)) ⊎ (e.synced ≡ first_lsn waits)
   pub one : e.written ≡ e.synced
 
 -- A page that was read: the table has the first records that its images last synced and last written lack, and what waits is
@@ -38,7 +38,8 @@ IsPageOf log page frame synced e waits (Some from) = IsUnread log page frame syn
 
 -- a page of a pool, as the log has it
 abbrev pub IsPooledPageOf : List Record → Pooled → ℕ → Type 0
-IsPooledPageOf log v page = IsPageOf log page (frame_of v.frames page) (synced_lsn v.frames page) (entry_of v.dirty page) (pending_of v.waits page) (unread_of v.unread page)
+IsPooledPageOf log v page
+    = IsPageOf log page (frame_of v.frames page) (synced_lsn v.frames page) (entry_of v.dirty page) (pending_of v.waits page) (unread_of v.unread page)
 
 -- The pages and their images are the log's, where the log below an offset survives each crash; so are the dirty page table and
 -- what waits for each page.
@@ -51,7 +52,8 @@ pub record IsPoolOf (log : List Record) (below : ℕ) (v : Pooled) : Type 0 wher
 
 -- above an image's page_LSN the log has no record on the page below the page's RecLSN, and none at all where it has no row
 abbrev pub IsCovered : List Record → ℕ → ℕ → Option Lsn → Type 0
-IsCovered log page lsn rec_lsn = MatchOption rec_lsn (changes_above log page lsn ≡ []) (λ first. AllByRecursion (λ c. first.0 ≤ c.lsn.0) (changes_above log page lsn))
+IsCovered log page lsn rec_lsn
+    = MatchOption rec_lsn (changes_above log page lsn ≡ []) (λ first. AllByRecursion (λ c. first.0 ≤ c.lsn.0) (changes_above log page lsn))
 
 -- The row of a page is sound for what a crash leaves in its block: the image of the page at a stable page_LSN, which the row
 -- covers.
@@ -82,7 +84,8 @@ pub record IsQueueOf (front : List Record) (page : ℕ) (e : DirtyPage) (waits :
 -- So it is with each page, none of which was read yet.
 pub record QueuesOf (front : List Record) (v : Pooled) : Type 0 where
   pub tabled : length v.dirty ≡ length v.waits
-  pub each : (page : ℕ) → page < length v.waits → MatchOption (unread_of v.unread page) ⊥ (λ from. IsQueueOf front page (entry_of v.dirty page) (pending_of v.waits page) from)
+  pub each : (page : ℕ) → page < length v.waits → MatchOption (unread_of v.unread page) ⊥
+      (λ from. IsQueueOf front page (entry_of v.dirty page) (pending_of v.waits page) from)
 
 -- a change of an unread page stands at or above the LSN from which on its changes wait, or below it
 abbrev pub IsFromOn : Pooled → Change → Type 0
@@ -99,4 +102,5 @@ pub record LacksFrom (log : List Record) (page : ℕ) (frame : Option Framed) (s
   pub lacks : AllByRecursion (λ c. from.0 ≤ c.lsn.0) (changes_above log page synced)
 
 abbrev pub AllLackFrom : List Record → Pooled → Type 0
-AllLackFrom log v = (page : ℕ) → page < length v.waits → MatchOption (unread_of v.unread page) ⊥ (λ from. LacksFrom log page (frame_of v.frames page) (synced_lsn v.frames page) from)
+AllLackFrom log v = (page : ℕ) → page < length v.waits → MatchOption (unread_of v.unread page) ⊥
+    (λ from. LacksFrom log page (frame_of v.frames page) (synced_lsn v.frames page) from)

@@ -67,7 +67,12 @@ pub record Redoes (old new : Pooled) (page : ℕ) (lsn : Lsn) : Type 0 where
   pub some : pending_of old.waits page ≢ []
   pub redoes : FrameRedoes old.frames new.frames page (take 64 (pending_of old.waits page))
   pub lsn_is : lsn.0 ≡ lsn_now new.frames page
-  pub same : new ≡ record { frames = new.frames; dirty = old.dirty; waits = slice_set old.waits page (drop 64 (pending_of old.waits page)); unread = old.unread }
+  pub same : new ≡ record {
+    frames = new.frames;
+    dirty = old.dirty;
+    waits = slice_set old.waits page (drop 64 (pending_of old.waits page));
+    unread = old.unread;
+  }
 
 -- A page that changes wait for is made resident, and the first of those that it lacks are redone.
 pub record Applies (old new : Pooled) (page end : ℕ) (lsn : Lsn) : Type 0 where

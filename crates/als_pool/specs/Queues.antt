@@ -37,7 +37,8 @@ flags_of waits = map flag_of waits
 -- the first page from a number on whose flag is set
 abbrev pub IsNextFlag : List ℕ → ℕ → Option ℕ → Type 0
 IsNextFlag flags from None = (page : ℕ) → from ≤ page → slice_index_or flags page 0 ≡ 1 → ⊥
-IsNextFlag flags from (Some page) = (from ≤ page) × (page < length flags) × (slice_index_or flags page 0 ≡ 1) × ((other : ℕ) → from ≤ other → other < page → slice_index_or flags other 0 ≡ 1 → ⊥)
+IsNextFlag flags from (Some page) = (from ≤ page) × (page < length flags) × (slice_index_or flags page 0 ≡ 1)
+    × ((other : ℕ) → from ≤ other → other < page → slice_index_or flags other 0 ≡ 1 → ⊥)
 
 -- how many changes wait, over all pages
 abbrev pub total_waiting : List (List Change) → ℕ

@@ -73,7 +73,8 @@ pub record HasRowsFrom (position : Lsn) (rows : List LoggedPage) (v : Pooled) : 
   pub paged : v.frames.pages ≡ length v.waits
   pub tabled : length v.dirty ≡ length v.waits
   pub told : length v.unread ≡ length v.waits
-  pub each : (page : ℕ) → page < length v.waits → MatchOption (unread_of v.unread page) (Unit {0}) (λ from. IsUnreadRow position (row_in rows page) (frame_of v.frames page) (entry_of v.dirty page) (pending_of v.waits page) from)
+  pub each : (page : ℕ) → page < length v.waits → MatchOption (unread_of v.unread page) (Unit {0})
+      (λ from. IsUnreadRow position (row_in rows page) (frame_of v.frames page) (entry_of v.dirty page) (pending_of v.waits page) from)
 
 -- The row of a page that was not read since a restart, by the log: the one in the checkpoint, or else the first record of the log on the
 -- page from the position on, none where there is none; and what waits are the changes from there on.
@@ -90,20 +91,35 @@ pub record IsImageFrom (log : List Record) (page below : ℕ) (from : Lsn) (cont
   pub spelled : content ≡ image_of log page lsn
   pub lacks : AllByRecursion (λ c. from.0 ≤ c.lsn.0) (changes_above log page lsn)
 
--- Each block of a page has one content, an image of it which lacks no change of the log from below where its changes wait; and the
--- log has reached that.
+-- a row of a checkpoint at a position: its RecLSN is that of a record below the position
+abbrev pub IsRowBelow : Lsn → LoggedPage → Type 0
+IsRowBelow position row = (16 ≤ row.rec_lsn.0) × (row.rec_lsn.0 < position.0)
+
+-- The log has reached the checkpoint's position, and its rows are below that. Each block of a page has one content, an image of it which
+-- lacks no change of the log from below where its changes wait.
 pub record HoldsImagesFrom (log : List Record) (below pages : ℕ) (position : Lsn) (rows : List LoggedPage) (slots : ℕ → Slot) : Type 0 where
   pub is_log : IsLog pages log
-  pub reached : (page : ℕ) → page < pages → (start_of position rows page).0 ≤ end_of log
+  pub reached : position.0 ≤ end_of log
+  pub listed : AllByRecursion (IsRowBelow position) rows
   pub settled : (page : ℕ) → page < pages → IsSettled (slots page)
-  pub images : (page : ℕ) (content : List ℕ) → page < pages → Contains (slots page).candidates content → IsImageFrom log page below (start_of position rows page) content
+  pub images : (page : ℕ) (content : List ℕ) → page < pages → Contains (slots page).candidates content
+      → IsImageFrom log page below (start_of position rows page) content
 
--- What the blocks of a pool hold while a log is read: of each page an image which lacks no change below where its changes wait.
+-- What the blocks of a pool hold while a log is read: of each page an image which lacks no change below where its changes wait. The pool's
+-- rows come from a checkpoint whose position the log has reached, with rows below that.
 pub record HoldsImagesOf (log : List Record) (below : ℕ) (v : Pooled) : Type 0 where
-  pub paged : v.frames.pages ≡ length v.waits
-  pub told : length v.unread ≡ length v.waits
   pub frames : AreFramesOf log (synced_lsn v.frames) below v.frames
   pub lacks : AllLackFrom log v
+  pub position : Lsn
+  pub rows : List LoggedPage
+  pub given : HasRowsFrom position rows v
+  pub reached : position.0 ≤ end_of log
+  pub listed : AllByRecursion (IsRowBelow position) rows
+
+-- No record of the log on a page has an LSN above that of the image last synced, and below where a restart with this checkpoint begins.
+abbrev pub CoversPages : List Record → Lsn → List LoggedPage → Pooled → Type 0
+CoversPages log position rows v = (page : ℕ) → page < length v.waits
+    → AllByRecursion (λ c. (start_of position rows page).0 ≤ c.lsn.0) (changes_above log page (synced_lsn v.frames page))
 
 -- ---- the log is read
 

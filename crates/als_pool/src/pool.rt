@@ -16,6 +16,7 @@ ghost use Rattle.als_dirty.specs.Images.{first_lsn};
 ghost use Rattle.als_pool.specs.declared.fault.Fault.TheVariants.{PoolFull as IsPoolFull, Device as DeviceFailed};
 ghost use Rattle.als_pool.specs.Queues.{pending_of, total_waiting, WaitsFirst};
 ghost use Rattle.als_pool.specs.Pooled.{Pooled, unread_of, new_pool, SameLsns, SameLsnsBut, Grows};
+ghost use Rattle.als_pool.specs.Bounds.{EndsBelow};
 ghost use Rattle.als_pool.specs.Outcomes.{HasPlace, with_place, without_place, CanRoute, with_change, Loads, MakesResident, RefusesLoad, Redoes, Applies, RefusesApply, IsDueAt, StoresPage, Flushes, RefusesFlush, SyncsPages, SyncPagesFails, IsPageNow, RefusesPage, RefusesFormat};
 ghost use Rattle.als_pool.specs.Images.{IsPoolOf, IsRowSound, QueuesOf, IsFromOn};
 ghost use Rattle.als_pool.specs.Restart.{started_at, with_row, IsOpened, HasRowsFrom, HoldsImagesFrom, HoldsImagesOf};
@@ -87,8 +88,10 @@ impl<D: BlockDisk> Pool<D> {
     ) -> Result<Pool<D>, Unformatted<D>>
         requires room { pages ≤ D.block_count disk }
         requires limit { pages ≤ 4096 }
-        ensures ok { IfOk result (λ p. p.pool ≡ new_pool (without_frames pages frames (λ _. only zeros) (D.block_count disk) (D.failures disk) (D.attempts disk + pages + 1)) pages) }
+        ensures ok { IfOk result (λ p. p.pool ≡ new_pool (without_frames pages frames (λ _. only zeros)
+            (D.block_count disk) (D.failures disk) (D.attempts disk + pages + 1)) pages) }
         ensures keeps { IfOk result (λ p. (below : ℕ) → IsPoolOf [] below p.pool) }
+        ensures ends { IfOk result (λ p. (end : ℕ) → 0 < end → EndsBelow end p.pool) }
         ensures err { IfErr result (λ u. RefusesFormat u.fault (D.failures disk) (D.failures u.disk)) }
         ensures untouched { IfErr result (λ u. u.fault ≡ Fault.Memory → u.disk ≡ disk) }
         ensures blocks { IfErr result (λ u. D.block_count u.disk ≡ D.block_count disk) }
@@ -110,8 +113,10 @@ impl<D: BlockDisk> Pool<D> {
     /// once: writes the block of each page, and syncs. The device comes back where it failed.
     pub fn lay_out(disk: D, new: NewPool, frames: usize) -> Result<Pool<D>, D>
         requires { new ≤ D.block_count disk }
-        ensures ok { IfOk result (λ p. p.pool ≡ new_pool (without_frames new frames (λ _. only zeros) (D.block_count disk) (D.failures disk) (D.attempts disk + new + 1)) new) }
+        ensures ok { IfOk result (λ p. p.pool ≡ new_pool (without_frames new frames (λ _. only zeros)
+            (D.block_count disk) (D.failures disk) (D.attempts disk + new + 1)) new) }
         ensures keeps { IfOk result (λ p. (below : ℕ) → IsPoolOf [] below p.pool) }
+        ensures ends { IfOk result (λ p. (end : ℕ) → 0 < end → EndsBelow end p.pool) }
         ensures err { IfErr result (λ d. D.failures disk < D.failures d) }
         ensures blocks { IfErr result (λ d. D.block_count d ≡ D.block_count disk) }
     {
@@ -148,13 +153,16 @@ impl<D: BlockDisk> Pool<D> {
     ) -> Result<Pool<D>, D>
         requires room { pages ≤ D.block_count disk }
         requires limit { pages ≤ 4096 }
-        ensures ok { IfOk result (λ p. IsOpened (without_frames pages frames (D.slot disk) (D.block_count disk) (D.failures disk) (D.attempts disk)) position rows.now p.pool) }
+        ensures ok { IfOk result (λ p. IsOpened (without_frames pages frames (D.slot disk) (D.block_count disk) (D.failures disk) (D.attempts disk))
+            position rows.now p.pool) }
         ensures err { IfErr result (λ d. d ≡ disk) }
         // No record was read yet; and a page's row is the checkpoint's.
         ensures reads { IfOk result (λ p. QueuesOf [] p.pool) }
         ensures given { IfOk result (λ p. HasRowsFrom position rows.now p.pool) }
+        ensures ends { IfOk result (λ p. (end : ℕ) → 0 < end → EndsBelow end p.pool) }
         // For every log of whose pages each block has an image which lacks nothing below where its changes wait.
-        ensures holds { IfOk result (λ p. (log : List AnyRecord) (below : ℕ) → HoldsImagesFrom log below pages position rows.now (D.slot disk) → HoldsImagesOf log below p.pool) }
+        ensures holds { IfOk result (λ p. (log : List AnyRecord) (below : ℕ) → HoldsImagesFrom log below pages position rows.now (D.slot disk)
+            → HoldsImagesOf log below p.pool) }
     {
         let Ok((starts, queues)) = restarted(alloc, pages, position, rows) else {
             return Err(disk);
@@ -205,6 +213,9 @@ impl<D: BlockDisk> Pool<D> {
         ensures reads { (front : List AnyRecord) (r : AnyRecord) → QueuesOf front self.old.pool → r.lsn.0 ≡ end_of front → change_of r ≡ Some change
             → IsFromOn self.old.pool change → QueuesOf (front ++ r ∷ []) self.new.pool }
         ensures holds { (log : List AnyRecord) (below : ℕ) → HoldsImagesOf log below self.old.pool → HoldsImagesOf log below self.new.pool }
+        // Whatever the blocks hold: pages and what waits for them end below the log's end.
+        ensures ends { (log : List AnyRecord) (r : AnyRecord) → EndsBelow (end_of log) self.old.pool → r.lsn.0 ≡ end_of log → change_of r ≡ Some change
+            → EndsBelow (end_of (log ++ r ∷ [])) self.new.pool }
         // The rows of unread pages stay those of the checkpoint.
         ensures given { (position : AnyLsn) (rows : List AnyRow) → HasRowsFrom position rows self.old.pool → HasRowsFrom position rows self.new.pool }
     {
@@ -240,6 +251,8 @@ impl<D: BlockDisk> Pool<D> {
         ensures others { (log : List AnyRecord) (below : ℕ) → IsPoolOf log below self.old.pool → SameLsnsBut page self.old.pool self.new.pool }
         ensures grows { (log : List AnyRecord) (below : ℕ) → IsPoolOf log below self.old.pool → Grows self.old.pool self.new.pool }
         ensures sound { (log : List AnyRecord) (below : ℕ) → IsPoolOf log below self.old.pool → end_of log ≤ end.0 → IsErrOf result (Fault.BadPage page) → ⊥ }
+        // Whatever the blocks hold: pages and what waits for them end below an offset that the end is not above.
+        ensures ends { (limit : ℕ) → end.0 ≤ limit → EndsBelow limit self.old.pool → EndsBelow limit self.new.pool }
         // The rows of unread pages stay those of the checkpoint.
         ensures given { (position : AnyLsn) (rows : List AnyRow) → HasRowsFrom position rows self.old.pool → HasRowsFrom position rows self.new.pool }
     {
@@ -326,6 +339,7 @@ impl<D: BlockDisk> Pool<D> {
         ensures lsns { SameLsns self.old.pool self.new.pool }
         ensures grows { (log : List AnyRecord) (below : ℕ) → acknowledged.0 ≤ below → IsPoolOf log below self.old.pool → Grows self.old.pool self.new.pool }
         ensures room { self.new.room ≡ self.old.room }
+        ensures ends { (end : ℕ) → EndsBelow end self.old.pool → EndsBelow end self.new.pool }
         // The rows of unread pages stay those of the checkpoint.
         ensures given { (position : AnyLsn) (rows : List AnyRow) → HasRowsFrom position rows self.old.pool → HasRowsFrom position rows self.new.pool }
     {
@@ -366,7 +380,8 @@ impl<D: BlockDisk> Pool<D> {
     fn store_page(&mut self, page: u32, lsn: Lsn) -> Result<(), als_frames::Fault>
         requires { IsDueAt self.old.pool page lsn }
         ensures ok { OnOk result (StoresPage self.old.pool self.new.pool page lsn) }
-        ensures err { IfErr result (λ e. RefusesWrite e self.old.pool.frames self.new.pool.frames page × (self.new.pool ≡ record self.old.pool { frames = self.new.pool.frames })) }
+        ensures err { IfErr result (λ e. RefusesWrite e self.old.pool.frames self.new.pool.frames page
+            × (self.new.pool ≡ record self.old.pool { frames = self.new.pool.frames })) }
         ensures room { self.new.room ≡ self.old.room }
     {
         self.frames.write(page)?;
@@ -383,9 +398,13 @@ impl<D: BlockDisk> Pool<D> {
         ensures fault { IfErr result (λ e. e ≡ DeviceFailed) }
         ensures err { OnErr result (SyncPagesFails self.old.pool self.new.pool) }
         // For every log that the pool is of, it stays so, unless a write has failed.
-        ensures keeps { (log : List AnyRecord) (below : ℕ) → IsTrue self.old.pool.frames.sure → IsPoolOf log below self.old.pool → IsPoolOf log below self.new.pool }
-        ensures lsns { (log : List AnyRecord) (below : ℕ) → IsTrue self.old.pool.frames.sure → IsPoolOf log below self.old.pool → SameLsns self.old.pool self.new.pool }
-        ensures grows { (log : List AnyRecord) (below : ℕ) → IsTrue self.old.pool.frames.sure → IsPoolOf log below self.old.pool → Grows self.old.pool self.new.pool }
+        ensures keeps { (log : List AnyRecord) (below : ℕ) → IsTrue self.old.pool.frames.sure → IsPoolOf log below self.old.pool
+            → IsPoolOf log below self.new.pool }
+        ensures lsns { (log : List AnyRecord) (below : ℕ) → IsTrue self.old.pool.frames.sure → IsPoolOf log below self.old.pool
+            → SameLsns self.old.pool self.new.pool }
+        ensures grows { (log : List AnyRecord) (below : ℕ) → IsTrue self.old.pool.frames.sure → IsPoolOf log below self.old.pool
+            → Grows self.old.pool self.new.pool }
+        ensures ends { (end : ℕ) → EndsBelow end self.old.pool → EndsBelow end self.new.pool }
         // The rows of unread pages stay those of the checkpoint.
         ensures given { (position : AnyLsn) (rows : List AnyRow) → HasRowsFrom position rows self.old.pool → HasRowsFrom position rows self.new.pool }
     {
@@ -417,6 +436,7 @@ impl<D: BlockDisk> Pool<D> {
         ensures history { IfOk result (λ p. (log : List AnyRecord) (below : ℕ) → IsPoolOf log below self.old.pool
             → state_of p ≡ page_at log page (lsn_now self.old.pool.frames page)) }
         ensures sound { (log : List AnyRecord) (below : ℕ) → IsPoolOf log below self.old.pool → IsErrOf result (Fault.BadPage page) → ⊥ }
+        ensures ends { (end : ℕ) → EndsBelow end self.old.pool → EndsBelow end self.new.pool }
         // The rows of unread pages stay those of the checkpoint.
         ensures given { (position : AnyLsn) (rows : List AnyRow) → HasRowsFrom position rows self.old.pool → HasRowsFrom position rows self.new.pool }
     {
@@ -480,7 +500,8 @@ impl<D: BlockDisk> Pool<D> {
 
     /// The dirty page table, in rising page.
     pub fn rows(&self, alloc: Global) -> Result<PageRows, AllocError>
-        ensures { IfOk result (λ rows. rows ≡ rows_of self.now.pool.dirty) }
+        ensures rows { IfOk result (λ rows. rows ≡ rows_of self.now.pool.dirty) }
+        ensures tabled { length self.now.pool.dirty ≡ length self.now.pool.waits }
     {
         let rows = self.dirty.rows(alloc)?;
         Ok(rows)
@@ -490,6 +511,7 @@ impl<D: BlockDisk> Pool<D> {
     pub fn into_disk(self) -> D
         ensures slots { (page : ℕ) → page < length self.pool.waits → D.slot result page ≡ slot_of self.pool.frames page }
         ensures count { D.block_count result ≡ self.pool.frames.blocks }
+        ensures room { length self.pool.waits ≤ D.block_count result }
         ensures failures { D.failures result ≡ self.pool.frames.failures }
         ensures attempts { D.attempts result ≡ self.pool.frames.attempts }
         // For every log that the pool is of: whatever a crash leaves in a page's block, its row is sound for it.

@@ -4,9 +4,10 @@ ghost use Rattle.als_frames.specs.Frames.{frame_of};
 ghost use Rattle.als_pool.specs.Outcomes.{HasPlace};
 
 use crate::{
-    Fault, Pool, a_log_is_taken_in, change_can_be_read, change_can_be_routed, each_row_is_exact,
-    each_row_is_sound, mark_changes_nothing, other_records_pass, other_records_wait_nowhere,
-    queues_join_images, unread_rows_are_the_checkpoints,
+    Fault, Pool, a_log_is_taken_in, change_can_be_read, change_can_be_routed, change_can_follow,
+    each_row_is_exact, each_row_is_sound, mark_changes_nothing, opened_pages_are_covered,
+    other_records_pass, other_records_wait_nowhere, pool_ends_below, queues_join_images,
+    rows_make_a_checkpoint, stopped_pages_hold_images, unread_rows_are_the_checkpoints,
 };
 use als_disk::{BlockDisk, FailingDisk, Fuse, MemDisk};
 use als_record::{Change, Image, Key, LoggedPage, Lsn, PageRows, Value};
@@ -57,7 +58,8 @@ fn route<D: BlockDisk>(rt: &impl Abort, pool: &mut Pool<D>, page: u32, at: u64)
     requires absent { frame_of pool.old.pool.frames page ≡ None }
     requires first { 16 ≤ at }
     requires none { pending_of pool.old.pool.waits page ≡ [] }
-    ensures others { (p : ℕ) → p ≢ page → (pending_of pool.new.pool.waits p ≡ pending_of pool.old.pool.waits p) × (frame_of pool.new.pool.frames p ≡ frame_of pool.old.pool.frames p) }
+    ensures others { (p : ℕ) → p ≢ page → (pending_of pool.new.pool.waits p ≡ pending_of pool.old.pool.waits p)
+        × (frame_of pool.new.pool.frames p ≡ frame_of pool.old.pool.frames p) }
 {
     assert!(rt; page < pool.pages() && pool.waiting() < 1000);
     reserve(rt, pool, page);
@@ -257,6 +259,11 @@ fn laws_take_nothing() {
     change_can_be_read();
     a_log_is_taken_in();
     unread_rows_are_the_checkpoints();
+    rows_make_a_checkpoint();
+    change_can_follow();
+    pool_ends_below();
+    stopped_pages_hold_images();
+    opened_pages_are_covered();
 }
 
 // Two pages of a database that was laid out before, after a restart. A call that is refused once is made again.

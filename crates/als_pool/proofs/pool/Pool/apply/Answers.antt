@@ -3,6 +3,7 @@ use Rattle.als_pool.proofs.Lsns.{others_apply, apply-spelled}
 use Rattle.std.proofs.Common.{◌≡◌, arith}
 use Rattle.als_frames.specs.Images.{synced_lsn}
 use Rattle.als_pool.proofs.Restarting.{rows-apply}
+use Rattle.als_pool.proofs.Bounding.{ends-apply}
 use Rattle.als_pool.proofs.pool.Pool.apply.Goals as goal
 
 pub returns-clause-keeps : goal.returns-clause-keeps
@@ -26,3 +27,7 @@ returns-clause-sound g c log below h le is =
 pub returns-clause-given : goal.returns-clause-given
 returns-clause-given g c position rows h =
     rows-apply position rows c.redo_waiting.result c.args.self.now c.redo_waiting.new.self c.args.page c.args.end.0 c.redo_waiting.ensures.ok c.redo_waiting.ensures.err h
+
+pub returns-clause-ends : goal.returns-clause-ends
+returns-clause-ends g c limit le h =
+    ends-apply limit c.redo_waiting.result c.args.self.now c.redo_waiting.new.self c.args.page c.args.end.0 le c.redo_waiting.ensures.ok c.redo_waiting.ensures.err h

@@ -5,6 +5,7 @@ use Rattle.als_pool.specs.Pooled.{Pooled}
 use Rattle.als_pool.specs.Restart.{IsOpened, Started}
 use Rattle.als_pool.proofs.Restarting.{is_opened, opened_pooled, opened_reads, opened_rows}
 use Rattle.als_pool.proofs.Opened.{opened_holds}
+use Rattle.als_pool.proofs.Bounding.{ends-opened}
 use Rattle.als_pool.proofs.pool.Pool.open.Goals as goal
 
 pub returns-clause-ok : goal.returns-clause-ok
@@ -51,3 +52,11 @@ returns-clause-holds g c log below h =
     let is : IsOpened stored c.args.position c.args.rows.now made = returns-clause-ok g c in
     opened_holds log below c.args.pages c.args.frames (g.D.BlockDisk.block_count c.args.disk) (g.D.BlockDisk.failures c.args.disk) (g.D.BlockDisk.attempts c.args.disk) c.args.position c.args.rows.now
     (g.D.BlockDisk.slot c.args.disk) h made is
+
+pub returns-clause-ends : goal.returns-clause-ends
+returns-clause-ends g c end lt =
+    let stored : Paged
+    = without_frames c.args.pages c.args.frames (g.D.BlockDisk.slot c.args.disk) (g.D.BlockDisk.block_count c.args.disk) (g.D.BlockDisk.failures c.args.disk) (g.D.BlockDisk.attempts c.args.disk) in
+    let made : Pooled = record { frames = c.open-frames.result.paged; dirty = c.starts.inside.dirty; waits = c.in-Ok.queues.waits; unread = c.starts.inside.unread.items } in
+    let is : IsOpened stored c.args.position c.args.rows.now made = returns-clause-ok g c in
+    ends-opened end stored c.args.position c.args.rows.now made is refl lt

@@ -2,6 +2,7 @@ use Rattle.als_page.specs.Page.{state_of}
 use Rattle.als_frames.proofs.Keeping.{IfOk-so}
 use Rattle.als_pool.proofs.Keeping.{page_history, page_sound, keeps_page}
 use Rattle.als_pool.proofs.Restarting.{rows-page}
+use Rattle.als_pool.proofs.Bounding.{ends-page_now}
 use Rattle.als_pool.proofs.pool.Pool.page_now.Goals as goal
 
 pub returns-clause-keeps : goal.returns-clause-keeps
@@ -19,3 +20,7 @@ returns-clause-sound g c log below h is =
 pub returns-clause-given : goal.returns-clause-given
 returns-clause-given g c position rows h =
     rows-page position rows c.read_page.result c.args.self.now c.read_page.new.self c.args.page c.read_page.ensures.same c.read_page.ensures.err h
+
+pub returns-clause-ends : goal.returns-clause-ends
+returns-clause-ends g c end h =
+    ends-page_now end c.read_page.result c.args.self.now c.read_page.new.self c.args.page c.read_page.ensures.same c.read_page.ensures.err h

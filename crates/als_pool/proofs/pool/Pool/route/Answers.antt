@@ -7,6 +7,9 @@ use Rattle.als_pool.proofs.Reading.{reads-route}
 use Rattle.als_pool.specs.Restart.{HasRowsFrom, HoldsImagesOf}
 use Rattle.als_pool.proofs.Restarting.{rows-route}
 use Rattle.als_pool.proofs.Opened.{holds-route}
+use Rattle.als_record.specs.LogText.{end_of}
+use Rattle.als_pool.specs.Bounds.{EndsBelow}
+use Rattle.als_pool.proofs.Bounding.{ends-route}
 use Rattle.als_pool.proofs.pool.Pool.route.Goals as goal
 
 pub returns-clause-keeps : goal.returns-clause-keeps
@@ -22,8 +25,12 @@ returns-clause-reads g c front r h at is le =
 
 pub returns-clause-holds : goal.returns-clause-holds
 returns-clause-holds g c log below h =
-    subst (λ (v : Pooled). HoldsImagesOf log below v) (sym c.add.ensures.value) (holds-route log below c.args.self.now.pool c.args.change h)
+    subst (λ (v : Pooled). HoldsImagesOf log below v) (sym c.add.ensures.value) (holds-route log below c.args.self.now.pool c.args.change c.requires.can.in_range h)
 
 pub returns-clause-given : goal.returns-clause-given
 returns-clause-given g c position rows h =
     subst (λ (v : Pooled). HasRowsFrom position rows v) (sym c.add.ensures.value) (rows-route position rows c.args.self.now.pool c.args.change c.requires.can.in_range h)
+
+pub returns-clause-ends : goal.returns-clause-ends
+returns-clause-ends g c log r h at is =
+    subst (λ (v : Pooled). EndsBelow (end_of (log ++ r ∷ [])) v) (sym c.add.ensures.value) (ends-route log r c.args.self.now.pool c.args.change c.requires.can h at is)

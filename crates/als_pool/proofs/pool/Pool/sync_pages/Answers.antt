@@ -1,6 +1,7 @@
 use Rattle.als_pool.proofs.Keeping.{keeps_sync_pages}
 use Rattle.als_pool.proofs.Lsns.{lsns_sync, sync_grows}
 use Rattle.als_pool.proofs.Restarting.{rows-sync}
+use Rattle.als_pool.proofs.Bounding.{ends-sync}
 use Rattle.als_pool.proofs.pool.Pool.sync_pages.Goals as goal
 
 pub returns-clause-keeps : goal.returns-clause-keeps
@@ -17,3 +18,7 @@ returns-clause-grows g c log below sure h p lt =
 pub returns-clause-given : goal.returns-clause-given
 returns-clause-given g c position rows h =
     rows-sync position rows c.sync_all.result c.args.self.now.pool c.sync_all.new.self.pool c.sync_all.ensures.ok c.sync_all.ensures.err h
+
+pub returns-clause-ends : goal.returns-clause-ends
+returns-clause-ends g c end h =
+    ends-sync end c.sync_all.result c.args.self.now.pool c.sync_all.new.self.pool c.sync_all.ensures.ok c.sync_all.ensures.err h
