@@ -13,6 +13,7 @@ use Rattle.als_ckpt.specs.declared.control_state.ControlState.{ControlState}
 use Rattle.als_ckpt.specs.Regions.{first_block, next_region, part_of, blocks_of, Held, nothing_held, held_in, held_at, with_held, with_block, blocks_synced, Begun, IsWhole, HasBlockLeft, HoldsContent, HoldsPublished, IsPublished}
 use Rattle.als_ckpt.specs.Control.{last_state, IsApartIf, IsBeginning}
 use Rattle.als_ckpt.specs.Kept.{AreHeld, IsBegunIf}
+use Rattle.als_ckpt.proofs.PartLaws.{HasPart-part_of}
 use Rattle.als_ckpt.proofs.StateLaws.{Contains-last_state}
 use Rattle.als_ckpt.proofs.RegionLaws.{same_region, blocks-apart, block-above, next_region-apart, held_in-same, held_in-other, held_at-other, HoldsContent-fewer}
 
@@ -228,7 +229,7 @@ module _ (slots : ℕ → Slot) (pages : ℕ) (synced newest : ControlState) (si
   pub AreHeld-whole : (b : Begun) → AreHeld slots pages synced newest since held (Some b) → IsWhole b → AreHeld slots pages synced newest since (with_held held b.region (Some b.checkpoint)) None
   AreHeld-whole b kept whole = record {
     regions = region-changed b.region (Some b.checkpoint)
-        (record { few = kept.apart.0.few; parts = λ k below content has. kept.begun_on.synced k (omega (arith, below, whole)) content has }) kept.regions;
+        (record { few = kept.apart.0.few; parts = λ k below content has. HasPart-part_of (checkpoint_bytes b.checkpoint) k content (kept.begun_on.synced k (omega (arith, below, whole)) content has) }) kept.regions;
     named = λ t has. named-other b.region (Some b.checkpoint) t (names-other b.region t kept.apart.1.same kept.apart.1.apart (kept.places t has)) (kept.named t has);
     places = kept.places;
     apart = tt;

@@ -1,5 +1,5 @@
 -- The checkpoints of a control device: two regions of 160 blocks, of which the control block names one at most.
-use Rattle.std.specs.Prelude.{◌≡◌, ℕ, ◌+◌, ◌-◌, ◌*◌, ◌/◌, ◌<◌, ◌≤◌, List, ◌++◌, length, take, drop, replicate, Option, None, Some, IsSomeAnd, Contains}
+use Rattle.std.specs.Prelude.{◌≡◌, ℕ, ◌+◌, ◌-◌, ◌*◌, ◌/◌, ◌<◌, ◌≤◌, List, ◌++◌, length, take, drop, replicate, Option, None, Some, IsSomeAnd, Contains, slice_index}
 use Rattle.als_disk.specs.Slot.{Slot}
 use Rattle.als_ckpt_codec.specs.declared.checkpoint.Checkpoint.{Checkpoint}
 use Rattle.als_ckpt_codec.specs.Checkpoint.{checkpoint_bytes, IsCheckpoint}
@@ -65,6 +65,11 @@ abbrev pub held_at : Held → Option Region → Option Checkpoint
 held_at held None = None
 held_at held (Some region) = held_in held region
 
+-- the regions of a device of which a checkpoint is known to stand in the published one alone
+abbrev pub held_of : Option Region → Option Checkpoint → Held
+held_of None checkpoint = nothing_held
+held_of (Some region) checkpoint = with_held nothing_held region checkpoint
+
 -- A control block, and the checkpoint that it publishes.
 pub record Said : Type 0 where
   pub state : ControlState
@@ -75,10 +80,14 @@ abbrev pub IsPublished : ℕ → Option Region → ℕ → Option Checkpoint →
 IsPublished pages None position checkpoint = checkpoint ≡ None
 IsPublished pages (Some region) position checkpoint = IsSomeAnd checkpoint (IsCheckpoint pages position)
 
+-- a block has byte 512 * b + o of a checkpoint as its byte o, whatever stands behind the last one
+abbrev pub HasPart : List ℕ → ℕ → List ℕ → Type 0
+HasPart bytes b content = (o : ℕ) → o < 512 → 512 * b + o < length bytes → slice_index content o ≡ slice_index bytes (512 * b + o)
+
 -- Whatever a crash leaves, the blocks of a region hold this checkpoint, which fits into the region.
 pub record HoldsCheckpoint (slots : ℕ → Slot) (region : Region) (c : Checkpoint) : Type 0 where
   pub few : blocks_of c ≤ 160
-  pub parts : (b : ℕ) → b < blocks_of c → (content : List ℕ) → Contains (slots (first_block region + b)).candidates content → content ≡ part_of (checkpoint_bytes c) b
+  pub parts : (b : ℕ) → b < blocks_of c → (content : List ℕ) → Contains (slots (first_block region + b)).candidates content → HasPart (checkpoint_bytes c) b content
 
 -- the same of what is known of a region
 abbrev pub HoldsContent : (ℕ → Slot) → Region → Option Checkpoint → Type 0

@@ -34,7 +34,7 @@ impl Model for Begun {
 
 /// How many blocks so many bytes take.
 #[tactic(auto, unfolding(crate::specs::Regions::blocks_for))]
-fn blocks_for(len: usize) -> u64
+pub(crate) fn blocks_for(len: usize) -> u64
     requires { len ≤ 81920 }
     ensures { result ≡ blocks_for len }
 {

@@ -2,8 +2,9 @@ ghost use Rattle.std.specs.Prelude.{◌≡◌, ◌≢◌, ◌≤◌, ◌<◌, �
 ghost use Rattle.als_disk.specs.Failures.{CountsFailure};
 ghost use Rattle.als_disk.specs.Slot.{only, IsSettled, SameBlocks};
 ghost use Rattle.als_ckpt.specs.Control.{control_block, first_state, newest, with_state, settled, new_control, IsControlState, IsControlled, IsBlockOf, MayName, IsBeginning, IsBusy, with_begun, with_next, with_whole};
-ghost use Rattle.als_ckpt.specs.Regions.{IsPublished, held_at, IsWhole};
-ghost use Rattle.als_ckpt.specs.Holding.{LeavesOneOf};
+ghost use Rattle.als_ckpt.specs.Regions.{Said, IsPublished, held_at, IsWhole};
+ghost use Rattle.als_ckpt.specs.Holding.{LeavesOneOf, HoldsControl};
+ghost use Rattle.als_ckpt.specs.Reading.{taken_up, TakesUp, FailsToRead, RefusesToRead};
 ghost use Rattle.als_ckpt.specs.Outcomes.{RefusesBegin, RefusesNext, RefusesPublish, HasNext, Publishes};
 ghost use Rattle.als_ckpt.specs.declared.control_state.ControlState.{ControlState as AnyState};
 
@@ -13,6 +14,7 @@ use crate::device::{store_first, write_state};
 use crate::fault::Fault;
 use crate::phase::Phase;
 use crate::progress::{is_busy, next_block, note_synced, note_written, place_of};
+use crate::reading::read_said;
 use crate::refused::Refused;
 use crate::region::Region;
 use crate::regions::Regions;
@@ -112,6 +114,65 @@ impl<D: BlockDisk> Control<D> {
         }
     }
 
+    /// Reads the control block of a database of so many pages, whose log device has so many bytes, and the checkpoint that it
+    /// publishes, from a disk that was synced. The disk comes back with a fault, as it was.
+    ///
+    /// `Device`: the disk failed. `BadControl`: the block is no such control block, or there is no checkpoint at its position in the
+    /// region that it names. `Memory`: a growth was refused.
+    pub fn read(
+        alloc: Global,
+        disk: D,
+        pages: u32,
+        log_bytes: u64,
+    ) -> Result<(Control<D>, Option<Checkpoint>), Refused<D>>
+        requires settled { (k : ℕ) → IsSettled (D.slot disk k) }
+        requires room { 321 ≤ D.block_count disk }
+        ensures ok { IfOk result (λ r. TakesUp pages log_bytes (D.slot disk) (D.block_count disk) (D.failures disk) (D.attempts disk) r.0 r.1) }
+        ensures err { IfErr result (λ r. RefusesToRead r.fault pages log_bytes (D.slot disk) (D.failures disk) (D.failures r.disk)) }
+        // A device that says something is read so.
+        ensures only { (said : Said) → HoldsControl pages log_bytes (D.slot disk) said → IfOk result (λ r.
+            (r.0 ≡ taken_up pages log_bytes said (D.block_count disk) (D.failures disk) (D.attempts disk)) × (r.1 ≡ said.checkpoint)) }
+        ensures bare { (said : Said) → HoldsControl pages log_bytes (D.slot disk) said
+            → IfErr result (λ r. FailsToRead r.fault (D.failures disk) (D.failures r.disk)) }
+        ensures same { IfErr result (λ r. SameBlocks (D.slot disk) (D.slot r.disk)) }
+        ensures counts { IfErr result (λ r. (D.block_count r.disk ≡ D.block_count disk) × (D.attempts r.disk ≡ D.attempts disk)) }
+    {
+        let mut disk = disk;
+        match read_said(alloc, &mut disk, pages, log_bytes) {
+            Ok((state, checkpoint)) => {
+                let control = Control::reopen(disk, pages, log_bytes, state, &checkpoint);
+                Ok((control, checkpoint))
+            }
+            Err(fault) => Err(Refused { disk, fault }),
+        }
+    }
+
+    /// The control block of a disk that was synced and read: it says this state and this checkpoint. The disk is not called.
+    pub fn reopen(
+        disk: D,
+        pages: u32,
+        log_bytes: u64,
+        state: ControlState,
+        checkpoint: &Option<Checkpoint>,
+    ) -> Control<D>
+        requires room { 321 ≤ D.block_count disk }
+        requires says { HoldsControl pages log_bytes (D.slot disk) (record { state = state; checkpoint = checkpoint.now }) }
+        ensures { result ≡ taken_up pages log_bytes (record { state = state; checkpoint = checkpoint.now })
+            (D.block_count disk) (D.failures disk) (D.attempts disk) }
+    {
+        let regions = Regions::of(state.published, checkpoint);
+        Control {
+            disk,
+            pages,
+            log_bytes,
+            synced: state,
+            last: state,
+            writes: Writes::Nothing,
+            regions,
+            begun: None,
+        }
+    }
+
     /// The newest state, as it was written last.
     pub fn newest(&self) -> ControlState
         ensures newest { result ≡ newest self.now }
@@ -202,6 +263,14 @@ impl<D: BlockDisk> Control<D> {
         self.writes = Writes::Nothing;
         note_synced(&mut self.begun);
         Ok(())
+    }
+
+    /// No checkpoint can be begun: one is, or the last publish is not synced.
+    pub fn is_busy(&self) -> bool
+        ensures busy { result ≡ true → IsBusy self.now }
+        ensures free { result ≡ false → IsBusy self.now → ⊥ }
+    {
+        is_busy(&self.begun, self.last.published, self.synced.published)
     }
 
     /// Begins a checkpoint: its bytes are made, and none is written. It goes to the region that is not published.

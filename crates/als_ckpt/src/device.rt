@@ -84,6 +84,7 @@ pub fn read_state<D: BlockDisk>(
     ensures bad_control { IsErrOf result Fault.BadControl → (D.failures disk.new ≡ D.failures disk.old)
         × ((s : AnyState) → IsControlState log_bytes s → D.slot disk.old 0 ≢ only (control_block pages s)) }
     ensures device { IsErrOf result Fault.Device → D.failures disk.old < D.failures disk.new }
+    ensures fault { IfErr result (λ fault. (fault ≡ Fault.Device) ⊎ (fault ≡ Fault.BadControl)) }
     ensures ok { OnOk result (D.failures disk.new ≡ D.failures disk.old) }
     ensures attempts { D.attempts disk.new ≡ D.attempts disk.old }
     ensures blocks { SameBlocks (D.slot disk.old) (D.slot disk.new) }

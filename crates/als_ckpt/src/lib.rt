@@ -26,6 +26,8 @@ mod progress;
 mod writes;
 // Control blocks on a disk.
 mod device;
+// A control block and its checkpoint, read back from a disk.
+mod reading;
 // The control block of a database that is running.
 mod control;
 // That a block is the control block of one state.
@@ -37,6 +39,7 @@ pub use device::{clear, read_state};
 pub use fault::Fault;
 pub use laws::one_state;
 pub use phase::Phase;
+pub use reading::read_said;
 pub use refused::Refused;
 pub use region::Region;
 

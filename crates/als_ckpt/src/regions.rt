@@ -1,5 +1,5 @@
 ghost use Rattle.std.specs.Prelude.{◌≡◌, None as Nothing, Some as Held};
-ghost use Rattle.als_ckpt.specs.Regions.{nothing_held, with_held};
+ghost use Rattle.als_ckpt.specs.Regions.{nothing_held, with_held, held_of};
 
 use crate::content::Content;
 use crate::region::Region;
@@ -31,6 +31,18 @@ impl Regions {
             first: Content::Unknown,
             second: Content::Unknown,
         }
+    }
+
+    /// A checkpoint stands in the region that is published, where one is.
+    pub(crate) fn of(published: Option<Region>, checkpoint: &Option<Checkpoint>) -> Regions
+        ensures { result ≡ held_of published checkpoint.now }
+    {
+        let mut regions = Regions::unknown();
+        match (published, checkpoint) {
+            (Some(region), Some(checkpoint)) => regions.hold(region, Snapshot::of(checkpoint)),
+            _ => {}
+        }
+        regions
     }
 
     /// A region is about to be written.

@@ -1,4 +1,4 @@
-ghost use Rattle.std.specs.Prelude.{◌≡◌, ◌<◌, ◌≤◌, ◌+◌, IfOk, IfSome};
+ghost use Rattle.std.specs.Prelude.{◌≡◌, ◌<◌, ◌≤◌, ◌+◌, ℕ, IfOk, IfSome};
 ghost use Rattle.als_disk.specs.Slot.{IsSettled};
 ghost use Rattle.als_ckpt.specs.Control.{first_state, new_control};
 
@@ -156,10 +156,11 @@ where
     refused.fault
 }
 
-/// The disk after a crash, and how many picks were used. Its block 0 has one content.
+/// The disk after a crash, and how many picks were used. Each block has one content.
 fn crashed<D: Restart>(control: Control<D>, picks: &[u8]) -> (D, usize)
     ensures count { D.block_count result.0 ≡ control.blocks }
     ensures settled { IsSettled (D.slot result.0 0) }
+    ensures blocks { (k : ℕ) → IsSettled (D.slot result.0 k) }
 {
     control.into_disk().crash(picks)
 }
@@ -245,3 +246,5 @@ mod publishing;
 mod refusals;
 // What a crash leaves of checkpoints.
 mod crashes;
+// What is read back from a device.
+mod reading;

@@ -14,7 +14,7 @@ use Rattle.als_record.proofs.RecordLaws.{length-body_bytes}
 use Rattle.als_record.specs.Spelling.{head, spelling, record_len, body_len, body_bytes, transaction_row, page_row, type_byte, IsBody, IsRecord}
 use Rattle.als_ckpt_codec.specs.declared.numbers.Numbers.{Numbers}
 use Rattle.als_ckpt_codec.specs.declared.checkpoint.Checkpoint.{Checkpoint}
-use Rattle.als_ckpt_codec.specs.Checkpoint.{numbers_bytes, checkpoint_bytes, AreNumbers, BeginsWith, BeginsWithTables, tables_of}
+use Rattle.als_ckpt_codec.specs.Checkpoint.{numbers_bytes, checkpoint_bytes, AreNumbers, IsCheckpoint, BeginsWith, BeginsWithTables, tables_of}
 
 -- ---- the numbers
 
@@ -182,3 +182,21 @@ unfolding checkpoint_bytes record_len
 checkpoint_bytes-short c le =
     let body : length (body_bytes (EndCheckpoint c.transactions c.pages)) ≡ body_len (EndCheckpoint c.transactions c.pages) = length-body_bytes (EndCheckpoint c.transactions c.pages) in
     omega (arith, le, body, length-numbers_bytes c.numbers, length-append (numbers_bytes c.numbers) (body_bytes (EndCheckpoint c.transactions c.pages)))
+
+pub length-checkpoint_bytes : (c : Checkpoint) → length (checkpoint_bytes c) ≡ 40 + 21 * length c.transactions + 12 * length c.pages
+unfolding checkpoint_bytes
+length-checkpoint_bytes c =
+    let body : length (body_bytes (EndCheckpoint c.transactions c.pages)) ≡ body_len (EndCheckpoint c.transactions c.pages) = length-body_bytes (EndCheckpoint c.transactions c.pages) in
+    omega (arith, body, length-numbers_bytes c.numbers, length-append (numbers_bytes c.numbers) (body_bytes (EndCheckpoint c.transactions c.pages)))
+
+-- the first bytes of a checkpoint say how many rows it has
+module _ (pages position : ℕ) (c : Checkpoint) (fits : IsCheckpoint pages position c) (front rest : List ℕ) (is : front ≡ take 40 (checkpoint_bytes c) ++ rest) where
+  pub transactions-front : big_number 2 (drop 36 front) ≡ length c.transactions
+  unfolding checkpoint_bytes numbers_bytes body_bytes
+  transactions-front = ap (λ (xs : List ℕ). big_number 2 (drop 36 xs)) is
+      ∙ big_number-reads_back 2 (length c.transactions) (to_be_bytes w16 (length c.pages) ++ rest) (omega (arith, fits.tables.0))
+
+  pub pages-front : big_number 2 (drop 38 front) ≡ length c.pages
+  unfolding checkpoint_bytes numbers_bytes body_bytes
+  pages-front = ap (λ (xs : List ℕ). big_number 2 (drop 38 xs)) is
+      ∙ big_number-reads_back 2 (length c.pages) rest (omega (arith, fits.tables.1))

@@ -1,1 +1,1 @@
-mod CheckpointLaws
+pub mod CheckpointLaws

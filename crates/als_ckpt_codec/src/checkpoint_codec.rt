@@ -1,4 +1,4 @@
-ghost use Rattle.std.specs.Prelude.{◌≡◌, ◌≤◌, ◌+◌, ◌++◌, ℕ, List, length, drop, take, replicate, ◌⊎◌, IfOk, IfErr, true};
+ghost use Rattle.std.specs.Prelude.{◌≡◌, ◌≤◌, ◌+◌, ◌++◌, ℕ, List, length, drop, take, replicate, ◌⊎◌, IfOk, IfErr, true, Ok as Found};
 ghost use Rattle.byteorder.specs.Endian.{big_number};
 ghost use Rattle.als_record.specs.Spelling.{head, spelling, record_len, IsRecord};
 ghost use Rattle.als_record.specs.declared.record.Record.{Record as AnyRecord};
@@ -141,6 +141,24 @@ fn half(bytes: &[u8], at: usize) -> u16
 {
     let (_, rest) = bytes.split_at(at);
     BigEndian::read_u16(rest)
+}
+
+/// How many bytes a checkpoint has that begins with these.
+///
+/// `BadControl`: there is none, for one has no so many rows.
+pub fn checkpoint_len(front: &[u8]) -> Result<usize, Fault>
+    requires { 40 ≤ length front.now }
+    ensures only { (pages position : ℕ) (c : AnyCheckpoint) (rest : List ℕ) → IsCheckpoint pages position c
+        → front.now ≡ take 40 (checkpoint_bytes c) ++ rest → result ≡ Found (length (checkpoint_bytes c)) }
+    ensures few { IfOk result (λ len. (40 ≤ len) × (len ≤ 54568)) }
+    ensures fault { IfErr result (λ fault. fault ≡ Fault.BadControl) }
+{
+    let transactions = half(front, 36) as usize;
+    let pages = half(front, 38) as usize;
+    if transactions > TransactionRows::LIMIT || pages > PageRows::LIMIT {
+        return Err(Fault::BadControl);
+    }
+    Ok(40 + 21 * transactions + 12 * pages)
 }
 
 /// The record at the front of bytes, as a log would have it at 0.

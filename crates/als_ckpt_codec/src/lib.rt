@@ -13,7 +13,7 @@ mod checkpoint_rows;
 mod checkpoint_codec;
 
 pub use checkpoint::Checkpoint;
-pub use checkpoint_codec::{decode_checkpoint, encode_checkpoint};
+pub use checkpoint_codec::{checkpoint_len, decode_checkpoint, encode_checkpoint};
 pub use fault::Fault;
 pub use numbers::Numbers;
 
