@@ -1,3 +1,4 @@
+pub mod CommitLaws
 pub mod Bounds
 pub mod KeySteps
 pub mod StateSteps

@@ -3,6 +3,8 @@
 
 // Each cause by itself.
 mod causes;
+// The commit that a record makes.
+mod committing;
 // Why a record is not admitted.
 mod fault;
 // An image in few bytes.

@@ -264,3 +264,22 @@ fn a_partial_rollback_goes_on(rt: HostRuntime) {
     assert_eq!(rt; one.check(&commit.view()), Ok(()));
     assert_eq!(rt; one.reserve_after(&commit.view()), 28 + 28 + 42);
 }
+
+// T1 writes (0,0), (0,1) and (0,0) again, and undoes the last write: its commit has the first two.
+fn commits(rt: &impl Abort, alloc: Global) -> Option<()> {
+    let mut validator = fresh(rt, alloc);
+    admit(rt, &mut validator, &update(16, 0, 1, None, 1));
+    admit(rt, &mut validator, &update_beside(52, 16, 1));
+    admit(rt, &mut validator, &update(88, 52, 1, byte(1), 2));
+    admit(rt, &mut validator, &undo(125, 88, 1, byte(1), 52));
+    let commit = record(168, 125, 1, Body::Commit);
+    let made = validator.commit_of(alloc, &commit.view()).ok()??;
+    assert_eq!(rt; (made.trans.0, made.lsn.0, made.writes.len()), (1, 168, 2));
+    Some(())
+}
+
+#[test]
+fn a_commit_has_what_survives(rt: HostRuntime) {
+    let alloc = rt.alloc();
+    assert!(rt; commits(&rt, alloc).is_some() || commits(&rt, alloc).is_some());
+}

@@ -4,9 +4,9 @@ ghost use Rattle.als_record.specs.Spelling.{IsRecord};
 ghost use Rattle.als_record.specs.Shown.{shown, shown_body};
 ghost use Rattle.als_record.specs.LogText.{end_of};
 ghost use Rattle.als_record.specs.Tail.{reserve_of};
-ghost use Rattle.als_record.specs.Transactions.{unended, surviving};
+ghost use Rattle.als_record.specs.Transactions.{unended, surviving, greatest_trans};
 ghost use Rattle.als_record.specs.Table.{table_of};
-ghost use Rattle.als_record.specs.Validity.{first_bad, checkpoint_after, IsValidLog};
+ghost use Rattle.als_record.specs.Validity.{first_bad, checkpoint_after, open_checkpoint, IsValidLog};
 ghost use Rattle.als_analysis.specs.Noted.{IsTableOf};
 ghost use Rattle.als_analysis.specs.Open.{rows_of, left_of};
 ghost use Rattle.als_validator.specs.declared.fault.Fault.TheVariants.{Memory};
@@ -192,6 +192,20 @@ impl Validator {
         ensures left { (pages : ℕ) (log : List Record) → IsValidatorOf pages self.now log → left_of result.now ≡ map (surviving log) (unended log) }
     {
         self.table.rows()
+    }
+
+    /// The greatest TransID of the log, 0 for none.
+    pub fn greatest(&self) -> TransId
+        ensures { (pages : ℕ) (log : List Record) → IsValidatorOf pages self.now log → result.0 ≡ greatest_trans log }
+    {
+        self.greatest
+    }
+
+    /// The begin_chkpt that no end_chkpt has followed, 0 for none.
+    pub fn open_checkpoint(&self) -> Lsn
+        ensures { (pages : ℕ) (log : List Record) → IsValidatorOf pages self.now log → result.0 ≡ open_checkpoint log }
+    {
+        self.begun
     }
 
     /// The bytes that a takeover would append, exact for a log of less than 2^62 bytes.

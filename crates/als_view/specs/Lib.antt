@@ -1,2 +1,4 @@
+pub mod Committing
 pub mod FaultNames
 pub mod Fronts
+pub mod Showing

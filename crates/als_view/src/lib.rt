@@ -3,10 +3,16 @@
 
 // A committed transaction and what it writes.
 mod commit;
+// The commit that a record makes.
+mod committing;
 // Why a reader gets no answer.
 mod fault;
 // The keys' images.
 mod images;
+// What holds of every log and view.
+mod laws;
+// What a view shows of a log.
+mod showing;
 #[cfg(test)]
 mod tests;
 // The view.
@@ -14,4 +20,5 @@ mod view;
 
 pub use commit::Commit;
 pub use fault::Fault;
+pub use laws::{a_view_goes_on, all_commits_end, commits_are_few};
 pub use view::{Answer, View};

@@ -1,5 +1,5 @@
 use crate::{Answer, Commit, Fault, View};
-use als_record::{Image, Key, Lsn, TransId, Value};
+use als_record::{Body, Image, Key, Lsn, Record, TransId, Value};
 use std::alloc::Global;
 use std::process::Abort;
 
@@ -102,4 +102,61 @@ fn a_view_without_a_list_warms(rt: HostRuntime) {
     assert!(rt; shows_at_once(&rt, alloc).is_some() || shows_at_once(&rt, alloc).is_some());
     assert_eq!(rt; Fault::Warming.number(), 35);
     assert_eq!(rt; Fault::Warming.name(), "Warming");
+}
+
+// What survives of a transaction that commits at 152: at 16 it gave (0,0) the value aa, at 116 it gave (0,1) nothing.
+fn survivors(alloc: Global) -> Option<Vec<Record>> {
+    let mut left = Vec::with_capacity(alloc, 2).ok()?;
+    left.push(update(16, key(0, 0), None, byte(0xaa))).ok()?;
+    left.push(update(116, key(0, 1), byte(1), None)).ok()?;
+    Some(left)
+}
+
+fn update(lsn: u64, key: Key, before: Image, after: Image) -> Record {
+    Record {
+        lsn: Lsn(lsn),
+        prev: Lsn(0),
+        trans: TransId(3),
+        body: Body::Update { key, before, after },
+    }
+}
+
+// The commit has the keys and after images of its survivors, in order, and the LSN of its own record.
+fn is_made(rt: &impl Abort, alloc: Global) -> Option<()> {
+    let left = survivors(alloc)?;
+    let made = Commit::of(alloc, TransId(3), Lsn(152), left.as_slice()).ok()?;
+    assert_eq!(rt; (made.trans.0, made.lsn.0, made.writes.len()), (3, 152, 2));
+    for (at, after) in made.writes {
+        assert_eq!(rt; after.is_some(), at.slot == 0);
+    }
+    Some(())
+}
+
+#[test]
+fn a_commit_is_made_of_what_survives(rt: HostRuntime) {
+    let alloc = rt.alloc();
+    assert!(rt; is_made(&rt, alloc).is_some() || is_made(&rt, alloc).is_some());
+}
+
+// Commits that end at 80, 144 and 228: those that end at or below an offset are published, and no other.
+fn shows_what_is_acknowledged(rt: &impl Abort, alloc: Global) -> Option<()> {
+    let mut view = View::new(alloc, 2, false).ok()?;
+    fill(alloc, &mut view)?;
+    assert_eq!(rt;
+        (view.count_ended(Lsn(79)), view.count_ended(Lsn(80))),
+        (0, 1)
+    );
+    assert_eq!(rt; view.read(key(0, 0)).err(), Some(Fault::Warming));
+    view.publish_ended(Lsn(227));
+    assert_eq!(rt; said(&view, 0, 0), Some((byte(0xbb), 2, 116)));
+    Some(())
+}
+
+#[test]
+fn a_view_publishes_what_is_acknowledged(rt: HostRuntime) {
+    let alloc = rt.alloc();
+    assert!(rt;
+        shows_what_is_acknowledged(&rt, alloc).is_some()
+            || shows_what_is_acknowledged(&rt, alloc).is_some()
+    );
 }

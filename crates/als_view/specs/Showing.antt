@@ -1,0 +1,46 @@
+-- What a view shows of a log.
+use Rattle.std.specs.Prelude.{◌≡◌, ℕ, ◌+◌, ◌≤◌, ◌⊎◌, nat_le, nat_lt, ◌&&◌, true, List, [], ◌∷◌, ◌++◌, length, filter, Option, Some, None, if◌then◌else◌}
+use Rattle.std.specs.List.{AllByRecursion}
+use Rattle.als_record.specs.declared.key.Key.{Key}
+use Rattle.als_record.specs.declared.record.Record.{Record}
+use Rattle.als_record.specs.Transactions.{is_commit}
+use Rattle.als_record.specs.Images.{won}
+use Rattle.als_record.specs.Commits.{Commit, commits_of}
+use Rattle.als_view.specs.Fronts.{View, HasPublished, last_of}
+use Rattle.als_view.specs.declared.view.Answer.{Answer}
+
+-- a commit whose record ends at or below an offset
+abbrev pub IsEnded : ℕ → Commit → Type 0
+IsEnded offset c = c.lsn.0 + 28 ≤ offset
+
+-- how many of these commits have a record that ends at or below an offset
+unfoldable pub ended_count : ℕ → List Commit → ℕ
+ended_count offset commits = length (filter (λ c. nat_le (c.lsn.0 + 28) offset) commits)
+
+-- The view is of the log, of which an offset is acknowledged: the commits of the log are those published and then those queued, and
+-- those published end at or below the offset.
+pub record IsShowing (log : List Record) (acknowledged : ℕ) (view : View) : Type 0 where
+  pub front : List Commit
+  pub parts : commits_of log ≡ front ++ view.queued
+  pub shown : HasPublished view front
+  pub ended : AllByRecursion (IsEnded acknowledged) front
+
+-- how many commits are published; none where there is no list
+abbrev pub published_of : View → Option ℕ
+published_of view = if view.listed then Some view.commits else None
+
+-- the log is empty, or its last record is a commit
+abbrev pub EndsWithCommit : List Record → Type 0
+EndsWithCommit log = (log ≡ []) ⊎ ((before : List Record) × (r : Record) × (log ≡ before ++ r ∷ []) × (is_commit r.body ≡ true))
+
+-- An answer is of a front of the log, which ends with a commit: the value that the committed transactions of this front left at the key,
+-- how many they are, and the LSN of the last one. They all end at or below what is acknowledged.
+pub record ReadsFront (log : List Record) (acknowledged pages : ℕ) (key : Key) (answer : Answer) : Type 0 where
+  pub front : List Record
+  pub rest : List Record
+  pub parts : log ≡ front ++ rest
+  pub ends : EndsWithCommit front
+  pub value : answer.value ≡ (if nat_lt key.page pages && nat_lt key.slot 15 then won front key else None)
+  pub commits : answer.commits ≡ length (commits_of front)
+  pub lsn : answer.lsn.0 ≡ last_of (commits_of front)
+  pub ended : AllByRecursion (IsEnded acknowledged) (commits_of front)
