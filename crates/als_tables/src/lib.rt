@@ -1,0 +1,13 @@
+//! What a checkpoint takes of a log as it is held: its rows of the transaction table, and counts.
+#![tactic(auto)]
+
+// The rows of the transaction table.
+mod copies;
+// Records and commits, counted.
+mod tally;
+
+pub use copies::{fits_checkpoint, logged_rows};
+pub use tally::Tally;
+
+#[cfg(test)]
+mod tests;

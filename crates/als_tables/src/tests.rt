@@ -1,0 +1,18 @@
+use crate::Tally;
+use als_record::{Body, Lsn, Record, TransId};
+
+/// The log has one record, a commit.
+#[test]
+fn a_commit_is_counted(rt: HostRuntime) {
+    let mut tally = Tally::new();
+    tally.note(&Record {
+        lsn: Lsn(16),
+        prev: Lsn(0),
+        trans: TransId(1),
+        body: Body::Commit,
+    });
+    assert_eq!(rt;
+        (tally.records, tally.commits, tally.last_commit),
+        (1, 1, Lsn(16))
+    );
+}
