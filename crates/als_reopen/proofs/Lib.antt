@@ -1,0 +1,6 @@
+mod Devices
+mod Fronts
+mod Nodes
+mod WholeLogs
+mod Steps
+mod Texts

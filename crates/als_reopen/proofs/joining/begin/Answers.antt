@@ -1,0 +1,7 @@
+use Rattle.std.proofs.Common.{ap}
+use Rattle.als_scan.specs.Scanned.{Scanned}
+use Rattle.als_reopen.proofs.Steps.{begins_met}
+use Rattle.als_reopen.proofs.joining.begin.Goals as goal
+
+pub returns-in-Ok-clause-met : goal.returns-in-Ok-clause-met
+returns-in-Ok-clause-met g c = begins_met c.args.checkpoint.now c.args.mark.0 c.in-Ok.scan.log (ap (λ (s : Scanned). s.log) c.in-Ok.ensures.ok) c.requires.position

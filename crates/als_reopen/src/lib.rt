@@ -1,0 +1,39 @@
+//! Three stopped devices are read and taken up again: the control block and its checkpoint, the log below the mark, and the changes
+//! that the pages may lack.
+#![tactic(auto)]
+
+// The devices.
+mod disks;
+// Why devices are not taken up again.
+mod fault;
+// Devices that are handed back.
+mod unreopened;
+// What was read of them.
+mod reopened;
+// The changes of the records, for their pages.
+mod taking_in;
+// The checkpoint, compared with the log.
+mod comparing;
+// The log, record by record.
+mod reading;
+// A log that was read whole.
+mod read_log;
+// Devices of which no log was taken up.
+mod unread_log;
+// The log and the pages together.
+mod joining;
+// Devices that are synced.
+mod syncing;
+// Devices that are read.
+mod read_back;
+// Both.
+mod reopening;
+
+pub use disks::Disks;
+pub use fault::Fault;
+pub use reopened::Reopened;
+pub use reopening::reopen;
+pub use unreopened::Unreopened;
+
+#[cfg(test)]
+mod tests;
