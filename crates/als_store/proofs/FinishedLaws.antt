@@ -1,5 +1,5 @@
 -- What a finished takeover leaves.
-use Rattle.std.proofs.Common.{◌≡◌, ℕ, ◌-◌, ◌<◌, ◌≤◌, nat_lt, Bool, true, List, [], ◌∷◌, length, filter, map, Option, Some, None, refl, sym, ap, subst, ◌∙◌, inl, inr, arith, lt-ltb}
+use Rattle.std.proofs.Common.{◌≡◌, ℕ, ◌-◌, ◌<◌, ◌≤◌, nat_lt, Bool, true, false, List, [], ◌∷◌, length, filter, map, Option, Some, None, refl, sym, ap, subst, ◌∙◌, inl, inr, arith, lt-ltb}
 use Rattle.std.specs.List.{AllByRecursion}
 use Rattle.std.proofs.lemmas.Bool.{cases_Bool}
 use Rattle.als_record.specs.declared.change.Change.{Change}
@@ -26,9 +26,13 @@ use Rattle.als_pool.specs.Queues.{total_waiting, pending_of}
 use Rattle.als_pool.specs.Pooled.{Pooled, unread_of}
 use Rattle.als_pool.specs.Images.{IsPageOf}
 use Rattle.als_pool.proofs.QueueLists.{total-set}
-use Rattle.als_store.specs.Takeover.{is_done, IsTaken, IsTakenOver, IsFinished}
+use Rattle.als_reopen.specs.Taken.{IsTaken, IsTakenOver}
+use Rattle.als_store.specs.Takeover.{is_done, IsFinished}
+use Rattle.als_store.specs.Origin.{Origin, origin_of}
+use Rattle.als_store.specs.Warm.{IsWarm}
 use Rattle.als_store.specs.Parts.{IsStored, stored_of}
 use Rattle.als_store.proofs.TakeoverLaws.{contains_last, done_primary, taken_over-whole}
+use Rattle.als_tables.specs.declared.tally.Tally.{Tally}
 
 nothing : {X : Type 0} (xs : List X) → length xs ≤ 0 → xs ≡ []
 nothing [] le = refl
@@ -74,9 +78,12 @@ table_none : (log : List Record) → unended log ≡ [] → table_of log ≡ []
 unfolding table_of
 table_none log e = ap (map (row_of log)) e
 
-module _ (pages held : ℕ) (l : Local) (c : Controlled) (pool : Pooled) (validator : Validator) (broken : Bool) (h : IsStored pages l held c pool validator broken) (done : is_done (newest c).phase ≡ true) where
+module _ (pages : ℕ) (held : Tally) (l : Local) (c : Controlled) (pool : Pooled) (validator : Validator) (broken : Bool) (origin : Origin) (recovering : Bool) (h : IsStored pages l held c pool validator broken origin recovering) (was : IsWarm true origin) (ready : recovering ≡ false) (done : is_done (newest c).phase ≡ true) where
+  warm : IsWarm recovering (origin_of l c pool)
+  warm = h.warm was
+
   over : IsTakenOver l.log (newest c).mark.0 (newest c).seal.0
-  over = subst (λ (p : Phase). IsTaken p l.log (newest c).mark.0 (newest c).seal.0) (done_primary (newest c).phase done) (h.taken.each (newest c) (contains_last c.synced c.since))
+  over = subst (λ (p : Phase). IsTaken p l.log (newest c).mark.0 (newest c).seal.0) (done_primary (newest c).phase done) (warm.taken.each (newest c) (contains_last c.synced c.since))
 
   ended : unended l.log ≡ []
   ended = unended-tail_of l.log (taken_over-whole l.log (newest c).mark.0 (newest c).seal.0 over)
@@ -87,7 +94,7 @@ module _ (pages held : ℕ) (l : Local) (c : Controlled) (pool : Pooled) (valida
   now_won : (k : Key) → image_now l.log k ≡ won over.sealed k
   now_won k = ap (λ (log : List Record). image_now log k) over.parts ∙ (tail_of-takes_over over.sealed sealed_valid.valid).images k
 
-  pub finished : IsFinished (stored_of pages l c pool broken)
+  pub finished : IsFinished (stored_of pages l c pool broken origin recovering)
   finished = record {
     sealed = over.sealed;
     ends = over.ends;
@@ -96,7 +103,7 @@ module _ (pages held : ℕ) (l : Local) (c : Controlled) (pool : Pooled) (valida
     images = λ k in_range low.
         let lt : k.page < length pool.waits = omega (arith, h.paged.count, in_range) in
         page_at-image_now l.log k (lsn_now pool.frames k.page) low
-        (page_has_all l.log pool k.page (unread_of pool.unread k.page) (h.paged.is_pool.each k.page lt) (none_waits pool.waits k.page lt (h.taken.drained done)))
+        (page_has_all l.log pool k.page (unread_of pool.unread k.page) (warm.is_pool.each k.page lt) (none_waits pool.waits k.page lt (warm.taken.drained ready done)))
         ∙ now_won k;
     same = λ k. sym (image_now-without_tail l.log h.is_log.valid ended k) ∙ now_won k;
   }

@@ -2,8 +2,16 @@ pub mod PoolSteps
 pub mod TakeoverLaws
 pub mod FinishedLaws
 pub mod SealLaws
+pub mod CheckpointRows
+pub mod CheckpointLaws
 pub mod StoredParts
+pub mod CheckpointSteps
 pub mod JudgingLaws
 pub mod KeptLaws
 pub mod PageEvents
 pub mod Showing
+pub mod OpeningLaws
+pub mod LeavingLaws
+pub mod StayingLaws
+pub mod Formatted
+pub mod Unshown

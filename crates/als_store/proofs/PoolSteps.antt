@@ -14,7 +14,7 @@ use Rattle.als_pool.specs.Pooled.{Pooled, Held}
 use Rattle.als_pool.specs.Outcomes.{Loads, MakesResident, Redoes, Applies, RefusesApply, CanRoute}
 use Rattle.als_pool.proofs.QueueLists.{total-set}
 use Rattle.als_frames.specs.declared.fault.Fault.TheVariants.{Device as DiskFailed}
-use Rattle.als_pool.specs.Outcomes.{RefusesPage, ReadRefused}
+use Rattle.als_pool.specs.Outcomes.{ReadRefused}
 use Rattle.als_store.specs.declared.fault.Fault.TheVariants as fault
 use Rattle.als_store.specs.Faults.{of_pool}
 use Rattle.als_store.specs.Stored.{routed}
@@ -137,15 +137,6 @@ bad_page_from pool_fault.NothingToDo page e = absurd cc
 bad_page_from pool_fault.Device page e = absurd cc
 bad_page_from pool_fault.Memory page e = absurd cc
 bad_page_from (pool_fault.BadPage p) page e = let same : p ≡ page = cc in ap pool_fault.BadPage same
-
--- a page whose block is that of the page is not shown only where the device has failed
-pub show_fails : (reason : PoolFault) (old new : Pooled) (page : ℕ) → RefusesPage reason old new page → (reason ≡ pool_fault.BadPage page → ⊥) → (of_pool reason ≡ fault.Device) × ReadRefused DiskFailed old new page
-show_fails pool_fault.Device old new page r sound = (refl, r)
-show_fails (pool_fault.BadPage p) old new page r sound = absurd (sound (ap pool_fault.BadPage r.refuses.0))
-show_fails pool_fault.LogBehind old new page r sound = absurd r
-show_fails pool_fault.PoolFull old new page r sound = absurd r
-show_fails pool_fault.NothingToDo old new page r sound = absurd r
-show_fails pool_fault.Memory old new page r sound = absurd r
 
 pub calm_show : (old new : Pooled) (page : ℕ) → ReadRefused DiskFailed old new page → IsCalm old new
 calm_show old new page r = let e = r.refuses.same in calm_frames old new r.same (ap (λ (v : Paged). v.attempts) e) (ap (λ (v : Paged). v.sure) e)

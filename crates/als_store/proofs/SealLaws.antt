@@ -24,10 +24,13 @@ use Rattle.als_ckpt.specs.declared.region.Region.{Region}
 use Rattle.als_ckpt.specs.Control.{Controlled, newest, phase_byte, IsPosition, IsSeal, IsControlState, IsControlled, with_state}
 use Rattle.als_pool.specs.Queues.{total_waiting}
 use Rattle.als_pool.specs.Pooled.{Pooled}
-use Rattle.als_store.specs.Takeover.{follows, is_done, is_none, IsTakenOver, IsTaken, AreTaken, is_drained}
+use Rattle.als_reopen.specs.Taken.{IsTakenOver, IsTaken}
+use Rattle.als_store.specs.Takeover.{follows, is_done, is_none, GoesOn, AreTaken, is_drained}
+use Rattle.als_store.specs.Origin.{Origin}
 use Rattle.als_store.specs.Parts.{IsStored, stored_of}
 use Rattle.als_store.proofs.TakeoverLaws.{contains_last, follows_low, rest_is_tail, taken_written}
 use Rattle.als_store.proofs.StoredParts.{stored-written, stored-torn}
+use Rattle.als_tables.specs.declared.tally.Tally.{Tally}
 
 position_raised : (published : Option Region) (mark higher position : ℕ) → mark ≤ higher → IsPosition published mark position → IsPosition published higher position
 position_raised None mark higher position le h = h
@@ -76,7 +79,7 @@ first_cons : (rs : List Record) (r : Record) → first_of rs ≡ Some r → (res
 first_cons [] r e = absurd (cc e)
 first_cons (x ∷ rs) r e = let same : x ≡ r = cc e in (rs, ap (λ (y : Record). y ∷ rs) same)
 
-module _ (pages held : ℕ) (l : Local) (c : Controlled) (pool : Pooled) (validator : Validator) (broken : Bool) (h : IsStored pages l held c pool validator broken) (local : IsLocal l) (controlled : IsControlled c) where
+module _ (pages : ℕ) (held : Tally) (l : Local) (c : Controlled) (pool : Pooled) (validator : Validator) (broken : Bool) (origin : Origin) (recovering : Bool) (h : IsStored pages l held c pool validator broken origin recovering) (local : IsLocal l) (controlled : IsControlled c) where
   now : IsControlState c.log_bytes (newest c)
   now = controlled.fits (newest c) (contains_last c.synced c.since)
 
@@ -98,17 +101,21 @@ module _ (pages held : ℕ) (l : Local) (c : Controlled) (pool : Pooled) (valida
         seal = (omega (arith, now.begins, rises), omega arith);
       }
 
-  seal_taken : (end : Lsn) → end.0 ≡ end_of l.log → follows (newest c).phase ≡ true → AreTaken l.log c.synced (c.since ++ record (newest c) { phase = Sealed; mark = end; seal = end } ∷ []) (total_waiting pool.waits)
-  seal_taken end is on = taken_written l.log c.synced c.since (total_waiting pool.waits) h.taken (record (newest c) { phase = Sealed; mark = end; seal = end })
-      (record { phase = omega (arith, follows_low (newest c).phase on); seal = λ past. absurd (omega (arith, past, follows_low (newest c).phase on)) })
+  seal_on : (end : Lsn) → follows (newest c).phase ≡ true → GoesOn (newest c) (record (newest c) { phase = Sealed; mark = end; seal = end })
+  seal_on end on = record { phase = omega (arith, follows_low (newest c).phase on); seal = λ past. absurd (omega (arith, past, follows_low (newest c).phase on)) }
+
+  seal_taken : (end : Lsn) → end.0 ≡ end_of l.log → follows (newest c).phase ≡ true → AreTaken l.log c.synced c.since recovering (total_waiting pool.waits)
+      → AreTaken l.log c.synced (c.since ++ record (newest c) { phase = Sealed; mark = end; seal = end } ∷ []) recovering (total_waiting pool.waits)
+  seal_taken end is on taken = taken_written l.log c.synced c.since recovering (total_waiting pool.waits) taken (record (newest c) { phase = Sealed; mark = end; seal = end })
+      (seal_on end on)
       (record { sealed = l.log; undone = []; rest = tail_of l.log; parts = sym (append-nil l.log); ends = sym is; tail = refl })
-      (λ done. absurd cc)
+      (λ ready done. absurd cc)
 
-  pub stored-sealed : (c' : Controlled) (end : Lsn) → end.0 ≡ end_of l.log → end_of l.log ≤ l.synced → follows (newest c).phase ≡ true → c' ≡ with_state c (record (newest c) { phase = Sealed; mark = end; seal = end }) → IsStored pages l held c' pool validator broken
-  stored-sealed c' end is low on e = stored-written pages held l c pool validator broken h c' (record (newest c) { phase = Sealed; mark = end; seal = end }) local (end_front end is) (omega (arith, is, low)) (seal_taken end is on) e
+  pub stored-sealed : (c' : Controlled) (end : Lsn) → end.0 ≡ end_of l.log → end_of l.log ≤ l.synced → follows (newest c).phase ≡ true → c' ≡ with_state c (record (newest c) { phase = Sealed; mark = end; seal = end }) → IsStored pages l held c' pool validator broken origin recovering
+  stored-sealed c' end is low on e = stored-written pages held l c pool validator broken origin recovering h c' (record (newest c) { phase = Sealed; mark = end; seal = end }) local (end_front end is) (omega (arith, is, low)) (seal_on end on) (seal_taken end is on) e
 
-  pub stored-seal_torn : (c' : Controlled) (end : Lsn) → end.0 ≡ end_of l.log → end_of l.log ≤ l.synced → follows (newest c).phase ≡ true → c' ≡ record (with_state c (record (newest c) { phase = Sealed; mark = end; seal = end })) { sure = false; failures = c'.failures } → IsStored pages l held c' pool validator true
-  stored-seal_torn c' end is low on e = stored-torn pages held l c pool validator broken h c' (record (newest c) { phase = Sealed; mark = end; seal = end }) local (end_front end is) (omega (arith, is, low)) (seal_taken end is on) e
+  pub stored-seal_torn : (c' : Controlled) (end : Lsn) → end.0 ≡ end_of l.log → end_of l.log ≤ l.synced → follows (newest c).phase ≡ true → c' ≡ record (with_state c (record (newest c) { phase = Sealed; mark = end; seal = end })) { sure = false; failures = c'.failures } → IsStored pages l held c' pool validator true origin recovering
+  stored-seal_torn c' end is low on e = stored-torn pages held l c pool validator broken origin recovering h c' (record (newest c) { phase = Sealed; mark = end; seal = end }) local (end_front end is) (omega (arith, is, low)) (seal_on end on) (seal_taken end is on) e
 
   -- ---- the end of a takeover
 
@@ -120,24 +127,27 @@ module _ (pages held : ℕ) (l : Local) (c : Controlled) (pool : Pooled) (valida
     seal = sealed_seal (newest c).phase (newest c).mark.0 (newest c).seal.0 past now.seal;
   }
 
-  module _ (past : follows (newest c).phase ≡ false) (unfinished : is_done (newest c).phase ≡ false) (drained : is_drained (stored_of pages l c pool broken) ≡ true) where
+  module _ (past : follows (newest c).phase ≡ false) (unfinished : is_done (newest c).phase ≡ false) (drained : is_drained (stored_of pages l c pool broken origin recovering) ≡ true) where
     parts_of : Drained l.log (total_waiting pool.waits) c.synced.mark.0
     parts_of = drained_parts l.log (total_waiting pool.waits) c.synced.mark.0 drained
 
     mark_is : (newest c).mark.0 ≡ end_of l.log
     mark_is = omega (arith, parts_of.whole, controlled.from_synced (newest c) (contains_last c.synced c.since), h.marks.newest_synced, local.synced, local.written)
 
-    finish_taken : AreTaken l.log c.synced (c.since ++ record (newest c) { phase = Primary } ∷ []) (total_waiting pool.waits)
-    finish_taken = taken_written l.log c.synced c.since (total_waiting pool.waits) h.taken (record (newest c) { phase = Primary })
-        (record { phase = phase_high (newest c).phase; seal = λ on. refl })
-        (whole_tail (newest c).phase l.log (newest c).mark.0 (newest c).seal.0 past unfinished parts_of.ended mark_is (h.taken.each (newest c) (contains_last c.synced c.since)))
-        (λ done. parts_of.waits)
+    finish_on : GoesOn (newest c) (record (newest c) { phase = Primary })
+    finish_on = record { phase = phase_high (newest c).phase; seal = λ on. refl }
 
-    pub stored-finished : (c' : Controlled) → c' ≡ with_state c (record (newest c) { phase = Primary }) → IsStored pages l held c' pool validator broken
-    stored-finished c' e = stored-written pages held l c pool validator broken h c' (record (newest c) { phase = Primary }) local (end_front (newest c).mark mark_is) h.marks.newest_synced finish_taken e
+    finish_taken : AreTaken l.log c.synced c.since recovering (total_waiting pool.waits) → AreTaken l.log c.synced (c.since ++ record (newest c) { phase = Primary } ∷ []) recovering (total_waiting pool.waits)
+    finish_taken taken = taken_written l.log c.synced c.since recovering (total_waiting pool.waits) taken (record (newest c) { phase = Primary })
+        finish_on
+        (whole_tail (newest c).phase l.log (newest c).mark.0 (newest c).seal.0 past unfinished parts_of.ended mark_is (taken.each (newest c) (contains_last c.synced c.since)))
+        (λ ready done. parts_of.waits)
 
-    pub stored-finish_torn : (c' : Controlled) → c' ≡ record (with_state c (record (newest c) { phase = Primary })) { sure = false; failures = c'.failures } → IsStored pages l held c' pool validator true
-    stored-finish_torn c' e = stored-torn pages held l c pool validator broken h c' (record (newest c) { phase = Primary }) local (end_front (newest c).mark mark_is) h.marks.newest_synced finish_taken e
+    pub stored-finished : (c' : Controlled) → c' ≡ with_state c (record (newest c) { phase = Primary }) → IsStored pages l held c' pool validator broken origin recovering
+    stored-finished c' e = stored-written pages held l c pool validator broken origin recovering h c' (record (newest c) { phase = Primary }) local (end_front (newest c).mark mark_is) h.marks.newest_synced finish_on finish_taken e
+
+    pub stored-finish_torn : (c' : Controlled) → c' ≡ record (with_state c (record (newest c) { phase = Primary })) { sure = false; failures = c'.failures } → IsStored pages l held c' pool validator true origin recovering
+    stored-finish_torn c' e = stored-torn pages held l c pool validator broken origin recovering h c' (record (newest c) { phase = Primary }) local (end_front (newest c).mark mark_is) h.marks.newest_synced finish_on finish_taken e
 
   -- ---- the next record of the tail
 

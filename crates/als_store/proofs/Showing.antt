@@ -6,7 +6,7 @@ use Rattle.std.proofs.lemmas.List.{get_or-set_other}
 use Rattle.als_record.specs.declared.lsn.Lsn.{Lsn}
 use Rattle.als_record.specs.declared.record.Record.{Record}
 use Rattle.als_record.specs.Pages.{changes_above}
-use Rattle.als_frames.specs.Frames.{Framed, Paged, frame_of, slot_of}
+use Rattle.als_frames.specs.Frames.{Framed, Paged, frame_of}
 use Rattle.als_frames.specs.Images.{synced_lsn, synced_content, spelled_lsn, lsn_or, written_or, lsn_now}
 use Rattle.als_frames.specs.Batch.{redone_frame}
 use Rattle.als_frames.specs.Outcomes.{synced_frame}

@@ -26,19 +26,25 @@ use Rattle.als_ckpt.specs.declared.control_state.ControlState.{ControlState}
 use Rattle.als_ckpt.specs.Control.{Controlled, newest, last_state, with_state, settled, first_state, new_control}
 use Rattle.als_frames.specs.Frames.{Paged}
 use Rattle.als_pool.specs.Queues.{total_waiting}
-use Rattle.als_pool.specs.Pooled.{Pooled, Room, new_pool}
+use Rattle.als_pool.specs.Pooled.{Pooled, Room, Grows, new_pool}
+use Rattle.als_tables.specs.Counting.{IsTallyOf}
+use Rattle.als_store.proofs.CheckpointLaws.{told_push, told_grows, told_synced, told_new}
 use Rattle.als_pool.specs.Outcomes.{HasPlace, CanRoute, SyncsPages, Flushes}
+use Rattle.als_pool.specs.Bounds.{EndsBelow}
 use Rattle.als_pool.specs.Images.{IsPoolOf}
 use Rattle.als_pool.proofs.QueueLists.{total-empty}
 use Rattle.als_record.specs.Tail as tail
 use Rattle.als_record.specs.Transactions as transactions
 use Rattle.als_record.specs.Tail.{tail_len, reserve_of}
-use Rattle.als_store.specs.Stored.{Stored, formatted, routed, with_records, IsTooLong, FrontsFit}
-use Rattle.als_store.specs.Takeover.{AreTaken}
+use Rattle.als_store.specs.Stored.{Stored, formatted, new_origin, routed, with_records, IsTooLong, FrontsFit}
+use Rattle.als_store.specs.Origin.{Origin, origin_of}
+use Rattle.als_store.specs.Takeover.{GoesOn, PhasesRise, AreTaken}
+use Rattle.als_store.specs.Warm.{IsWarm}
 use Rattle.als_store.specs.Parts.{IsStored, IsHeldPool, AreMarks, stored_of, spare_of}
 use Rattle.als_store.specs.Spare.{HasSpare}
 use Rattle.als_store.proofs.PoolSteps.{IsCalm, routed_count}
-use Rattle.als_store.proofs.TakeoverLaws.{taken_calm, taken_settled, taken_marked, taken_new}
+use Rattle.als_store.proofs.TakeoverLaws.{phases_push, taken_calm, taken_settled, taken_marked, taken_new}
+use Rattle.als_tables.specs.declared.tally.Tally.{Tally}
 
 -- ---- the log
 
@@ -182,49 +188,54 @@ spare_made l validator room r len is bytes judged places = record {
 
 -- ---- the store after each event
 
+-- for a log of which so much survives each crash: the pool stays that of the log, and no image last synced is older
+pub record Keeps (log : List Record) (acknowledged : ℕ) (old new : Pooled) : Type 0 where
+  pub is_pool : IsPoolOf log acknowledged new
+  pub grows : Grows old new
+
 -- the pool's part, as the pool changes in a call that writes nothing and syncs nothing
-pub pool-calm : (pages : ℕ) (log : List Record) (acknowledged : ℕ) (old new : Pooled) (broken : Bool) → IsHeldPool pages log acknowledged old broken → IsCalm old new → IsPoolOf log acknowledged new → IsHeldPool pages log acknowledged new broken
-pool-calm pages log acknowledged old new broken h calm is = record {
+pub pool-calm : (pages : ℕ) (log : List Record) (old new : Pooled) (broken : Bool) → IsHeldPool pages log old broken → IsCalm old new → EndsBelow (end_of log) new → IsHeldPool pages log new broken
+pool-calm pages log old new broken h calm is = record {
   count = calm.count ∙ h.count;
-  is_pool = is;
+  ends = is;
   few = omega (arith, calm.few, h.few);
   sure = λ whole. calm.sure ∙ h.sure whole;
 }
 
 -- after a sync
-pub pool-synced : (pages : ℕ) (log : List Record) (acknowledged : ℕ) (old new : Pooled) (broken : Bool) → IsHeldPool pages log acknowledged old broken → SyncsPages old new → IsPoolOf log acknowledged new → IsHeldPool pages log acknowledged new broken
-pool-synced pages log acknowledged old new broken h s is = record {
+pub pool-synced : (pages : ℕ) (log : List Record) (old new : Pooled) (broken : Bool) → IsHeldPool pages log old broken → SyncsPages old new → EndsBelow (end_of log) new → IsHeldPool pages log new broken
+pool-synced pages log old new broken h s is = record {
   count = ap (λ (v : Pooled). length v.waits) s.same ∙ h.count;
-  is_pool = is;
+  ends = is;
   few = omega (arith, ap (λ (v : Pooled). total_waiting v.waits) s.same, h.few);
   sure = λ whole. ap (λ (v : Paged). v.sure) s.syncs.same ∙ h.sure whole;
 }
 
 -- after a write
-pub pool-flushed : (pages : ℕ) (log : List Record) (acknowledged : ℕ) (old new : Pooled) (page : ℕ) (mark : Lsn) (broken : Bool) → IsHeldPool pages log acknowledged old broken → Flushes old new page mark → IsPoolOf log acknowledged new → IsHeldPool pages log acknowledged new broken
-pool-flushed pages log acknowledged old new page mark broken h f is = record {
+pub pool-flushed : (pages : ℕ) (log : List Record) (old new : Pooled) (page : ℕ) (mark : Lsn) (broken : Bool) → IsHeldPool pages log old broken → Flushes old new page mark → EndsBelow (end_of log) new → IsHeldPool pages log new broken
+pool-flushed pages log old new page mark broken h f is = record {
   count = ap (λ (v : Pooled). length v.waits) f.stores.same ∙ h.count;
-  is_pool = is;
+  ends = is;
   few = omega (arith, ap (λ (v : Pooled). total_waiting v.waits) f.stores.same, h.few);
   sure = λ whole. ap (λ (v : Paged). v.sure) f.stores.writes.same ∙ h.sure whole;
 }
 
 -- after a write or a sync that has failed
-pub pool-broken : (pages : ℕ) (log : List Record) (acknowledged : ℕ) (old new : Pooled) (broken : Bool) → IsHeldPool pages log acknowledged old broken → new ≡ record old { frames = new.frames } → IsPoolOf log acknowledged new → IsHeldPool pages log acknowledged new true
-pool-broken pages log acknowledged old new broken h same is = record {
+pub pool-broken : (pages : ℕ) (log : List Record) (old new : Pooled) (broken : Bool) → IsHeldPool pages log old broken → new ≡ record old { frames = new.frames } → EndsBelow (end_of log) new → IsHeldPool pages log new true
+pool-broken pages log old new broken h same is = record {
   count = ap (λ (v : Pooled). length v.waits) same ∙ h.count;
-  is_pool = is;
+  ends = is;
   few = omega (arith, ap (λ (v : Pooled). total_waiting v.waits) same, h.few);
   sure = λ wrong. absurd cc;
 }
 
-module _ (pages held : ℕ) (l : Local) (c : Controlled) (pool : Pooled) (validator : Validator) (broken : Bool) (h : IsStored pages l held c pool validator broken) where
+module _ (pages : ℕ) (held : Tally) (l : Local) (c : Controlled) (pool : Pooled) (validator : Validator) (broken : Bool) (origin : Origin) (recovering : Bool) (h : IsStored pages l held c pool validator broken origin recovering) where
   same_marks : (l' : Local) → l' ≡ record l { room = l'.room } → AreMarks l' c
   same_marks l' e = subst (λ (x : Local). AreMarks x c) (sym e) (record { pages = h.marks.pages; bytes = h.marks.bytes; newest_synced = h.marks.newest_synced; fronts = h.marks.fronts })
 
   -- another validator of the same log, and another room
-  pub stored-again : (l' : Local) (validator' : Validator) → l' ≡ record l { room = l'.room } → IsValidatorOf pages validator' l.log → IsStored pages l' held c pool validator' broken
-  stored-again l' validator' e judged = subst (λ (x : Local). IsStored pages x held c pool validator' broken) (sym e) (record {
+  pub stored-again : (l' : Local) (validator' : Validator) → l' ≡ record l { room = l'.room } → IsValidatorOf pages validator' l.log → IsStored pages l' held c pool validator' broken origin recovering
+  stored-again l' validator' e judged = subst (λ (x : Local). IsStored pages x held c pool validator' broken origin recovering) (sym e) (record {
     log_pages = h.log_pages;
     is_log = h.is_log;
     fit = h.fit;
@@ -233,13 +244,14 @@ module _ (pages held : ℕ) (l : Local) (c : Controlled) (pool : Pooled) (valida
     held_is = h.held_is;
     few_pages = h.few_pages;
     marks = record { pages = h.marks.pages; bytes = h.marks.bytes; newest_synced = h.marks.newest_synced; fronts = h.marks.fronts };
-    taken = h.taken;
+    rise = h.rise;
+    warm = h.warm;
     sure = h.sure;
   })
 
   -- other pages, and perhaps a write or a sync that has failed
-  pub stored-pool : (pool' : Pooled) (broken' : Bool) → IsHeldPool pages l.log c.synced.mark.0 pool' broken' → total_waiting pool'.waits ≤ total_waiting pool.waits → (broken' ≡ false → broken ≡ false) → IsStored pages l held c pool' validator broken'
-  stored-pool pool' broken' paged fewer whole = record {
+  pub stored-pool : (pool' : Pooled) (broken' : Bool) → IsHeldPool pages l.log pool' broken' → total_waiting pool'.waits ≤ total_waiting pool.waits → (IsPoolOf l.log c.synced.mark.0 pool → Keeps l.log c.synced.mark.0 pool pool') → (broken' ≡ false → broken ≡ false) → IsStored pages l held c pool' validator broken' origin recovering
+  stored-pool pool' broken' paged fewer keeps whole = record {
     log_pages = h.log_pages;
     is_log = h.is_log;
     fit = h.fit;
@@ -248,83 +260,99 @@ module _ (pages held : ℕ) (l : Local) (c : Controlled) (pool : Pooled) (valida
     held_is = h.held_is;
     few_pages = h.few_pages;
     marks = h.marks;
-    taken = taken_calm l.log c.synced c.since (total_waiting pool.waits) h.taken (total_waiting pool'.waits) fewer;
+    rise = h.rise;
+    warm = λ was.
+        let w : IsWarm recovering (origin_of l c pool) = h.warm was in
+        let k : Keeps l.log c.synced.mark.0 pool pool' = keeps w.is_pool in
+        record {
+          is_pool = k.is_pool;
+          taken = taken_calm l.log c.synced c.since recovering (total_waiting pool.waits) w.taken (total_waiting pool'.waits) fewer;
+          told = told_grows l.log pool pool' c.held c.begun (paged.count ∙ sym h.paged.count) k.grows w.told;
+        };
     sure = λ e. h.sure (whole e);
   }
 
   -- pages of which nothing was written or synced
-  pub stored-calm : (pool' : Pooled) → IsCalm pool pool' → IsPoolOf l.log c.synced.mark.0 pool' → IsStored pages l held c pool' validator broken
-  stored-calm pool' calm is = stored-pool pool' broken (pool-calm pages l.log c.synced.mark.0 pool pool' broken h.paged calm is) calm.few (λ e. e)
+  pub stored-calm : (pool' : Pooled) → IsCalm pool pool' → EndsBelow (end_of l.log) pool' → (IsPoolOf l.log c.synced.mark.0 pool → Keeps l.log c.synced.mark.0 pool pool') → IsStored pages l held c pool' validator broken origin recovering
+  stored-calm pool' calm ends keeps = stored-pool pool' broken (pool-calm pages l.log pool pool' broken h.paged calm ends) calm.few keeps (λ e. e)
 
   log_more : (r : Record) → IsRecord pages r → r.lsn.0 ≡ end_of l.log → IsLog pool.frames.pages (l.log ++ r ∷ [])
-  log_more r fits at = subst (λ (n : ℕ). IsLog n (l.log ++ r ∷ [])) (sym (h.paged.is_pool.paged ∙ h.paged.count)) (IsLog-push pages l.log r h.is_log.text fits at)
+  log_more r fits at = subst (λ (n : ℕ). IsLog n (l.log ++ r ∷ [])) (sym (h.paged.ends.paged ∙ h.paged.count)) (IsLog-push pages l.log r h.is_log.text fits at)
 
   -- a record's change can go behind those that its page waits for
   pub can_route_change : (r : Record) (change : Option Change) → change_of r ≡ change → IsRecord pages r → r.lsn.0 ≡ end_of l.log → end_of l.log ≤ 2 ^ 31
-      → ((log : List Record) (below : ℕ) (v : Pooled) (x : Record) (d : Change) → IsPoolOf log below v → IsLog v.frames.pages (log ++ x ∷ []) → x.lsn.0 ≡ end_of log → change_of x ≡ Some d → total_waiting v.waits + 1 < 2 ^ 64 → CanRoute v d)
+      → ((log : List Record) (v : Pooled) (x : Record) (d : Change) → EndsBelow (end_of log) v → IsLog v.frames.pages (log ++ x ∷ []) → x.lsn.0 ≡ end_of log → change_of x ≡ Some d → total_waiting v.waits + 1 < 2 ^ 64 → CanRoute v d)
       → IfSome change (CanRoute pool)
   can_route_change r None e fits at short law = tt
   can_route_change r (Some d) e fits at short law =
-      law l.log c.synced.mark.0 pool r d h.paged.is_pool (log_more r fits at) at e (omega (arith, h.paged.few, length-below_end l.log, short))
+      law l.log pool r d h.paged.ends (log_more r fits at) at e (omega (arith, h.paged.few, length-below_end l.log, short))
 
   -- a record more
-  pub stored-push : (l' : Local) (r : Record) (pool' : Pooled) (validator' : Validator) → IsRecord pages r → r.lsn.0 ≡ end_of l.log → first_bad l.log r ≡ None
+  pub stored-push : (l' : Local) (r : Record) (pool' : Pooled) (validator' : Validator) (held' : Tally) → IsTallyOf held' (l.log ++ r ∷ []) → IsRecord pages r → r.lsn.0 ≡ end_of l.log → first_bad l.log r ≡ None
       → end_of l.log + record_len r + reserve_of (l.log ++ r ∷ []) ≤ 512 * l.blocks → l' ≡ record l { log = l.log ++ r ∷ []; room = l'.room } → IsValidatorOf pages validator' (l.log ++ r ∷ [])
       → IfSome (change_of r) (CanRoute pool) → pool' ≡ routed pool (change_of r)
       → ((log : List Record) (below : ℕ) → IsPoolOf log below pool → IsLog pool.frames.pages (log ++ r ∷ []) → r.lsn.0 ≡ end_of log → IsPoolOf (log ++ r ∷ []) below pool')
-      → AreTaken (l.log ++ r ∷ []) c.synced c.since (total_waiting pool'.waits)
-      → IsStored pages l' (held + 1) c pool' validator' broken
-  stored-push l' r pool' validator' fits at good left e judged can same keeps taken =
+      → EndsBelow (end_of (l.log ++ r ∷ [])) pool'
+      → (AreTaken l.log c.synced c.since recovering (total_waiting pool.waits) → AreTaken (l.log ++ r ∷ []) c.synced c.since recovering (total_waiting pool'.waits))
+      → IsStored pages l' held' c pool' validator' broken origin recovering
+  stored-push l' r pool' validator' held' counted fits at good left e judged can same keeps ends taken =
       let k = routed_count pool (change_of r) can in
-      subst (λ (x : Local). IsStored pages x (held + 1) c pool' validator' broken) (sym e) (record {
+      subst (λ (x : Local). IsStored pages x held' c pool' validator' broken origin recovering) (sym e) (record {
         log_pages = h.log_pages;
         is_log = valid_push pages l.log r h.is_log fits at good;
         fit = fit-push l.blocks c.synced.mark.0 l.log r h.fit left;
         judged = judged;
         paged = record {
           count = ap (λ (v : Pooled). length v.waits) same ∙ k.0 ∙ h.paged.count;
-          is_pool = keeps l.log c.synced.mark.0 h.paged.is_pool (log_more r fits at) at;
+          ends = ends;
           few = omega (arith, ap (λ (v : Pooled). total_waiting v.waits) same, k.1, h.paged.few, length-append l.log (r ∷ []));
           sure = λ whole. ap (λ (v : Pooled). v.frames.sure) same ∙ ap (λ (v : Paged). v.sure) k.2 ∙ h.paged.sure whole;
         };
-        held_is = omega (arith, h.held_is, length-append l.log (r ∷ []));
+        held_is = counted;
         few_pages = h.few_pages;
         marks = record { pages = h.marks.pages; bytes = h.marks.bytes; newest_synced = h.marks.newest_synced; fronts = λ s among. front-push l.log r s.mark.0 (h.marks.fronts s among) };
-        taken = taken;
+        rise = h.rise;
+        warm = λ was.
+            let w : IsWarm recovering (origin_of l c pool) = h.warm was in
+            record {
+              is_pool = keeps l.log c.synced.mark.0 w.is_pool (log_more r fits at) at;
+              taken = taken w.taken;
+              told = told_push l.log r pool pool' c.held c.begun at (ap (λ (v : Pooled). length v.waits) same ∙ k.0) (ap (λ (v : Pooled). v.frames) same ∙ k.2) w.told;
+            };
         sure = h.sure;
       })
 
   pub view-push : (l' : Local) (r : Record) (pool' : Pooled) → l' ≡ record l { log = l.log ++ r ∷ []; room = l'.room } → IfSome (change_of r) (CanRoute pool) → pool' ≡ routed pool (change_of r)
-      → stored_of pages l' c pool' broken ≡ with_records (stored_of pages l c pool broken) (r ∷ [])
+      → stored_of pages l' c pool' broken origin recovering ≡ with_records (stored_of pages l c pool broken origin recovering) (r ∷ [])
   view-push l' r pool' e can same =
       let k = routed_count pool (change_of r) can in
-      ap (λ (x : Local). stored_of pages x c pool' broken) e
-      ∙ ap (λ (v : Pooled). record (stored_of pages l c pool broken) { log = l.log ++ r ∷ []; pool = v; failures = l.failures + c.failures + v.frames.failures; attempts = l.attempts + c.attempts + v.frames.attempts }) same
-      ∙ ap (λ (f : Paged). record (stored_of pages l c pool broken) { log = l.log ++ r ∷ []; pool = routed pool (change_of r); failures = l.failures + c.failures + f.failures; attempts = l.attempts + c.attempts + f.attempts }) k.2
+      ap (λ (x : Local). stored_of pages x c pool' broken origin recovering) e
+      ∙ ap (λ (v : Pooled). record (stored_of pages l c pool broken origin recovering) { log = l.log ++ r ∷ []; pool = v; failures = l.failures + c.failures + v.frames.failures; attempts = l.attempts + c.attempts + v.frames.attempts }) same
+      ∙ ap (λ (f : Paged). record (stored_of pages l c pool broken origin recovering) { log = l.log ++ r ∷ []; pool = routed pool (change_of r); failures = l.failures + c.failures + f.failures; attempts = l.attempts + c.attempts + f.attempts }) k.2
 
   -- pages of which nothing was written or synced
-  pub view-calm : (pool' : Pooled) → IsCalm pool pool' → stored_of pages l c pool' broken ≡ record (stored_of pages l c pool broken) { pool = pool'; failures = l.failures + c.failures + pool'.frames.failures }
-  view-calm pool' calm = ap (λ (n : ℕ). record (stored_of pages l c pool broken) { pool = pool'; failures = l.failures + c.failures + pool'.frames.failures; attempts = l.attempts + c.attempts + n }) calm.attempts
+  pub view-calm : (pool' : Pooled) → IsCalm pool pool' → stored_of pages l c pool' broken origin recovering ≡ record (stored_of pages l c pool broken origin recovering) { pool = pool'; failures = l.failures + c.failures + pool'.frames.failures }
+  view-calm pool' calm = ap (λ (n : ℕ). record (stored_of pages l c pool broken origin recovering) { pool = pool'; failures = l.failures + c.failures + pool'.frames.failures; attempts = l.attempts + c.attempts + n }) calm.attempts
 
-  pub view-steady : (pool' : Pooled) → IsCalm pool pool' → pool'.frames.failures ≡ pool.frames.failures → stored_of pages l c pool' broken ≡ record (stored_of pages l c pool broken) { pool = pool' }
-  view-steady pool' calm same = view-calm pool' calm ∙ ap (λ (n : ℕ). record (stored_of pages l c pool broken) { pool = pool'; failures = l.failures + c.failures + n }) same
+  pub view-steady : (pool' : Pooled) → IsCalm pool pool' → pool'.frames.failures ≡ pool.frames.failures → stored_of pages l c pool' broken origin recovering ≡ record (stored_of pages l c pool broken origin recovering) { pool = pool' }
+  view-steady pool' calm same = view-calm pool' calm ∙ ap (λ (n : ℕ). record (stored_of pages l c pool broken origin recovering) { pool = pool'; failures = l.failures + c.failures + n }) same
 
   -- one write or one sync of the pages' device
   pub view-called : (pool' : Pooled) → pool'.frames.failures ≡ pool.frames.failures → pool'.frames.attempts ≡ pool.frames.attempts + 1
-      → stored_of pages l c pool' broken ≡ record (stored_of pages l c pool broken) { pool = pool'; attempts = l.attempts + c.attempts + pool.frames.attempts + 1 }
+      → stored_of pages l c pool' broken origin recovering ≡ record (stored_of pages l c pool broken origin recovering) { pool = pool'; attempts = l.attempts + c.attempts + pool.frames.attempts + 1 }
   view-called pool' same more =
-      ap (λ (n : ℕ). record (stored_of pages l c pool broken) { pool = pool'; failures = l.failures + c.failures + n; attempts = l.attempts + c.attempts + pool'.frames.attempts }) same
-      ∙ ap (λ (n : ℕ). record (stored_of pages l c pool broken) { pool = pool'; attempts = n }) (one_more (l.attempts + c.attempts) pool.frames.attempts pool'.frames.attempts more)
+      ap (λ (n : ℕ). record (stored_of pages l c pool broken origin recovering) { pool = pool'; failures = l.failures + c.failures + n; attempts = l.attempts + c.attempts + pool'.frames.attempts }) same
+      ∙ ap (λ (n : ℕ). record (stored_of pages l c pool broken origin recovering) { pool = pool'; attempts = n }) (one_more (l.attempts + c.attempts) pool.frames.attempts pool'.frames.attempts more)
 
   -- that failed
   pub view-broken : (pool' : Pooled) → pool'.frames.attempts ≡ pool.frames.attempts + 1
-      → stored_of pages l c pool' true ≡ record (stored_of pages l c pool broken) { pool = pool'; broken = true; failures = l.failures + c.failures + pool'.frames.failures; attempts = l.attempts + c.attempts + pool.frames.attempts + 1 }
+      → stored_of pages l c pool' true origin recovering ≡ record (stored_of pages l c pool broken origin recovering) { pool = pool'; broken = true; failures = l.failures + c.failures + pool'.frames.failures; attempts = l.attempts + c.attempts + pool.frames.attempts + 1 }
   view-broken pool' more =
-      ap (λ (n : ℕ). record (stored_of pages l c pool true) { pool = pool'; failures = l.failures + c.failures + pool'.frames.failures; attempts = n }) (one_more (l.attempts + c.attempts) pool.frames.attempts pool'.frames.attempts more)
+      ap (λ (n : ℕ). record (stored_of pages l c pool true origin recovering) { pool = pool'; failures = l.failures + c.failures + pool'.frames.failures; attempts = n }) (one_more (l.attempts + c.attempts) pool.frames.attempts pool'.frames.attempts more)
 
   -- a log synced
-  pub stored-synced : (l' : Local) → IsLocal l → l' ≡ record l { synced = whole_end l.log l.written; attempts = l.attempts + 1; room = l'.room } → IsStored pages l' held c pool validator broken
-  stored-synced l' facts e = subst (λ (x : Local). IsStored pages x held c pool validator broken) (sym e) (record {
+  pub stored-synced : (l' : Local) → IsLocal l → l' ≡ record l { synced = whole_end l.log l.written; attempts = l.attempts + 1; room = l'.room } → IsStored pages l' held c pool validator broken origin recovering
+  stored-synced l' facts e = subst (λ (x : Local). IsStored pages x held c pool validator broken origin recovering) (sym e) (record {
     log_pages = h.log_pages;
     is_log = h.is_log;
     fit = h.fit;
@@ -338,22 +366,24 @@ module _ (pages held : ℕ) (l : Local) (c : Controlled) (pool : Pooled) (valida
       newest_synced = omega (arith, h.marks.newest_synced, whole_end-covers l.log l.synced l.written facts.synced_front facts.synced);
       fronts = h.marks.fronts;
     };
-    taken = h.taken;
+    rise = h.rise;
+    warm = h.warm;
     sure = h.sure;
   })
 
-  with_control : (c' : Controlled) (broken' : Bool) → c.synced.mark.0 ≤ c'.synced.mark.0 → AreMarks l c' → (broken' ≡ false → c'.sure ≡ true) → IsPoolOf l.log c'.synced.mark.0 pool → AreTaken l.log c'.synced c'.since (total_waiting pool.waits) → (broken' ≡ false → broken ≡ false)
-      → IsStored pages l held c' pool validator broken'
-  with_control c' broken' rises marks sure is taken whole = record {
+  pub with_control : (c' : Controlled) (broken' : Bool) → c.synced.mark.0 ≤ c'.synced.mark.0 → AreMarks l c' → (broken' ≡ false → c'.sure ≡ true) → PhasesRise c'.synced c'.since → (IsWarm recovering (origin_of l c pool) → IsWarm recovering (origin_of l c' pool)) → (broken' ≡ false → broken ≡ false)
+      → IsStored pages l held c' pool validator broken' origin recovering
+  with_control c' broken' rises marks sure rise warm whole = record {
     log_pages = h.log_pages;
     is_log = h.is_log;
     fit = fit-raised l.blocks c.synced.mark.0 c'.synced.mark.0 l.log rises h.fit;
     judged = h.judged;
-    paged = record { count = h.paged.count; is_pool = is; few = h.paged.few; sure = λ e. h.paged.sure (whole e) };
+    paged = record { count = h.paged.count; ends = h.paged.ends; few = h.paged.few; sure = λ e. h.paged.sure (whole e) };
     held_is = h.held_is;
     few_pages = h.few_pages;
     marks = marks;
-    taken = taken;
+    rise = rise;
+    warm = λ was. warm (h.warm was);
     sure = sure;
   }
 
@@ -369,73 +399,88 @@ module _ (pages held : ℕ) (l : Local) (c : Controlled) (pool : Pooled) (valida
     ];
   }
 
-  -- a state written, which goes on from the newest
-  pub stored-written : (c' : Controlled) (t : ControlState) → IsLocal l → IsFrontEnd l.log t.mark.0 → t.mark.0 ≤ l.synced → AreTaken l.log c.synced (c.since ++ t ∷ []) (total_waiting pool.waits) → c' ≡ with_state c t → IsStored pages l held c' pool validator broken
-  stored-written c' t facts front low taken e = subst (λ (x : Controlled). IsStored pages l held x pool validator broken) (sym e) (with_control (with_state c t) broken (omega arith) (marks-written t facts front low) h.sure h.paged.is_pool taken (λ e. e))
+  warm_written : (t : ControlState) → (AreTaken l.log c.synced c.since recovering (total_waiting pool.waits) → AreTaken l.log c.synced (c.since ++ t ∷ []) recovering (total_waiting pool.waits)) → IsWarm recovering (origin_of l c pool) → IsWarm recovering (origin_of l (with_state c t) pool)
+  warm_written t taken w = record { is_pool = w.is_pool; taken = taken w.taken; told = w.told }
 
-  pub stored-torn : (c' : Controlled) (t : ControlState) → IsLocal l → IsFrontEnd l.log t.mark.0 → t.mark.0 ≤ l.synced → AreTaken l.log c.synced (c.since ++ t ∷ []) (total_waiting pool.waits) → c' ≡ record (with_state c t) { sure = false; failures = c'.failures } → IsStored pages l held c' pool validator true
-  stored-torn c' t facts front low taken e =
+  -- a state written, which goes on from the newest
+  pub stored-written : (c' : Controlled) (t : ControlState) → IsLocal l → IsFrontEnd l.log t.mark.0 → t.mark.0 ≤ l.synced → GoesOn (newest c) t → (AreTaken l.log c.synced c.since recovering (total_waiting pool.waits) → AreTaken l.log c.synced (c.since ++ t ∷ []) recovering (total_waiting pool.waits)) → c' ≡ with_state c t → IsStored pages l held c' pool validator broken origin recovering
+  stored-written c' t facts front low on taken e = subst (λ (x : Controlled). IsStored pages l held x pool validator broken origin recovering) (sym e) (with_control (with_state c t) broken (omega arith) (marks-written t facts front low) h.sure (phases_push c.synced c.since t h.rise on) (warm_written t taken) (λ e. e))
+
+  pub stored-torn : (c' : Controlled) (t : ControlState) → IsLocal l → IsFrontEnd l.log t.mark.0 → t.mark.0 ≤ l.synced → GoesOn (newest c) t → (AreTaken l.log c.synced c.since recovering (total_waiting pool.waits) → AreTaken l.log c.synced (c.since ++ t ∷ []) recovering (total_waiting pool.waits)) → c' ≡ record (with_state c t) { sure = false; failures = c'.failures } → IsStored pages l held c' pool validator true origin recovering
+  stored-torn c' t facts front low on taken e =
       let m = marks-written t facts front low in
-      subst (λ (x : Controlled). IsStored pages l held x pool validator true) (sym e)
-      (with_control (record (with_state c t) { sure = false; failures = c'.failures }) true (omega arith) (record { pages = m.pages; bytes = m.bytes; newest_synced = m.newest_synced; fronts = m.fronts }) (λ wrong. absurd cc) h.paged.is_pool taken (λ wrong. absurd cc))
+      subst (λ (x : Controlled). IsStored pages l held x pool validator true origin recovering) (sym e)
+      (with_control (record (with_state c t) { sure = false; failures = c'.failures }) true (omega arith) (record { pages = m.pages; bytes = m.bytes; newest_synced = m.newest_synced; fronts = m.fronts }) (λ wrong. absurd cc) (phases_push c.synced c.since t h.rise on) (λ w. record { is_pool = w.is_pool; taken = taken w.taken; told = w.told }) (λ wrong. absurd cc))
 
   -- the newest state with the synced end as its mark
-  marked_taken : (mark : Lsn) → IsLocal l → mark.0 ≡ l.synced → AreTaken l.log c.synced (c.since ++ record (newest c) { mark = mark } ∷ []) (total_waiting pool.waits)
-  marked_taken mark facts is = taken_marked l.log c.synced c.since (total_waiting pool.waits) h.taken (record (newest c) { mark = mark }) refl refl (omega (arith, is, h.marks.newest_synced)) (omega (arith, is, facts.synced, facts.written))
+  marked_on : (mark : Lsn) → GoesOn (newest c) (record (newest c) { mark = mark })
+  marked_on mark = record { phase = omega arith; seal = λ past. refl }
+
+  marked_taken : (mark : Lsn) → IsLocal l → mark.0 ≡ l.synced → AreTaken l.log c.synced c.since recovering (total_waiting pool.waits) → AreTaken l.log c.synced (c.since ++ record (newest c) { mark = mark } ∷ []) recovering (total_waiting pool.waits)
+  marked_taken mark facts is taken = taken_marked l.log c.synced c.since recovering (total_waiting pool.waits) taken (record (newest c) { mark = mark }) refl refl (omega (arith, is, h.marks.newest_synced)) (omega (arith, is, facts.synced, facts.written))
 
   synced_front : (mark : Lsn) → IsLocal l → mark.0 ≡ l.synced → IsFrontEnd l.log mark.0
   synced_front mark facts is = subst (λ (m : ℕ). IsFrontEnd l.log m) (sym is) facts.synced_front
 
-  pub stored-marked : (c' : Controlled) (mark : Lsn) → IsLocal l → mark.0 ≡ l.synced → c' ≡ with_state c (record (newest c) { mark = mark }) → IsStored pages l held c' pool validator broken
-  stored-marked c' mark facts is e = stored-written c' (record (newest c) { mark = mark }) facts (synced_front mark facts is) (omega (arith, is)) (marked_taken mark facts is) e
+  pub stored-marked : (c' : Controlled) (mark : Lsn) → IsLocal l → mark.0 ≡ l.synced → c' ≡ with_state c (record (newest c) { mark = mark }) → IsStored pages l held c' pool validator broken origin recovering
+  stored-marked c' mark facts is e = stored-written c' (record (newest c) { mark = mark }) facts (synced_front mark facts is) (omega (arith, is)) (marked_on mark) (marked_taken mark facts is) e
 
-  pub stored-mark_torn : (c' : Controlled) (mark : Lsn) → IsLocal l → mark.0 ≡ l.synced → c' ≡ record (with_state c (record (newest c) { mark = mark })) { sure = false; failures = c'.failures } → IsStored pages l held c' pool validator true
-  stored-mark_torn c' mark facts is e = stored-torn c' (record (newest c) { mark = mark }) facts (synced_front mark facts is) (omega (arith, is)) (marked_taken mark facts is) e
+  pub stored-mark_torn : (c' : Controlled) (mark : Lsn) → IsLocal l → mark.0 ≡ l.synced → c' ≡ record (with_state c (record (newest c) { mark = mark })) { sure = false; failures = c'.failures } → IsStored pages l held c' pool validator true origin recovering
+  stored-mark_torn c' mark facts is e = stored-torn c' (record (newest c) { mark = mark }) facts (synced_front mark facts is) (omega (arith, is)) (marked_on mark) (marked_taken mark facts is) e
 
   -- the control device synced
-  pub stored-settled : (c' : Controlled) → c' ≡ settled c → c.synced.mark.0 ≤ (newest c).mark.0 → IsPoolOf l.log (newest c).mark.0 pool → IsStored pages l held c' pool validator broken
-  stored-settled c' e rises is = subst (λ (x : Controlled). IsStored pages l held x pool validator broken) (sym e) (with_control (settled c) broken rises (record {
+  pub stored-settled : (c' : Controlled) → c' ≡ settled c → c.synced.mark.0 ≤ (newest c).mark.0 → (IsPoolOf l.log c.synced.mark.0 pool → IsPoolOf l.log (newest c).mark.0 pool) → IsStored pages l held c' pool validator broken origin recovering
+  stored-settled c' e rises is = subst (λ (x : Controlled). IsStored pages l held x pool validator broken origin recovering) (sym e) (with_control (settled c) broken rises (record {
     pages = h.marks.pages;
     bytes = h.marks.bytes;
     newest_synced = h.marks.newest_synced;
     fronts = λ s among. subst (λ (x : ControlState). IsFrontEnd l.log x.mark.0) (Contains-one among) (h.marks.fronts (newest c) (last_state-among c.synced c.since));
-  }) h.sure is (taken_settled l.log c.synced c.since (total_waiting pool.waits) h.taken) (λ e. e))
+  }) h.sure tt (λ w. record { is_pool = is w.is_pool; taken = taken_settled l.log c.synced c.since recovering (total_waiting pool.waits) w.taken; told = told_synced l.log pool c.held c.begun w.told }) (λ e. e))
 
   -- a write or a sync of the log's device or of the control device has failed
-  pub stored-broken : (l' : Local) (c' : Controlled) → IsStored pages l' held c' pool validator broken → IsStored pages l' held c' pool validator true
+  pub stored-broken : (l' : Local) (c' : Controlled) → IsStored pages l' held c' pool validator broken origin recovering → IsStored pages l' held c' pool validator true origin recovering
   stored-broken l' c' s = record {
     log_pages = s.log_pages;
     is_log = s.is_log;
     fit = s.fit;
     judged = s.judged;
-    paged = record { count = s.paged.count; is_pool = s.paged.is_pool; few = s.paged.few; sure = λ wrong. absurd cc };
+    paged = record { count = s.paged.count; ends = s.paged.ends; few = s.paged.few; sure = λ wrong. absurd cc };
     held_is = s.held_is;
     few_pages = s.few_pages;
     marks = s.marks;
-    taken = s.taken;
+    rise = s.rise;
+    warm = s.warm;
     sure = λ wrong. absurd cc;
   }
 
+-- nothing is untrue of a store that was just formatted
+pub warm-new : (recovering : Bool) (pages : ℕ) (pool : Pooled) (frames : Paged) → pool ≡ new_pool frames pages → ((below : ℕ) → IsPoolOf [] below pool) → IsWarm recovering (new_origin pool)
+warm-new recovering pages pool frames ep is = record {
+  is_pool = is 16;
+  taken = subst (λ (n : ℕ). AreTaken [] first_state [] recovering n) (sym (ap (λ (v : Pooled). total_waiting v.waits) ep ∙ total-empty pages)) (taken_new recovering);
+  told = told_new pool;
+}
+
 -- a store just formatted
-pub stored-new : (pages blocks log_failures log_attempts control_blocks control_failures control_attempts : ℕ) (l : Local) (c : Controlled) (pool : Pooled) (frames : Paged) (validator : Validator) → pages ≤ 4096 → 1 ≤ blocks
+pub stored-new : (origin : Origin) (recovering : Bool) (pages blocks log_failures log_attempts control_blocks control_failures control_attempts : ℕ) (l : Local) (c : Controlled) (pool : Pooled) (frames : Paged) (validator : Validator) (held : Tally) → IsTallyOf held [] → pages ≤ 4096 → 1 ≤ blocks
     → l ≡ record { pages = pages; log = []; written = 16; synced = 16; blocks = blocks; failures = log_failures; attempts = log_attempts; room = l.room } → c ≡ new_control pages (512 * blocks) first_state control_blocks control_failures control_attempts
-    → pool ≡ new_pool frames pages → frames.sure ≡ true → ((below : ℕ) → IsPoolOf [] below pool) → IsValidatorOf pages validator [] → IsStored pages l 0 c pool validator false
-stored-new pages blocks log_failures log_attempts control_blocks control_failures control_attempts l c pool frames validator le some el ec ep sure is judged =
+    → pool ≡ new_pool frames pages → frames.sure ≡ true → ((below : ℕ) → IsPoolOf [] below pool) → EndsBelow (end_of []) pool → IsValidatorOf pages validator [] → IsStored pages l held c pool validator false origin recovering
+stored-new origin recovering pages blocks log_failures log_attempts control_blocks control_failures control_attempts l c pool frames validator held counted le some el ec ep sure is ends judged =
     let fresh_log : Local = record { pages = pages; log = []; written = 16; synced = 16; blocks = blocks; failures = log_failures; attempts = log_attempts; room = l.room } in
     let fresh_control : Controlled = new_control pages (512 * blocks) first_state control_blocks control_failures control_attempts in
-    subst (λ (x : Local). IsStored pages x 0 c pool validator false) (sym el) (
-    subst (λ (y : Controlled). IsStored pages fresh_log 0 y pool validator false) (sym ec) (record {
+    subst (λ (x : Local). IsStored pages x held c pool validator false origin recovering) (sym el) (
+    subst (λ (y : Controlled). IsStored pages fresh_log held y pool validator false origin recovering) (sym ec) (record {
       log_pages = refl;
       is_log = valid-nil pages;
       fit = fit-nil blocks 16 some;
       judged = judged;
       paged = record {
         count = ap (λ (v : Pooled). length v.waits) ep ∙ length-replicate {A = List Change} pages [];
-        is_pool = is 16;
+        ends = ends;
         few = omega (arith, ap (λ (v : Pooled). total_waiting v.waits) ep, total-empty pages);
         sure = λ e. ap (λ (v : Pooled). v.frames.sure) ep ∙ sure;
       };
-      held_is = refl;
+      held_is = counted;
       few_pages = le;
       marks = record {
         pages = refl;
@@ -443,16 +488,17 @@ stored-new pages blocks log_failures log_attempts control_blocks control_failure
         newest_synced = omega arith;
         fronts = λ s among. record { front = []; rest = []; parts = refl; ends = end-nil ∙ ap (λ (x : ControlState). x.mark.0) (Contains-one among) };
       };
-      taken = subst (λ (n : ℕ). AreTaken [] first_state [] n) (sym (ap (λ (v : Pooled). total_waiting v.waits) ep ∙ total-empty pages)) taken_new;
+      rise = tt;
+      warm = λ was. warm-new recovering pages pool frames ep is;
       sure = λ e. refl;
     }))
 
 pub view-new : (pages blocks log_failures log_attempts control_blocks control_failures control_attempts : ℕ) (l : Local) (c : Controlled) (pool fresh : Pooled)
     → l ≡ record { pages = pages; log = []; written = 16; synced = 16; blocks = blocks; failures = log_failures; attempts = log_attempts; room = l.room } → c ≡ new_control pages (512 * blocks) first_state control_blocks control_failures control_attempts
-    → pool ≡ fresh → stored_of pages l c pool false ≡ formatted pages fresh blocks (log_failures + control_failures + fresh.frames.failures) (l.attempts + c.attempts + pool.frames.attempts)
+    → pool ≡ fresh → stored_of pages l c pool false (origin_of l c pool) false ≡ formatted pages fresh blocks (log_failures + control_failures + fresh.frames.failures) (l.attempts + c.attempts + pool.frames.attempts)
 view-new pages blocks log_failures log_attempts control_blocks control_failures control_attempts l c pool fresh el ec ep =
-    ap (λ (x : Local). record (stored_of pages x c pool false) { attempts = l.attempts + c.attempts + pool.frames.attempts }) el
-    ∙ ap (λ (y : Controlled). record { pages = pages; log = []; pool = pool; blocks = blocks; written = 16; synced = 16; control = y.synced; since = y.since; broken = false; failures = log_failures + y.failures + pool.frames.failures; attempts = l.attempts + c.attempts + pool.frames.attempts }) ec
+    ap (λ (x : Local). record (stored_of pages x c pool false (origin_of x c pool) false) { attempts = l.attempts + c.attempts + pool.frames.attempts }) el
+    ∙ ap (λ (y : Controlled). record { pages = pages; log = []; pool = pool; blocks = blocks; written = 16; synced = 16; control = y.synced; since = y.since; held = y.held; begun = y.begun; broken = false; failures = log_failures + y.failures + pool.frames.failures; attempts = l.attempts + c.attempts + pool.frames.attempts; origin = record { log = []; control = y.synced; since = y.since; held = y.held; begun = y.begun; pool = pool }; recovering = false }) ec
     ∙ ap (λ (v : Pooled). record (formatted pages v blocks (log_failures + control_failures + v.frames.failures) (l.attempts + c.attempts + pool.frames.attempts)) { pool = v }) ep
 
 -- a record appended, after room was made for it

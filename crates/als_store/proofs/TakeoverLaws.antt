@@ -1,6 +1,6 @@
 -- What the control states say of the log, as the log grows and states are written.
 use Rattle.std.proofs.Common.{◌≡◌, ℕ, zero, suc, ◌≤◌, ◌⊎◌, true, List, [], ◌∷◌, ◌++◌, length, take, drop, refl, sym, ap, subst, ◌∙◌, inl, inr, arith, append-nil, append_assoc}
-use Rattle.std.specs.Prelude.{Contains}
+use Rattle.std.specs.Prelude.{Contains, Bool, false}
 use Rattle.als_record.specs.declared.lsn.Lsn.{Lsn}
 use Rattle.als_record.specs.declared.record.Record.{Record}
 use Rattle.als_record.specs.LogText.{end_of}
@@ -10,7 +10,8 @@ use Rattle.als_ckpt.specs.declared.phase.Phase.{Phase}
 use Rattle.als_ckpt.specs.declared.phase.Phase.TheVariants.{Following, Sealed, Primary}
 use Rattle.als_ckpt.specs.declared.control_state.ControlState.{ControlState}
 use Rattle.als_ckpt.specs.Control.{phase_byte, last_state, first_state}
-use Rattle.als_store.specs.Takeover.{follows, is_done, IsSealed, IsTakenOver, IsTaken, IsTakenFrom, GoesOn, PhasesRise, AreTaken}
+use Rattle.als_reopen.specs.Taken.{IsSealed, IsTakenOver, IsTaken, IsTakenFrom}
+use Rattle.als_store.specs.Takeover.{follows, is_done, GoesOn, PhasesRise, AreTaken}
 
 -- ---- lists
 
@@ -60,7 +61,18 @@ phases_to s since c rise has = elim (contains_cases s since c has) [
       | inr later ↦ phases_later x since c rise.1 later
     ]
 
-phases_push : (s : ControlState) (since : List ControlState) (t : ControlState) → PhasesRise s since → GoesOn (last_state s since) t → PhasesRise s (since ++ t ∷ [])
+-- each of them goes on from the first
+pub phases_at : (s : ControlState) (since : List ControlState) (c : ControlState) → PhasesRise s since → Contains (s ∷ since) c → GoesOn s c
+phases_at s [] c rise has = elim (contains_cases s [] c has) [
+  | inl same ↦ subst (λ (x : ControlState). GoesOn s x) same (goes_on_same s)
+  | inr none ↦ absurd (contains_none c none)
+]
+phases_at s (x ∷ since) c rise has = elim (contains_cases s (x ∷ since) c has) [
+  | inl same ↦ subst (λ (y : ControlState). GoesOn s y) same (goes_on_same s)
+  | inr later ↦ goes_on_both s x c rise.0 (phases_at x since c rise.1 later)
+]
+
+pub phases_push : (s : ControlState) (since : List ControlState) (t : ControlState) → PhasesRise s since → GoesOn (last_state s since) t → PhasesRise s (since ++ t ∷ [])
 phases_push s [] t rise on = (on, tt)
 phases_push s (x ∷ since) t rise on = (rise.0, phases_push x since t rise.1 on)
 
@@ -159,16 +171,16 @@ taken_more Primary log mark seal r rest e t = let none : r ∷ rest ≡ [] = sym
 
 -- ---- the states of a store
 
-module _ (log : List Record) (s : ControlState) (since : List ControlState) (waiting : ℕ) (h : AreTaken log s since waiting) where
+module _ (log : List Record) (s : ControlState) (since : List ControlState) (recovering : Bool) (waiting : ℕ) (h : AreTaken log s since recovering waiting) where
   newest_taken : IsTakenFrom log (last_state s since)
   newest_taken = h.each (last_state s since) (contains_last s since)
 
   -- fewer changes wait
-  pub taken_calm : (fewer : ℕ) → fewer ≤ waiting → AreTaken log s since fewer
-  taken_calm fewer le = record { each = h.each; phases = h.phases; drained = λ done. omega (arith, le, h.drained done) }
+  pub taken_calm : (fewer : ℕ) → fewer ≤ waiting → AreTaken log s since recovering fewer
+  taken_calm fewer le = record { each = h.each; phases = h.phases; drained = λ ready done. omega (arith, le, h.drained ready done) }
 
   -- the newest state alone stays
-  pub taken_settled : AreTaken log (last_state s since) [] waiting
+  pub taken_settled : AreTaken log (last_state s since) [] recovering waiting
   taken_settled = record {
     each = λ c has. elim (contains_cases (last_state s since) [] c has) [
       | inl same ↦ subst (λ (x : ControlState). IsTakenFrom log x) same newest_taken
@@ -179,30 +191,30 @@ module _ (log : List Record) (s : ControlState) (since : List ControlState) (wai
   }
 
   -- one more state
-  pub taken_written : (t : ControlState) → GoesOn (last_state s since) t → IsTakenFrom log t → (is_done t.phase ≡ true → waiting ≡ 0) → AreTaken log s (since ++ t ∷ []) waiting
+  pub taken_written : (t : ControlState) → GoesOn (last_state s since) t → IsTakenFrom log t → (recovering ≡ false → is_done t.phase ≡ true → waiting ≡ 0) → AreTaken log s (since ++ t ∷ []) recovering waiting
   taken_written t on is none = record {
     each = λ c has. elim (contains_push s since t c has) [
       | inl old ↦ h.each c old
       | inr same ↦ subst (λ (x : ControlState). IsTakenFrom log x) same is
     ];
     phases = phases_push s since t h.phases on;
-    drained = λ done. none (ap (λ (x : ControlState). is_done x.phase) (sym (last_push s since t)) ∙ done);
+    drained = λ ready done. none ready (ap (λ (x : ControlState). is_done x.phase) (sym (last_push s since t)) ∙ done);
   }
 
   -- a record that the source sends
-  pub taken_fed : (r : Record) (more : ℕ) → follows (last_state s since).phase ≡ true → AreTaken (log ++ r ∷ []) s since more
+  pub taken_fed : (r : Record) (more : ℕ) → follows (last_state s since).phase ≡ true → AreTaken (log ++ r ∷ []) s since recovering more
   taken_fed r more on = record {
     each = λ c has. taken_low c.phase (log ++ r ∷ []) c.mark.0 c.seal.0 (omega (arith, (phases_to s since c h.phases has).phase, follows_low (last_state s since).phase on));
     phases = h.phases;
-    drained = λ done. absurd (follows_not_done (last_state s since).phase on done);
+    drained = λ ready done. absurd (follows_not_done (last_state s since).phase on done);
   }
 
   -- the next record of the tail
-  pub taken_undone : (r : Record) (rest : List Record) (more : ℕ) → tail_of log ≡ r ∷ rest → AreTaken (log ++ r ∷ []) s since more
+  pub taken_undone : (r : Record) (rest : List Record) (more : ℕ) → tail_of log ≡ r ∷ rest → AreTaken (log ++ r ∷ []) s since recovering more
   taken_undone r rest more e = record {
     each = λ c has. taken_more c.phase log c.mark.0 c.seal.0 r rest e (h.each c has);
     phases = h.phases;
-    drained = λ done. absurd (
+    drained = λ ready done. absurd (
         let over : IsTakenOver log (last_state s since).mark.0 (last_state s since).seal.0 = subst (λ (p : Phase). IsTaken p log (last_state s since).mark.0 (last_state s since).seal.0) (done_primary (last_state s since).phase done) newest_taken in
         let none : r ∷ rest ≡ [] = sym e ∙ taken_over-whole log (last_state s since).mark.0 (last_state s since).seal.0 over in
         cc none
@@ -210,11 +222,11 @@ module _ (log : List Record) (s : ControlState) (since : List ControlState) (wai
   }
 
   -- a state with another mark, at or above the newest one and at or below the log's end
-  pub taken_marked : (t : ControlState) → t.phase ≡ (last_state s since).phase → t.seal ≡ (last_state s since).seal → (last_state s since).mark.0 ≤ t.mark.0 → t.mark.0 ≤ end_of log → AreTaken log s (since ++ t ∷ []) waiting
+  pub taken_marked : (t : ControlState) → t.phase ≡ (last_state s since).phase → t.seal ≡ (last_state s since).seal → (last_state s since).mark.0 ≤ t.mark.0 → t.mark.0 ≤ end_of log → AreTaken log s (since ++ t ∷ []) recovering waiting
   taken_marked t same_phase same_seal rises within = taken_written t
       (record { phase = omega (arith, ap phase_byte same_phase); seal = λ past. same_seal })
       (again t.phase same_phase)
-      (λ done. h.drained (ap is_done (sym same_phase) ∙ done))
+      (λ ready done. h.drained ready (ap is_done (sym same_phase) ∙ done))
     where
       moved : (p : Phase) (seal seal' : ℕ) → seal' ≡ seal → IsTaken p log (last_state s since).mark.0 seal → IsTaken p log t.mark.0 seal'
       moved Following seal seal' e is = tt
@@ -225,12 +237,12 @@ module _ (log : List Record) (s : ControlState) (since : List ControlState) (wai
       again p e = moved p (last_state s since).seal.0 t.seal.0 (ap (λ (l : Lsn). l.0) same_seal) (subst (λ (q : Phase). IsTaken q log (last_state s since).mark.0 (last_state s since).seal.0) (sym e) newest_taken)
 
 -- of a log that was just formatted
-pub taken_new : AreTaken [] first_state [] 0
-taken_new = record {
+pub taken_new : (recovering : Bool) → AreTaken [] first_state [] recovering 0
+taken_new recovering = record {
   each = λ c has. elim (contains_cases first_state [] c has) [
     | inl same ↦ subst (λ (x : ControlState). IsTakenFrom [] x) same tt
     | inr none ↦ absurd (contains_none c none)
   ];
   phases = tt;
-  drained = λ done. absurd cc;
+  drained = λ ready done. absurd cc;
 }

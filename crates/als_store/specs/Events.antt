@@ -4,6 +4,7 @@ use Rattle.als_record.specs.declared.lsn.Lsn.{Lsn}
 use Rattle.als_record.specs.LogText.{end_of}
 use Rattle.als_log.specs.Local.{next_written, whole_end}
 use Rattle.als_ckpt.specs.declared.control_state.ControlState.{ControlState}
+use Rattle.als_ckpt.specs.Regions.{blocks_synced}
 use Rattle.als_pool.specs.Pooled.{view_of}
 use Rattle.als_pool.specs.Refusals.{has_waiting, is_full, is_due, is_behind}
 use Rattle.als_pool.specs.Outcomes.{Applies, HasAll, Flushes, FlushFails, SyncsPages, SyncPagesFails, ReadRefused}
@@ -54,10 +55,10 @@ pub record BreaksMark (old new : Stored) : Type 0 where
   pub failed : old.failures < new.failures
   pub after : new ≡ record old { since = old.since ++ marked old ∷ []; broken = true; failures = new.failures; attempts = old.attempts + 1 }
 
--- the control device is synced: the last control state alone stays, and its mark is answered
+-- the control device is synced: the last control state alone stays, and its mark is answered; so are the blocks written of a checkpoint
 pub record SyncsControl (old : Stored) (lsn : Lsn) (new : Stored) : Type 0 where
   pub answer : lsn ≡ (newest old).mark
-  pub after : new ≡ record old { control = newest old; since = []; attempts = old.attempts + 1 }
+  pub after : new ≡ record old { control = newest old; since = []; begun = blocks_synced old.begun; attempts = old.attempts + 1 }
 
 -- ---- redo
 
@@ -92,6 +93,7 @@ ReadsInVain old page (fault.BadPage p) new = (p ≡ page) × (new ≡ old)
 ReadsInVain old page fault.Memory new = new ≡ old
 ReadsInVain old page (fault.Invalid cause) new = ⊥
 ReadsInVain old page fault.LogBehind new = ⊥
+ReadsInVain old page fault.CkptBusy new = ⊥
 ReadsInVain old page fault.PoolFull new = ⊥
 ReadsInVain old page fault.LogFull new = ⊥
 
@@ -136,6 +138,7 @@ NotFlushed old page fault.LogBehind new = (is_due (view_of old.pool page) ≡ tr
 NotFlushed old page fault.Device new = BreaksFlush old page new
 NotFlushed old page (fault.Invalid cause) new = ⊥
 NotFlushed old page fault.LogFull new = ⊥
+NotFlushed old page fault.CkptBusy new = ⊥
 NotFlushed old page fault.PoolFull new = ⊥
 NotFlushed old page fault.Memory new = ⊥
 NotFlushed old page (fault.BadPage p) new = ⊥
@@ -151,8 +154,26 @@ pub record BreaksSync (old new : Stored) : Type 0 where
   pub failed : old.failures < new.failures
   pub after : new ≡ record old { pool = new.pool; broken = true; failures = new.failures; attempts = old.attempts + 1 }
 
+-- a page that has no frame was read, and its block is not that of the page: nothing changed
+pub record IsNoPage (old : Stored) (page p : ℕ) (new : Stored) : Type 0 where
+  pub number : p ≡ page
+  pub absent : (view_of old.pool page).resident ≡ false
+  pub after : new ≡ old
+
 -- a page that has no frame could not be read: nothing else changed
 pub record FailsToShow (old : Stored) (page : ℕ) (new : Stored) : Type 0 where
   pub refused : ReadRefused DiskFailed old.pool new.pool page
   pub failed : old.failures < new.failures
   pub after : new ≡ record old { pool = new.pool; failures = new.failures }
+
+-- by the fault, why a page was not shown
+abbrev pub NotShown : Stored → ℕ → Fault → Stored → Type 0
+NotShown old page fault.Device new = FailsToShow old page new
+NotShown old page (fault.BadPage p) new = IsNoPage old page p new
+NotShown old page fault.NothingToDo new = ⊥
+NotShown old page fault.Memory new = ⊥
+NotShown old page (fault.Invalid cause) new = ⊥
+NotShown old page fault.LogBehind new = ⊥
+NotShown old page fault.CkptBusy new = ⊥
+NotShown old page fault.PoolFull new = ⊥
+NotShown old page fault.LogFull new = ⊥

@@ -10,6 +10,7 @@ use Rattle.als_store.specs.declared.fault.Fault.TheVariants as fault
 abbrev pub kind_of : Fault → FaultKind
 kind_of (fault.Invalid cause) = kind_of_cause cause
 kind_of fault.LogBehind = kind.LogBehind
+kind_of fault.CkptBusy = kind.CkptBusy
 kind_of fault.PoolFull = kind.PoolFull
 kind_of fault.NothingToDo = kind.NothingToDo
 kind_of fault.LogFull = kind.LogFull

@@ -1,9 +1,16 @@
 pub mod Faults
+pub mod Origin
 pub mod Stored
+pub mod Checkpoints
+pub mod CheckpointEvents
 pub mod Spare
 pub mod Events
 pub mod Devices
 pub mod Formatting
 pub mod Takeover
+pub mod Warm
+pub mod Opening
+pub mod Leaving
+pub mod Staying
 pub mod Parts
 pub mod Views

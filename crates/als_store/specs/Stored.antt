@@ -23,6 +23,8 @@ use Rattle.als_pool.specs.Outcomes.{with_change}
 use Rattle.als_log.specs.Reading.{record_at}
 use Rattle.als_ckpt.specs.declared.control_state.ControlState.{ControlState}
 use Rattle.als_ckpt.specs.Control.{first_state, last_state}
+use Rattle.als_ckpt.specs.Regions.{Held, Begun, nothing_held}
+use Rattle.als_store.specs.Origin.{Origin}
 use Rattle.als_store.specs.declared.fault.Fault.{Fault}
 use Rattle.als_store.specs.declared.fault.Fault.TheVariants.{Invalid, LogFull, Memory}
 
@@ -38,12 +40,18 @@ pub record Stored : Type 0 where
   -- the synced control state, and those written since, of failed writes too
   pub control : ControlState
   pub since : List ControlState
+  -- the checkpoint that each region of the control device holds whatever a crash leaves, and the one on its way there
+  pub held : Held
+  pub begun : Option Begun
   -- a write or a sync has failed
   pub broken : Bool
   -- how often a device has failed
   pub failures : ℕ
   -- how often a device was called to write or to sync
   pub attempts : ℕ
+  -- what it was when it was made; and whether it was opened then, and is not ready yet
+  pub origin : Origin
+  pub recovering : Bool
 
 -- the control state that was written last
 abbrev pub newest : Stored → ControlState
@@ -66,9 +74,13 @@ with_records s records = record s { log = s.log ++ records; pool = fold (λ pool
 abbrev pub formatted_pool : ℕ → ℕ → ℕ → ℕ → ℕ → Pooled
 formatted_pool pages frames blocks failures attempts = new_pool (without_frames pages frames (λ _. only zeros) blocks failures attempts) pages
 
+-- no records, the first control state, no checkpoint, and these pages
+abbrev pub new_origin : Pooled → Origin
+new_origin pool = record { log = []; control = first_state; since = []; held = nothing_held; begun = None; pool = pool }
+
 -- a store over devices that were just formatted
 abbrev pub formatted : ℕ → Pooled → ℕ → ℕ → ℕ → Stored
-formatted pages pool blocks failures attempts = record { pages = pages; log = []; pool = pool; blocks = blocks; written = 16; synced = 16; control = first_state; since = []; broken = false; failures = failures; attempts = attempts }
+formatted pages pool blocks failures attempts = record { pages = pages; log = []; pool = pool; blocks = blocks; written = 16; synced = 16; control = first_state; since = []; held = nothing_held; begun = None; broken = false; failures = failures; attempts = attempts; origin = new_origin pool; recovering = false }
 
 -- ---- records
 

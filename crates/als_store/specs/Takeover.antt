@@ -15,6 +15,7 @@ use Rattle.als_ckpt.specs.declared.phase.Phase.{Phase}
 use Rattle.als_ckpt.specs.declared.phase.Phase.TheVariants.{Following, Sealed, Primary}
 use Rattle.als_ckpt.specs.declared.control_state.ControlState.{ControlState}
 use Rattle.als_ckpt.specs.Control.{phase_byte, last_state}
+use Rattle.als_reopen.specs.Taken.{IsTakenFrom}
 use Rattle.als_store.specs.declared.fault.Fault.{Fault}
 use Rattle.als_store.specs.declared.fault.Fault.TheVariants as fault
 use Rattle.als_store.specs.Spare.{Spare, HasSpare}
@@ -42,32 +43,6 @@ is_primary s = is_done (newest s).phase
 
 -- ---- one takeover log
 
--- the log is the one that was sealed at an offset and a front of its tail; the rest of the tail is still to come
-pub record IsSealed (log : List Record) (seal : ℕ) : Type 0 where
-  pub sealed : List Record
-  pub undone : List Record
-  pub rest : List Record
-  pub parts : log ≡ sealed ++ undone
-  pub ends : end_of sealed ≡ seal
-  pub tail : undone ++ rest ≡ tail_of sealed
-
--- the log is the one that was sealed at an offset and its whole tail, and the mark is its end
-pub record IsTakenOver (log : List Record) (mark seal : ℕ) : Type 0 where
-  pub sealed : List Record
-  pub parts : log ≡ sealed ++ tail_of sealed
-  pub ends : end_of sealed ≡ seal
-  pub whole : mark ≡ end_of log
-
-abbrev pub IsTaken : Phase → List Record → ℕ → ℕ → Type 0
-IsTaken Following log mark seal = Unit {0}
-IsTaken Sealed log mark seal = IsSealed log seal
-IsTaken Primary log mark seal = IsTakenOver log mark seal
-
--- what a control state says of the log: past Following the log is the sealed one and a front of its tail, and in Primary its whole
--- tail, all of it below the mark
-abbrev pub IsTakenFrom : List Record → ControlState → Type 0
-IsTakenFrom log c = IsTaken c.phase log c.mark.0 c.seal.0
-
 -- from one control state to the next the phase does not fall, and past Following the seal stays
 pub record GoesOn (before after : ControlState) : Type 0 where
   pub phase : phase_byte before.phase ≤ phase_byte after.phase
@@ -79,14 +54,14 @@ PhasesRise state [] = Unit {0}
 PhasesRise state (next ∷ rest) = GoesOn state next × PhasesRise next rest
 
 -- What each control state that a crash may leave says is true of the log, phases never fall along them and there is one seal; and
--- in Primary no change waits for redo.
-pub record AreTaken (log : List Record) (synced : ControlState) (since : List ControlState) (waiting : ℕ) : Type 0 where
+-- in Primary no change waits for redo, unless the store is recovering.
+pub record AreTaken (log : List Record) (synced : ControlState) (since : List ControlState) (recovering : Bool) (waiting : ℕ) : Type 0 where
   pub each : (c : ControlState) → Contains (synced ∷ since) c → IsTakenFrom log c
   pub phases : PhasesRise synced since
-  pub drained : is_done (last_state synced since).phase ≡ true → waiting ≡ 0
+  pub drained : recovering ≡ false → is_done (last_state synced since).phase ≡ true → waiting ≡ 0
 
 abbrev pub IsUnderTakeover : Stored → Type 0
-IsUnderTakeover s = AreTaken s.log s.control s.since (pending_of s)
+IsUnderTakeover s = AreTaken s.log s.control s.since s.recovering (pending_of s)
 
 -- ---- a finished takeover
 

@@ -21,6 +21,8 @@ pub enum Fault {
     NothingToDo,
     /// The log device has no room for the record and for what a takeover would then append.
     LogFull,
+    /// A checkpoint is on its way, or its publishing is not synced.
+    CkptBusy,
     /// A device failed.
     Device,
     /// A growth was refused.
@@ -40,6 +42,7 @@ impl Fault {
             Fault::PoolFull => FaultKind::PoolFull,
             Fault::NothingToDo => FaultKind::NothingToDo,
             Fault::LogFull => FaultKind::LogFull,
+            Fault::CkptBusy => FaultKind::CkptBusy,
             Fault::Device => FaultKind::Device,
             Fault::Memory => FaultKind::Memory,
             Fault::BadPage { page } => FaultKind::BadPage { page },

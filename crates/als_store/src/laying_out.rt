@@ -4,11 +4,11 @@ ghost use Rattle.als_pool.specs.Images.{IsPoolOf};
 ghost use Rattle.als_store.specs.Stored.{formatted_pool};
 ghost use Rattle.als_store.specs.Formatting.{IsHalfFormatted};
 
-use crate::disks::Disks;
 use als_ckpt::{Control, clear};
 use als_disk::BlockDisk;
 use als_log::{LocalLog, NewLog};
 use als_pool::{NewPool, Pool};
+use als_reopen::Disks;
 
 /// The log, the control block and the pages of a new database, on their devices.
 #[derive(Drop)]

@@ -3,21 +3,22 @@
 
 // Why an event is refused.
 mod fault;
-// The devices.
-mod disks;
 // Devices handed back.
 mod unformatted;
 // What a new store has in memory.
 mod new_parts;
 // The devices of a new store.
 mod laying_out;
+// What a store was when it was made.
+mod origin;
 // The log, the control block, the pages and the transaction table.
 mod store;
 
 pub use als_ckpt::Phase;
-pub use disks::Disks;
+pub use als_reopen::{Disks, Fault as OpenFault, Unreopened};
 pub use fault::Fault;
 pub use store::Store;
+pub use store::crashing::crash_disks;
 pub use unformatted::Unformatted;
 
 #[cfg(test)]

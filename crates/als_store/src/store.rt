@@ -15,25 +15,37 @@ ghost use Rattle.als_dirty.specs.Rows.{IsNextRow};
 ghost use Rattle.als_pool.specs.Queues.{WaitsFirst};
 ghost use Rattle.als_pool.specs.Outcomes.{HasPlace, CanRoute};
 ghost use Rattle.als_pool.specs.Images.{IsPoolOf};
+ghost use Rattle.als_pool.specs.Bounds.{EndsBelow};
+ghost use Rattle.als_page.specs.Page.{id_of};
 ghost use Rattle.als_store.specs.Spare.{HasSpare};
 ghost use Rattle.als_store.specs.Parts.{spare_of};
 ghost use Rattle.als_store.specs.Stored.{Stored, formatted, formatted_pool, acknowledged, with_records, routed, pending_of, IsShown, StandsAt, IsRefused, IsTooLong, FrontsFit, judgement_of};
-ghost use Rattle.als_store.specs.Events.{Breaks, FailsToRead, HasUnwritten, WritesLog, SyncsLog, HasUnmarked, WritesMark, BreaksMark, SyncsControl, AppliesFirst, NotApplied, FlushesPage, NotFlushed, SyncsDevice, BreaksSync, FailsToShow};
+ghost use Rattle.als_store.specs.Events.{Breaks, FailsToRead, HasUnwritten, WritesLog, SyncsLog, HasUnmarked, WritesMark, BreaksMark, SyncsControl, AppliesFirst, NotApplied, FlushesPage, NotFlushed, SyncsDevice, BreaksSync, NotShown};
+ghost use Rattle.als_store.specs.Warm.{WasWarm};
 ghost use Rattle.als_store.specs.Views.{ShowsRedo, ShowsWrite, ShowsSync};
 ghost use Rattle.als_store.specs.Devices.{AreKept, AreImages};
+ghost use Rattle.als_store.specs.Leaving.{Leaves};
 ghost use Rattle.als_store.specs.Takeover.{is_following, GoesOn};
 ghost use Rattle.als_store.specs.Formatting.{IsHalfFormatted};
-ghost use Rattle.als_log.specs.Local.{HasRoomFor, next_written, whole_end};
+ghost use Rattle.als_log.specs.Local.{HasRoomFor, IsFrontEnd, next_written, whole_end};
 ghost use Rattle.als_log.specs.Reading.{record_at, HasRowsAt};
 ghost use Rattle.als_log.specs.Outcomes.{ReadFails, AttemptFails};
 
+// Checkpoints.
+mod checkpoint;
+// What a record commits.
+mod committing;
+// A crash.
+pub(crate) mod crashing;
+// Devices that were stopped are taken up again.
+mod opening;
 // The takeover.
 mod takeover;
 
-use crate::disks::Disks;
 use crate::fault::Fault;
-use crate::laying_out::lay_out;
+use crate::laying_out::{LaidOut, lay_out};
 use crate::new_parts::NewParts;
+use crate::origin::Origin;
 use crate::unformatted::Unformatted;
 use als_analysis::OpenTransaction;
 use als_ckpt::Control;
@@ -41,9 +53,12 @@ use als_disk::BlockDisk;
 use als_log::{Fault as LogFault, LocalLog};
 use als_page::Page;
 use als_pool::{
-    Fault as PoolFault, Pool, change_can_be_routed, mark_changes_nothing, other_records_pass,
+    Fault as PoolFault, Pool, change_can_follow, mark_changes_nothing, other_records_pass,
+    pool_ends_below, rows_make_a_checkpoint, stopped_pages_hold_images,
 };
 use als_record::{Body, LoggedPage, Lsn, Record, encoded_len};
+use als_reopen::Disks;
+use als_tables::Tally;
 use als_validator::{Fault as Refusal, Validator};
 use std::alloc::{AllocError, Global};
 use std::marker::Model;
@@ -54,11 +69,14 @@ use std::marker::Model;
 pub struct Store<D: BlockDisk> {
     pages: u32,
     log: LocalLog<D>,
-    count: usize,
+    count: Tally,
     control: Control<D>,
     pool: Pool<D>,
     validator: Validator,
     broken: bool,
+    // It was opened, and not every change of its log is redone yet.
+    recovering: bool,
+    origin: Origin<D>,
 }
 
 impl<D: BlockDisk> Model for Store<D> {
@@ -68,9 +86,9 @@ impl<D: BlockDisk> Model for Store<D> {
 
     ghost Value = { Holding };
 
-    ghost view = { λ s. record { stored = stored_of s.pages s.log s.control s.pool.pool s.broken; spare = spare_of s.log s.validator s.pool.room } };
+    ghost view = { λ s. record { stored = stored_of s.pages s.log s.control s.pool.pool s.broken s.origin s.recovering; spare = spare_of s.log s.validator s.pool.room } };
 
-    ghost invariant = { λ s. IsStored s.pages s.log s.count s.control s.pool.pool s.validator s.broken };
+    ghost invariant = { λ s. IsStored s.pages s.log s.count s.control s.pool.pool s.validator s.broken s.origin s.recovering };
 }
 
 // Written out: a derived drop is proved part by part wherever a store is let go of, this one only here.
@@ -84,11 +102,14 @@ impl<D: BlockDisk + Drop> Drop for Store<D> {
             pool,
             validator,
             broken: _,
+            recovering: _,
+            origin,
         } = self;
         drop(log);
         drop(control);
         drop(pool);
         drop(validator);
+        drop(origin);
     }
 }
 
@@ -117,7 +138,10 @@ fn route_change<D: BlockDisk>(pool: &mut Pool<D>, logged: &Record)
     // For every log that the pool is of, it is that of the log with the record.
     ensures keeps { (log : List AnyRecord) (below : ℕ) → IsPoolOf log below pool.old.pool → IsLog pool.old.pool.frames.pages (log ++ logged.now ∷ [])
         → logged.now.lsn.0 ≡ end_of log → IsPoolOf (log ++ logged.now ∷ []) below pool.new.pool }
+    // For every log below the end of which the pool ends, it ends below that of the log with the record.
+    ensures ends { (log : List AnyRecord) → EndsBelow (end_of log) pool.old.pool → logged.now.lsn.0 ≡ end_of log → EndsBelow (end_of (log ++ logged.now ∷ [])) pool.new.pool }
 {
+    pool_ends_below();
     match logged.change() {
         None => other_records_pass(),
         Some(change) => pool.route(change),
@@ -294,6 +318,7 @@ impl<D: BlockDisk> Store<D> {
         ensures ok { IfOk result (λ s. s.stored ≡ formatted pages (formatted_pool pages frames (D.block_count disks.pages) (D.failures disks.pages) (D.attempts disks.pages + pages + 1)) (D.block_count disks.log) (D.failures disks.log + D.failures disks.control + D.failures disks.pages) s.stored.attempts) }
         ensures fault { IfErr result (λ u. (u.fault ≡ fault.Memory) ⊎ (u.fault ≡ fault.Device)) }
         ensures memory { IfErr result (λ u. u.fault ≡ fault.Memory → u.disks ≡ disks) }
+        ensures warm { IfOk result (λ s. WasWarm s.stored) }
         ensures device { IfErr result (λ u. u.fault ≡ fault.Device → D.failures disks.log + D.failures disks.control + D.failures disks.pages < D.failures u.disks.log + D.failures u.disks.control + D.failures u.disks.pages) }
         ensures left { IfErr result (λ u. u.fault ≡ fault.Device → IsHalfFormatted pages (D.slot disks.log) (D.slot u.disks.log) (D.slot disks.pages) (D.slot u.disks.pages) (D.slot u.disks.control)) }
         ensures counts { IfErr result (λ u. (D.block_count u.disks.log ≡ D.block_count disks.log) × (D.block_count u.disks.control ≡ D.block_count disks.control) × (D.block_count u.disks.pages ≡ D.block_count disks.pages)) }
@@ -307,15 +332,22 @@ impl<D: BlockDisk> Store<D> {
             Err(fault) => return Err(Unformatted { disks, fault }),
         };
         match lay_out(disks, pages, frames, log, pool) {
-            Ok(laid) => Ok(Store {
-                pages,
-                log: laid.log,
-                count: 0,
-                control: laid.control,
-                pool: laid.pool,
-                validator,
-                broken: false,
-            }),
+            Ok(laid) => {
+                pool_ends_below();
+                let LaidOut { log, control, pool } = laid;
+                let origin = Origin::of(&log, &control, &pool);
+                Ok(Store {
+                    pages,
+                    log,
+                    count: Tally::new(),
+                    control,
+                    pool,
+                    validator,
+                    broken: false,
+                    recovering: false,
+                    origin,
+                })
+            }
             Err(disks) => {
                 let fault = Fault::Device;
                 Err(Unformatted { disks, fault })
@@ -324,10 +356,18 @@ impl<D: BlockDisk> Store<D> {
     }
 
     /// The devices. Whatever a crash leaves of them has all acknowledged bytes, and of each page an image from below them for which
-    /// its row is sound. Their attempts together are the store's.
+    /// its row is sound, if the devices were sound when the store was made. Their attempts together are the store's.
     pub fn into_disks(self) -> Disks<D>
         ensures kept { AreKept self.stored (D.slot result.log) (D.slot result.control) }
-        ensures images { AreImages self.stored (D.slot result.pages) }
+        ensures images { WasWarm self.stored → AreImages self.stored (D.slot result.pages) }
+        // And it holds one of the control states that were synced or written since, and the front of the log that ends at its mark.
+        ensures leaves { WasWarm self.stored → Leaves self.stored (D.slot result.log) (D.slot result.control) (D.slot result.pages) }
+        ensures log_blocks { D.block_count result.log ≡ self.stored.blocks }
+        ensures some_blocks { 1 ≤ self.stored.blocks }
+        ensures few_blocks { self.stored.blocks ≤ 4194304 }
+        ensures control_blocks { 321 ≤ D.block_count result.control }
+        ensures page_blocks { self.stored.pages ≤ D.block_count result.pages }
+        ensures failures { D.failures result.log + D.failures result.control + D.failures result.pages ≡ self.stored.failures }
         ensures attempts { D.attempts result.log + D.attempts result.control + D.attempts result.pages ≡ self.stored.attempts }
     {
         let Store {
@@ -338,8 +378,13 @@ impl<D: BlockDisk> Store<D> {
             pool,
             validator,
             broken: _,
+            recovering: _,
+            origin,
         } = self;
         drop(validator);
+        drop(origin);
+        stopped_pages_hold_images();
+        rows_make_a_checkpoint();
         Disks {
             log: log.into_disk(),
             control: control.into_disk(),
@@ -369,14 +414,17 @@ impl<D: BlockDisk> Store<D> {
         ensures count { result ≡ length self.now.stored.log }
         ensures log { IsValidLog self.now.stored.pages self.now.stored.log }
     {
-        self.count
+        self.count.records
     }
 
     /// The offset below which no log byte can be lost: the mark in the control block as last synced.
     pub fn acknowledged(&self) -> Lsn
         ensures lsn { result.0 ≡ acknowledged self.now.stored }
-        // The pages, their images and their rows are the log's, and no image has a page_LSN above what is acknowledged.
-        ensures pool { IsPoolOf self.now.stored.log (acknowledged self.now.stored) self.now.stored.pool }
+        // It is the end of a record of the log.
+        ensures front { IsFrontEnd self.now.stored.log (acknowledged self.now.stored) }
+        // If the devices were sound when the store was made: the pages, their images and their rows are the log's, and no image has a page_LSN
+        // above what is acknowledged.
+        ensures pool { WasWarm self.now.stored → IsPoolOf self.now.stored.log (acknowledged self.now.stored) self.now.stored.pool }
         ensures count { length self.now.stored.pool.waits ≡ self.now.stored.pages }
     {
         self.control.acknowledged()
@@ -387,6 +435,22 @@ impl<D: BlockDisk> Store<D> {
         ensures { result ≡ self.now.stored.broken }
     {
         self.broken
+    }
+
+    /// The store was opened, and `ready` was not called yet.
+    pub fn is_recovering(&self) -> bool
+        ensures { result ≡ self.now.stored.recovering }
+    {
+        self.recovering
+    }
+
+    /// Notes that nothing waits for redo any more of what a restart found: no device is called.
+    pub fn ready(&mut self)
+        requires { pending_of self.old.stored ≡ 0 }
+        ensures stored { self.new.stored ≡ record self.old.stored { recovering = false } }
+        ensures spare { self.new.spare ≡ self.old.spare }
+    {
+        self.recovering = false;
     }
 
     /// How many changes wait for redo.
@@ -450,10 +514,11 @@ impl<D: BlockDisk> Store<D> {
             len,
         )?;
         admit(&mut self.validator, logged);
-        change_can_be_routed();
+        change_can_follow();
+        pool_ends_below();
         route_change(&mut self.pool, logged);
         append(&mut self.log, logged, bytes, reserve_after);
-        self.count += 1;
+        self.count.note(logged);
         Ok(())
     }
 
@@ -543,14 +608,15 @@ impl<D: BlockDisk> Store<D> {
     /// one; the changes that it has already no longer wait, and its row becomes exact.
     ///
     /// NothingToDo: none waits, or there is no such page. PoolFull: the page has no frame, all frames are used and none is clean.
-    /// Device: it could not be read. BadPage: its block has no image of it with a page_LSN below the log's end, which never comes.
+    /// Device: it could not be read. BadPage: its block has no image of it with a page_LSN below the log's end, which never comes where
+    /// the devices were sound when the store was made.
     /// Memory: a growth was refused. They come in this order. Then again NothingToDo: the page that was read has all that
     /// waited, which waits no more.
     pub fn apply(&mut self, page: u32) -> Result<Lsn, Fault>
         ensures ok { IfOk result (λ lsn. AppliesFirst self.old.stored page lsn self.new.stored) }
         ensures err { IfErr result (λ f. NotApplied self.old.stored page f self.new.stored) }
-        ensures views { IfOk result (λ lsn. ShowsRedo self.old.stored.log self.old.stored.pool self.new.stored.pool page lsn) }
-        ensures sound { IfErr result (λ f. f ≡ fault.BadPage page → ⊥) }
+        ensures views { WasWarm self.old.stored → IfOk result (λ lsn. ShowsRedo self.old.stored.log self.old.stored.pool self.new.stored.pool page lsn) }
+        ensures sound { WasWarm self.old.stored → IfErr result (λ f. f ≡ fault.BadPage page → ⊥) }
         // Memory is wanted only where there is no room for a frame more.
         ensures reserved { 0 < self.old.spare.pool.frames → IsErrOf result fault.Memory → ⊥ }
     {
@@ -585,7 +651,7 @@ impl<D: BlockDisk> Store<D> {
         requires { self.old.stored.broken ≡ false }
         ensures ok { OnOk result (SyncsDevice self.old.stored self.new.stored) }
         ensures err { IfErr result (λ f. (f ≡ fault.Device) × BreaksSync self.old.stored self.new.stored) }
-        ensures views { OnOk result (ShowsSync self.old.stored.log self.old.stored.pool self.new.stored.pool) }
+        ensures views { WasWarm self.old.stored → OnOk result (ShowsSync self.old.stored.log self.old.stored.pool self.new.stored.pool) }
     {
         match self.pool.sync_pages() {
             Ok(()) => Ok(()),
@@ -611,12 +677,15 @@ impl<D: BlockDisk> Store<D> {
     }
 
     /// The page as it is now: a copy of the page in its frame, or else of the one in its block, which is read. It takes no memory.
-    /// Device: the read has failed, which is counted.
+    /// Device: the read has failed, which is counted. BadPage: the block is not that of the page, which never comes where the devices
+    /// were sound when the store was made.
     pub fn page_now(&mut self, page: u32) -> Result<Page, Fault>
         requires { page < self.old.stored.pages }
-        ensures ok { IfOk result (IsShown self.old.stored page) }
+        ensures ok { WasWarm self.old.stored → IfOk result (IsShown self.old.stored page) }
+        ensures number { IfOk result (λ shown. id_of shown ≡ page) }
         ensures same { OnOk result (self.new ≡ self.old) }
-        ensures err { IfErr result (λ f. (f ≡ fault.Device) × FailsToShow self.old.stored page self.new.stored) }
+        ensures err { IfErr result (λ f. NotShown self.old.stored page f self.new.stored) }
+        ensures sound { WasWarm self.old.stored → IfErr result (λ f. f ≡ fault.BadPage page → ⊥) }
     {
         let found = self.pool.page_now(page)?;
         Ok(found)

@@ -3,6 +3,8 @@ ghost use Rattle.als_record.specs.Spelling.{IsRecord, spelling};
 
 // What refuses redo, a write and a sync, in order.
 mod refusals;
+// A store that was stopped is opened again.
+mod restart;
 
 use super::*;
 use als_disk::{BlockDisk, MemDisk};

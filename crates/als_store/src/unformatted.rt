@@ -1,5 +1,5 @@
-use crate::disks::Disks;
 use crate::fault::Fault;
+use als_reopen::Disks;
 
 /// Devices that were not formatted, handed back.
 #[derive(Drop)]

@@ -7,6 +7,7 @@ ghost use Rattle.als_record.specs.Tail.{tail_of};
 ghost use Rattle.als_record.specs.Transactions.{unended};
 ghost use Rattle.als_store.specs.Stored.{newest, with_records};
 ghost use Rattle.als_store.specs.Spare.{HasSpare};
+ghost use Rattle.als_store.specs.Warm.{WasWarm};
 ghost use Rattle.als_record.specs.Validity.{is_valid};
 ghost use Rattle.als_validator.specs.Validated.{IsValidatorOf};
 ghost use Rattle.als_log.specs.Local.{HasRoomFor};
@@ -19,7 +20,7 @@ use crate::fault::Fault;
 use als_ckpt::Phase;
 use als_disk::BlockDisk;
 use als_log::LocalLog;
-use als_pool::change_can_be_routed;
+use als_pool::{change_can_follow, pool_ends_below};
 use als_record::{Lsn, Record, encoded_len};
 use als_takeover::next_undo;
 use als_validator::Validator;
@@ -63,8 +64,8 @@ impl<D: BlockDisk> Store<D> {
     /// The log still follows its source: it was not sealed.
     pub fn is_following(&self) -> bool
         ensures is { result ≡ is_following self.now.stored }
-        // What each control state that a crash may leave says of the log.
-        ensures taken { IsUnderTakeover self.now.stored }
+        // What each control state that a crash may leave says of the log, if the devices were sound when the store was made.
+        ensures taken { WasWarm self.now.stored → IsUnderTakeover self.now.stored }
     {
         match self.control.newest().phase {
             Phase::Following => true,
@@ -75,8 +76,9 @@ impl<D: BlockDisk> Store<D> {
     /// The takeover is done.
     pub fn is_primary(&self) -> bool
         ensures is { result ≡ is_primary self.now.stored }
-        // Then no transaction is unended, and each slot of each page has what the committed transactions of the sealed log left.
-        ensures finished { is_primary self.now.stored ≡ true → IsFinished self.now.stored }
+        // Then no transaction is unended, and each slot of each page has what the committed transactions of the sealed log left: unless the store
+        // is recovering, or the devices were not sound when it was made.
+        ensures finished { WasWarm self.now.stored → self.now.stored.recovering ≡ false → is_primary self.now.stored ≡ true → IsFinished self.now.stored }
     {
         match self.control.newest().phase {
             Phase::Primary => true,
@@ -191,10 +193,11 @@ impl<D: BlockDisk> Store<D> {
             len,
         )?;
         admit(&mut self.validator, logged);
-        change_can_be_routed();
+        change_can_follow();
+        pool_ends_below();
         route_change(&mut self.pool, logged);
         append_made(&mut self.log, logged, reserve_after);
-        self.count += 1;
+        self.count.note(logged);
         Ok(())
     }
 

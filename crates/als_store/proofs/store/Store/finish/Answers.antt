@@ -13,7 +13,7 @@ write_phase-requires-clause-fits g c =
     let s = c.self.inside in
     let past = subst (λ (h : Holding). is_following h.stored ≡ false) (sym c.self.view_is) c.requires.sealed in
     subst (λ (n : ControlState). IsControlState s.control.log_bytes (record (newest s.control) { phase = Primary; mark = n.mark; seal = n.seal })) (sym c.newest-newest.ensures.newest)
-    (finish_fits s.pages s.count s.log s.control s.pool.pool s.validator s.broken c.self.invariant c.end.ensures.facts c.newest-newest.ensures.facts past)
+    (finish_fits s.pages s.count s.log s.control s.pool.pool s.validator s.broken s.origin s.recovering c.self.invariant c.end.ensures.facts c.newest-newest.ensures.facts past)
 
 pub invariant_of-self : goal.invariant_of-self
 invariant_of-self g c =
@@ -21,7 +21,7 @@ invariant_of-self g c =
     let past = subst (λ (h : Holding). is_following h.stored ≡ false) (sym c.self.view_is) c.requires.sealed in
     let unfinished = subst (λ (h : Holding). is_primary h.stored ≡ false) (sym c.self.view_is) c.requires.unfinished in
     let drained = subst (λ (h : Holding). is_drained h.stored ≡ true) (sym c.self.view_is) c.requires.drained in
-    stored-finished s.pages s.count s.log s.control s.pool.pool s.validator s.broken c.self.invariant c.end.ensures.facts c.newest-newest.ensures.facts past unfinished drained c.write_phase.new.self
+    stored-finished s.pages s.count s.log s.control s.pool.pool s.validator s.broken s.origin s.recovering c.self.invariant c.end.ensures.facts c.newest-newest.ensures.facts past unfinished drained c.write_phase.new.self
     (c.in-Ok.ensures.ok ∙ ap (λ (n : ControlState). with_state s.control (record (newest s.control) { phase = Primary; mark = n.mark; seal = n.seal })) c.newest-newest.ensures.newest)
 
 pub invariant_of-self-in-Err : goal.invariant_of-self-in-Err
@@ -30,5 +30,5 @@ invariant_of-self-in-Err g c =
     let past = subst (λ (h : Holding). is_following h.stored ≡ false) (sym c.self.view_is) c.requires.sealed in
     let unfinished = subst (λ (h : Holding). is_primary h.stored ≡ false) (sym c.self.view_is) c.requires.unfinished in
     let drained = subst (λ (h : Holding). is_drained h.stored ≡ true) (sym c.self.view_is) c.requires.drained in
-    stored-finish_torn s.pages s.count s.log s.control s.pool.pool s.validator s.broken c.self.invariant c.end.ensures.facts c.newest-newest.ensures.facts past unfinished drained c.write_phase.new.self
+    stored-finish_torn s.pages s.count s.log s.control s.pool.pool s.validator s.broken s.origin s.recovering c.self.invariant c.end.ensures.facts c.newest-newest.ensures.facts past unfinished drained c.write_phase.new.self
     (c.in-Err.ensures.err ∙ ap (λ (n : ControlState). record (with_state s.control (record (newest s.control) { phase = Primary; mark = n.mark; seal = n.seal })) { sure = false; failures = c.write_phase.new.self.failures }) c.newest-newest.ensures.newest)

@@ -9,14 +9,14 @@ use Rattle.als_store.proofs.store.Store.seal.Goals as goal
 pub write_phase-requires-clause-fits : goal.write_phase-requires-clause-fits
 write_phase-requires-clause-fits g c =
     let s = c.self.inside in
-    seal_fits s.pages s.count s.log s.control s.pool.pool s.validator s.broken c.self.invariant c.end-end.ensures.facts c.newest.ensures.facts c.end-end.result c.end-end.ensures.end
+    seal_fits s.pages s.count s.log s.control s.pool.pool s.validator s.broken s.origin s.recovering c.self.invariant c.end-end.ensures.facts c.newest.ensures.facts c.end-end.result c.end-end.ensures.end
 
 pub invariant_of-self : goal.invariant_of-self
 invariant_of-self g c =
     let s = c.self.inside in
     let low = subst (λ (h : Holding). end_of h.stored.log ≤ h.stored.synced) (sym c.self.view_is) c.requires.synced in
     let following = subst (λ (h : Holding). is_following h.stored ≡ true) (sym c.self.view_is) c.requires.following in
-    stored-sealed s.pages s.count s.log s.control s.pool.pool s.validator s.broken c.self.invariant c.end-end.ensures.facts c.newest.ensures.facts
+    stored-sealed s.pages s.count s.log s.control s.pool.pool s.validator s.broken s.origin s.recovering c.self.invariant c.end-end.ensures.facts c.newest.ensures.facts
     c.write_phase.new.self c.end-end.result c.end-end.ensures.end low following c.in-Ok.ensures.ok
 
 pub invariant_of-self-in-Err : goal.invariant_of-self-in-Err
@@ -24,5 +24,5 @@ invariant_of-self-in-Err g c =
     let s = c.self.inside in
     let low = subst (λ (h : Holding). end_of h.stored.log ≤ h.stored.synced) (sym c.self.view_is) c.requires.synced in
     let following = subst (λ (h : Holding). is_following h.stored ≡ true) (sym c.self.view_is) c.requires.following in
-    stored-seal_torn s.pages s.count s.log s.control s.pool.pool s.validator s.broken c.self.invariant c.end-end.ensures.facts c.newest.ensures.facts
+    stored-seal_torn s.pages s.count s.log s.control s.pool.pool s.validator s.broken s.origin s.recovering c.self.invariant c.end-end.ensures.facts c.newest.ensures.facts
     c.write_phase.new.self c.end-end.result c.end-end.ensures.end low following c.in-Err.ensures.err

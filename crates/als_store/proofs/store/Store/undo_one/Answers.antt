@@ -12,43 +12,43 @@ hold_next-held-requires-clause-first g c = rw c.in-Some.ensures.same (sym (c.in-
 pub hold_next-held-requires-clause-fits : goal.hold_next-held-requires-clause-fits
 hold_next-held-requires-clause-fits g c =
     let s = c.self.inside in
-    (next_of s.pages s.count s.log s.control s.pool.pool s.validator s.broken c.self.invariant c.end.ensures.facts c.newest.ensures.facts c.in-Some.logged (sym (c.in-Some.ensures.next s.pages c.self.invariant.is_log.valid c.self.invariant.judged))).fits
+    (next_of s.pages s.count s.log s.control s.pool.pool s.validator s.broken s.origin s.recovering c.self.invariant c.end.ensures.facts c.newest.ensures.facts c.in-Some.logged (sym (c.in-Some.ensures.next s.pages c.self.invariant.is_log.valid c.self.invariant.judged))).fits
 
 pub hold_next-held-requires-clause-at : goal.hold_next-held-requires-clause-at
 hold_next-held-requires-clause-at g c =
     let s = c.self.inside in
-    rw c.in-Some.ensures.same (next_of s.pages s.count s.log s.control s.pool.pool s.validator s.broken c.self.invariant c.end.ensures.facts c.newest.ensures.facts c.in-Some.logged (sym (c.in-Some.ensures.next s.pages c.self.invariant.is_log.valid c.self.invariant.judged))).at
+    rw c.in-Some.ensures.same (next_of s.pages s.count s.log s.control s.pool.pool s.validator s.broken s.origin s.recovering c.self.invariant c.end.ensures.facts c.newest.ensures.facts c.in-Some.logged (sym (c.in-Some.ensures.next s.pages c.self.invariant.is_log.valid c.self.invariant.judged))).at
 
 pub returns-in-None-clause-err : goal.returns-in-None-clause-err
 returns-in-None-clause-err g c =
     let s = c.self.inside in
     rw (← c.self.view_is)
-    (none_first s.log.log (c.in-None.ensures.next s.pages c.self.invariant.is_log.valid c.self.invariant.judged), ap (λ (x : Local). stored_of s.pages x s.control s.pool.pool s.broken) c.in-None.ensures.same)
+    (none_first s.log.log (c.in-None.ensures.next s.pages c.self.invariant.is_log.valid c.self.invariant.judged), ap (λ (x : Local). stored_of s.pages x s.control s.pool.pool s.broken s.origin s.recovering) c.in-None.ensures.same)
 
 pub returns-in-Ok-clause-ok : goal.returns-in-Ok-clause-ok
 returns-in-Ok-clause-ok g c =
     let s = c.self.inside in
-    let n = next_of s.pages s.count s.log s.control s.pool.pool s.validator s.broken c.self.invariant c.end.ensures.facts c.newest.ensures.facts c.in-Some.logged (sym (c.in-Some.ensures.next s.pages c.self.invariant.is_log.valid c.self.invariant.judged)) in
+    let n = next_of s.pages s.count s.log s.control s.pool.pool s.validator s.broken s.origin s.recovering c.self.invariant c.end.ensures.facts c.newest.ensures.facts c.in-Some.logged (sym (c.in-Some.ensures.next s.pages c.self.invariant.is_log.valid c.self.invariant.judged)) in
     rw (← c.self.view_is)
     (record {
       made = c.in-Some.logged;
       rest = n.rest;
       first = n.first;
       place = refl;
-      after = c.in-Ok.ensures.ok ∙ ap (λ (x : Local). with_records (stored_of s.pages x s.control s.pool.pool s.broken) (c.in-Some.logged ∷ [])) c.in-Some.ensures.same;
+      after = c.in-Ok.ensures.ok ∙ ap (λ (x : Local). with_records (stored_of s.pages x s.control s.pool.pool s.broken s.origin s.recovering) (c.in-Some.logged ∷ [])) c.in-Some.ensures.same;
     })
 
 pub returns-in-Err-clause-err : goal.returns-in-Err-clause-err
 returns-in-Err-clause-err g c =
     let s = c.self.inside in
-    let n = next_of s.pages s.count s.log s.control s.pool.pool s.validator s.broken c.self.invariant c.end.ensures.facts c.newest.ensures.facts c.in-Some.logged (sym (c.in-Some.ensures.next s.pages c.self.invariant.is_log.valid c.self.invariant.judged)) in
+    let n = next_of s.pages s.count s.log s.control s.pool.pool s.validator s.broken s.origin s.recovering c.self.invariant c.end.ensures.facts c.newest.ensures.facts c.in-Some.logged (sym (c.in-Some.ensures.next s.pages c.self.invariant.is_log.valid c.self.invariant.judged)) in
     let failed = c.in-Err.ensures.err in
     rw (← c.self.view_is, failed.0)
-    (some_unended s.log.log c.in-Some.logged n.rest n.first, failed.1 ∙ ap (λ (x : Local). stored_of s.pages x s.control s.pool.pool s.broken) c.in-Some.ensures.same)
+    (some_unended s.log.log c.in-Some.logged n.rest n.first, failed.1 ∙ ap (λ (x : Local). stored_of s.pages x s.control s.pool.pool s.broken s.origin s.recovering) c.in-Some.ensures.same)
 
 pub returns-in-Err-clause-reserved : goal.returns-in-Err-clause-reserved
 returns-in-Err-clause-reserved g c =
     let s = c.self.inside in
-    let n = next_of s.pages s.count s.log s.control s.pool.pool s.validator s.broken c.self.invariant c.end.ensures.facts c.newest.ensures.facts c.in-Some.logged (sym (c.in-Some.ensures.next s.pages c.self.invariant.is_log.valid c.self.invariant.judged)) in
+    let n = next_of s.pages s.count s.log s.control s.pool.pool s.validator s.broken s.origin s.recovering c.self.invariant c.end.ensures.facts c.newest.ensures.facts c.in-Some.logged (sym (c.in-Some.ensures.next s.pages c.self.invariant.is_log.valid c.self.invariant.judged)) in
     rw (← c.self.view_is)
     (λ room is. false≢true (c.in-Err.ensures.reserved (rw c.in-Some.ensures.same (room c.in-Some.logged n.rest n.first))))

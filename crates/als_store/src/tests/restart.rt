@@ -1,0 +1,54 @@
+// A store that was stopped is opened again.
+ghost use Rattle.std.specs.Prelude.{◌≤◌, IfSome};
+
+use super::*;
+use crate::OpenFault;
+
+/// The devices of a store that was stopped after its record was acknowledged. None: memory was refused on the way.
+fn stopped(rt: &impl Abort, alloc: Global) -> Option<Disks<MemDisk>>
+    ensures some { IfSome result (λ d. 1 ≤ ⟦<MemDisk as BlockDisk>⟧.block_count d.log) }
+    ensures few { IfSome result (λ d. ⟦<MemDisk as BlockDisk>⟧.block_count d.log ≤ 4194304) }
+    ensures control { IfSome result (λ d. 321 ≤ ⟦<MemDisk as BlockDisk>⟧.block_count d.control) }
+    ensures pages { IfSome result (λ d. 4 ≤ ⟦<MemDisk as BlockDisk>⟧.block_count d.pages) }
+{
+    let Ok(mut store) = Store::format(alloc, devices(alloc), 4, 2) else {
+        return None;
+    };
+    assert_eq!(rt; admit(rt, alloc, &mut store, Lsn(0)), Ok(()));
+    if stored(rt, &mut store).is_err() || acknowledged(rt, &mut store).is_err() {
+        return None;
+    }
+    assert_eq!(rt; store.pages(), 4);
+    let (disks, used) = store.crash(&[]);
+    assert_eq!(rt; used, 0);
+    Some(disks)
+}
+
+/// What was acknowledged stands after a crash. False: memory was refused.
+fn restarts(rt: &impl Abort, alloc: Global) -> bool {
+    let Some(disks) = stopped(rt, alloc) else {
+        return false;
+    };
+    match Store::open(alloc, disks, 4, 2) {
+        Ok(mut store) => {
+            assert_eq!(rt; store.end(), Lsn(44));
+            assert_eq!(rt; store.acknowledged(), Lsn(44));
+            assert_eq!(rt; store.table().len(), 1);
+            assert!(rt; store.is_recovering());
+            assert!(rt; store.pending() == 0);
+            store.ready();
+            assert!(rt; !store.is_recovering());
+            true
+        }
+        Err(refused) => {
+            assert!(rt; refused.fault == OpenFault::Memory);
+            false
+        }
+    }
+}
+
+// A growth is refused once at most: the second try meets none.
+#[test]
+fn an_acknowledged_record_stands_after_a_crash(rt: HostRuntime) {
+    assert!(rt; restarts(&rt, rt.alloc()) || restarts(&rt, rt.alloc()));
+}
