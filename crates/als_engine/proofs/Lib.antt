@@ -7,3 +7,5 @@ pub mod RefusalLaws
 pub mod RunLaws
 pub mod PageLaws
 pub mod StepLaws
+pub mod CheckpointLaws
+pub mod RestartLaws

@@ -1,17 +1,19 @@
 -- An engine is ready again after each event.
 use Rattle.std.proofs.Common.{◌≡◌, ℕ, ◌≤◌, ◌⊎◌, List, [], ◌∷◌, ◌++◌, Option, Some, None, inl, inr, refl, sym, subst, arith}
-use Rattle.std.specs.Prelude.{◌+◌, Bool, true}
+use Rattle.std.specs.Prelude.{◌+◌, Bool, true, IsSomeAnd}
 use Rattle.als_record.specs.declared.lsn.Lsn.{Lsn}
 use Rattle.als_record.specs.declared.record.Record.{Record}
 use Rattle.als_record.specs.LogText.{end_of}
 use Rattle.als_receiver.specs.Reception.{Reception, fresh}
 use Rattle.als_ckpt.specs.declared.control_state.ControlState.{ControlState}
 use Rattle.als_ckpt.specs.Control.{last_state}
+use Rattle.als_ckpt.specs.Regions.{Begun}
 use Rattle.als_pool.specs.Pooled.{Pooled}
 use Rattle.als_store.specs.declared.fault.Fault.{Fault as StoreFault}
 use Rattle.als_store.specs.declared.fault.Fault.TheVariants.{NothingToDo, Device}
 use Rattle.als_store.specs.Stored.{Stored, formatted, acknowledged, newest}
 use Rattle.als_store.specs.Takeover.{WritesState, BreaksState, UndoesOne, NotUndone}
+use Rattle.als_store.specs.CheckpointEvents.{Publishes, BreaksPublish, NotPublished, with_checkpoint}
 use Rattle.als_store.specs.declared.fault.Fault.TheVariants as store_fault
 use Rattle.als_engine.specs.Faults.{from_store}
 use Rattle.als_store.specs.Events.{marked, HasUnmarked, WritesMark, BreaksMark}
@@ -35,6 +37,14 @@ pub ready_new : (held : Stored) (receiver : Reception) (pages : ℕ) (pool : Poo
 ready_new held receiver pages pool blocks failures attempts e f = record {
   rests = rests_new held receiver pages pool blocks failures attempts e f;
   marks = subst (λ (h : Stored). acknowledged h ≤ (newest h).mark.0) (sym e) (omega arith);
+  no_want = none_is_no_some Memory;
+}
+
+-- an engine over devices that were taken up again
+pub ready_opened : (held : Stored) (receiver : Reception) (end pages : ℕ) → held.since ≡ [] → receiver ≡ fresh end pages → end ≡ end_of held.log → pages ≡ held.pages → IsReady held receiver None
+ready_opened held receiver end pages none f at same = record {
+  rests = rests_again held receiver end pages f at same;
+  marks = subst (λ (since : List ControlState). acknowledged held ≤ (last_state held.control since).mark.0) (sym none) (omega arith);
   no_want = none_is_no_some Memory;
 }
 
@@ -115,7 +125,38 @@ undo_wants old new store_fault.NothingToDo n e = absurd cc
 undo_wants old new store_fault.Memory n e = refl
 undo_wants old new (store_fault.Invalid cause) n e = absurd n
 undo_wants old new store_fault.LogBehind n e = absurd n
+undo_wants old new store_fault.CkptBusy n e = absurd n
 undo_wants old new store_fault.PoolFull n e = absurd n
 undo_wants old new store_fault.LogFull n e = absurd n
 undo_wants old new store_fault.Device n e = absurd n
 undo_wants old new (store_fault.BadPage page) n e = absurd n
+
+-- ---- a checkpoint
+
+pub ready_published : (held new : Stored) (receiver : Reception) (refused : Option Fault) → IsReady held receiver refused → (begun : Option Begun) → IsSomeAnd begun (λ b. Publishes held b new) → IsReady new receiver refused
+ready_published held new receiver refused ready None publishes = absurd publishes
+ready_published held new receiver refused ready (Some b) publishes = subst (λ (h : Stored). IsReady h receiver refused) (sym publishes.after) (record {
+  rests = record { meets = record { wanted = ready.rests.meets.wanted; pages = ready.rests.meets.pages; takes = ready.rests.meets.takes }; waits = ready.rests.waits; short = ready.rests.short };
+  marks = state_above held (with_checkpoint held b) ready.marks;
+  no_want = ready.no_want;
+})
+
+ready_publish_torn : (held new : Stored) (receiver : Reception) (refused : Option Fault) → IsReady held receiver refused → (begun : Option Begun) → IsSomeAnd begun (λ b. BreaksPublish held b new) → IsReady new receiver refused
+ready_publish_torn held new receiver refused ready None breaks = absurd breaks
+ready_publish_torn held new receiver refused ready (Some b) breaks = subst (λ (h : Stored). IsReady h receiver refused) (sym breaks.after) (record {
+  rests = record { meets = record { wanted = ready.rests.meets.wanted; pages = ready.rests.meets.pages; takes = ready.rests.meets.takes }; waits = ready.rests.waits; short = ready.rests.short };
+  marks = state_above held (with_checkpoint held b) ready.marks;
+  no_want = ready.no_want;
+})
+
+-- a checkpoint that was not published, or perhaps
+pub ready_unpublished : (held new : Stored) (receiver : Reception) (refused : Option Fault) (fault : StoreFault) → IsReady held receiver refused → NotPublished held fault new → IsReady new receiver refused
+ready_unpublished held new receiver refused store_fault.NothingToDo ready n = subst (λ (h : Stored). IsReady h receiver refused) (sym n.1) ready
+ready_unpublished held new receiver refused store_fault.CkptBusy ready n = subst (λ (h : Stored). IsReady h receiver refused) (sym n.1) ready
+ready_unpublished held new receiver refused store_fault.LogBehind ready n = subst (λ (h : Stored). IsReady h receiver refused) (sym n.1) ready
+ready_unpublished held new receiver refused store_fault.Device ready n = ready_publish_torn held new receiver refused ready held.begun n
+ready_unpublished held new receiver refused store_fault.Memory ready n = absurd n
+ready_unpublished held new receiver refused (store_fault.Invalid cause) ready n = absurd n
+ready_unpublished held new receiver refused store_fault.PoolFull ready n = absurd n
+ready_unpublished held new receiver refused store_fault.LogFull ready n = absurd n
+ready_unpublished held new receiver refused (store_fault.BadPage page) ready n = absurd n

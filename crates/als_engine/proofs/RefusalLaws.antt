@@ -8,7 +8,6 @@ use Rattle.als_engine.specs.declared.fault.Fault.{Fault}
 use Rattle.als_engine.specs.declared.fed.FeedFault.{FeedFault}
 use Rattle.als_engine.specs.Machine.{Machine, Keeps}
 use Rattle.als_engine.specs.Refusals.{feed_refusal, refusal}
-use Rattle.als_engine.specs.declared.step.Step.TheVariants as step
 use Rattle.als_engine.specs.Feeds.{Feeds}
 use Rattle.als_engine.proofs.KeepLaws.{le_refl, goes_on_same, keeps_equal}
 
@@ -19,5 +18,5 @@ feed_not_refused m running open_ following room = rw (running, open_, following,
 -- a refused feed holds records at most
 pub keeps_refused : (old new : Machine) (piece : List ℕ) (cause : Option Fault) (refusal : FeedFault) → Feeds old piece cause (Err refusal) new → Keeps old new
 keeps_refused old new piece None refusal front =
-    subst (λ (m : Machine). Keeps old m) (sym front.after) (record { acknowledged = le_refl (acknowledged old.held); more = front.records; log = refl; stopped = λ s. s; takeover = goes_on_same old.held.control })
+    subst (λ (m : Machine). Keeps old m) (sym front.after) (record { acknowledged = le_refl (acknowledged old.held); more = front.records; log = refl; stopped = λ s. s; takeover = goes_on_same old.held.control; pages = refl; limit = refl; warm = λ w. w; ready = λ r. r })
 keeps_refused old new piece (Some fault) refusal same = keeps_equal old new same.1

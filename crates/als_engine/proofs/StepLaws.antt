@@ -1,19 +1,23 @@
 -- What each event keeps.
-use Rattle.std.proofs.Common.{◌≡◌, ℕ, ◌+◌, ◌≤◌, true, List, [], Option, Some, None, Result, Ok, Err, refl, sym, ap, subst, ◌∙◌, arith, append-nil}
-use Rattle.std.specs.Prelude.{MatchOption}
+use Rattle.std.proofs.Common.{◌≡◌, ℕ, ◌+◌, ◌≤◌, true, false, List, [], Option, Some, None, Result, Ok, Err, refl, sym, ap, subst, ◌∙◌, arith, append-nil}
+use Rattle.std.specs.Prelude.{MatchOption, IsSomeAnd}
 use Rattle.als_ckpt.specs.declared.control_state.ControlState.{ControlState}
 use Rattle.als_store.specs.Stored.{Stored}
 use Rattle.als_store.specs.Takeover.{GoesOn}
+use Rattle.als_ckpt.specs.Regions.{Begun}
+use Rattle.als_store.specs.CheckpointEvents.{Publishes, BreaksPublish}
 use Rattle.als_engine.specs.declared.fault.Fault.{Fault}
 use Rattle.als_engine.specs.declared.fed.FeedFault.{FeedFault}
 use Rattle.als_engine.specs.declared.step.Step.{Step}
 use Rattle.als_engine.specs.declared.step.Step.TheVariants as step
 use Rattle.als_engine.specs.Machine.{Machine, Keeps}
+use Rattle.als_store.specs.Warm.{WasWarm}
 use Rattle.als_engine.specs.Refusals.{refusal, Does}
 use Rattle.als_engine.specs.Feeds.{Feeds}
-use Rattle.als_engine.specs.Events.{Changes, DropsPartial, SyncsAllPages, WritesBlock, SyncsBlocks, MovesMark, Resyncs, PagesSync, LogWrites, LogSyncs, MarkWrites}
+use Rattle.als_engine.specs.Events.{Changes, DropsPartial, SyncsAllPages, WritesBlock, SyncsBlocks, MovesMark, Acknowledges, Resyncs, PagesSync, LogWrites, LogSyncs, MarkWrites, ControlSyncs}
+use Rattle.als_engine.specs.Checkpointing.{Begins, WritesNext, PublishesNext, CkptBegins, CkptWrites, CkptPublishes}
 use Rattle.als_engine.specs.Takeover.{SealsLog, Undoes, FinishesTakeover, Seals, UndoesOneOf, Finishes}
-use Rattle.als_engine.proofs.KeepLaws.{goes_on_same, keeps_equal}
+use Rattle.als_engine.proofs.KeepLaws.{goes_on_same, keeps_equal, IsAsMade, as_made}
 
 -- an event that is refused changes nothing
 keeps_does : {A : Type 0} (old new : Machine) (event : Step) (acts : Result A Fault → Machine → Type 0) (result : Result A Fault) → Does old event acts result new → (acts result new → Keeps old new) → Keeps old new
@@ -28,9 +32,10 @@ record Stays (old new : Stored) : Type 0 where
   log : new.log ≡ old.log
   control : new.control ≡ old.control
   broken : old.broken ≡ true → new.broken ≡ true
+  made : IsAsMade old new
 
-keeps_stays : (old new : Machine) (held : Stored) → new.held ≡ held → Stays old.held held → Keeps old new
-keeps_stays old new held e s =
+keeps_stays : (old new : Machine) (held : Stored) → new.held ≡ held → new.limit ≡ old.limit → Stays old.held held → Keeps old new
+keeps_stays old new held e limit s =
     let control : new.held.control ≡ old.held.control = ap (λ (h : Stored). h.control) e ∙ s.control in
     record {
       acknowledged = omega (arith, ap (λ (c : ControlState). c.mark.0) control);
@@ -38,17 +43,21 @@ keeps_stays old new held e s =
       log = ap (λ (h : Stored). h.log) e ∙ s.log ∙ sym (append-nil old.held.log);
       stopped = λ b. ap (λ (h : Stored). h.broken) e ∙ s.broken b;
       takeover = subst (λ (c : ControlState). GoesOn old.held.control c) (sym control) (goes_on_same old.held.control);
+      pages = ap (λ (h : Stored). h.pages) e ∙ s.made.pages;
+      limit = limit;
+      warm = λ w. (as_made held new.held held e refl (λ x. x) (λ x. x)).warm (s.made.warm w);
+      ready = λ r. ap (λ (h : Stored). h.recovering) e ∙ s.made.ready r;
     }
 
 keeps_changes : (old new : Machine) (event : Stored → Stored → Type 0) → Changes old event new → ((held : Stored) → event old.held held → Stays old.held held) → Keeps old new
-keeps_changes old new event c k = keeps_stays old new c.held (ap (λ (m : Machine). m.held) c.after) (k c.held c.becomes)
+keeps_changes old new event c k = keeps_stays old new c.held (ap (λ (m : Machine). m.held) c.after) (ap (λ (m : Machine). m.limit) c.after) (k c.held c.becomes)
 
 same_stays : (old new : Stored) → new ≡ old → Stays old new
-same_stays old new e = record { log = ap (λ (h : Stored). h.log) e; control = ap (λ (h : Stored). h.control) e; broken = λ b. ap (λ (h : Stored). h.broken) e ∙ b }
+same_stays old new e = record { log = ap (λ (h : Stored). h.log) e; control = ap (λ (h : Stored). h.control) e; broken = λ b. ap (λ (h : Stored). h.broken) e ∙ b; made = as_made old new old e refl (λ w. w) (λ r. r) }
 
 -- one of these was set, and nothing else that is kept
-set_stays : (old new : Stored) → new.log ≡ old.log → new.control ≡ old.control → (old.broken ≡ true → new.broken ≡ true) → Stays old new
-set_stays old new p q r = record { log = p; control = q; broken = r }
+set_stays : (old new : Stored) → IsAsMade old new → new.log ≡ old.log → new.control ≡ old.control → (old.broken ≡ true → new.broken ≡ true) → Stays old new
+set_stays old new made p q r = record { log = p; control = q; broken = r; made = made }
 
 -- ---- the events
 
@@ -56,43 +65,82 @@ pub keeps_resync : (old new : Machine) (result : Result (Unit {0}) Fault) → Re
 keeps_resync old new result does = keeps_does old new step.Resync (DropsPartial old) result does (go result)
   where
     go : (r : Result (Unit {0}) Fault) → DropsPartial old r new → Keeps old new
-    go (Ok done) e = keeps_stays old new old.held (ap (λ (m : Machine). m.held) e) (same_stays old.held old.held refl)
+    go (Ok done) e = keeps_stays old new old.held (ap (λ (m : Machine). m.held) e) (ap (λ (m : Machine). m.limit) e) (same_stays old.held old.held refl)
     go (Err fault) e = absurd e
 
 pub keeps_sync_pages : (old new : Machine) (result : Result (Unit {0}) Fault) → PagesSync old result new → Keeps old new
 keeps_sync_pages old new result does = keeps_does old new step.SyncPages (SyncsAllPages old) result does (go result)
   where
     go : (r : Result (Unit {0}) Fault) → SyncsAllPages old r new → Keeps old new
-    go (Ok done) c = keeps_changes old new _ c (λ held e. set_stays old.held held (ap (λ (h : Stored). h.log) e.after) (ap (λ (h : Stored). h.control) e.after) (λ b. ap (λ (h : Stored). h.broken) e.after ∙ b))
-    go (Err fault) c = keeps_changes old new _ c.1 (λ held e. set_stays old.held held (ap (λ (h : Stored). h.log) e.after) (ap (λ (h : Stored). h.control) e.after) (λ b. ap (λ (h : Stored). h.broken) e.after))
+    go (Ok done) c = keeps_changes old new _ c (λ held e. set_stays old.held held (as_made old.held held _ e.after refl (λ w. w) (λ r. r)) (ap (λ (h : Stored). h.log) e.after) (ap (λ (h : Stored). h.control) e.after) (λ b. ap (λ (h : Stored). h.broken) e.after ∙ b))
+    go (Err fault) c = keeps_changes old new _ c.1 (λ held e. set_stays old.held held (as_made old.held held _ e.after refl (λ w. w) (λ r. r)) (ap (λ (h : Stored). h.log) e.after) (ap (λ (h : Stored). h.control) e.after) (λ b. ap (λ (h : Stored). h.broken) e.after))
 
 pub keeps_log_write : (old new : Machine) (result : Result (Unit {0}) Fault) → LogWrites old result new → Keeps old new
 keeps_log_write old new result does = keeps_does old new step.LogWrite (WritesBlock old) result does (go result)
   where
     go : (r : Result (Unit {0}) Fault) → WritesBlock old r new → Keeps old new
-    go (Ok done) c = keeps_changes old new _ c (λ held e. set_stays old.held held (ap (λ (h : Stored). h.log) e.after) (ap (λ (h : Stored). h.control) e.after) (λ b. ap (λ (h : Stored). h.broken) e.after ∙ b))
-    go (Err fault) c = keeps_changes old new _ c.1 (λ held e. set_stays old.held held (ap (λ (h : Stored). h.log) e.after) (ap (λ (h : Stored). h.control) e.after) (λ b. ap (λ (h : Stored). h.broken) e.after))
+    go (Ok done) c = keeps_changes old new _ c (λ held e. set_stays old.held held (as_made old.held held _ e.after refl (λ w. w) (λ r. r)) (ap (λ (h : Stored). h.log) e.after) (ap (λ (h : Stored). h.control) e.after) (λ b. ap (λ (h : Stored). h.broken) e.after ∙ b))
+    go (Err fault) c = keeps_changes old new _ c.1 (λ held e. set_stays old.held held (as_made old.held held _ e.after refl (λ w. w) (λ r. r)) (ap (λ (h : Stored). h.log) e.after) (ap (λ (h : Stored). h.control) e.after) (λ b. ap (λ (h : Stored). h.broken) e.after))
 
 pub keeps_log_sync : (old new : Machine) (result : Result (Unit {0}) Fault) → LogSyncs old result new → Keeps old new
 keeps_log_sync old new result does = keeps_does old new step.LogSync (SyncsBlocks old) result does (go result)
   where
     go : (r : Result (Unit {0}) Fault) → SyncsBlocks old r new → Keeps old new
-    go (Ok done) c = keeps_changes old new _ c (λ held e. set_stays old.held held (ap (λ (h : Stored). h.log) e.after) (ap (λ (h : Stored). h.control) e.after) (λ b. ap (λ (h : Stored). h.broken) e.after ∙ b))
-    go (Err fault) c = keeps_changes old new _ c.1 (λ held e. set_stays old.held held (ap (λ (h : Stored). h.log) e.after) (ap (λ (h : Stored). h.control) e.after) (λ b. ap (λ (h : Stored). h.broken) e.after))
+    go (Ok done) c = keeps_changes old new _ c (λ held e. set_stays old.held held (as_made old.held held _ e.after refl (λ w. w) (λ r. r)) (ap (λ (h : Stored). h.log) e.after) (ap (λ (h : Stored). h.control) e.after) (λ b. ap (λ (h : Stored). h.broken) e.after ∙ b))
+    go (Err fault) c = keeps_changes old new _ c.1 (λ held e. set_stays old.held held (as_made old.held held _ e.after refl (λ w. w) (λ r. r)) (ap (λ (h : Stored). h.log) e.after) (ap (λ (h : Stored). h.control) e.after) (λ b. ap (λ (h : Stored). h.broken) e.after))
 
 pub keeps_mark_write : (old new : Machine) (result : Result (Unit {0}) Fault) → MarkWrites old result new → Keeps old new
 keeps_mark_write old new result does = keeps_does old new step.MarkWrite (MovesMark old) result does (go result)
   where
     go : (r : Result (Unit {0}) Fault) → MovesMark old r new → Keeps old new
-    go (Ok done) c = keeps_changes old new _ c (λ held e. set_stays old.held held (ap (λ (h : Stored). h.log) e.after) (ap (λ (h : Stored). h.control) e.after) (λ b. ap (λ (h : Stored). h.broken) e.after ∙ b))
-    go (Err fault) c = keeps_changes old new _ c.1 (λ held e. set_stays old.held held (ap (λ (h : Stored). h.log) e.after) (ap (λ (h : Stored). h.control) e.after) (λ b. ap (λ (h : Stored). h.broken) e.after))
+    go (Ok done) c = keeps_changes old new _ c (λ held e. set_stays old.held held (as_made old.held held _ e.after refl (λ w. w) (λ r. r)) (ap (λ (h : Stored). h.log) e.after) (ap (λ (h : Stored). h.control) e.after) (λ b. ap (λ (h : Stored). h.broken) e.after ∙ b))
+    go (Err fault) c = keeps_changes old new _ c.1 (λ held e. set_stays old.held held (as_made old.held held _ e.after refl (λ w. w) (λ r. r)) (ap (λ (h : Stored). h.log) e.after) (ap (λ (h : Stored). h.control) e.after) (λ b. ap (λ (h : Stored). h.broken) e.after))
+
+-- of the three parts that stay, by what one event says of the store
+stays_after : (old new held : Stored) → new ≡ held → held.log ≡ old.log → held.control ≡ old.control → (old.broken ≡ true → held.broken ≡ true)
+    → held.pages ≡ old.pages → (WasWarm old → WasWarm held) → (old.recovering ≡ false → held.recovering ≡ false) → Stays old new
+stays_after old new held e log control broken pages warm ready =
+    set_stays old new (as_made old new held e pages warm ready) (ap (λ (h : Stored). h.log) e ∙ log) (ap (λ (h : Stored). h.control) e ∙ control) (λ b. ap (λ (h : Stored). h.broken) e ∙ broken b)
+
+pub keeps_ckpt_begin : (old new : Machine) (result : Result (Unit {0}) Fault) → CkptBegins old result new → Keeps old new
+keeps_ckpt_begin old new result does = keeps_does old new step.CkptBegin (Begins old) result does (go result)
+  where
+    go : (r : Result (Unit {0}) Fault) → Begins old r new → Keeps old new
+    go (Ok done) c = keeps_changes old new _ c (λ held e. stays_after old.held held _ e.after refl refl (λ b. b) refl (λ w. w) (λ r. r))
+    go (Err fault) e = keeps_equal old new e.1
+
+pub keeps_ckpt_block : (old new : Machine) (result : Result (Unit {0}) Fault) → CkptWrites old result new → Keeps old new
+keeps_ckpt_block old new result does = keeps_does old new step.CkptBlock (WritesNext old) result does (go result)
+  where
+    go : (r : Result (Unit {0}) Fault) → WritesNext old r new → Keeps old new
+    go (Ok done) c = keeps_changes old new _ c (λ held e. stays_after old.held held _ e.after refl refl (λ b. b) refl (λ w. w) (λ r. r))
+    go (Err fault) c = keeps_changes old new _ c.1 (λ held e. stays_after old.held held _ e.after refl refl (λ b. refl) refl (λ w. w) (λ r. r))
+
+published_stays : (old new : Stored) (b : Option Begun) → IsSomeAnd b (λ x. Publishes old x new) → Stays old new
+published_stays old new None h = absurd h
+published_stays old new (Some b) h = stays_after old new _ h.after refl refl (λ b. b) refl (λ w. w) (λ r. r)
+
+torn_stays : (old new : Stored) (b : Option Begun) → IsSomeAnd b (λ x. BreaksPublish old x new) → Stays old new
+torn_stays old new None h = absurd h
+torn_stays old new (Some b) h = stays_after old new _ h.after refl refl (λ b. refl) refl (λ w. w) (λ r. r)
+
+pub keeps_ckpt_publish : (old new : Machine) (result : Result (Unit {0}) Fault) → CkptPublishes old result new → Keeps old new
+keeps_ckpt_publish old new result does = keeps_does old new step.CkptPublish (PublishesNext old) result does (go result)
+  where
+    go : (r : Result (Unit {0}) Fault) → PublishesNext old r new → Keeps old new
+    go (Ok done) c = keeps_changes old new _ c (λ held e. published_stays old.held held old.held.begun e)
+    go (Err fault) c = keeps_changes old new _ c.1 (λ held e. torn_stays old.held held old.held.begun e)
 
 pub keeps_seal : (old new : Machine) (result : Result (Unit {0}) Fault) → Seals old result new → Keeps old new
 keeps_seal old new result does = keeps_does old new step.Seal (SealsLog old) result does (go result)
   where
     go : (r : Result (Unit {0}) Fault) → SealsLog old r new → Keeps old new
-    go (Ok done) s = keeps_stays old new s.held (ap (λ (m : Machine). m.held) s.after) (set_stays old.held s.held (ap (λ (h : Stored). h.log) s.seals.after) (ap (λ (h : Stored). h.control) s.seals.after) (λ b. ap (λ (h : Stored). h.broken) s.seals.after ∙ b))
-    go (Err fault) c = keeps_changes old new _ c.1 (λ held e. set_stays old.held held (ap (λ (h : Stored). h.log) e.after) (ap (λ (h : Stored). h.control) e.after) (λ b. ap (λ (h : Stored). h.broken) e.after))
+    go (Ok done) s = keeps_stays old new s.held (ap (λ (m : Machine). m.held) s.after) (ap (λ (m : Machine). m.limit) s.after) (set_stays old.held s.held (as_made old.held s.held _ s.seals.after refl (λ w. w) (λ r. r)) (ap (λ (h : Stored). h.log) s.seals.after) (ap (λ (h : Stored). h.control) s.seals.after) (λ b. ap (λ (h : Stored). h.broken) s.seals.after ∙ b))
+    go (Err fault) c = keeps_changes old new _ c.1 (λ held e. set_stays old.held held (as_made old.held held _ e.after refl (λ w. w) (λ r. r)) (ap (λ (h : Stored). h.log) e.after) (ap (λ (h : Stored). h.control) e.after) (λ b. ap (λ (h : Stored). h.broken) e.after))
+
+pub keeps_not_acknowledged : (old new : Machine) (fault : Fault) → ControlSyncs old (Err fault) new → Keeps old new
+keeps_not_acknowledged old new fault does = keeps_does old new step.ControlSync (Acknowledges old) (Err fault) does (λ c. keeps_changes old new _ c.1 (λ held e.
+    set_stays old.held held (as_made old.held held _ e.after refl (λ w. w) (λ r. r)) (ap (λ (h : Stored). h.log) e.after) (ap (λ (h : Stored). h.control) e.after) (λ b. ap (λ (h : Stored). h.broken) e.after)))
 
 pub keeps_not_undone : (old new : Machine) (fault : Fault) → UndoesOneOf old (Err fault) new → Keeps old new
 keeps_not_undone old new fault does = keeps_does old new step.UndoOne (Undoes old) (Err fault) does (λ same. keeps_equal old new same.1)
@@ -101,8 +149,8 @@ pub keeps_finish : (old new : Machine) (result : Result (Unit {0}) Fault) → Fi
 keeps_finish old new result does = keeps_does old new step.Finish (FinishesTakeover old) result does (go result)
   where
     go : (r : Result (Unit {0}) Fault) → FinishesTakeover old r new → Keeps old new
-    go (Ok done) c = keeps_changes old new _ c (λ held e. set_stays old.held held (ap (λ (h : Stored). h.log) e.after) (ap (λ (h : Stored). h.control) e.after) (λ b. ap (λ (h : Stored). h.broken) e.after ∙ b))
-    go (Err fault) c = keeps_changes old new _ c.1 (λ held e. set_stays old.held held (ap (λ (h : Stored). h.log) e.after) (ap (λ (h : Stored). h.control) e.after) (λ b. ap (λ (h : Stored). h.broken) e.after))
+    go (Ok done) c = keeps_changes old new _ c (λ held e. set_stays old.held held (as_made old.held held _ e.after refl (λ w. w) (λ r. r)) (ap (λ (h : Stored). h.log) e.after) (ap (λ (h : Stored). h.control) e.after) (λ b. ap (λ (h : Stored). h.broken) e.after ∙ b))
+    go (Err fault) c = keeps_changes old new _ c.1 (λ held e. set_stays old.held held (as_made old.held held _ e.after refl (λ w. w) (λ r. r)) (ap (λ (h : Stored). h.log) e.after) (ap (λ (h : Stored). h.control) e.after) (λ b. ap (λ (h : Stored). h.broken) e.after))
 
 -- a refused feed calls no device
 pub attempts_refused : (old new : Machine) (piece : List ℕ) (cause : Option Fault) (refused : FeedFault) → Feeds old piece cause (Err refused) new → new.held.attempts ≤ old.held.attempts + 1

@@ -1,15 +1,18 @@
 -- What each of the other events makes of the small machine, and what it answers.
-use Rattle.std.specs.Prelude.{◌≡◌, ℕ, ◌⊎◌, [], Option, None, Result, Ok, Err}
+use Rattle.std.specs.Prelude.{◌≡◌, ℕ, ◌⊎◌, false, [], Option, None, Result, Ok, Err}
 use Rattle.als_record.specs.declared.lsn.Lsn.{Lsn}
 use Rattle.als_record.specs.declared.record.Record.{Record}
 use Rattle.als_log.specs.Reading.{HasRowsAt}
 use Rattle.als_page.specs.declared.page.Page.{Page}
+use Rattle.als_page.specs.Page.{id_of}
+use Rattle.als_pool.specs.Pooled.{view_of}
 use Rattle.als_store.specs.declared.fault.Fault.{Fault as StoreFault}
 use Rattle.als_store.specs.Stored.{Stored, StandsAt, IsShown}
+use Rattle.als_store.specs.Warm.{WasWarm}
 use Rattle.als_store.specs.Events.{Breaks, FailsToRead, WritesLog, SyncsLog, WritesMark, BreaksMark, SyncsControl, AppliesFirst, IsNotRedone, FlushesPage, BreaksFlush, SyncsDevice, BreaksSync, FailsToShow}
 use Rattle.als_engine.specs.Faults.{from_store}
 use Rattle.als_engine.specs.declared.fault.Fault.{Fault}
-use Rattle.als_engine.specs.declared.fault.Fault.TheVariants.{Device, Memory}
+use Rattle.als_engine.specs.declared.fault.Fault.TheVariants.{Device, Memory, BadPage}
 use Rattle.als_engine.specs.declared.step.Step.TheVariants as step
 use Rattle.als_engine.specs.Machine.{Machine}
 use Rattle.als_engine.specs.Refusals.{Does}
@@ -104,7 +107,16 @@ abbrev pub Reads : Machine → Lsn → Result (Option Record) Fault → Machine 
 Reads old lsn (Ok found) new = StandsAt old.held.log lsn found × (new ≡ old)
 Reads old lsn (Err fault) new = ((fault ≡ Memory) × HasRowsAt old.held.log lsn.0 × (new ≡ old)) ⊎ ((fault ≡ Device) × (held : Stored) × FailsToRead old.held held × (new ≡ record old { held = held }))
 
--- the page as it is now; a read that fails is counted, and nothing else changes
+-- The block of a page that has no frame is not that of the page: nothing changes. It does not come where the devices were sound when the
+-- engine was made.
+pub record FindsNoPage (old : Machine) (page : ℕ) (fault : Fault) (new : Machine) : Type 0 where
+  pub answer : fault ≡ BadPage page
+  pub unsound : WasWarm old.held → ⊥
+  pub absent : (view_of old.held.pool page).resident ≡ false
+  pub after : new ≡ old
+
+-- The page of this number, which is the page as it is now where the devices were sound when the engine was made; or none was found. A read
+-- that fails is counted, and nothing else changes.
 abbrev pub ShowsPage : Machine → ℕ → Result Page Fault → Machine → Type 0
-ShowsPage old page (Ok shown) new = IsShown old.held page shown × (new ≡ old)
-ShowsPage old page (Err fault) new = FailsIn old fault (λ held after. FailsToShow held page after) new
+ShowsPage old page (Ok shown) new = (id_of shown ≡ page) × (WasWarm old.held → IsShown old.held page shown) × (new ≡ old)
+ShowsPage old page (Err fault) new = FailsIn old fault (λ held after. FailsToShow held page after) new ⊎ FindsNoPage old page fault new

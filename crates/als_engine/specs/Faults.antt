@@ -7,8 +7,10 @@ use Rattle.als_record.specs.declared.cause.Cause.{Cause}
 use Rattle.als_record.specs.declared.cause.Cause.TheVariants as cause
 use Rattle.als_store.specs.declared.fault.Fault.{Fault as StoreFault}
 use Rattle.als_store.specs.declared.fault.Fault.TheVariants as store_fault
+use Rattle.als_reopen.specs.declared.fault.Fault.{Fault as OpenFault}
+use Rattle.als_reopen.specs.declared.fault.Fault.TheVariants as open_fault
 use Rattle.als_engine.specs.declared.fault.Fault.{Fault}
-use Rattle.als_engine.specs.declared.fault.Fault.TheVariants.{BadHeader, BadLength, BadType, BadReserved, WrongLsn, BadKey, BadValue, BadPrev, OldTransaction, WrongState, WrongUndoNext, WrongCompensation, RecordHeld, BeforeImage, TooManyTransactions, BadCheckpoint, Sealed, LogBehind, NotDrained, PoolFull, NothingToDo, LogFull, Device, Stopped, Memory, BadPage, Backlog, BadConfig, NotSealed}
+use Rattle.als_engine.specs.declared.fault.Fault.TheVariants.{BadHeader, BadLength, BadType, BadReserved, WrongLsn, BadKey, BadValue, BadPrev, OldTransaction, WrongState, WrongUndoNext, WrongCompensation, RecordHeld, BeforeImage, TooManyTransactions, BadCheckpoint, Sealed, LogBehind, NotDrained, CkptBusy, PoolFull, NothingToDo, LogFull, Device, Stopped, Memory, BadPage, BadControl, Backlog, BadConfig, NotSealed}
 
 abbrev pub kind_of : Fault → FaultKind
 kind_of BadHeader = kind.BadHeader
@@ -30,6 +32,7 @@ kind_of BadCheckpoint = kind.BadCheckpoint
 kind_of Sealed = kind.Sealed
 kind_of LogBehind = kind.LogBehind
 kind_of NotDrained = kind.NotDrained
+kind_of CkptBusy = kind.CkptBusy
 kind_of PoolFull = kind.PoolFull
 kind_of NothingToDo = kind.NothingToDo
 kind_of LogFull = kind.LogFull
@@ -37,6 +40,7 @@ kind_of Device = kind.Device
 kind_of Stopped = kind.Stopped
 kind_of Memory = kind.Memory
 kind_of (BadPage page) = kind.BadPage page
+kind_of BadControl = kind.BadControl
 kind_of Backlog = kind.Backlog
 kind_of BadConfig = kind.BadConfig
 kind_of NotSealed = kind.NotSealed
@@ -68,9 +72,19 @@ from_cause cause.BadCheckpoint = BadCheckpoint
 abbrev pub from_store : StoreFault → Fault
 from_store (store_fault.Invalid cause) = from_cause cause
 from_store store_fault.LogBehind = LogBehind
+from_store store_fault.CkptBusy = CkptBusy
 from_store store_fault.PoolFull = PoolFull
 from_store store_fault.NothingToDo = NothingToDo
 from_store store_fault.LogFull = LogFull
 from_store store_fault.Device = Device
 from_store store_fault.Memory = Memory
 from_store (store_fault.BadPage page) = BadPage page
+
+-- why devices were not taken up again, as the engine answers it
+abbrev pub from_open : OpenFault → Fault
+from_open (open_fault.Shape shape) = from_record shape
+from_open (open_fault.Invalid cause) = from_cause cause
+from_open open_fault.BadControl = BadControl
+from_open open_fault.LogFull = LogFull
+from_open open_fault.Device = Device
+from_open open_fault.Memory = Memory

@@ -9,7 +9,7 @@ use Rattle.als_record.specs.LogText.{spellings, end_of}
 use Rattle.als_record.specs.Validity.{first_bad, IsValidLog}
 use Rattle.als_store.specs.Stored.{Stored, with_records, IsTooLong}
 use Rattle.als_engine.specs.declared.fault.Fault.{Fault}
-use Rattle.als_engine.specs.declared.fault.Fault.TheVariants.{BadHeader, BadLength, BadType, BadReserved, WrongLsn, BadKey, BadValue, BadPrev, OldTransaction, WrongState, WrongUndoNext, WrongCompensation, RecordHeld, BeforeImage, TooManyTransactions, BadCheckpoint, Sealed, LogBehind, NotDrained, PoolFull, NothingToDo, LogFull, Device, Stopped, Memory, BadPage, Backlog, BadConfig, NotSealed}
+use Rattle.als_engine.specs.declared.fault.Fault.TheVariants.{BadHeader, BadLength, BadType, BadReserved, WrongLsn, BadKey, BadValue, BadPrev, OldTransaction, WrongState, WrongUndoNext, WrongCompensation, RecordHeld, BeforeImage, TooManyTransactions, BadCheckpoint, Sealed, LogBehind, NotDrained, CkptBusy, PoolFull, NothingToDo, LogFull, Device, Stopped, Memory, BadPage, BadControl, Backlog, BadConfig, NotSealed}
 use Rattle.als_engine.specs.declared.fed.Fed.{Fed}
 use Rattle.als_engine.specs.declared.fed.FeedFault.{FeedFault}
 use Rattle.als_engine.specs.Faults.{from_record, from_cause}
@@ -70,6 +70,7 @@ kept_fault BadCheckpoint = Some BadCheckpoint
 kept_fault Sealed = Some Sealed
 kept_fault LogBehind = Some LogBehind
 kept_fault NotDrained = Some NotDrained
+kept_fault CkptBusy = Some CkptBusy
 kept_fault PoolFull = Some PoolFull
 kept_fault NothingToDo = Some NothingToDo
 kept_fault LogFull = None
@@ -77,6 +78,7 @@ kept_fault Device = Some Device
 kept_fault Stopped = Some Stopped
 kept_fault Memory = None
 kept_fault (BadPage page) = Some (BadPage page)
+kept_fault BadControl = Some BadControl
 kept_fault Backlog = Some Backlog
 kept_fault BadConfig = Some BadConfig
 kept_fault NotSealed = Some NotSealed

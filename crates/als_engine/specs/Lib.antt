@@ -6,6 +6,8 @@ pub mod Feeds
 pub mod Refusals
 pub mod Events
 pub mod Takeover
+pub mod Checkpointing
 pub mod TakingIn
 pub mod Runs
 pub mod Telling
+pub mod Restarts

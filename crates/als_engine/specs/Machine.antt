@@ -12,6 +12,7 @@ use Rattle.als_engine.specs.declared.status.State.TheVariants as state
 use Rattle.als_ckpt.specs.declared.phase.Phase.{Phase}
 use Rattle.als_ckpt.specs.declared.phase.Phase.TheVariants.{Following, Sealed, Primary}
 use Rattle.als_store.specs.Takeover.{GoesOn}
+use Rattle.als_store.specs.Warm.{WasWarm}
 
 pub record Machine : Type 0 where
   -- the held log and its pages, and how much of it is on the devices; broken once a write or a sync has failed
@@ -50,10 +51,15 @@ abbrev pub state_of : Machine → State
 state_of m = state_from m.held.broken (newest m.held).phase m.refused (end_of m.held.log)
 
 -- What is acknowledged stays so, the log only grows, and a stopped engine stays stopped. What is acknowledged of a takeover stays
--- so too: the synced phase never falls, and past Following the seal stays.
+-- so too: the synced phase never falls, and past Following the seal stays. The page count and the limit stay, an engine that was made
+-- over sound devices still was, and one that is not recovering does not begin to.
 pub record Keeps (old new : Machine) : Type 0 where
   pub acknowledged : acknowledged old.held ≤ acknowledged new.held
   pub more : List Record
   pub log : new.held.log ≡ old.held.log ++ more
   pub stopped : IsStopped old → IsStopped new
   pub takeover : GoesOn old.held.control new.held.control
+  pub pages : new.held.pages ≡ old.held.pages
+  pub limit : new.limit ≡ old.limit
+  pub warm : WasWarm old.held → WasWarm new.held
+  pub ready : old.held.recovering ≡ false → new.held.recovering ≡ false

@@ -1,13 +1,16 @@
 -- Why an event is refused before it does anything.
-use Rattle.std.specs.Prelude.{◌≡◌, nat_lt, nat_le, Bool, true, not, List, [], ◌∷◌, ◌++◌, Option, Some, None, MatchOption, Result, Err, if◌then◌else◌}
+use Rattle.std.specs.Prelude.{◌≡◌, nat_lt, nat_le, Bool, true, false, not, ◌||◌, is_some, is_none, List, [], ◌∷◌, ◌++◌, Option, Some, None, MatchOption, Result, Err, if◌then◌else◌}
 use Rattle.als_record.specs.LogText.{end_of}
 use Rattle.als_record.specs.Transactions.{unended}
+use Rattle.als_ckpt.specs.declared.region.Region.{Region}
+use Rattle.als_ckpt.specs.declared.region.Region.TheVariants.{First, Second}
+use Rattle.als_ckpt.specs.Regions.{Begun, blocks_of, position_of}
 use Rattle.als_pool.specs.Pooled.{view_of}
 use Rattle.als_pool.specs.Refusals.{has_waiting, is_full as has_no_frame, is_due, is_behind}
 use Rattle.als_store.specs.Stored.{Stored, newest, pending_of, acknowledged}
-use Rattle.als_store.specs.Takeover.{is_following, is_primary, is_drained, is_none}
+use Rattle.als_store.specs.Takeover.{is_following, is_primary, is_drained, is_none as has_none}
 use Rattle.als_engine.specs.declared.fault.Fault.{Fault}
-use Rattle.als_engine.specs.declared.fault.Fault.TheVariants.{Sealed, LogBehind, NotDrained, PoolFull, NothingToDo, Stopped, Backlog, NotSealed}
+use Rattle.als_engine.specs.declared.fault.Fault.TheVariants.{Sealed, LogBehind, NotDrained, CkptBusy, PoolFull, NothingToDo, Stopped, Backlog, NotSealed}
 use Rattle.als_engine.specs.declared.step.Step.{Step}
 use Rattle.als_engine.specs.declared.step.Step.TheVariants as step
 use Rattle.als_engine.specs.Machine.{Machine}
@@ -47,6 +50,32 @@ is_unwritten held = nat_lt held.written (end_of held.log)
 abbrev pub is_unmarked : Stored → Bool
 is_unmarked held = nat_lt (newest held).mark.0 held.synced
 
+-- whether the same region is published
+abbrev pub same_region : Option Region → Option Region → Bool
+same_region None None = true
+same_region (Some First) (Some First) = true
+same_region (Some Second) (Some Second) = true
+same_region a b = false
+
+-- a checkpoint is begun, or the last publish is not synced
+abbrev pub is_ckpt_busy : Stored → Bool
+is_ckpt_busy held = is_some held.begun || not (same_region (newest held).published held.control.published)
+
+-- a block of the checkpoint is not written
+abbrev pub has_block : Option Begun → Bool
+has_block None = false
+has_block (Some b) = nat_lt b.written (blocks_of b.checkpoint)
+
+-- a block of it is not written and synced
+abbrev pub is_partly_synced : Option Begun → Bool
+is_partly_synced None = false
+is_partly_synced (Some b) = nat_lt b.synced (blocks_of b.checkpoint)
+
+-- its position is above an offset
+abbrev pub is_ahead_of : Option Begun → Stored → Bool
+is_ahead_of None held = false
+is_ahead_of (Some b) held = nat_lt (acknowledged held) (position_of b)
+
 -- ---- the table: each event's causes, in the order in which they are looked at
 
 -- of a feed, whatever the piece
@@ -65,8 +94,12 @@ causes m step.LogSync = has_stopped m ∷ []
 causes m step.MarkWrite = has_stopped m ∷ (not (is_unmarked m.held), NothingToDo) ∷ []
 causes m step.ControlSync = has_stopped m ∷ []
 causes m step.Seal = has_stopped m ∷ has_sealed m ∷ (is_unsynced m.held, LogBehind) ∷ []
-causes m step.UndoOne = has_stopped m ∷ is_unsealed m ∷ (is_none (unended m.held.log), NothingToDo) ∷ []
+causes m step.UndoOne = has_stopped m ∷ is_unsealed m ∷ (has_none (unended m.held.log), NothingToDo) ∷ []
 causes m step.Finish = has_stopped m ∷ is_unsealed m ∷ (is_primary m.held, NothingToDo) ∷ (not (is_drained m.held), NotDrained) ∷ []
+causes m step.CkptBegin = has_stopped m ∷ (is_ckpt_busy m.held, CkptBusy) ∷ []
+causes m step.CkptBlock = has_stopped m ∷ (not (has_block m.held.begun), NothingToDo) ∷ []
+causes m step.CkptPublish =
+    has_stopped m ∷ (is_none m.held.begun, NothingToDo) ∷ (is_partly_synced m.held.begun, CkptBusy) ∷ (is_ahead_of m.held.begun m.held, LogBehind) ∷ []
 
 -- the fault of the first cause that stands
 abbrev pub first_of : List (Bool × Fault) → Option Fault

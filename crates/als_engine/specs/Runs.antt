@@ -10,6 +10,7 @@ use Rattle.als_engine.specs.Refusals.{feed_refusal}
 use Rattle.als_engine.specs.Feeds.{Feeds}
 use Rattle.als_engine.specs.Events.{Resyncs, Applies, FlushesOne, PagesSync, LogWrites, LogSyncs, MarkWrites, ControlSyncs}
 use Rattle.als_engine.specs.Takeover.{Seals, UndoesOneOf, Finishes}
+use Rattle.als_engine.specs.Checkpointing.{CkptBegins, CkptWrites, CkptPublishes}
 
 -- the reply to an event that answers no value
 abbrev pub reply_of : Result (Unit {0}) Fault → Reply
@@ -36,6 +37,12 @@ Steps old step.MarkWrite reply.Done new = MarkWrites old (Ok tt) new
 Steps old step.MarkWrite (reply.Refused fault) new = MarkWrites old (Err fault) new
 Steps old step.ControlSync (reply.Acknowledged lsn) new = ControlSyncs old (Ok lsn) new
 Steps old step.ControlSync (reply.Refused fault) new = ControlSyncs old (Err fault) new
+Steps old step.CkptBegin reply.Done new = CkptBegins old (Ok tt) new
+Steps old step.CkptBegin (reply.Refused fault) new = CkptBegins old (Err fault) new
+Steps old step.CkptBlock reply.Done new = CkptWrites old (Ok tt) new
+Steps old step.CkptBlock (reply.Refused fault) new = CkptWrites old (Err fault) new
+Steps old step.CkptPublish reply.Done new = CkptPublishes old (Ok tt) new
+Steps old step.CkptPublish (reply.Refused fault) new = CkptPublishes old (Err fault) new
 Steps old step.Seal reply.Done new = Seals old (Ok tt) new
 Steps old step.Seal (reply.Refused fault) new = Seals old (Err fault) new
 Steps old step.UndoOne (reply.Undone lsn) new = UndoesOneOf old (Ok lsn) new

@@ -3,6 +3,7 @@ ghost use Rattle.als_record.specs.LogText.{end_of};
 ghost use Rattle.als_record.specs.Table.{table_of};
 ghost use Rattle.als_analysis.specs.Open.{rows_of};
 ghost use Rattle.als_store.specs.Stored.{acknowledged, pending_of, formatted_pool};
+ghost use Rattle.als_store.specs.Warm.{WasWarm};
 ghost use Rattle.als_store.specs.Devices.{AreKept, AreImages};
 ghost use Rattle.als_pool.specs.Queues.{WaitsFirst};
 ghost use Rattle.als_pool.specs.Images.{IsPoolOf};
@@ -14,9 +15,13 @@ ghost use Rattle.als_engine.specs.Serving.{HasRoomForPiece};
 ghost use Rattle.als_engine.specs.Refusals.{feed_refusal};
 ghost use Rattle.als_engine.specs.Feeds.{Feeds, kept_fault};
 ghost use Rattle.als_engine.specs.Events.{Resyncs, Applies, FlushesOne, PagesSync, LogWrites, LogSyncs, MarkWrites, ControlSyncs, Reads, ShowsPage};
+ghost use Rattle.als_engine.specs.Checkpointing.{CkptBegins, CkptWrites, CkptPublishes};
 ghost use Rattle.als_engine.specs.Takeover.{Seals, UndoesOneOf, Finishes};
 ghost use Rattle.als_store.specs.Takeover.{IsUnderTakeover, IsFinished, is_primary, HasRoomToUndo, GoesOn};
 ghost use Rattle.als_engine.specs.Runs.{Steps, reply_of};
+
+// Crash and restart.
+mod restart;
 
 use crate::config::Config;
 use crate::fault::Fault;
@@ -81,6 +86,8 @@ impl<D: BlockDisk> Engine<D> {
     pub fn format(alloc: Global, disks: Disks<D>, config: Config) -> Result<Engine<D>, Refused<D>>
         ensures fits { IfOk result (λ e. IsWorld config (D.block_count disks.log) (D.block_count disks.control) (D.block_count disks.pages)) }
         ensures ok { IfOk result (λ e. e.machine ≡ formatted_machine config (formatted_pool config.pages config.frames (D.block_count disks.pages) (D.failures disks.pages) (D.attempts disks.pages + config.pages + 1)) (D.block_count disks.log) (D.failures disks.log + D.failures disks.control + D.failures disks.pages) e.machine.held.attempts) }
+        // All that is promised of the pages, of the control states and of the checkpoints holds of a new engine.
+        ensures warm { IfOk result (λ e. WasWarm e.machine.held) }
         ensures config { IfErr result (λ r. r.fault ≡ Fault.BadConfig → IsWorld config (D.block_count disks.log) (D.block_count disks.control) (D.block_count disks.pages) → ⊥) }
         ensures fault { IfErr result (λ r. (r.fault ≡ Fault.BadConfig) ⊎ (IsWorld config (D.block_count disks.log) (D.block_count disks.control) (D.block_count disks.pages) × ((r.fault ≡ Fault.Memory) ⊎ (r.fault ≡ Fault.Device)))) }
         ensures same { IfErr result (λ r. (r.fault ≡ Fault.Device → ⊥) → r.disks ≡ disks) }
@@ -111,10 +118,11 @@ impl<D: BlockDisk> Engine<D> {
     }
 
     /// The devices. Whatever a crash leaves of them, the control block has a mark from the acknowledged LSN to the synced end,
-    /// and the log device has the held log's text below that mark. Their attempts together are the machine's.
+    /// and the log device has the held log's text below that mark. Where the devices were sound when the engine was made, it has of each
+    /// page an image for which its row is sound. Their attempts together are the machine's.
     pub fn into_disks(self) -> Disks<D>
         ensures kept { AreKept self.machine.held (D.slot result.log) (D.slot result.control) }
-        ensures images { AreImages self.machine.held (D.slot result.pages) }
+        ensures images { WasWarm self.machine.held → AreImages self.machine.held (D.slot result.pages) }
         ensures attempts { D.attempts result.log + D.attempts result.control + D.attempts result.pages ≡ self.machine.held.attempts }
     {
         let Engine {
@@ -279,6 +287,42 @@ impl<D: BlockDisk> Engine<D> {
         Ok(acknowledged)
     }
 
+    /// Begins a checkpoint: copies both tables, the numbers and the end of the log as they are now. CkptBusy: one is begun, or the last
+    /// publish is not synced. Memory: a growth was refused.
+    pub fn ckpt_begin(&mut self) -> Result<(), Fault>
+        ensures { CkptBegins self.old.machine result self.new.machine }
+    {
+        if self.store.is_broken() {
+            return Err(Fault::Stopped);
+        }
+        self.store.ckpt_begin(self.alloc)?;
+        Ok(())
+    }
+
+    /// Writes the next block of the checkpoint that is begun: it makes one write of a device. NothingToDo: none is begun, or each block
+    /// is written. Device: the write failed, and the engine has stopped.
+    pub fn ckpt_block(&mut self) -> Result<(), Fault>
+        ensures { CkptWrites self.old.machine result self.new.machine }
+    {
+        if self.store.is_broken() {
+            return Err(Fault::Stopped);
+        }
+        self.store.ckpt_block()?;
+        Ok(())
+    }
+
+    /// Publishes the checkpoint that is begun: it makes one write of a device. NothingToDo: none is begun. CkptBusy: a block of it is not
+    /// written and synced. LogBehind: its position is above the acknowledged LSN. Device: the write failed, and the engine has stopped.
+    pub fn ckpt_publish(&mut self) -> Result<(), Fault>
+        ensures { CkptPublishes self.old.machine result self.new.machine }
+    {
+        if self.store.is_broken() {
+            return Err(Fault::Stopped);
+        }
+        self.store.ckpt_publish()?;
+        Ok(())
+    }
+
     /// Seals the log: writes the control block with phase Sealed and with the log's end as its mark and its seal, drops the partial
     /// record, and takes no more of the source. It makes one write of a device, takes no memory and no room of the log.
     ///
@@ -379,6 +423,9 @@ impl<D: BlockDisk> Engine<D> {
                 Ok(lsn) => Reply::Acknowledged(lsn),
                 Err(fault) => Reply::Refused(fault),
             },
+            Step::CkptBegin => done(self.ckpt_begin()),
+            Step::CkptBlock => done(self.ckpt_block()),
+            Step::CkptPublish => done(self.ckpt_publish()),
             Step::Seal => done(self.seal()),
             Step::UndoOne => match self.undo_one() {
                 Ok(lsn) => Reply::Undone(lsn),
@@ -396,13 +443,15 @@ impl<D: BlockDisk> Engine<D> {
         ensures acknowledged { result.acknowledged.0 ≡ acknowledged self.now.machine.held }
         ensures pending { result.pending ≡ pending_of self.now.machine.held }
         ensures leases { result.leases ≡ 0 }
+        // The log reaches what is acknowledged.
+        ensures stable { acknowledged self.now.machine.held ≤ end_of self.now.machine.held.log }
         // Log texts have less than 2^64 bytes, those of the partial record too.
         ensures fits { result.end.0 + result.partial < 2 ^ 64 }
         // What each control state that a crash may leave says of the log is true: past Following the log is the sealed one and a front
-        // of its tail.
-        ensures taken { IsUnderTakeover self.now.machine.held }
-        // A finished takeover holds exactly what the committed transactions of the sealed log left.
-        ensures finished { is_primary self.now.machine.held ≡ true → IsFinished self.now.machine.held }
+        // of its tail. So it is where the devices were sound when the engine was made.
+        ensures taken { WasWarm self.now.machine.held → IsUnderTakeover self.now.machine.held }
+        // Then a finished takeover holds exactly what the committed transactions of the sealed log left, unless the engine is recovering.
+        ensures finished { WasWarm self.now.machine.held → self.now.machine.held.recovering ≡ false → is_primary self.now.machine.held ≡ true → IsFinished self.now.machine.held }
     {
         // For the prover alone: the receiver counts up to there, and what always holds of a takeover.
         let _ = self.receiver.position();
@@ -441,14 +490,16 @@ impl<D: BlockDisk> Engine<D> {
     /// The dirty page table: the first row of a page from there on.
     pub fn dirty(&self, from: u32) -> Option<LoggedPage>
         ensures row { IsNextRow self.now.machine.held.pool.dirty from result }
-        // The pages, their images and their rows are the log's, and no image has a page_LSN above what is acknowledged.
-        ensures pool { IsPoolOf self.now.machine.held.log (acknowledged self.now.machine.held) self.now.machine.held.pool }
+        // Where the devices were sound when the engine was made: the pages, their images and their rows are the log's, and no image has a
+        // page_LSN above what is acknowledged.
+        ensures pool { WasWarm self.now.machine.held → IsPoolOf self.now.machine.held.log (acknowledged self.now.machine.held) self.now.machine.held.pool }
     {
         let _ = self.store.acknowledged();
         self.store.next_row(from)
     }
 
     /// The page as it is now: that of its frame, or else that of its block, which is read. Device: the read failed, which is counted.
+    /// BadPage: the block is not that of the page, which never comes where the devices were sound when the engine was made.
     pub fn page_now(&mut self, page: u32) -> Result<Page, Fault>
         requires { page < self.old.machine.held.pages }
         ensures { ShowsPage self.old.machine page result self.new.machine }

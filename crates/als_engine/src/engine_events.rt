@@ -64,6 +64,18 @@ impl<D: BlockDisk> Events for Engine<D> {
         Engine::ctl_sync(self)
     }
 
+    fn ckpt_begin(&mut self) -> Result<(), Fault> {
+        Engine::ckpt_begin(self)
+    }
+
+    fn ckpt_block(&mut self) -> Result<(), Fault> {
+        Engine::ckpt_block(self)
+    }
+
+    fn ckpt_publish(&mut self) -> Result<(), Fault> {
+        Engine::ckpt_publish(self)
+    }
+
     fn seal(&mut self) -> Result<(), Fault> {
         Engine::seal(self)
     }

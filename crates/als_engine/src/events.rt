@@ -7,6 +7,7 @@ ghost use Rattle.als_engine.specs.Machine.{Machine};
 ghost use Rattle.als_engine.specs.Refusals.{feed_refusal};
 ghost use Rattle.als_engine.specs.Feeds.{Feeds};
 ghost use Rattle.als_engine.specs.Events.{Resyncs, Applies, FlushesOne, PagesSync, LogWrites, LogSyncs, MarkWrites, ControlSyncs, Reads, ShowsPage};
+ghost use Rattle.als_engine.specs.Checkpointing.{CkptBegins, CkptWrites, CkptPublishes};
 ghost use Rattle.als_engine.specs.Takeover.{Seals, UndoesOneOf, Finishes};
 ghost use Rattle.als_engine.specs.Telling.{Tells};
 
@@ -63,6 +64,18 @@ pub trait Events {
     /// Syncs the control block, and answers its mark: the acknowledged LSN.
     fn ctl_sync(&mut self) -> Result<Lsn, Fault>
         ensures syncs { alone → ControlSyncs (machine self.old) result (machine self.new) };
+
+    /// Begins a checkpoint: copies both tables and the end of the log.
+    fn ckpt_begin(&mut self) -> Result<(), Fault>
+        ensures begins { alone → CkptBegins (machine self.old) result (machine self.new) };
+
+    /// Writes the next block of the checkpoint.
+    fn ckpt_block(&mut self) -> Result<(), Fault>
+        ensures writes { alone → CkptWrites (machine self.old) result (machine self.new) };
+
+    /// Publishes the checkpoint.
+    fn ckpt_publish(&mut self) -> Result<(), Fault>
+        ensures publishes { alone → CkptPublishes (machine self.old) result (machine self.new) };
 
     /// Seals the log at its end: from now on no piece of the primary's log is taken.
     fn seal(&mut self) -> Result<(), Fault>

@@ -1,11 +1,11 @@
 ghost use Rattle.std.specs.Prelude.{◌≡◌, Some};
 ghost use Rattle.als_fault.specs.Kinds.{number_of, name_of, text_of};
 ghost use Rattle.als_engine.specs.declared.fault.Fault.TheVariants.{Memory as OutOfMemory};
-ghost use Rattle.als_engine.specs.Faults.{kind_of, from_record, from_cause, from_store};
+ghost use Rattle.als_engine.specs.Faults.{kind_of, from_record, from_cause, from_store, from_open};
 
 use als_fault::FaultKind;
 use als_record::{Cause, Fault as RecordFault, TransId};
-use als_store::Fault as StoreFault;
+use als_store::{Fault as StoreFault, OpenFault};
 use std::alloc::{AllocError, AllocFailed};
 use std::fmt;
 
@@ -53,6 +53,8 @@ pub enum Fault {
     LogBehind,
     /// A transaction is unended, a change waits for redo, or the log is not acknowledged to its end.
     NotDrained,
+    /// A checkpoint is begun, the last publish is not synced, or a block of the checkpoint is not written and synced.
+    CkptBusy,
     /// All frames are used, and none is clean.
     PoolFull,
     /// There is nothing for the event to do.
@@ -69,6 +71,8 @@ pub enum Fault {
     BadPage {
         page: u32,
     },
+    /// The control block or its checkpoint is none, the mark stands within a record, or the checkpoint is not that of the log.
+    BadControl,
     /// As many changes are pending as the limit allows.
     Backlog,
     /// A number of the configuration is out of its range.
@@ -102,6 +106,7 @@ impl Fault {
             Fault::Sealed => FaultKind::Sealed,
             Fault::LogBehind => FaultKind::LogBehind,
             Fault::NotDrained => FaultKind::NotDrained,
+            Fault::CkptBusy => FaultKind::CkptBusy,
             Fault::PoolFull => FaultKind::PoolFull,
             Fault::NothingToDo => FaultKind::NothingToDo,
             Fault::LogFull => FaultKind::LogFull,
@@ -109,6 +114,7 @@ impl Fault {
             Fault::Stopped => FaultKind::Stopped,
             Fault::Memory => FaultKind::Memory,
             Fault::BadPage { page } => FaultKind::BadPage { page },
+            Fault::BadControl => FaultKind::BadControl,
             Fault::Backlog => FaultKind::Backlog,
             Fault::BadConfig => FaultKind::BadConfig,
             Fault::NotSealed => FaultKind::NotSealed,
@@ -183,12 +189,28 @@ impl From<StoreFault> for Fault {
         match fault {
             StoreFault::Invalid(cause) => Fault::from(cause),
             StoreFault::LogBehind => Fault::LogBehind,
+            StoreFault::CkptBusy => Fault::CkptBusy,
             StoreFault::PoolFull => Fault::PoolFull,
             StoreFault::NothingToDo => Fault::NothingToDo,
             StoreFault::LogFull => Fault::LogFull,
             StoreFault::Device => Fault::Device,
             StoreFault::Memory => Fault::Memory,
             StoreFault::BadPage { page } => Fault::BadPage { page },
+        }
+    }
+}
+
+impl From<OpenFault> for Fault {
+    ghost from_gives = { λ f e. e ≡ from_open f };
+
+    fn from(fault: OpenFault) -> Fault {
+        match fault {
+            OpenFault::Shape(shape) => Fault::from(shape),
+            OpenFault::Invalid(cause) => Fault::from(cause),
+            OpenFault::BadControl => Fault::BadControl,
+            OpenFault::LogFull => Fault::LogFull,
+            OpenFault::Device => Fault::Device,
+            OpenFault::Memory => Fault::Memory,
         }
     }
 }

@@ -23,6 +23,12 @@ pub enum Step<'a> {
     MarkWrite,
     /// Syncs the control block.
     ControlSync,
+    /// Begins a checkpoint: copies both tables and the end of the log.
+    CkptBegin,
+    /// Writes the next block of the checkpoint.
+    CkptBlock,
+    /// Publishes the checkpoint.
+    CkptPublish,
     /// Seals the log: from then on it takes only its own tail.
     Seal,
     /// Holds the next record of the sealed log's tail.

@@ -1,5 +1,6 @@
-ghost use Rattle.std.specs.Prelude.{◌≡◌, true, ◌<◌, ◌≤◌, ◌+◌, length, IfOk, IfErr};
+ghost use Rattle.std.specs.Prelude.{◌≡◌, true, false, ◌<◌, ◌≤◌, ◌+◌, length, IfOk, IfErr};
 ghost use Rattle.als_store.specs.Takeover.{IsUnderTakeover, IsFinished, is_primary};
+ghost use Rattle.als_store.specs.Warm.{WasWarm};
 ghost use Rattle.als_engine.specs.Machine.{Keeps};
 ghost use Rattle.als_engine.specs.Events.{Reads, ShowsPage};
 ghost use Rattle.als_engine.specs.Runs.{Run};
@@ -78,10 +79,11 @@ pub fn run<D: BlockDisk>(
     ensures keeps { IfOk result (λ x. Keeps world x.0) }
     // Each step makes one write or sync of a device at most.
     ensures attempts { IfOk result (λ x. x.0.held.attempts ≤ world.held.attempts + length steps.now) }
-    // What each control state that a crash may leave says of the log: past Following the log is the sealed one and a front of its tail.
-    ensures taken { IfOk result (λ x. IsUnderTakeover x.0.held) }
-    // A finished takeover holds exactly what the committed transactions of the sealed log left.
-    ensures finished { IfOk result (λ x. is_primary x.0.held ≡ true → IsFinished x.0.held) }
+    // What each control state that a crash may leave says of the log: past Following the log is the sealed one and a front of its tail. So it
+    // is where the devices were sound when the engine was made.
+    ensures taken { WasWarm world.held → IfOk result (λ x. IsUnderTakeover x.0.held) }
+    // Then a finished takeover holds exactly what the committed transactions of the sealed log left, unless the engine is recovering.
+    ensures finished { WasWarm world.held → IfOk result (λ x. x.0.held.recovering ≡ false → is_primary x.0.held ≡ true → IsFinished x.0.held) }
     ensures err { IfErr result (λ w. w ≡ world) }
 {
     let mut world = world;

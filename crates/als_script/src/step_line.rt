@@ -17,6 +17,12 @@ pub enum StepLine {
     MarkWrite,
     /// `ctl-sync`
     ControlSync,
+    /// `ckpt-begin`
+    CkptBegin,
+    /// `ckpt-block`
+    CkptBlock,
+    /// `ckpt-publish`
+    CkptPublish,
     Seal,
     /// `undo`
     UndoOne,
@@ -44,6 +50,9 @@ impl StepLine {
             "log-sync" => StepLine::LogSync,
             "mark-write" => StepLine::MarkWrite,
             "ctl-sync" => StepLine::ControlSync,
+            "ckpt-begin" => StepLine::CkptBegin,
+            "ckpt-block" => StepLine::CkptBlock,
+            "ckpt-publish" => StepLine::CkptPublish,
             "seal" => StepLine::Seal,
             "undo" => StepLine::UndoOne,
             "finish" => StepLine::Finish,

@@ -27,3 +27,9 @@ returns-clause-run g c = subst (λ (steps : List Step). Run c.args.world steps c
 
 pub returns-clause-attempts : goal.returns-clause-attempts
 returns-clause-attempts g c = omega (arith, c.loop-step.invariant.attempts, c.loop-step.invariant.within)
+
+pub returns-clause-taken : goal.returns-clause-taken
+returns-clause-taken g c = λ warm. c.status.ensures.taken (c.loop-step.invariant.keeps.warm warm)
+
+pub returns-clause-finished : goal.returns-clause-finished
+returns-clause-finished g c = λ warm. c.status.ensures.finished (c.loop-step.invariant.keeps.warm warm)

@@ -1,12 +1,15 @@
 use Rattle.als_engine.specs.Refusals.{feed_refusal}
 use Rattle.als_engine.proofs.RefusalLaws.{keeps_refused}
-use Rattle.als_engine.proofs.PageLaws.{not_applied_keeps, flushes_keeps}
-use Rattle.als_engine.proofs.StepLaws.{keeps_resync, keeps_sync_pages, keeps_log_write, keeps_log_sync, keeps_mark_write, keeps_seal, keeps_not_undone, keeps_finish, attempts_refused}
+use Rattle.als_engine.proofs.PageLaws.{applied_keeps, not_applied_keeps, flushes_keeps}
+use Rattle.als_engine.proofs.StepLaws.{keeps_resync, keeps_sync_pages, keeps_log_write, keeps_log_sync, keeps_mark_write, keeps_ckpt_begin, keeps_ckpt_block, keeps_ckpt_publish, keeps_seal, keeps_not_acknowledged, keeps_not_undone, keeps_finish, attempts_refused}
 use Rattle.als_engine.proofs.engine.Engine.step.Goals as goal
 
 pub returns-in-Err-clause-keeps : goal.returns-in-Err-clause-keeps
 returns-in-Err-clause-keeps g c =
     keeps_refused c.args.self.now.machine c.feed.new.self.machine c.in-Feed.piece.now (feed_refusal c.args.self.now.machine) c.in-Err.refusal c.in-Err.ensures.feeds
+
+pub returns-in-Ok-apply-clause-keeps : goal.returns-in-Ok-apply-clause-keeps
+returns-in-Ok-apply-clause-keeps g c = applied_keeps c.args.self.now.machine c.apply.new.self.machine c.in-Apply.page c.in-Ok-apply.lsn c.in-Ok-apply.ensures
 
 pub returns-in-Err-apply-clause-keeps : goal.returns-in-Err-apply-clause-keeps
 returns-in-Err-apply-clause-keeps g c = (not_applied_keeps c.args.self.now.machine c.apply.new.self.machine c.in-Apply.page c.in-Err-apply.fault c.in-Err-apply.ensures).0
@@ -43,3 +46,15 @@ returns-in-Err-undo_one-clause-keeps g c = keeps_not_undone c.args.self.now.mach
 
 pub returns-in-Finish-clause-keeps : goal.returns-in-Finish-clause-keeps
 returns-in-Finish-clause-keeps g c = keeps_finish c.args.self.now.machine c.finish.new.self.machine c.finish.result c.finish.ensures
+
+pub returns-in-CkptBegin-clause-keeps : goal.returns-in-CkptBegin-clause-keeps
+returns-in-CkptBegin-clause-keeps g c = keeps_ckpt_begin c.args.self.now.machine c.ckpt_begin.new.self.machine c.ckpt_begin.result c.ckpt_begin.ensures
+
+pub returns-in-CkptBlock-clause-keeps : goal.returns-in-CkptBlock-clause-keeps
+returns-in-CkptBlock-clause-keeps g c = keeps_ckpt_block c.args.self.now.machine c.ckpt_block.new.self.machine c.ckpt_block.result c.ckpt_block.ensures
+
+pub returns-in-CkptPublish-clause-keeps : goal.returns-in-CkptPublish-clause-keeps
+returns-in-CkptPublish-clause-keeps g c = keeps_ckpt_publish c.args.self.now.machine c.ckpt_publish.new.self.machine c.ckpt_publish.result c.ckpt_publish.ensures
+
+pub returns-in-Err-ctl_sync-clause-keeps : goal.returns-in-Err-ctl_sync-clause-keeps
+returns-in-Err-ctl_sync-clause-keeps g c = keeps_not_acknowledged c.args.self.now.machine c.ctl_sync.new.self.machine c.in-Err-ctl_sync.fault c.in-Err-ctl_sync.ensures.syncs

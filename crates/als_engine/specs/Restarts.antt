@@ -1,0 +1,56 @@
+-- What a crash leaves of an engine, and what a restart makes of it.
+use Rattle.std.specs.Prelude.{◌≡◌, ℕ, true, false, [], None}
+use Rattle.als_record.specs.LogText.{end_of}
+use Rattle.als_disk.specs.Slot.{Slot}
+use Rattle.als_reopen.specs.Node.{Node, IsNode}
+use Rattle.als_reopen.specs.Outcomes.{AreSettled}
+use Rattle.als_store.specs.Leaving.{MayLeave}
+use Rattle.als_store.specs.Staying.{StaysNode}
+use Rattle.als_store.specs.Warm.{WasWarm}
+use Rattle.als_engine.specs.declared.config.Config.{Config}
+use Rattle.als_engine.specs.Config.{IsConfig, IsWorld}
+use Rattle.als_engine.specs.Machine.{Machine}
+
+-- the engine was made over sound devices, and so its pages, its checkpoints and its takeover are still those of its log
+abbrev pub IsWarm : Machine → Type 0
+IsWarm m = WasWarm m.held
+
+-- an engine made with this configuration
+pub record IsMadeWith (config : Config) (m : Machine) : Type 0 where
+  pub numbers : IsConfig config
+  pub pages : m.held.pages ≡ config.pages
+  pub limit : m.limit ≡ config.pending
+
+-- Stopped devices, each block of which has one content, hold this log, control state and checkpoint; and they are large enough for the
+-- configuration: the log's so many blocks, the control block's, and the pages'.
+pub record Holds (config : Config) (log_blocks control_blocks page_blocks : ℕ) (log control pages : ℕ → Slot) (n : Node) : Type 0 where
+  pub large : IsWorld config log_blocks control_blocks page_blocks
+  pub log_settled : AreSettled log
+  pub control_settled : AreSettled control
+  pub pages_settled : AreSettled pages
+  pub node : IsNode config.pages log_blocks log control pages n
+
+-- Devices that held it were not taken up again: they hold it on.
+pub record StillHolds (config : Config) (log_blocks control_blocks page_blocks : ℕ) (log control pages : ℕ → Slot) (n : Node) : Type 0 where
+  pub large : IsWorld config log_blocks control_blocks page_blocks
+  pub stays : StaysNode config.pages log_blocks log control pages n
+
+-- A crash may leave this of an engine: one of the control states that were synced or written since, and the front of the log that ends at its
+-- mark. What is acknowledged stays so, the phase does not fall, and past Following the seal stays.
+pub record Leaves (old : Machine) (n : Node) : Type 0 where
+  pub may : MayLeave old.held n
+  pub ends : end_of n.log ≡ n.said.state.mark.0
+
+-- An engine that begins again with what the devices held: nothing is unsynced, partial or refused. It is recovering.
+pub record IsStarted (config : Config) (n : Node) (new : Machine) : Type 0 where
+  pub made : IsMadeWith config new
+  pub log : new.held.log ≡ n.log
+  pub control : new.held.control ≡ n.said.state
+  pub since : new.held.since ≡ []
+  pub begun : new.held.begun ≡ None
+  pub running : new.held.broken ≡ false
+  pub recovering : new.held.recovering ≡ true
+  pub written : new.held.written ≡ end_of n.log
+  pub synced : new.held.synced ≡ end_of n.log
+  pub partial : new.partial ≡ []
+  pub refused : new.refused ≡ None

@@ -1,0 +1,81 @@
+ghost use Rattle.std.specs.Prelude.{◌≡◌, ⊤, ◌+◌, ◌⊎◌, IfOk, IfErr};
+ghost use Rattle.als_engine.specs.declared.config.Config.{Config as AnyConfig};
+ghost use Rattle.als_engine.specs.declared.fault.Fault.TheVariants as fault;
+ghost use Rattle.als_engine.specs.Config.{IsWorld};
+ghost use Rattle.als_reopen.specs.Node.{Node};
+ghost use Rattle.als_engine.specs.Restarts.{IsWarm, IsMadeWith, Holds, StillHolds, Leaves, IsStarted};
+
+use super::Engine;
+use crate::config::Config;
+use crate::fault::Fault;
+use crate::refused::Refused;
+use als_disk::{BlockDisk, Restart};
+use als_receiver::Receiver;
+use als_store::{Disks, Store};
+use std::alloc::Global;
+
+impl<D: BlockDisk> Engine<D> {
+    /// A standby over devices that one left: it syncs the log's, the control block's and the pages' device, and then only reads. It holds
+    /// the log up to the mark, and each page waits for what its image may lack. It is Recovering. On a refusal the devices come back.
+    ///
+    /// BadConfig: a number of the configuration is out of its range, or a device has too few blocks, or the log's too many. Device: a device
+    /// failed. Memory: a growth was refused. Else the first met in reading control block, checkpoint, log header and records: BadControl,
+    /// BadHeader, or the fault of a record. LogFull: the log and its tail together exceed the log device.
+    pub fn open(alloc: Global, disks: Disks<D>, config: Config) -> Result<Engine<D>, Refused<D>>
+        // Devices that hold a log, a control state and a checkpoint give an engine that begins again with these,
+        ensures warm { (n : Node) → Holds config (D.block_count disks.log) (D.block_count disks.control) (D.block_count disks.pages)
+            (D.slot disks.log) (D.slot disks.control) (D.slot disks.pages) n
+            → IfOk result (λ e. IsWarm e.machine × IsStarted config n e.machine) }
+        // or else a device failed or a growth was refused, and the devices still hold the same.
+        ensures bare { (n : Node) → Holds config (D.block_count disks.log) (D.block_count disks.control) (D.block_count disks.pages)
+            (D.slot disks.log) (D.slot disks.control) (D.slot disks.pages) n
+            → IfErr result (λ r. ((r.fault ≡ fault.Device) ⊎ (r.fault ≡ fault.Memory))
+            × StillHolds config (D.block_count r.disks.log) (D.block_count r.disks.control) (D.block_count r.disks.pages)
+            (D.slot r.disks.log) (D.slot r.disks.control) (D.slot r.disks.pages) n) }
+    {
+        if !config.fits(&disks) {
+            return Err(Refused {
+                disks,
+                fault: Fault::BadConfig,
+            });
+        }
+        let pages = config.pages as u32;
+        match Store::open(alloc, disks, pages, config.frames as usize) {
+            Ok(store) => {
+                let receiver = Receiver::new(alloc, store.end(), pages);
+                Ok(Engine {
+                    alloc,
+                    store,
+                    receiver,
+                    limit: config.pending as usize,
+                    refused: None,
+                })
+            }
+            Err(unopened) => Err(Refused {
+                disks: unopened.disks,
+                fault: Fault::from(unopened.fault),
+            }),
+        }
+    }
+}
+
+impl<D: Restart> Engine<D> {
+    /// What a crash leaves of the devices: in each block one of its candidates. The blocks of the log's device take the picks first, then
+    /// the control block's, then the pages'. The answer tells how many picks were used.
+    pub fn crash(self, picks: &[u8]) -> (Disks<D>, usize)
+        ensures leaves { (config : AnyConfig) → IsMadeWith config self.machine → IsWarm self.machine
+            → (n : Node) × Leaves self.machine n
+            × Holds config (D.block_count result.0.log) (D.block_count result.0.control) (D.block_count result.0.pages)
+            (D.slot result.0.log) (D.slot result.0.control) (D.slot result.0.pages) n }
+    {
+        let Engine {
+            alloc: _,
+            store,
+            receiver,
+            limit: _,
+            refused: _,
+        } = self;
+        drop(receiver);
+        store.crash(picks)
+    }
+}
