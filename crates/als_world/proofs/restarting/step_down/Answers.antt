@@ -1,0 +1,18 @@
+use Rattle.std.proofs.Common.{sym, subst}
+use Rattle.als_engine.specs.declared.fault.Fault.TheVariants as fault
+use Rattle.als_world.specs.declared.step.WorldStep.{WorldStep}
+use Rattle.als_world.specs.declared.step.WorldReply.TheVariants as reply
+use Rattle.als_world.specs.Standing.{Down}
+use Rattle.als_world.specs.Runs.{StepsTo}
+use Rattle.als_world.proofs.StepLaws.{down, steps-refused, steps-again}
+use Rattle.als_world.proofs.restarting.step_down.Goals as goal
+
+pub returns-in-Event-clause-steps : goal.returns-in-Event-clause-steps
+returns-in-Event-clause-steps g c = λ n held.
+    subst (λ (s : WorldStep). StepsTo g.D.BlockDisk.slot g.D.BlockDisk.block_count c.args.config (Down n) s (reply.Refused fault.Stopped) (down c.args.config c.args.disks)) (sym c.in-Event.is)
+    (steps-refused g.D.BlockDisk.slot g.D.BlockDisk.block_count c.args.config n c.in-Event.field-0 c.args.disks held)
+
+pub returns-in-Crash-clause-steps : goal.returns-in-Crash-clause-steps
+returns-in-Crash-clause-steps g c = λ n held.
+    subst (λ (s : WorldStep). StepsTo g.D.BlockDisk.slot g.D.BlockDisk.block_count c.args.config (Down n) s c.open.result.1 c.open.result.0) (sym c.in-Crash.is)
+    (steps-again g.D.BlockDisk.slot g.D.BlockDisk.block_count c.args.config n c.in-Crash.picks c.open.result.1 c.open.result.0 held.stays.node.held.ends (c.open.ensures.opens n (c.crash.ensures.left c.args.config n held)))

@@ -1,0 +1,51 @@
+-- Runs of steps over a world.
+use Rattle.std.specs.Prelude.{◌≡◌, ℕ, ◌⊎◌, List, [], ◌∷◌}
+use Rattle.als_record.specs.LogText.{end_of}
+use Rattle.als_engine.specs.declared.config.Config.{Config}
+use Rattle.als_engine.specs.declared.fault.Fault.TheVariants as fault
+use Rattle.als_engine.specs.Machine.{Machine}
+use Rattle.als_reopen.specs.Node.{Node}
+use Rattle.als_engine.specs.Restarts.{Leaves, IsStarted}
+use Rattle.als_engine.specs.Runs.{Steps as EngineSteps}
+use Rattle.als_world.specs.declared.step.WorldStep.{WorldStep}
+use Rattle.als_world.specs.declared.step.WorldStep.TheVariants as step
+use Rattle.als_world.specs.declared.step.WorldReply.{WorldReply}
+use Rattle.als_world.specs.declared.step.WorldReply.TheVariants as reply
+use Rattle.als_disk.specs.Slot.{Slot}
+use Rattle.als_world.specs.declared.world.World.{World}
+use Rattle.als_world.specs.Standing.{Standing, Up, Down, Shows, Keeps}
+
+-- What devices hold is taken up again: it begins with that, or a device failed or a growth was refused, and the devices hold the same.
+unfoldable pub Opens : Config → Node → WorldReply → Standing → Type 0
+Opens config n (reply.Restarted end) (Up new) = (end.0 ≡ end_of n.log) × IsStarted config n new
+Opens config n (reply.Refused cause) (Down left) = ((cause ≡ fault.Device) ⊎ (cause ≡ fault.Memory)) × (left ≡ n)
+Opens config n answer new = ⊥
+
+-- a crash leaves something of the machine, which is taken up again
+pub record Crashes (config : Config) (old : Machine) (answer : WorldReply) (new : Standing) : Type 0 where
+  pub left : Node
+  pub leaves : Leaves old left
+  pub opens : Opens config left answer new
+
+-- While the world is up, an event is the small machine's; while it is down, each is refused, and a crash only opens again.
+unfoldable pub Steps : Config → Standing → WorldStep → WorldReply → Standing → Type 0
+Steps config (Up old) (step.Event event) (reply.Event answer) (Up new) = EngineSteps old event answer new
+Steps config (Up old) (step.Crash picks) answer new = Crashes config old answer new
+Steps config (Down n) (step.Event event) answer new = (answer ≡ reply.Refused fault.Stopped) × (new ≡ Down n)
+Steps config (Down n) (step.Crash picks) answer new = Opens config n answer new
+Steps config _ _ _ _ = ⊥
+
+-- The steps have these replies, one after another, and lead from old to new.
+unfoldable pub Run : Config → Standing → List WorldStep → List WorldReply → Standing → Type 0
+Run config old [] [] new = new ≡ old
+Run config old (step ∷ steps) (reply ∷ replies) new = (mid : Standing) × Steps config old step reply mid × Run config mid steps replies new
+Run config old [] (reply ∷ replies) new = ⊥
+Run config old (step ∷ steps) [] new = ⊥
+
+-- For what devices hold there is what the world then shows, where it is taken up again.
+abbrev pub OpensTo : {D : Type 0} → (D → ℕ → Slot) → (D → ℕ) → Config → Node → WorldReply → World D → Type 0
+OpensTo slot count config n reply after = (new : Standing) × Shows slot count after new × Opens config n reply new
+
+-- For what a world shows there is what it shows after the step, and what is kept.
+abbrev pub StepsTo : {D : Type 0} → (D → ℕ → Slot) → (D → ℕ) → Config → Standing → WorldStep → WorldReply → World D → Type 0
+StepsTo slot count config old step reply after = (new : Standing) × Shows slot count after new × Steps config old step reply new × Keeps old new

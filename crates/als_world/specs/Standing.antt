@@ -1,0 +1,66 @@
+-- What a world shows: the small machine while it is up, and what its devices hold while it is down.
+use Rattle.std.specs.Prelude.{◌≡◌, ℕ, true, false, List, ◌++◌, ◌≤◌}
+use Rattle.als_record.specs.declared.record.Record.{Record}
+use Rattle.als_record.specs.LogText.{end_of}
+use Rattle.als_disk.specs.Slot.{Slot}
+use Rattle.als_ckpt.specs.declared.control_state.ControlState.{ControlState}
+use Rattle.als_reopen.specs.Taken.{IsTakenFrom}
+use Rattle.als_store.specs.Takeover.{GoesOn, IsUnderTakeover, IsFinished, is_primary}
+use Rattle.als_engine.specs.declared.config.Config.{Config}
+use Rattle.als_engine.specs.Machine.{Machine}
+use Rattle.als_reopen.specs.Node.{Node}
+use Rattle.als_engine.specs.Restarts.{IsWarm, IsMadeWith, StillHolds}
+use Rattle.als_world.specs.declared.place.Place.{Place}
+use Rattle.als_world.specs.declared.place.Place.TheVariants as place
+use Rattle.als_world.specs.declared.world.World.{World}
+
+pub data Standing : Type 0 where
+  Up : Machine → Standing
+  Down : Node → Standing
+
+-- An engine is shown by its machine, where it was made over sound devices and with the world's configuration; devices by what they hold.
+unfoldable pub Shown : {D : Type 0} → (D → ℕ → Slot) → (D → ℕ) → Config → Place D → Standing → Type 0
+Shown slot count config (place.Up engine) (Up m) = (m ≡ engine.machine) × IsMadeWith config m × IsWarm m
+Shown slot count config (place.Down disks) (Down n) =
+    StillHolds config (count disks.log) (count disks.control) (count disks.pages) (slot disks.log) (slot disks.control) (slot disks.pages) n
+Shown slot count config (place.Up engine) (Down n) = ⊥
+Shown slot count config (place.Down disks) (Up m) = ⊥
+
+unfoldable pub Shows : {D : Type 0} → (D → ℕ → Slot) → (D → ℕ) → World D → Standing → Type 0
+Shows slot count world standing = Shown slot count world.config world.place standing
+
+-- the held log, and the one that devices hold
+abbrev pub log_of : Standing → List Record
+log_of (Up m) = m.held.log
+log_of (Down n) = n.log
+
+-- the synced control state
+abbrev pub control_of : Standing → ControlState
+control_of (Up m) = m.held.control
+control_of (Down n) = n.said.state
+
+-- the log reaches the acknowledged LSN
+abbrev pub IsSteady : Standing → Type 0
+IsSteady s = (control_of s).mark.0 ≤ end_of (log_of s)
+
+-- The records of two logs agree up to an offset: the logs have a front in common that reaches it.
+pub record Agree (before after : List Record) (offset : ℕ) : Type 0 where
+  pub front : List Record
+  pub lost : List Record
+  pub more : List Record
+  pub old : before ≡ front ++ lost
+  pub new : after ≡ front ++ more
+  pub reaches : offset ≤ end_of front
+
+-- What is acknowledged stays so, over crashes too, and the text below it stands. What is acknowledged of a takeover stays so too: the phase
+-- never falls, and past Following the seal stays.
+pub record Keeps (old new : Standing) : Type 0 where
+  pub acknowledged : (control_of old).mark.0 ≤ (control_of new).mark.0
+  pub text : Agree (log_of old) (log_of new) (control_of old).mark.0
+  pub takeover : GoesOn (control_of old) (control_of new)
+
+-- What each control state says of the log is true: past Following the log is the sealed one and a front of its tail. A finished takeover
+-- holds exactly what the committed transactions of the sealed log left, unless the engine is recovering.
+abbrev pub IsTrue : Standing → Type 0
+IsTrue (Up m) = IsUnderTakeover m.held × (m.held.recovering ≡ false → is_primary m.held ≡ true → IsFinished m.held)
+IsTrue (Down n) = IsTakenFrom n.log n.said.state

@@ -1,0 +1,17 @@
+//! A standby in a world: runs of steps over it, with crashes and restarts among them.
+#![tactic(auto)]
+
+// One step of a run, and its reply.
+mod step;
+// A standby that is up, or the devices that it left.
+mod place;
+// A standby that is crashed and begun again.
+mod restarting;
+// The world.
+mod world;
+// Runs of steps.
+mod running;
+
+pub use running::run;
+pub use step::{WorldReply, WorldStep};
+pub use world::World;

@@ -1,0 +1,37 @@
+ghost use Rattle.std.specs.Prelude.{◌≡◌, IfOk, IfErr};
+ghost use Rattle.als_world.specs.Standing.{Standing, Shows, Keeps, IsTrue};
+ghost use Rattle.als_world.specs.Runs.{Run};
+
+use crate::restarting::step_over;
+use crate::step::{WorldReply, WorldStep};
+use crate::world::World;
+use als_disk::Restart;
+use std::alloc::Global;
+
+/// Runs the steps one after another, and answers each one's reply. The replies' room is taken first: where that is refused nothing is run, and
+/// the world comes back.
+pub fn run<D: Restart>(
+    alloc: Global,
+    world: World<D>,
+    steps: &[WorldStep],
+) -> Result<(World<D>, Vec<WorldReply>), World<D>>
+    // Over every list of steps the replies and what the world then shows are a run of the small machine, with crashes and restarts. What is
+    // acknowledged stays so, and what the control states say of the log is true.
+    ensures run { (old : Standing) → Shows D.slot D.block_count world old
+        → IfOk result (λ x. (new : Standing) × Shows D.slot D.block_count x.0 new × Run world.config old steps.now x.1.items new × Keeps old new × IsTrue new) }
+    ensures err { IfErr result (λ w. w ≡ world) }
+{
+    world.settle();
+    let mut world = world;
+    let mut replies = match Vec::with_capacity(alloc, steps.len()) {
+        Ok(replies) => replies,
+        Err(_) => return Err(world),
+    };
+    for step in steps {
+        let (after, reply) = step_over(alloc, world, step);
+        world = after;
+        replies.push_reserved(reply);
+    }
+    world.settle();
+    Ok((world, replies))
+}
