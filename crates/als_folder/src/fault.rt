@@ -1,0 +1,88 @@
+ghost use Rattle.std.specs.Prelude.{◌≡◌, Some};
+ghost use Rattle.als_fault.specs.Kinds.{number_of, name_of, text_of};
+ghost use Rattle.als_folder.specs.declared.fault.Fault.TheVariants.{Memory as OutOfMemory};
+ghost use Rattle.als_folder.specs.FaultNames.{kind_of, IsOfFile, IsOfLock};
+
+use als_fault::FaultKind;
+use std::alloc::AllocError;
+use std::fs::TryLockError;
+use std::io::ErrorKind;
+use std::{fmt, io};
+
+/// Why a folder is refused. The numbers are common to all crates.
+#[derive(Clone, Copy, Debug, PartialEq, Eq)]
+pub enum Fault {
+    /// The folder or one of its files failed.
+    Device,
+    /// Another program has the folder. To callers it is a device that failed.
+    Busy,
+    /// A growth was refused.
+    Memory,
+}
+
+impl Fault {
+    /// Which of the faults of all crates it is.
+    pub fn kind(self) -> FaultKind
+        ensures { result ≡ kind_of self }
+    {
+        match self {
+            Fault::Device | Fault::Busy => FaultKind::Device,
+            Fault::Memory => FaultKind::Memory,
+        }
+    }
+
+    /// The fault's number.
+    pub fn number(self) -> u32
+        ensures { result ≡ number_of (kind_of self) }
+    {
+        self.kind().number()
+    }
+
+    /// The fault's name, as programs print it.
+    pub fn name(self) -> &'static str
+        ensures { result.now ≡ name_of (kind_of self) }
+    {
+        self.kind().name()
+    }
+}
+
+impl fmt::Display for Fault {
+    ghost output = { λ fault. Some (text_of (kind_of fault)) };
+
+    fn fmt<W: fmt::Write>(&self, f: &mut fmt::Formatter<W>) -> fmt::Result {
+        let kind = self.kind();
+        write!(f, "{kind}")
+    }
+}
+
+impl std::error::Error for Fault {}
+
+impl From<AllocError> for Fault {
+    ghost from_gives = { λ _ fault. fault ≡ OutOfMemory };
+
+    fn from(_e: AllocError) -> Fault {
+        Fault::Memory
+    }
+}
+
+impl From<io::Error> for Fault {
+    ghost from_gives = { λ _ fault. IsOfFile fault };
+
+    fn from(e: io::Error) -> Fault {
+        match e.kind() {
+            ErrorKind::OutOfMemory => Fault::Memory,
+            _ => Fault::Device,
+        }
+    }
+}
+
+impl From<TryLockError> for Fault {
+    ghost from_gives = { λ _ fault. IsOfLock fault };
+
+    fn from(e: TryLockError) -> Fault {
+        match e {
+            TryLockError::WouldBlock => Fault::Busy,
+            TryLockError::Error(_) => Fault::Device,
+        }
+    }
+}

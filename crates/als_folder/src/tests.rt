@@ -1,0 +1,93 @@
+use super::*;
+use als_disk::{BlockDisk, DeviceError};
+use std::fs;
+use std::fs::File;
+use std::process::Abort;
+use std::rt::Files;
+
+const SIZES: Sizes = Sizes {
+    log: 3,
+    control: 2,
+    pages: 1,
+};
+
+/// Fills the first block of a device, if it has one, and syncs it.
+fn fill<D: BlockDisk>(disk: &mut D, byte: u8) -> Result<(), DeviceError> {
+    if 0 < disk.blocks() {
+        disk.write(0, &[byte; 512])?;
+    }
+    disk.sync()
+}
+
+/// How many blocks a device has, and the first byte of its first block.
+fn sees<D: BlockDisk>(disk: &mut D) -> Option<(u64, u8)> {
+    let mut block = [0; 512];
+    if 0 < disk.blocks() {
+        disk.read(0, &mut block).ok()?;
+    }
+    Some((disk.blocks(), block[0]))
+}
+
+/// Lays out a database whose blocks begin with these bytes. `None`: memory was refused.
+fn lay_out<R: Files<File = File> + AllocGlobal>(
+    rt: &R,
+    folder: &Folder,
+    bytes: [u8; 3],
+) -> Option<()> {
+    let mut devices = folder.lay_out(rt, SIZES).ok()?;
+    fill(&mut devices.log, bytes[0]).ok()?;
+    fill(&mut devices.control, bytes[1]).ok()?;
+    fill(&mut devices.pages, bytes[2]).ok()
+}
+
+/// A folder is held once, laid out twice, kept, and opened by the next program. `None`: memory was refused.
+fn goes_its_way<R: Abort + AllocGlobal + Files<File = File>>(rt: &R) -> Option<()> {
+    let folder = Folder::hold(rt, "standby").ok()?;
+    assert!(rt;
+        matches!(
+            Folder::hold(rt, "standby"),
+            Err(Fault::Busy | Fault::Memory)
+        )
+    );
+    // A stop before `keep` leaves no database.
+    lay_out(rt, &folder, [1, 2, 3])?;
+    assert_eq!(rt; folder.is_kept(rt).ok()?, false);
+    assert!(rt; folder.open(rt).is_err());
+    lay_out(rt, &folder, [4, 5, 6])?;
+    folder.keep(rt).ok()?;
+    assert_eq!(rt; folder.is_kept(rt).ok()?, true);
+    assert!(rt; folder.lay_out(rt, SIZES).is_err());
+    drop(folder);
+    let next = Folder::hold(rt, "standby").ok()?;
+    let mut devices = next.open(rt).ok()?;
+    assert_eq!(rt; sees(&mut devices.log)?, (3, 4));
+    assert_eq!(rt; sees(&mut devices.control)?, (2, 5));
+    assert_eq!(rt; sees(&mut devices.pages)?, (1, 6));
+    Some(())
+}
+
+/// The same in a folder of its own.
+fn goes_its_way_anew<R: Abort + AllocGlobal + Files<File = File>>(rt: &R) -> Option<()> {
+    fs::create_dir(rt, "standby").ok()?;
+    let outcome = goes_its_way(rt);
+    fs::remove_dir_all(rt, "standby").ok()?;
+    outcome
+}
+
+#[test]
+fn a_folder_is_laid_out_and_opened(rt: HostRuntime) {
+    assert!(rt; goes_its_way_anew(&rt).is_some() || goes_its_way_anew(&rt).is_some());
+}
+
+#[test]
+fn a_folder_that_is_missing(rt: HostRuntime) {
+    assert!(rt;
+        matches!(
+            Folder::hold(&rt, "no folder"),
+            Err(Fault::Device | Fault::Memory)
+        )
+    );
+    assert_eq!(rt; Fault::Device.number(), 30);
+    assert_eq!(rt; Fault::Busy.name(), "Device");
+    assert_eq!(rt; Fault::Memory.number(), 32);
+}

@@ -1,0 +1,14 @@
+-- What a command prints.
+use Rattle.std.specs.Prelude.{ℕ, List, [], ◌∷◌, ◌++◌, Option, codes}
+use Rattle.std.specs.Fmt.{decimal}
+use Rattle.std.specs.Io.KnownBytes.{Appends}
+use Rattle.als_record.specs.declared.header.LogHeader.{LogHeader}
+use Rattle.als_ship.specs.Wire.{Ships}
+
+-- the line of a session: how many log bytes it sent
+abbrev pub sent_line : ℕ → List ℕ
+sent_line n = codes "sent=" ++ decimal n ++ 10 ∷ []
+
+-- a session has sent all of the text from where the follower goes on, and the line that was printed tells how many bytes that were
+abbrev pub Tells : List ℕ → LogHeader → (asked old new printed after : Option (List ℕ)) → Type 0
+Tells text header asked old new printed after = (n : ℕ) × Ships text header asked old new n × Appends printed after (sent_line n)
