@@ -28,12 +28,17 @@ text() {
         last { exit }' "$crate/src/command.rt"
 }
 
+# What the program says of an option that has to be given: it stands in command.rt alone.
+option_help() {
+    sed -n "s/^ *\.arg(wanted(alloc, \"$1\", \"[A-Z]*\", \"\(.*\)\"))?;*\$/\1/p" "$crate/src/command.rt"
+}
+
 # The pages as clap lays them out.
 help_page() {
     case "$1" in
         als)
             text ABOUT
-            printf '\nUsage: als <COMMAND>\n\nCommands:\n  make  %s\n  sim   %s\n' "$(text MAKE_ABOUT)" "$(text SIM_ABOUT)"
+            printf '\nUsage: als <COMMAND>\n\nCommands:\n  make  %s\n  sim   %s\n  ship  %s\n' "$(text MAKE_ABOUT)" "$(text SIM_ABOUT)" "$(text SHIP_ABOUT)"
             printf '  help  Print this message or the help of the given subcommand(s)\n\nOptions:\n  -h, --help  Print help\n\n'
             text STATUSES
             ;;
@@ -48,6 +53,14 @@ help_page() {
             text SIM_ABOUT
             printf '\nUsage: als sim\n\nOptions:\n  -h, --help  Print help\n\n'
             text SIM_HELP
+            ;;
+        ship)
+            text SHIP_ABOUT
+            printf '\nUsage: als ship --log <FILE> --listen <ADDR>\n\nOptions:\n'
+            printf '      --log <FILE>     %s\n' "$(option_help log)"
+            printf '      --listen <ADDR>  %s\n' "$(option_help listen)"
+            printf '  -h, --help           Print help\n\n'
+            text SHIP_HELP
             ;;
     esac
 }
@@ -67,6 +80,7 @@ tell() {
         --help | -h | help) help_page als ;;
         'make --help' | 'make -h' | 'help make') help_page make ;;
         'sim --help' | 'sim -h' | 'help sim') help_page sim ;;
+        'ship --help' | 'ship -h' | 'help ship') help_page ship ;;
         *) return 1 ;;
     esac
 }

@@ -1,6 +1,6 @@
 use Rattle.std.specs.Prelude.{ℕ}
 use Rattle.als_cli.specs.declared.failure.Failure.{Failure}
-use Rattle.als_cli.specs.declared.failure.Failure.TheVariants.{Usage, BadLine, Memory, Stream}
+use Rattle.als_cli.specs.declared.failure.Failure.TheVariants.{Usage, BadLine, Memory, Stream, Refused}
 
 -- the exit status of a failure: 2 for what the caller wrote, 3 for a refusal
 abbrev pub status_of : Failure → ℕ
@@ -8,3 +8,4 @@ status_of (Usage _) = 2
 status_of (BadLine _) = 2
 status_of Memory = 3
 status_of Stream = 3
+status_of (Refused _) = 3

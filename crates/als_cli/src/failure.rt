@@ -3,6 +3,7 @@ ghost use Rattle.als_cli.specs.Status.{status_of};
 ghost use Rattle.als_cli.specs.declared.failure.Failure.TheVariants.{Memory};
 
 use als_fault::FaultKind;
+use als_operate::Fault;
 use std::alloc::{AllocError, AllocFailed};
 use std::io;
 use std::io::{ErrorKind, Write};
@@ -20,9 +21,12 @@ pub enum Failure {
     /// A growth was refused.
     #[error("als: refused {kind}", kind = FaultKind::Memory)]
     Memory,
-    /// Standard input or output fails, or standard input is too long.
+    /// Standard output fails.
     #[error("als: refused {kind}", kind = FaultKind::Stream)]
     Stream,
+    /// A command is refused, or standard input fails or is too long.
+    #[error("als: refused {0}")]
+    Refused(Fault),
 }
 
 impl Failure {
@@ -32,7 +36,7 @@ impl Failure {
     {
         match self {
             Failure::Usage(_) | Failure::BadLine(_) => 2,
-            Failure::Memory | Failure::Stream => 3,
+            Failure::Memory | Failure::Stream | Failure::Refused(_) => 3,
         }
     }
 
@@ -71,6 +75,12 @@ impl From<io::Error> for Failure {
             ErrorKind::OutOfMemory => Failure::Memory,
             _ => Failure::Stream,
         }
+    }
+}
+
+impl From<Fault> for Failure {
+    fn from(fault: Fault) -> Failure {
+        Failure::Refused(fault)
     }
 }
 

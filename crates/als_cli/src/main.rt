@@ -7,8 +7,6 @@ mod program;
 mod command;
 // Why the program ends without having done what it was asked.
 mod failure;
-// Standard input, whole.
-mod input;
 // `als make`.
 mod make;
 // `als sim`.
@@ -22,15 +20,8 @@ use std::env;
 use std::process::ExitCode;
 
 fn main(rt: HostRuntime) -> ExitCode {
-    let alloc = rt.alloc();
     let status = match words(&rt) {
-        Ok(words) => program(
-            alloc,
-            words.as_slice(),
-            rt.stdin(),
-            rt.stdout(),
-            rt.stderr(),
-        ),
+        Ok(words) => program(&rt, words.as_slice(), rt.stdin(), rt.stdout(), rt.stderr()),
         Err(failure) => failure.report(&mut rt.stderr()),
     };
     ExitCode::from(status)

@@ -18,7 +18,11 @@ mod streams;
 mod judging;
 // Takeovers.
 mod taking_over;
+// Checkpoints.
+mod checkpointing;
 // The scripts of the folder of examples.
 mod examples;
+// `als ship`.
+mod shipping;
 // Requests that want memory.
 mod memory;

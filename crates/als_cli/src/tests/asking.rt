@@ -1,6 +1,7 @@
 use crate::program::program;
-use std::alloc::Global;
+use std::net::Net;
 use std::process::Abort;
+use std::rt::Files;
 
 /// A request for help goes to standard output and ends with 0; it needs no input.
 #[test]
@@ -13,7 +14,9 @@ fn help_is_written(rt: HostRuntime) {
         &rt,
         &["als", "sim", "--help"],
         "als sim < examples/first-path.als",
-    )
+    );
+    asks(&rt, &["als", "ship", "--help"], "--listen <ADDR>");
+    asks(&rt, &["als", "help", "ship"], "als ship --log primary.log")
 }
 
 /// A fault of the command line is told on standard error and ends with 2.
@@ -40,29 +43,34 @@ fn faults_are_told(rt: HostRuntime) {
         &rt,
         &["als", "sim", "first-path.als"],
         "unexpected argument 'first-path.als'",
+    );
+    errs(
+        &rt,
+        &["als", "ship", "--log", "primary.log"],
+        "--listen <ADDR>",
     )
 }
 
-fn asks<R: Abort + AllocGlobal>(rt: &R, words: &[&str], part: &str) {
+fn asks<R: Abort + AllocGlobal + Files + Net>(rt: &R, words: &[&str], part: &str) {
     assert!(rt;
-        answers(rt.alloc(), words, 0, part) || answers(rt.alloc(), words, 0, part),
+        answers(rt, words, 0, part) || answers(rt, words, 0, part),
         "{part}"
     );
 }
 
-fn errs<R: Abort + AllocGlobal>(rt: &R, words: &[&str], part: &str) {
+fn errs<R: Abort + AllocGlobal + Files + Net>(rt: &R, words: &[&str], part: &str) {
     assert!(rt;
-        answers(rt.alloc(), words, 2, part) || answers(rt.alloc(), words, 2, part),
+        answers(rt, words, 2, part) || answers(rt, words, 2, part),
         "{part}"
     );
 }
 
 /// Whether a run without input ends with this status and writes one text, with this part in it: to standard output where
 /// it ends well, else to standard error.
-fn answers(alloc: Global, words: &[&str], wanted: u8, part: &str) -> bool {
-    let mut output = Vec::new(alloc);
-    let mut errors = Vec::new(alloc);
-    let status = program(alloc, words, std::io::empty(), &mut output, &mut errors);
+fn answers<R: AllocGlobal + Files + Net>(rt: &R, words: &[&str], wanted: u8, part: &str) -> bool {
+    let mut output = Vec::new(rt.alloc());
+    let mut errors = Vec::new(rt.alloc());
+    let status = program(rt, words, std::io::empty(), &mut output, &mut errors);
     let (text, other) = match wanted {
         0 => (output.as_slice(), errors.as_slice()),
         _ => (errors.as_slice(), output.as_slice()),

@@ -1,5 +1,7 @@
 use super::row::{Row, WORLD, run_row, run_scripts};
+use std::net::Net;
 use std::process::Abort;
+use std::rt::Files;
 
 /// A log of 32 blocks, for the longer texts.
 const WIDE: (&str, &str) = ("world pages=4 log=32 frames=4 workers=2 pending=1000\n", "");
@@ -98,7 +100,7 @@ fn records_are_judged(rt: HostRuntime) {
 }
 
 /// More than 256 transactions at once.
-fn limits_transactions<R: Abort + AllocGlobal>(rt: &R) -> Option<()> {
+fn limits_transactions<R: Abort + AllocGlobal + Files + Net>(rt: &R) -> Option<()> {
     let (world, _) = WIDE;
     let mut script = String::from_str(rt.alloc(), world).ok()?;
     for trans in 1..258 {

@@ -1,6 +1,8 @@
 use super::row::{Row, WORLD, run_row};
 use crate::program::program;
+use std::net::Net;
 use std::process::Abort;
+use std::rt::Files;
 
 /// First lines that are no world.
 const BAD_WORLDS: [&str; 9] = [
@@ -94,7 +96,7 @@ const BAD_LINES: [&str; 60] = [
     "world pages=4 log=8 frames=4 workers=2 pending=1000",
 ];
 
-fn tells_bad_worlds<R: Abort + AllocGlobal>(rt: &R) -> Option<()> {
+fn tells_bad_worlds<R: Abort + AllocGlobal + Files + Net>(rt: &R) -> Option<()> {
     for line in BAD_WORLDS {
         let script = format!(in rt.alloc(); "#\n{line}\n").ok()?;
         run_row(
@@ -110,7 +112,7 @@ fn sim_tells_bad_worlds(rt: HostRuntime) {
     assert!(rt; tells_bad_worlds(&rt).is_some() || tells_bad_worlds(&rt).is_some());
 }
 
-fn tells_bad_lines<R: Abort + AllocGlobal>(rt: &R) -> Option<()> {
+fn tells_bad_lines<R: Abort + AllocGlobal + Files + Net>(rt: &R) -> Option<()> {
     for line in BAD_LINES {
         let script = format!(in rt.alloc(); "{WORLD}feed 16 16\n{line}\nfeed 16 16\n").ok()?;
         let output = "ok taken=0 records=0 end=16\n";
@@ -128,7 +130,7 @@ fn sim_tells_bad_lines(rt: HostRuntime) {
 }
 
 /// Empty lines and comments are passed over and counted; a missing first line would come behind the last.
-fn counts_lines<R: Abort + AllocGlobal>(rt: &R) -> Option<()> {
+fn counts_lines<R: Abort + AllocGlobal + Files + Net>(rt: &R) -> Option<()> {
     let bare = "world pages=4 log=8 frames=4 workers=2 pending=1000";
     let zeros =
         "world pages=0004 log=08 frames=4 workers=2 pending=1000\nfeed 0016 000000000000000000000016";
@@ -152,18 +154,12 @@ fn sim_counts_lines(rt: HostRuntime) {
 }
 
 /// A line that is no text is a bad line, also where a comment that is none is passed over.
-fn wants_text<R: Abort + AllocGlobal>(rt: &R) -> Option<()> {
+fn wants_text<R: Abort + AllocGlobal + Files + Net>(rt: &R) -> Option<()> {
     let script = b"#\xff\nworld pages=4 log=8 frames=4 workers=2 pending=1000\ncommit 1\xff\n";
     let mut output = Vec::new(rt.alloc());
     let mut errors = Vec::new(rt.alloc());
     let words = ["als", "sim"];
-    let status = program(
-        rt.alloc(),
-        &words,
-        script.as_slice(),
-        &mut output,
-        &mut errors,
-    );
+    let status = program(rt, &words, script.as_slice(), &mut output, &mut errors);
     if status != 2 || !output.is_empty() || errors.as_slice() != b"line 3: bad line\n".as_slice() {
         return None;
     }
@@ -176,7 +172,7 @@ fn sim_wants_text(rt: HostRuntime) {
 }
 
 /// A world that is refused ends the script, whatever follows.
-fn refuses_worlds<R: Abort + AllocGlobal>(rt: &R) -> Option<()> {
+fn refuses_worlds<R: Abort + AllocGlobal + Files + Net>(rt: &R) -> Option<()> {
     for line in REFUSED_WORLDS {
         let script = format!(in rt.alloc(); "{line}\nx\n").ok()?;
         run_row(

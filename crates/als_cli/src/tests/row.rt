@@ -1,6 +1,7 @@
 use crate::program::program;
-use std::alloc::Global;
+use std::net::Net;
 use std::process::Abort;
+use std::rt::Files;
 
 /// A world as most scripts have it.
 pub const WORLD: &str = "world pages=4 log=8 frames=4 workers=2 pending=1000\n";
@@ -46,11 +47,11 @@ impl<'a> Row<'a> {
 }
 
 /// Whether the program writes and answers what the row says.
-fn is_so(alloc: Global, row: Row) -> bool {
-    let mut output = Vec::new(alloc);
-    let mut errors = Vec::new(alloc);
+fn is_so<R: AllocGlobal + Files + Net>(rt: &R, row: Row) -> bool {
+    let mut output = Vec::new(rt.alloc());
+    let mut errors = Vec::new(rt.alloc());
     let script = row.script.as_bytes();
-    let status = program(alloc, row.words, script, &mut output, &mut errors);
+    let status = program(rt, row.words, script, &mut output, &mut errors);
     output.as_slice() == row.output.as_bytes()
         && errors.as_slice() == row.errors.as_bytes()
         && status == row.status
@@ -58,20 +59,14 @@ fn is_so(alloc: Global, row: Row) -> bool {
 
 /// Runs a row of a table, and again where its first run does not end so: a growth is refused once at most, so the second
 /// run meets none, and tells what differs.
-pub fn run_row<R: Abort + AllocGlobal>(rt: &R, row: Row) {
-    if is_so(rt.alloc(), row) {
+pub fn run_row<R: Abort + AllocGlobal + Files + Net>(rt: &R, row: Row) {
+    if is_so(rt, row) {
         return;
     }
     let mut output = Vec::new(rt.alloc());
     let mut errors = Vec::new(rt.alloc());
     let script = row.script;
-    let status = program(
-        rt.alloc(),
-        row.words,
-        script.as_bytes(),
-        &mut output,
-        &mut errors,
-    );
+    let status = program(rt, row.words, script.as_bytes(), &mut output, &mut errors);
     let output = std::str::from_utf8(output.as_slice()).unwrap_or("no text");
     let errors = std::str::from_utf8(errors.as_slice()).unwrap_or("no text");
     assert!(rt; output == row.output, "{script} wrote {output}");
@@ -83,7 +78,7 @@ pub fn run_row<R: Abort + AllocGlobal>(rt: &R, row: Row) {
 }
 
 /// One text behind the other. A growth that is refused once is met by a second try.
-fn joined<R: Abort + AllocGlobal>(rt: &R, front: &str, back: &str) -> String {
+pub fn joined<R: Abort + AllocGlobal + Files + Net>(rt: &R, front: &str, back: &str) -> String {
     if let Ok(text) = format!(in rt.alloc(); "{front}{back}") {
         return text;
     }
@@ -95,7 +90,11 @@ fn joined<R: Abort + AllocGlobal>(rt: &R, front: &str, back: &str) -> String {
 
 /// Runs scripts that end well, each given by its lines and by what they print. In front of each stand lines that print this
 /// by themselves.
-pub fn run_scripts<R: Abort + AllocGlobal>(rt: &R, front: (&str, &str), scripts: &[(&str, &str)]) {
+pub fn run_scripts<R: Abort + AllocGlobal + Files + Net>(
+    rt: &R,
+    front: (&str, &str),
+    scripts: &[(&str, &str)],
+) {
     let (front, printed) = front;
     for (lines, output) in scripts {
         let script = joined(rt, front, lines);

@@ -1,9 +1,10 @@
 use super::row::WORLD;
 use crate::program::program;
-use std::alloc::Global;
 use std::io;
 use std::io::{Read, Write};
+use std::net::Net;
 use std::process::Abort;
+use std::rt::Files;
 
 /// What a failing stream ends with.
 const REFUSED: &[u8] = b"als: refused 44 Stream\n";
@@ -53,20 +54,20 @@ impl Read for Broken {
 }
 
 /// The most that standard input may have is read, one byte more is refused, and nothing is run.
-fn limits_input<R: Abort + AllocGlobal>(rt: &R) -> Option<()> {
+fn limits_input<R: Abort + AllocGlobal + Files + Net>(rt: &R) -> Option<()> {
     let world = WORLD.as_bytes();
     let fed = "feed 16 16\n".as_bytes();
     let rest = 16_777_216 - 64;
     assert!(rt; world.len() + fed.len() == 63);
     let comment = io::repeat(b'#').take(rest);
     let longest = world.chain(fed).chain(b"\n".as_slice()).chain(comment);
-    let output = ran(rt.alloc(), &["als", "sim"], longest, 0, b"")?;
+    let output = ran(rt, &["als", "sim"], longest, 0, b"")?;
     assert!(rt; output.as_slice() == b"ok taken=0 records=0 end=16\n".as_slice());
     let comment = io::repeat(b'#').take(rest + 1);
     let longer = world.chain(fed).chain(b"\n".as_slice()).chain(comment);
-    assert!(rt; ran(rt.alloc(), &["als", "sim"], longer, 3, REFUSED)?.is_empty());
+    assert!(rt; ran(rt, &["als", "sim"], longer, 3, REFUSED)?.is_empty());
     let longer = io::repeat(b'\n').take(16_777_217);
-    assert!(rt; ran(rt.alloc(), &["als", "make"], longer, 3, REFUSED)?.is_empty());
+    assert!(rt; ran(rt, &["als", "make"], longer, 3, REFUSED)?.is_empty());
     Some(())
 }
 
@@ -76,15 +77,15 @@ fn input_has_a_limit(rt: HostRuntime) {
 }
 
 /// A reader that fails, at once or behind a whole script, ends the program before anything is run.
-fn readers_fail<R: Abort + AllocGlobal>(rt: &R) -> Option<()> {
-    assert!(rt; ran(rt.alloc(), &["als", "make"], Broken, 3, REFUSED)?.is_empty());
+fn readers_fail<R: Abort + AllocGlobal + Files + Net>(rt: &R) -> Option<()> {
+    assert!(rt; ran(rt, &["als", "make"], Broken, 3, REFUSED)?.is_empty());
     let script = "pages 4\n".as_bytes().chain(Broken);
-    assert!(rt; ran(rt.alloc(), &["als", "make"], script, 3, REFUSED)?.is_empty());
+    assert!(rt; ran(rt, &["als", "make"], script, 3, REFUSED)?.is_empty());
     let script = WORLD
         .as_bytes()
         .chain("show status\n".as_bytes())
         .chain(Broken);
-    assert!(rt; ran(rt.alloc(), &["als", "sim"], script, 3, REFUSED)?.is_empty());
+    assert!(rt; ran(rt, &["als", "sim"], script, 3, REFUSED)?.is_empty());
     Some(())
 }
 
@@ -102,36 +103,24 @@ fn refuses(status: u8, errors: &[u8]) -> Option<()> {
 }
 
 /// A writer that fails is told, also where the buffer is written out behind a bad line.
-fn writers_fail<R: Abort + AllocGlobal>(rt: &R) -> Option<()> {
+fn writers_fail<R: Abort + AllocGlobal + Files + Net>(rt: &R) -> Option<()> {
     let words = ["als", "make"];
     for room in [0, 1, 15] {
         let mut errors = Vec::new(rt.alloc());
         let script = "pages 4\n".as_bytes();
-        let status = program(rt.alloc(), &words, script, Full { room }, &mut errors);
+        let status = program(rt, &words, script, Full { room }, &mut errors);
         refuses(status, errors.as_slice())?;
     }
     let mut errors = Vec::new(rt.alloc());
-    let status = program(
-        rt.alloc(),
-        &words,
-        "pages 4\n".as_bytes(),
-        Unflushed,
-        &mut errors,
-    );
+    let status = program(rt, &words, "pages 4\n".as_bytes(), Unflushed, &mut errors);
     refuses(status, errors.as_slice())?;
     let mut errors = Vec::new(rt.alloc());
     let script = WORLD.as_bytes().chain("show status\nbad\n".as_bytes());
-    let status = program(
-        rt.alloc(),
-        &["als", "sim"],
-        script,
-        Full { room: 10 },
-        &mut errors,
-    );
+    let status = program(rt, &["als", "sim"], script, Full { room: 10 }, &mut errors);
     refuses(status, errors.as_slice())?;
     // Help, and a standard error that fails too.
     let status = program(
-        rt.alloc(),
+        rt,
         &["als", "--help"],
         io::empty(),
         Full { room: 10 },
@@ -146,16 +135,16 @@ fn writers_may_fail(rt: HostRuntime) {
 }
 
 /// What a run writes, where it ends with this status and this on standard error.
-fn ran<R: Read + Drop>(
-    alloc: Global,
+fn ran<R: AllocGlobal + Files + Net, I: Read + Drop>(
+    rt: &R,
     words: &[&str],
-    input: R,
+    input: I,
     status: u8,
     errors: &[u8],
 ) -> Option<Vec<u8>> {
-    let mut output = Vec::new(alloc);
-    let mut told = Vec::new(alloc);
-    let ended = program(alloc, words, input, &mut output, &mut told);
+    let mut output = Vec::new(rt.alloc());
+    let mut told = Vec::new(rt.alloc());
+    let ended = program(rt, words, input, &mut output, &mut told);
     if ended != status || told.as_slice() != errors {
         return None;
     }
