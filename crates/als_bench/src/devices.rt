@@ -9,17 +9,35 @@ use std::rt::Files;
 /// The blocks of a control device.
 const CONTROL: u64 = 321;
 
+/// What a standby is made with.
+#[derive(Clone, Copy)]
+pub struct Size {
+    pub pages: u32,
+    pub frames: u32,
+    /// How its device files are named.
+    pub name: &'static str,
+}
+
+impl Size {
+    /// The largest database, all of whose pages can be in memory.
+    pub const LARGEST: Size = Size {
+        pages: PAGES,
+        frames: PAGES,
+        name: "forced",
+    };
+}
+
 /// How many blocks a log device needs for a text and for what a takeover would append.
 fn log_blocks(text: &[u8]) -> u64 {
     (text.len() as u64 / 512).saturating_add(1 << 16)
 }
 
 /// Devices in memory for a log.
-pub fn in_memory(alloc: Global, text: &[u8]) -> Disks<MemDisk> {
+pub fn in_memory(alloc: Global, text: &[u8], size: Size) -> Disks<MemDisk> {
     Disks {
         log: MemDisk::new(alloc, log_blocks(text)),
         control: MemDisk::new(alloc, CONTROL),
-        pages: MemDisk::new(alloc, u64::from(PAGES)),
+        pages: MemDisk::new(alloc, u64::from(size.pages)),
     }
 }
 
@@ -28,22 +46,28 @@ pub fn in_folder<R: AllocGlobal + Files<File = File>>(
     rt: &R,
     folder: &str,
     text: &[u8],
+    size: Size,
 ) -> io::Result<Disks<FileDisk>> {
-    let log = format!(in rt.alloc(); "{folder}/log.blk")?;
-    let control = format!(in rt.alloc(); "{folder}/control.blk")?;
-    let pages = format!(in rt.alloc(); "{folder}/pages.blk")?;
+    let name = size.name;
+    let log = format!(in rt.alloc(); "{folder}/{name}-log.blk")?;
+    let control = format!(in rt.alloc(); "{folder}/{name}-control.blk")?;
+    let pages = format!(in rt.alloc(); "{folder}/{name}-pages.blk")?;
     Ok(Disks {
         log: FileDisk::create(rt, log.as_str(), log_blocks(text))?,
         control: FileDisk::create(rt, control.as_str(), CONTROL)?,
-        pages: FileDisk::create(rt, pages.as_str(), u64::from(PAGES))?,
+        pages: FileDisk::create(rt, pages.as_str(), u64::from(size.pages))?,
     })
 }
 
 /// A standby over new devices.
-pub fn standby<D: BlockDisk + Drop>(alloc: Global, disks: Disks<D>) -> Result<Engine<D>, Fault> {
+pub fn standby<D: BlockDisk + Drop>(
+    alloc: Global,
+    disks: Disks<D>,
+    size: Size,
+) -> Result<Engine<D>, Fault> {
     let config = Config {
-        pages: u64::from(PAGES),
-        frames: u64::from(PAGES),
+        pages: u64::from(size.pages),
+        frames: u64::from(size.frames),
         pending: 1_000_000,
         readers: 1,
     };

@@ -1,4 +1,4 @@
-use crate::devices::{drain, in_memory, standby, write_all};
+use crate::devices::{Size, drain, in_memory, standby, write_all};
 use crate::measure::{FIRST, tell};
 use als_disk::{BlockDisk, MemDisk};
 use als_engine::{Engine, Fault};
@@ -23,7 +23,11 @@ pub fn feed_all<R: Print + Clock + AllocGlobal>(
     text: &[u8],
     piece: usize,
 ) -> io::Result<()> {
-    match standby(rt.alloc(), in_memory(rt.alloc(), text)) {
+    match standby(
+        rt.alloc(),
+        in_memory(rt.alloc(), text, Size::LARGEST),
+        Size::LARGEST,
+    ) {
         Ok(engine) => feed_one(rt, engine, text, piece),
         Err(fault) => println!(rt; "{fault}"),
     }

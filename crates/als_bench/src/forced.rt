@@ -1,4 +1,4 @@
-use crate::devices::{drain, in_folder, in_memory, standby, write_all};
+use crate::devices::{Size, drain, in_folder, in_memory, standby, write_all};
 use crate::measure::{FIRST, tell};
 use als_disk::{BlockDisk, FileDisk, MemDisk};
 use als_engine::{Engine, Fault};
@@ -46,7 +46,11 @@ pub fn force_all<R: Print + Clock + AllocGlobal + Files<File = File>>(
 }
 
 fn force_in_memory<R: Print + Clock + AllocGlobal>(rt: &R, text: &[u8]) -> io::Result<()> {
-    match standby(rt.alloc(), in_memory(rt.alloc(), text)) {
+    match standby(
+        rt.alloc(),
+        in_memory(rt.alloc(), text, Size::LARGEST),
+        Size::LARGEST,
+    ) {
         Ok(engine) => force_memory_engine(rt, engine, text),
         Err(fault) => println!(rt; "{fault}"),
     }
@@ -68,8 +72,8 @@ fn force_on_files<R: Print + Clock + AllocGlobal + Files<File = File>>(
     text: &[u8],
     folder: &str,
 ) -> io::Result<()> {
-    let disks = in_folder(rt, folder, text)?;
-    match standby(rt.alloc(), disks) {
+    let disks = in_folder(rt, folder, text, Size::LARGEST)?;
+    match standby(rt.alloc(), disks, Size::LARGEST) {
         Ok(engine) => force_file_engine(rt, engine, text),
         Err(fault) => println!(rt; "{fault}"),
     }

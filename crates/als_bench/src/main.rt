@@ -17,6 +17,10 @@ mod devices;
 mod fed;
 // Feeds that are forced.
 mod forced;
+// Feeds that are redone, and whose pages are stored.
+mod redone;
+// Checkpoints.
+mod checkpointed;
 // What is measured, and how it is told.
 mod measure;
 

@@ -1,7 +1,10 @@
+use crate::checkpointed::checkpoint_all;
+use crate::devices::Size;
 use crate::fed::feed_all;
 use crate::forced::force_all;
-use crate::primary::Primary;
+use crate::primary::{PAGES, Primary};
 use crate::reading::{decode_all, judge_all, judge_pieces, receive_all};
+use crate::redone::redo_all;
 use std::fs::File;
 use std::io;
 use std::rt::{Clock, Files};
@@ -19,9 +22,9 @@ pub fn measure_all<R: Print + Clock + AllocGlobal + Files<File = File>>(
 ) -> io::Result<()> {
     let bytes = megabytes.saturating_mul(1 << 20);
     for open in [16, 1, 256] {
-        let text = match Primary::new(rt.alloc(), open, bytes).and_then(|primary| primary.write(
-            bytes,
-        )) {
+        let text = match Primary::new(rt.alloc(), open, bytes, PAGES).and_then(
+            |primary| primary.write(bytes),
+        ) {
             Ok(text) => text,
             Err(fault) => return println!(rt; "{fault}"),
         };
@@ -30,6 +33,35 @@ pub fn measure_all<R: Print + Clock + AllocGlobal + Files<File = File>>(
         if open == 16 {
             force_all(rt, text.as_slice(), folder)?;
         }
+        if open == 256 {
+            checkpoint_all(rt, text.as_slice())?;
+        }
+    }
+    redo_sizes(rt, bytes, folder)
+}
+
+/// Measures redo for few pages and for many, and with fewer frames than pages.
+fn redo_sizes<R: Print + Clock + AllocGlobal + Files<File = File>>(
+    rt: &R,
+    bytes: usize,
+    folder: Option<&str>,
+) -> io::Result<()> {
+    for (pages, frames, name) in [
+        (64, 64, "few"),
+        (PAGES, PAGES, "many"),
+        (PAGES, 512, "tight"),
+    ] {
+        let written = Primary::new(rt.alloc(), 16, bytes, pages);
+        let text = match written.and_then(|primary| primary.write(bytes)) {
+            Ok(text) => text,
+            Err(fault) => return println!(rt; "{fault}"),
+        };
+        let size = Size {
+            pages,
+            frames,
+            name,
+        };
+        redo_all(rt, text.as_slice(), size, folder)?;
     }
     Ok(())
 }
