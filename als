@@ -122,7 +122,7 @@ announce() {
     if [[ -x $program ]]; then
         echo "als: sources have changed: their crates, and those above, are proved again before the program runs" >&2
     else
-        echo "als: the program is proved and then built, once: about 25 minutes on 4 cores, more on fewer" >&2
+        echo "als: the program is proved and then built, once: about 30 minutes on 4 cores, more on fewer" >&2
         echo "als: meanwhile ./demo shows the first demonstration in a minute, without proofs; ./als --help needs no build" >&2
     fi
 }
