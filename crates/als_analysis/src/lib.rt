@@ -7,8 +7,6 @@ mod fault;
 // One transaction that has not ended.
 mod open_transaction;
 // All of them.
-#[cfg(test)]
-mod tests;
 mod trans_table;
 
 pub use fault::Fault;

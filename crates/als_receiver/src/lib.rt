@@ -11,6 +11,3 @@ mod history;
 pub use history::each_cutting_hands_out_the_same;
 pub use receiver::Receiver;
 pub use refusal::Refusal;
-
-#[cfg(test)]
-mod tests;

@@ -82,6 +82,3 @@ pub use trans_id::TransId;
 pub use transaction_row::TransactionRow;
 pub use transaction_state::TransactionState;
 pub use viewing::view_record;
-
-#[cfg(test)]
-mod tests;

@@ -8,6 +8,3 @@ mod tally;
 
 pub use copies::{fits_checkpoint, logged_rows};
 pub use tally::Tally;
-
-#[cfg(test)]
-mod tests;

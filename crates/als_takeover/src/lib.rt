@@ -2,8 +2,6 @@
 #![tactic(auto)]
 
 // The next record of a tail.
-#[cfg(test)]
-mod tests;
 mod undo;
 
 pub use undo::next_undo;

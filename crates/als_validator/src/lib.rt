@@ -15,9 +15,6 @@ mod key_state;
 mod keys;
 // What the causes ask of a transaction.
 mod past;
-// The worked rows, and what a refused growth leaves.
-#[cfg(test)]
-mod tests;
 // What is kept of a log, and asked of a record.
 mod validator;
 

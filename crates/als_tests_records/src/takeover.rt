@@ -1,8 +1,8 @@
-use crate::next_undo;
 use als_analysis::TransTable;
 use als_disk::MemDisk;
 use als_log::{LocalLog, NewLog};
 use als_record::{Body, Image, Key, Lsn, Record, TransId, Value, decode, encode};
+use als_takeover::next_undo;
 use std::alloc::Global;
 use std::process::Abort;
 

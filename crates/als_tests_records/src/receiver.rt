@@ -1,4 +1,4 @@
-use crate::{Receiver, Refusal};
+use als_receiver::{Receiver, Refusal};
 use als_record::{Fault, Lsn};
 use std::process::Abort;
 

@@ -1,4 +1,4 @@
-use crate::{Fault, TransTable};
+use als_analysis::{Fault, TransTable};
 use als_record::{Body, Image, Key, Lsn, Record, TransId, TransactionRow, TransactionState, Value};
 use std::process::Abort;
 

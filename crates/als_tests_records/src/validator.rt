@@ -1,7 +1,7 @@
 ghost use Rattle.als_validator.specs.Validated.{HasRoom};
 
-use crate::{Fault, Validator};
 use als_record::{Body, Cause, Image, Key, Lsn, PageRows, Record, TransId, TransactionRows, Value};
+use als_validator::{Fault, Validator};
 use std::alloc::Global;
 use std::process::Abort;
 
@@ -274,6 +274,9 @@ fn commits(rt: &impl Abort, alloc: Global) -> Option<()> {
     admit(rt, &mut validator, &undo(125, 88, 1, byte(1), 52));
     let commit = record(168, 125, 1, Body::Commit);
     let made = validator.commit_of(alloc, &commit.view()).ok()??;
+    assert_eq!(rt; (made.trans.0, made.lsn.0, made.writes.len()), (1, 168, 2));
+    admit(rt, &mut validator, &commit);
+    let made = validator.commit_made(alloc, &commit).ok()??;
     assert_eq!(rt; (made.trans.0, made.lsn.0, made.writes.len()), (1, 168, 2));
     Some(())
 }

@@ -1,5 +1,5 @@
-use crate::Tally;
 use als_record::{Body, Lsn, Record, TransId};
+use als_tables::Tally;
 
 /// The log has one record, a commit.
 #[test]

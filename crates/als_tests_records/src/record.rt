@@ -1,4 +1,7 @@
-use super::*;
+use als_record::{
+    Body, BodyView, Fault, Key, LogHeader, LoggedPage, Lsn, Record, TransId, decode, encode,
+    encoded_len, view_record,
+};
 use std::alloc::Global;
 use std::process::Abort;
 use std::test::Fail;
