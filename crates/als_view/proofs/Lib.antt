@@ -1,3 +1,4 @@
+pub mod Counting
 pub mod Folding
 pub mod Rising
 pub mod ViewLaws

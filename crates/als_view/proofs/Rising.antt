@@ -75,7 +75,7 @@ stands log v = valid_induction Stands stands-nil (λ l r w h a. stands-push l r 
 
 -- ---- how many end at or below an offset
 
-all_ended : (a : ℕ) (cs : List Commit) → AllByRecursion (IsEnded a) cs → length (filter (λ c. nat_le (c.lsn.0 + 28) a) cs) ≡ length cs
+pub all_ended : (a : ℕ) (cs : List Commit) → AllByRecursion (IsEnded a) cs → length (filter (λ c. nat_le (c.lsn.0 + 28) a) cs) ≡ length cs
 all_ended a [] h = refl
 all_ended a (c ∷ cs) h =
     let y : nat_le (c.lsn.0 + 28) a ≡ true = le-leb (c.lsn.0 + 28) a h.0 in
@@ -84,7 +84,7 @@ all_ended a (c ∷ cs) h =
 not_ended : (a : ℕ) (c : Commit) → a < c.lsn.0 + 28 → nat_le (c.lsn.0 + 28) a ≡ false
 not_ended a c h = grind (arith, nat_tests)
 
-none_ended : (a : ℕ) (cs : List Commit) → AllByRecursion (λ c. a < c.lsn.0 + 28) cs → length (filter (λ c. nat_le (c.lsn.0 + 28) a) cs) ≡ 0
+pub none_ended : (a : ℕ) (cs : List Commit) → AllByRecursion (λ c. a < c.lsn.0 + 28) cs → length (filter (λ c. nat_le (c.lsn.0 + 28) a) cs) ≡ 0
 none_ended a [] h = refl
 none_ended a (c ∷ cs) h =
     let n : nat_le (c.lsn.0 + 28) a ≡ false = not_ended a c h.0 in

@@ -166,6 +166,9 @@ pub shows_none : (a : ℕ) (view : View) → HasPublished view [] → view.queue
 unfolding commits_of
 shows_none a view h q = record { front = []; parts = sym q; shown = h; ended = tt }
 
+pub shows_waiting : (log : List Record) (a : ℕ) (view : View) → HasPublished view [] → view.queued ≡ commits_of log → IsShowing log a view
+shows_waiting log a view h q = record { front = []; parts = sym q; shown = h; ended = tt }
+
 pub shows_rises : (log : List Record) (before after : ℕ) (view : View) → before ≤ after → IsShowing log before view → IsShowing log after view
 shows_rises log before after view le h = record { front = h.front; parts = h.parts; shown = h.shown; ended = every (IsEnded before) (IsEnded after) (λ c d. omega (arith, d, le)) h.front h.ended }
 

@@ -1,5 +1,5 @@
 -- What a view shows of a log.
-use Rattle.std.specs.Prelude.{◌≡◌, ℕ, ◌+◌, ◌≤◌, ◌⊎◌, nat_le, nat_lt, ◌&&◌, true, List, [], ◌∷◌, ◌++◌, length, filter, Option, Some, None, if◌then◌else◌}
+use Rattle.std.specs.Prelude.{◌≡◌, ℕ, ◌+◌, ◌≤◌, ◌⊎◌, nat_le, nat_lt, ◌&&◌, true, false, List, [], ◌∷◌, ◌++◌, length, filter, Option, Some, None, if◌then◌else◌}
 use Rattle.std.specs.List.{AllByRecursion}
 use Rattle.als_record.specs.declared.key.Key.{Key}
 use Rattle.als_record.specs.declared.record.Record.{Record}
@@ -24,6 +24,14 @@ pub record IsShowing (log : List Record) (acknowledged : ℕ) (view : View) : Ty
   pub parts : commits_of log ≡ front ++ view.queued
   pub shown : HasPublished view front
   pub ended : AllByRecursion (IsEnded acknowledged) front
+
+-- All commits of the log wait: none is published, and there is no list yet.
+pub record IsWarming (pages : ℕ) (log : List Record) (view : View) : Type 0 where
+  pub pages_are : view.pages ≡ pages
+  pub unlisted : view.listed ≡ false
+  pub none : view.commits ≡ 0
+  pub shown : HasPublished view []
+  pub queued : view.queued ≡ commits_of log
 
 -- how many commits are published; none where there is no list
 abbrev pub published_of : View → Option ℕ

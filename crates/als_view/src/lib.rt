@@ -13,12 +13,12 @@ mod images;
 mod laws;
 // What a view shows of a log.
 mod showing;
-#[cfg(test)]
-mod tests;
 // The view.
 mod view;
 
 pub use commit::Commit;
 pub use fault::Fault;
-pub use laws::{a_view_goes_on, all_commits_end, commits_are_few};
+pub use laws::{
+    a_view_goes_on, all_commits_end, commits_are_few, counts_stay, published_are_ended,
+};
 pub use view::{Answer, View};

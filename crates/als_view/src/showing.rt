@@ -4,7 +4,7 @@ ghost use Rattle.als_record.specs.LogText.{end_of};
 ghost use Rattle.als_record.specs.Validity.{is_valid};
 ghost use Rattle.als_record.specs.Commits.{commits_of};
 ghost use Rattle.als_view.specs.declared.fault.Fault.TheVariants.{Memory, Warming};
-ghost use Rattle.als_view.specs.Showing.{IsShowing, published_of, ended_count, ReadsFront};
+ghost use Rattle.als_view.specs.Showing.{IsShowing, IsWarming, published_of, ended_count, ReadsFront};
 
 use crate::commit::Commit;
 use crate::fault::Fault;
@@ -40,6 +40,9 @@ impl View {
         requires { IsSome found → 0 < self.old.room }
         ensures shows { (log : List AnyRecord) (r : AnyRecord) (acknowledged : ℕ) → commits_of (log ++ r ∷ []) ≡ commits_of log ++ option_to_list found
             → IsShowing log acknowledged self.old → IsShowing (log ++ r ∷ []) acknowledged self.new }
+        // As long as none is published, all commits of the log wait.
+        ensures warming { (pages : ℕ) (log : List AnyRecord) (r : AnyRecord) → commits_of (log ++ r ∷ []) ≡ commits_of log ++ option_to_list found
+            → IsWarming pages log self.old → IsWarming pages (log ++ r ∷ []) self.new }
         ensures published { published_of self.new ≡ published_of self.old }
         ensures pages { self.new.pages ≡ self.old.pages }
     {

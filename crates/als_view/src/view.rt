@@ -2,6 +2,7 @@ ghost use Rattle.std.specs.Prelude.{◌≡◌, ℕ, ◌<◌, ◌%◌, ◌^◌, �
 ghost use Rattle.als_record.specs.Commits.{Commit as AnyCommit, seen_after};
 ghost use Rattle.als_view.specs.declared.fault.Fault.TheVariants.{Memory, Warming};
 ghost use Rattle.als_view.specs.Fronts.{HasPublished, Answers, count_below};
+ghost use Rattle.als_view.specs.Showing.{IsWarming};
 
 use crate::commit::Commit;
 use crate::fault::Fault;
@@ -52,6 +53,7 @@ impl View {
     /// The view of a database with so many pages: with the empty list of published commits, or with none.
     pub fn new(alloc: Global, pages: u32, listed: bool) -> Result<View, Fault>
         ensures ok { IfOk result (λ v. HasPublished v [] × (v.listed ≡ listed) × (v.pages ≡ pages) × (v.queued ≡ [])) }
+        ensures warming { IfOk result (λ v. listed ≡ false → IsWarming pages [] v) }
         ensures err { IfErr result (λ e. e ≡ Memory) }
     {
         Ok(View {

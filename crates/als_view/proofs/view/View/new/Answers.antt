@@ -1,7 +1,18 @@
 use Rattle.std.proofs.Common.{refl}
+use Rattle.als_record.specs.Commits.{commits_of}
 use Rattle.als_view.specs.Fronts.{last_of}
 use Rattle.als_view.proofs.view.View.new.Goals as goal
 
 pub returns-clause-ok : goal.returns-clause-ok
 unfolding last_of
 returns-clause-ok c = (record { images = c.in_ok-unwritten.ensures.ok; count = refl; last = refl }, refl, refl, c.new.ensures.items)
+
+pub returns-clause-warming : goal.returns-clause-warming
+unfolding last_of commits_of
+returns-clause-warming c unlisted = record {
+  pages_are = refl;
+  unlisted = unlisted;
+  none = refl;
+  shown = record { images = c.in_ok-unwritten.ensures.ok; count = refl; last = refl };
+  queued = c.new.ensures.items;
+}
