@@ -1,4 +1,7 @@
 pub mod TableLaws
+pub mod ZoneLaws
+pub mod TableLists
+pub mod ZoneSteps
 pub mod BlockLaws
 pub mod SlotsLaws
 pub mod PageBlocks

@@ -1,10 +1,18 @@
 -- What the frames keep between calls.
 use Rattle.std.specs.Prelude.{◌≡◌, ℕ, ◌<◌, ◌≤◌, List, length, Some, nat_eq}
 use Rattle.std.specs.Map.{lookup}
+use Rattle.als_frames.specs.declared.zones.Zones.{Zones}
 use Rattle.als_frames.specs.Frames.{Framed}
+use Rattle.als_frames.specs.Zones.{AreZoned}
 
 -- each page has a block, a frame is that of its page, and there are no more frames than there may be
 pub record IsKept (pages most blocks : ℕ) (frames : List (ℕ × Framed)) : Type 0 where
   pub stored : pages ≤ blocks
   pub few : length frames ≤ most
   pub numbered : (page : ℕ) (f : Framed) → lookup (nat_eq page) frames ≡ Some f → (f.id ≡ page) × (page < pages)
+
+-- so it is, the frames stand in their order, and there is the room that is told
+pub record IsHeld (pages most blocks : ℕ) (frames : List (ℕ × Framed)) (z : Zones) (room spare : ℕ) : Type 0 where
+  pub kept : IsKept pages most blocks frames
+  pub zoned : AreZoned z frames
+  pub has_room : room ≤ spare

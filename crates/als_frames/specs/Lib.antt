@@ -4,4 +4,5 @@ pub mod Outcomes
 pub mod Images
 pub mod Kept
 pub mod Table
+pub mod Zones
 pub mod Batch

@@ -30,3 +30,11 @@ pub record Puts (old new : List (ℕ × Framed)) (page : ℕ) (f : Framed) : Typ
 pub record Replaces (old new : List (ℕ × Framed)) (page : ℕ) (f : Framed) : Type 0 where
   pub frame : lookup (nat_eq page) new ≡ Some f
   pub others : (other : ℕ) → other ≢ page → (lookup (nat_eq other) new ≡ lookup (nat_eq other) old) ⊎ IsReplaced (lookup (nat_eq other) old) (lookup (nat_eq other) new)
+
+-- a frame whose image last written is the page as it is now
+abbrev pub written_frame : Framed → Framed
+written_frame f = record f { written = f.content.lsn }
+
+-- a frame of a page as its block has it
+abbrev pub IsFresh : Framed → Type 0
+IsFresh f = (f.written ≡ f.synced) × IsFree f

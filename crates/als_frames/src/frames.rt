@@ -17,6 +17,7 @@ use crate::fault::Fault;
 use crate::frame::Frame;
 use crate::lsns::Lsns;
 use crate::unformatted::Unformatted;
+use crate::zones::Zones;
 use crate::{blocks, table};
 use als_disk::BlockDisk;
 use als_page::Page;
@@ -35,7 +36,11 @@ pub struct Frames<D: BlockDisk> {
     pages: u32,
     most: usize,
     frames: IndexMap<u32, Frame>,
-    // The place of the frame that is looked at first for one to replace.
+    // How many of them, in their order, were written since the last sync, and how many are not free.
+    zones: Zones,
+    // For how many more frames there is room with no memory, at least.
+    room: usize,
+    // The place of the frame that is replaced next, if it is free. It goes round the free ones.
     hand: usize,
     // No write has failed.
     sure: bool,
@@ -44,7 +49,7 @@ pub struct Frames<D: BlockDisk> {
 impl<D: BlockDisk> Model for Frames<D> {
     ghost use Rattle.indexmap.specs.IndexMap.{spare};
     ghost use Rattle.als_frames.specs.Frames.{Holding, slots_from};
-    ghost use Rattle.als_frames.specs.Kept.{IsKept};
+    ghost use Rattle.als_frames.specs.Kept.{IsHeld};
 
     ghost Value = { Holding };
 
@@ -59,10 +64,10 @@ impl<D: BlockDisk> Model for Frames<D> {
         attempts = D.attempts f.disk;
         sure = f.sure;
       };
-      spare = spare f.frames;
+      spare = f.room;
     } };
 
-    ghost invariant = { λ f. IsKept f.pages f.most (D.block_count f.disk) f.frames.entries };
+    ghost invariant = { λ f. IsHeld f.pages f.most (D.block_count f.disk) f.frames.entries f.zones f.room (spare f.frames) };
 }
 
 impl<D: BlockDisk> Frames<D> {
@@ -105,6 +110,11 @@ impl<D: BlockDisk> Frames<D> {
             pages,
             most,
             frames: IndexMap::new(alloc),
+            zones: Zones {
+                written: 0,
+                dirty: 0,
+            },
+            room: 0,
             hand: 0,
             sure: true,
         }
@@ -179,6 +189,7 @@ impl<D: BlockDisk> Frames<D> {
         ensures reserved { 0 < self.old.spare → IsOk result }
     {
         self.frames.reserve(1)?;
+        self.room = self.room.max(1);
         Ok(())
     }
 
@@ -291,7 +302,7 @@ impl<D: BlockDisk> Frames<D> {
         ensures spare { self.new.spare ≡ self.old.spare }
         ensures err { IfErr result (λ e. RefusesFetch e self.old.paged self.new.paged page end.0) }
     {
-        let place = table::place(&self.frames, self.most, self.hand)?;
+        let place = table::place(&self.frames, self.zones, self.most, self.hand)?;
         let found = blocks::read_page(&mut self.disk, page)?;
         if end.0 <= found.lsn().0 {
             return Err(Fault::BadPage { page });
@@ -308,8 +319,13 @@ impl<D: BlockDisk> Frames<D> {
         ensures { PutsIn self.old.paged self.new.paged (id_of found) (state_of found) }
     {
         let page = found.id();
-        match table::place(&self.frames, self.most, self.hand) {
-            Ok(place) => table::put(&mut self.frames, self.most, place, page, Frame::of(found)),
+        match table::place(&self.frames, self.zones, self.most, self.hand) {
+            Ok(place) => {
+                let frame = Frame::of(found);
+                table::put(&mut self.frames, self.zones, self.most, place, page, frame);
+                self.room -= 1;
+                self.hand = self.hand.saturating_add(1);
+            }
             Err(_) => unreachable!(),
         }
     }
@@ -319,7 +335,7 @@ impl<D: BlockDisk> Frames<D> {
         ensures redoes { Redoes self.old.paged self.new.paged page changes.now }
         ensures spare { self.new.spare ≡ self.old.spare }
     {
-        table::redo(&mut self.frames, page, changes);
+        table::redo(&mut self.frames, &mut self.zones, page, changes);
     }
 
     fn write_out(&mut self, page: u32) -> Result<(), Fault>
@@ -335,7 +351,7 @@ impl<D: BlockDisk> Frames<D> {
         }
         match blocks::write_page(&mut self.disk, frame.page()) {
             Ok(()) => {
-                table::note_written(&mut self.frames, page);
+                table::note_written(&mut self.frames, &mut self.zones, page);
                 Ok(())
             }
             Err(_) => {
@@ -352,7 +368,7 @@ impl<D: BlockDisk> Frames<D> {
         ensures err { OnErr result (SyncFails self.old.paged self.new.paged) }
     {
         self.disk.sync()?;
-        table::note_synced(&mut self.frames);
+        table::note_synced(&mut self.frames, &mut self.zones);
         Ok(())
     }
 

@@ -7,6 +7,8 @@ mod fault;
 mod lsns;
 // A page in memory, and which of its images are on the device.
 mod frame;
+// In which order the frames stand.
+mod zones;
 // The frames by their pages.
 mod table;
 // Pages on the device.

@@ -1,15 +1,17 @@
 // The frames, by the numbers of their pages.
-ghost use Rattle.std.specs.Prelude.{◌≡◌, ◌<◌, ◌≤◌, ◌+◌, ℕ, min, [], length, nat_eq, Some, None, IfSome, IfNone, IfOk, IfErr, IsSomeAnd, IsTrue, ◌↔◌, true};
+ghost use Rattle.std.specs.Prelude.{◌≡◌, ◌<◌, ◌≤◌, ◌+◌, ◌++◌, ◌∷◌, ℕ, min, [], length, slice_get, nat_eq, Some, None, IfSome, IfNone, IfOk, IfErr, IsSomeAnd, IsTrue, ◌↔◌, true};
 ghost use Rattle.std.specs.Map.{lookup};
 ghost use Rattle.std.specs.Option.{option_map};
 ghost use Rattle.indexmap.specs.IndexMap.{index_map_len, spare, get};
 ghost use Rattle.als_frames.specs.Frames.{Framed};
 ghost use Rattle.als_frames.specs.Outcomes.{synced_frame};
 ghost use Rattle.als_frames.specs.Batch.{AreNext, redone_frame};
-ghost use Rattle.als_frames.specs.Table.{IsFreeAt, NoneIsFree, IsPlace, Puts, Replaces};
+ghost use Rattle.als_frames.specs.Table.{IsFreeAt, NoneIsFree, IsPlace, Puts, Replaces, written_frame, IsFresh};
+ghost use Rattle.als_frames.specs.Zones.{AreZoned, IsFrameAt, SetsAt, Swaps};
 
 use crate::fault::Fault;
 use crate::frame::Frame;
+use crate::zones::Zones;
 use als_record::Change;
 use indexmap::IndexMap;
 
@@ -26,47 +28,31 @@ fn is_free_at(frames: &Table, i: usize) -> bool
     }
 }
 
-// A free frame at one of these places.
-fn free_between(frames: &Table, from: usize, to: usize) -> Option<usize>
-    requires { to ≤ index_map_len frames.now }
-    ensures some { IfSome result (λ i. (i < to) × IsFreeAt frames.now.entries i) }
-    ensures none { IfNone result ((i : ℕ) → from ≤ i → i < to → IsFreeAt frames.now.entries i → ⊥) }
-{
-    for i in from..to {
-        if is_free_at(frames, i) {
-            return Some(i);
-        }
-    }
-    None
-}
-
-/// The place of a free frame: the first one from a place on, or else the first one.
-pub(crate) fn free(frames: &Table, hand: usize) -> Option<usize>
-    ensures some { IfSome result (λ i. (i < index_map_len frames.now) × IsFreeAt frames.now.entries i) }
-    ensures none { IfNone result (NoneIsFree frames.now.entries) }
-{
-    let len = frames.len();
-    let hand = hand.min(len);
-    match free_between(frames, hand, len) {
-        Some(i) => Some(i),
-        None => free_between(frames, 0, hand),
-    }
-}
-
-/// Where one more frame can go: `None` beside the others, or else in the place of a free one.
+/// Where one more frame can go: `None` beside the others, or else in the place of a free one, that at `hand` if it is free. It looks at
+/// no frame.
 ///
 /// `PoolFull`: as many frames as there may be are used, and none is free.
-pub(crate) fn place(frames: &Table, most: usize, hand: usize) -> Result<Option<usize>, Fault>
+pub(crate) fn place(
+    frames: &Table,
+    zones: Zones,
+    most: usize,
+    hand: usize,
+) -> Result<Option<usize>, Fault>
+    requires { AreZoned zones frames.now.entries }
     ensures ok { IfOk result (λ place. IsPlace frames.now.entries most place) }
     ensures err { IfErr result (λ e. (e ≡ Fault.PoolFull) × (most ≤ index_map_len frames.now) × NoneIsFree frames.now.entries) }
 {
-    if frames.len() < most {
+    let len = frames.len();
+    if len < most {
         return Ok(None);
     }
-    match free(frames, hand) {
-        Some(i) => Ok(Some(i)),
-        None => Err(Fault::PoolFull),
+    if len <= zones.dirty {
+        return Err(Fault::PoolFull);
     }
+    if zones.dirty <= hand && hand < len {
+        return Ok(Some(hand));
+    }
+    Ok(Some(zones.dirty))
 }
 
 // Adds the frame of a page that has none. It takes no memory.
@@ -75,6 +61,8 @@ fn add(frames: &mut Table, page: u32, frame: Frame)
     requires room { 0 < spare frames.old }
     ensures puts { Puts frames.old.entries frames.new.entries page frame }
     ensures len { index_map_len frames.new ≡ index_map_len frames.old + 1 }
+    ensures room { spare frames.old ≤ spare frames.new + 1 }
+    ensures last { frames.new.entries ≡ frames.old.entries ++ (page, frame) ∷ [] }
 {
     match frames.insert(page, frame) {
         Ok(_) => {}
@@ -83,70 +71,171 @@ fn add(frames: &mut Table, page: u32, frame: Frame)
 }
 
 // Adds the frame of a page that has none in the place of a free one. It takes no memory.
-fn replace(frames: &mut Table, victim: usize, page: u32, frame: Frame)
+fn replace(frames: &mut Table, zones: Zones, victim: usize, page: u32, frame: Frame)
+    requires zoned { AreZoned zones frames.old.entries }
     requires absent { get nat_eq frames.old page ≡ None }
     requires room { 0 < spare frames.old }
     requires free { IsFreeAt frames.old.entries victim }
+    requires fresh { IsFresh frame }
     ensures replaces { Replaces frames.old.entries frames.new.entries page frame }
     ensures len { index_map_len frames.new ≡ index_map_len frames.old }
+    ensures room { spare frames.old ≤ spare frames.new + 1 }
+    ensures zoned { AreZoned zones frames.new.entries }
 {
     frames.swap_remove_index(victim);
     add(frames, page, frame);
 }
 
 /// Adds the frame of a page that has none where it can go. It takes no memory.
-pub(crate) fn put(frames: &mut Table, most: usize, place: Option<usize>, page: u32, frame: Frame)
+pub(crate) fn put(
+    frames: &mut Table,
+    zones: Zones,
+    most: usize,
+    place: Option<usize>,
+    page: u32,
+    frame: Frame,
+)
+    requires zoned { AreZoned zones frames.old.entries }
     requires absent { get nat_eq frames.old page ≡ None }
     requires room { 0 < spare frames.old }
     requires place { IsPlace frames.old.entries most place }
     requires few { index_map_len frames.old ≤ most }
+    requires fresh { IsFresh frame }
     ensures replaces { Replaces frames.old.entries frames.new.entries page frame }
     ensures free { index_map_len frames.old < most → Puts frames.old.entries frames.new.entries page frame }
     ensures len { index_map_len frames.new ≡ min (index_map_len frames.old + 1) most }
+    ensures room { spare frames.old ≤ spare frames.new + 1 }
+    ensures zoned { AreZoned zones frames.new.entries }
 {
     match place {
         None => add(frames, page, frame),
-        Some(i) => replace(frames, i, page, frame),
+        Some(i) => replace(frames, zones, i, page, frame),
     }
 }
 
-/// Redoes changes of a page that has a frame.
-pub(crate) fn redo(frames: &mut Table, page: u32, changes: &[Change])
-    requires resident { IsSomeAnd (get nat_eq frames.old page) (λ f. (f.id ≡ page) × AreNext page f.content.lsn changes.now) }
-    ensures puts { (f : Framed) → get nat_eq frames.old page ≡ Some f → Puts frames.old.entries frames.new.entries page (redone_frame f changes.now) }
-    ensures len { index_map_len frames.new ≡ index_map_len frames.old }
+// The place of a page's frame.
+fn place_of(frames: &Table, page: u32) -> Option<usize>
+    ensures some { IfSome result (λ i. (f : Framed) × IsFrameAt frames.now.entries i page f) }
+    ensures none { IfNone result (get nat_eq frames.now page ≡ None) }
+{
+    let (i, _, _) = frames.get_full(&page)?;
+    Some(i)
+}
+
+// Puts the frames at two places in each other's.
+fn swap(frames: &mut Table, a: usize, b: usize)
+    requires first { a < index_map_len frames.old }
+    requires second { b < index_map_len frames.old }
+    ensures swaps { Swaps frames.old.entries frames.new.entries a b }
+    ensures room { spare frames.old ≤ spare frames.new }
+{
+    frames.swap_indices(a, b);
+}
+
+// Redoes changes of the page at a place.
+fn redo_at(frames: &mut Table, i: usize, changes: &[Change])
+    requires next { IsSomeAnd (slice_get frames.old.entries i) (λ e. AreNext e.1.id e.1.content.lsn changes.now) }
+    ensures sets { (page : ℕ) (f : Framed) → slice_get frames.old.entries i ≡ Some (page, f) → SetsAt frames.old.entries frames.new.entries i page (redone_frame f changes.now) }
     ensures room { spare frames.new ≡ spare frames.old }
 {
-    match frames.get_mut(&page) {
+    match frames.get_index_mut(i) {
         Some(frame) => frame.redo(changes),
         None => unreachable!(),
     }
 }
 
-/// Notes that a page was written as it is now.
-pub(crate) fn note_written(frames: &mut Table, page: u32)
-    ensures puts { (f : Framed) → get nat_eq frames.old page ≡ Some f → Puts frames.old.entries frames.new.entries page (record f { written = f.content.lsn }) }
-    ensures len { index_map_len frames.new ≡ index_map_len frames.old }
+// Notes that the page at a place was written as it is now.
+fn note_written_at(frames: &mut Table, i: usize)
+    ensures sets { (page : ℕ) (f : Framed) → slice_get frames.old.entries i ≡ Some (page, f) → SetsAt frames.old.entries frames.new.entries i page (written_frame f) }
     ensures room { spare frames.new ≡ spare frames.old }
 {
-    match frames.get_mut(&page) {
+    match frames.get_index_mut(i) {
         Some(frame) => frame.note_written(),
         None => {}
     }
 }
 
-/// Notes that the image of each page that was written last was synced.
-pub(crate) fn note_synced(frames: &mut Table)
+// Notes that the image last written of the page at a place was synced.
+fn note_synced_at(frames: &mut Table, i: usize)
+    ensures sets { (page : ℕ) (f : Framed) → slice_get frames.old.entries i ≡ Some (page, f) → SetsAt frames.old.entries frames.new.entries i page (synced_frame f) }
+    ensures room { spare frames.new ≡ spare frames.old }
+{
+    match frames.get_index_mut(i) {
+        Some(frame) => frame.note_synced(),
+        None => {}
+    }
+}
+
+/// Redoes changes of a page that has a frame. It moves at most one other frame.
+pub(crate) fn redo(frames: &mut Table, zones: &mut Zones, page: u32, changes: &[Change])
+    requires zoned { AreZoned zones.old frames.old.entries }
+    requires resident { IsSomeAnd (get nat_eq frames.old page) (λ f. (f.id ≡ page) × AreNext page f.content.lsn changes.now) }
+    ensures puts { (f : Framed) → get nat_eq frames.old page ≡ Some f → Puts frames.old.entries frames.new.entries page (redone_frame f changes.now) }
+    ensures len { index_map_len frames.new ≡ index_map_len frames.old }
+    ensures room { spare frames.old ≤ spare frames.new }
+    ensures zoned { AreZoned zones.new frames.new.entries }
+{
+    // The length is what says that `first + 1` fits.
+    let _len = frames.len();
+    let Some(i) = place_of(frames, page) else {
+        unreachable!();
+    };
+    redo_at(frames, i, changes);
+    let first = zones.dirty;
+    if first <= i && !is_free_at(frames, i) {
+        swap(frames, i, first);
+        zones.dirty = first + 1;
+    }
+}
+
+/// Notes that a page was written as it is now. It moves at most one other frame.
+pub(crate) fn note_written(frames: &mut Table, zones: &mut Zones, page: u32)
+    requires zoned { AreZoned zones.old frames.old.entries }
+    ensures puts { (f : Framed) → get nat_eq frames.old page ≡ Some f → Puts frames.old.entries frames.new.entries page (written_frame f) }
+    ensures len { index_map_len frames.new ≡ index_map_len frames.old }
+    ensures room { spare frames.old ≤ spare frames.new }
+    ensures zoned { AreZoned zones.new frames.new.entries }
+{
+    let Some(i) = place_of(frames, page) else {
+        return;
+    };
+    note_written_at(frames, i);
+    let first = zones.written;
+    if first <= i && i < zones.dirty {
+        swap(frames, i, first);
+        zones.written = first + 1;
+    }
+}
+
+// Notes that the last of the frames written since the last sync was synced.
+fn settle_last(frames: &mut Table, zones: &mut Zones)
+    requires zoned { AreZoned zones.old frames.old.entries }
+    requires some { 0 < zones.old.written }
+    ensures less { zones.new.written + 1 ≡ zones.old.written }
+    ensures frames { (page : ℕ) → option_map synced_frame (get nat_eq frames.new page) ≡ option_map synced_frame (get nat_eq frames.old page) }
+    ensures len { index_map_len frames.new ≡ index_map_len frames.old }
+    ensures room { spare frames.old ≤ spare frames.new }
+    ensures zoned { AreZoned zones.new frames.new.entries }
+{
+    let i = zones.written - 1;
+    note_synced_at(frames, i);
+    zones.written = i;
+    if is_free_at(frames, i) {
+        let last = zones.dirty - 1;
+        swap(frames, i, last);
+        zones.dirty = last;
+    }
+}
+
+/// Notes that the image of each page that was written last was synced. It looks at no frame but those written since the last sync.
+pub(crate) fn note_synced(frames: &mut Table, zones: &mut Zones)
+    requires zoned { AreZoned zones.old frames.old.entries }
     ensures frames { (page : ℕ) → get nat_eq frames.new page ≡ option_map synced_frame (get nat_eq frames.old page) }
     ensures len { index_map_len frames.new ≡ index_map_len frames.old }
     ensures room { spare frames.old ≤ spare frames.new }
+    ensures zoned { AreZoned zones.new frames.new.entries }
 {
-    frames.retain(
-        |_page: &u32, frame: &mut Frame| -> bool
-            ensures { (result ≡ true) × (frame.new ≡ synced_frame frame.old) }
-        {
-            frame.note_synced();
-            true
-        },
-    );
+    while zones.written != 0 {
+        settle_last(frames, zones);
+    }
 }

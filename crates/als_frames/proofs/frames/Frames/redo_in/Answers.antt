@@ -1,4 +1,4 @@
-use Rattle.std.proofs.Common.{sym, subst}
+use Rattle.std.proofs.Common.{sym, subst, arith}
 use Rattle.als_frames.specs.Frames.{Holding, Paged, slots_from}
 use Rattle.als_frames.specs.Batch.{CanRedo, Redoes, redone_frame}
 use Rattle.als_frames.proofs.LoadLaws.{paged}
@@ -9,9 +9,13 @@ pub invariant_of-self : goal.invariant_of-self
 invariant_of-self g c =
     let s = c.self.inside in
     let can = subst (λ (v : Holding). CanRedo v.paged c.args.page c.args.changes.now) (sym c.self.view_is) c.requires in
-    let numbered = c.self.invariant.numbered c.args.page can.f can.resident in
-    kept-puts s.pages s.most (g.D.BlockDisk.block_count s.disk) s.frames.entries c.redo.new.frames.entries c.args.page (redone_frame can.f c.args.changes.now)
-    c.self.invariant (c.redo.ensures.puts can.f can.resident) c.redo.ensures.len numbered.0 numbered.1
+    let numbered = c.self.invariant.kept.numbered c.args.page can.f can.resident in
+    record {
+      kept = kept-puts s.pages s.most (g.D.BlockDisk.block_count s.disk) s.frames.entries c.redo.new.frames.entries c.args.page (redone_frame can.f c.args.changes.now)
+          c.self.invariant.kept (c.redo.ensures.puts can.f can.resident) c.redo.ensures.len numbered.0 numbered.1;
+      zoned = c.redo.ensures.zoned;
+      has_room = omega (arith, c.self.invariant.has_room, c.redo.ensures.room);
+    }
 
 pub returns-clause-redoes : goal.returns-clause-redoes
 returns-clause-redoes g c =

@@ -18,7 +18,7 @@ returns-in-Ok-clause-ok g c =
     let old : Paged = paged s.pages s.most s.frames.entries (slots_from 0 s.pages slot) (g.D.BlockDisk.block_count s.disk) (g.D.BlockDisk.failures s.disk) (g.D.BlockDisk.attempts s.disk) s.sure in
     let new : Paged = paged s.pages s.most c.note_written.new.frames.entries (slots_from 0 s.pages (g.D.BlockDisk.slot disk)) (g.D.BlockDisk.block_count disk) (g.D.BlockDisk.failures disk) (g.D.BlockDisk.attempts disk) s.sure in
     let resident : frame_of old c.args.page ≡ Some frame = sym c.in-Some.ensures.value in
-    let numbered = c.self.invariant.numbered c.args.page frame resident in
+    let numbered = c.self.invariant.kept.numbered c.args.page frame resident in
     let is : id_of page ≡ c.args.page = c.page.ensures.number ∙ numbered.0 in
     let block = block_of c.args.page frame.content in
     let out : g.D.BlockDisk.slot disk (id_of page) ≡ written (slot (id_of page)) block
@@ -42,7 +42,7 @@ returns-in-Err-clause-err g c =
     let old : Paged = paged s.pages s.most s.frames.entries (slots_from 0 s.pages slot) (g.D.BlockDisk.block_count s.disk) (g.D.BlockDisk.failures s.disk) (g.D.BlockDisk.attempts s.disk) s.sure in
     let new : Paged = paged s.pages s.most s.frames.entries (slots_from 0 s.pages (g.D.BlockDisk.slot disk)) (g.D.BlockDisk.block_count disk) (g.D.BlockDisk.failures disk) (g.D.BlockDisk.attempts disk) false in
     let resident : frame_of old c.args.page ≡ Some frame = sym c.in-Some.ensures.value in
-    let numbered = c.self.invariant.numbered c.args.page frame resident in
+    let numbered = c.self.invariant.kept.numbered c.args.page frame resident in
     let is : id_of page ≡ c.args.page = c.page.ensures.number ∙ numbered.0 in
     let block = block_of c.args.page frame.content in
     let tried : FailsToWrite (slot (id_of page)) (g.D.BlockDisk.slot disk (id_of page)) block
