@@ -1,4 +1,7 @@
+ghost use Rattle.std.specs.Prelude.{◌≡◌};
+
 use als_disk::FileDisk;
+use std::fs::File;
 
 /// How many blocks each device has.
 #[derive(Clone, Copy, Debug, PartialEq, Eq)]
@@ -21,6 +24,22 @@ pub struct Devices {
     pub pages: FileDisk,
 }
 
+impl Devices {
+    /// The log's device, the control block's and the pages'.
+    pub fn into_parts(self) -> (FileDisk, FileDisk, FileDisk)
+        ensures log { result.0 ≡ self.log }
+        ensures control { result.1 ≡ self.control }
+        ensures pages { result.2 ≡ self.pages }
+    {
+        let Devices {
+            log,
+            control,
+            pages,
+        } = self;
+        (log, control, pages)
+    }
+}
+
 impl Drop for Devices {
     fn drop(self) {
         let Devices {
@@ -32,4 +51,15 @@ impl Drop for Devices {
         drop(control);
         drop(pages);
     }
+}
+
+/// The files of a standby, open to be read alone.
+#[derive(Drop)]
+pub struct DeviceFiles {
+    /// The log's.
+    pub log: File,
+    /// The control block's and the checkpoints'.
+    pub control: File,
+    /// The pages'.
+    pub pages: File,
 }

@@ -2,7 +2,7 @@ ghost use Rattle.std.specs.Prelude.{IfOk, IfErr};
 ghost use Rattle.als_folder.specs.FaultNames.{IsOfFile};
 ghost use Rattle.als_folder.specs.Devices.{HaveSizes, AreZeros, AreSettled};
 
-use crate::devices::{Devices, Sizes};
+use crate::devices::{DeviceFiles, Devices, Sizes};
 use crate::fault::Fault;
 use als_disk::FileDisk;
 use std::fs::File;
@@ -68,6 +68,25 @@ impl Folder {
         let control = FileDisk::open(rt, self.path_of(rt, CONTROL)?.as_path())?;
         let pages = FileDisk::open(rt, self.path_of(rt, PAGES)?.as_path())?;
         Ok(Devices {
+            log,
+            control,
+            pages,
+        })
+    }
+
+    /// Opens the files of a database to be read alone: nothing is written, as `open` does.
+    ///
+    /// Device: a file is missing or failed. Memory: there was none for a name.
+    pub fn open_to_read<R: Files<File = File> + AllocGlobal>(
+        &self,
+        rt: &R,
+    ) -> Result<DeviceFiles, Fault>
+        ensures fails { IfErr result IsOfFile }
+    {
+        let log = File::open(rt, self.path_of(rt, LOG)?.as_path())?;
+        let control = File::open(rt, self.path_of(rt, CONTROL)?.as_path())?;
+        let pages = File::open(rt, self.path_of(rt, PAGES)?.as_path())?;
+        Ok(DeviceFiles {
             log,
             control,
             pages,

@@ -8,7 +8,7 @@ mod devices;
 // The folder.
 mod folder;
 
-pub use devices::{Devices, Sizes};
+pub use devices::{DeviceFiles, Devices, Sizes};
 pub use fault::Fault;
 pub use folder::Folder;
 

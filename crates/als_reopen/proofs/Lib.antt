@@ -1,6 +1,7 @@
 mod Devices
 mod Fronts
 mod Nodes
+mod Warming
 mod WholeLogs
 mod Steps
 mod Texts

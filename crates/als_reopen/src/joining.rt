@@ -8,6 +8,7 @@ ghost use Rattle.als_frames.specs.Frames.{without_frames};
 ghost use Rattle.als_scan.specs.Scanned.{scanned};
 ghost use Rattle.als_scan.specs.Texts.{text_of};
 ghost use Rattle.als_pool.specs.Restart.{HoldsImagesFrom, HoldsImagesOf};
+ghost use Rattle.als_view.specs.Showing.{IsWarming};
 ghost use Rattle.als_reopen.specs.Node.{position_of, rows_of};
 ghost use Rattle.als_reopen.specs.Outcomes.{AreSettled, all_synced, IsReopened, IsBare};
 ghost use Rattle.als_reopen.specs.Reading.{IsReading, IsMet};
@@ -24,6 +25,7 @@ use als_pool::Pool;
 use als_record::{LoggedPage, Lsn};
 use als_scan::{Scan, Unread};
 use als_tables::Tally;
+use als_view::View;
 use std::alloc::Global;
 
 /// Where a restart begins to look for what the pages lack.
@@ -69,12 +71,14 @@ fn finish<D: BlockDisk>(
     blocks: u64,
 ) -> Result<ReadLog<D>, UnreadLog<D>>
     requires reading { IsReading checkpoint.now reading.scan reading.pool.pool reading.count }
+    requires view { IsWarming reading.scan.pages reading.scan.log reading.view }
     requires met { IsMet reading.met reading.scan.log checkpoint.now }
     requires low { IfSome checkpoint.now (λ c. c.numbers.position.0 ≤ reading.scan.mark) }
     requires mark { reading.scan.mark ≡ state.mark.0 }
     requires blocks { blocks ≡ reading.scan.blocks }
     ensures ok { IfOk result (λ x. IsReopened reading.scan.pages blocks (record { state = state; checkpoint = checkpoint.now })
         x.log.log x.validator x.count x.pool.pool) }
+    ensures view { IfOk result (λ x. IsWarming reading.scan.pages x.log.log x.view) }
     ensures log { IfOk result (λ x. x.log ≡ all_synced reading.scan.pages x.log.log blocks reading.scan.failures reading.scan.attempts x.log.room) }
     ensures text { IfOk result (λ x. reading.scan.text ≡ log_text reading.scan.pages x.log.log) }
     ensures frames { IfOk result (λ x. x.pool.pool.frames ≡ reading.pool.pool.frames) }
@@ -146,6 +150,7 @@ fn begin<D: BlockDisk>(
     requires opened { IsPoolOpened checkpoint.now pool.pool }
     requires paged { pool.pool.frames.pages ≡ pages }
     ensures reading { IfOk result (λ r. IsReading checkpoint.now r.scan r.pool.pool r.count) }
+    ensures view { IfOk result (λ r. IsWarming pages r.scan.log r.view) }
     ensures met { IfOk result (λ r. IsMet r.met r.scan.log checkpoint.now) }
     ensures scan { IfOk result (λ r. r.scan ≡ scanned pages [] mark.0 (D.slot log) (D.block_count log) (D.failures log) (D.attempts log)) }
     ensures pool { IfOk result (λ r. r.pool ≡ pool) }
@@ -157,11 +162,20 @@ fn begin<D: BlockDisk>(
 {
     // For the prover alone: there are as many blocks as pages that wait for changes.
     let _ = pool.pages();
+    let Ok(view) = View::new(alloc, pages, false) else {
+        let fault = Fault::Memory;
+        return Err(UnreadLog {
+            log,
+            pages: pool.into_disk(),
+            fault,
+        });
+    };
     match Scan::new(alloc, log, pages, mark.0) {
         Ok(scan) => Ok(Reading {
             scan,
             pool,
             count: Tally::new(),
+            view,
             met: false,
         }),
         Err(unread) => {
@@ -196,6 +210,7 @@ pub(crate) fn read_log<D: BlockDisk>(
     requires room { pages ≤ D.block_count page_disk }
     ensures ok { IfOk result (λ x. IsReopened pages (D.block_count log) (record { state = state; checkpoint = checkpoint.now })
         x.log.log x.validator x.count x.pool.pool) }
+    ensures view { IfOk result (λ x. IsWarming pages x.log.log x.view) }
     ensures log { IfOk result (λ x. x.log ≡ all_synced pages x.log.log (D.block_count log) (D.failures log) (D.attempts log) x.log.room) }
     ensures text { IfOk result (λ x. text_of (D.slot log) state.mark.0 ≡ log_text pages x.log.log) }
     ensures frames { IfOk result (λ x. x.pool.pool.frames ≡ without_frames pages frames (D.slot page_disk) (D.block_count page_disk) (D.failures page_disk)

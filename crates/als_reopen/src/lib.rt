@@ -12,6 +12,8 @@ mod unreopened;
 mod reopened;
 // The changes of the records, for their pages.
 mod taking_in;
+// The commits of the records, for the readers.
+mod committing;
 // The checkpoint, compared with the log.
 mod comparing;
 // The log, record by record.

@@ -7,6 +7,7 @@ use als_log::LocalLog;
 use als_pool::Pool;
 use als_tables::Tally;
 use als_validator::Validator;
+use als_view::View;
 
 /// A log that was read whole, with what a restart takes of it.
 pub(crate) struct ReadLog<D: BlockDisk> {
@@ -14,6 +15,7 @@ pub(crate) struct ReadLog<D: BlockDisk> {
     pub(crate) pool: Pool<D>,
     pub(crate) validator: Validator,
     pub(crate) count: Tally,
+    pub(crate) view: View,
 }
 
 // Written out: a derived drop is proved wherever a log that was read is let go of, this one only here.
@@ -24,10 +26,12 @@ impl<D: BlockDisk + Drop> Drop for ReadLog<D> {
             pool,
             validator,
             count: _,
+            view,
         } = self;
         drop(log);
         drop(pool);
         drop(validator);
+        drop(view);
     }
 }
 
@@ -35,13 +39,14 @@ impl<D: BlockDisk> ReadLog<D> {
     /// All that was read, with the control block.
     pub(crate) fn with_control(self, control: Control<D>) -> Reopened<D>
         ensures { (result.log ≡ self.log) × (result.control ≡ control) × (result.pool ≡ self.pool)
-            × (result.validator ≡ self.validator) × (result.count ≡ self.count) }
+            × (result.validator ≡ self.validator) × (result.count ≡ self.count) × (result.view ≡ self.view) }
     {
         let ReadLog {
             log,
             pool,
             validator,
             count,
+            view,
         } = self;
         Reopened {
             log,
@@ -49,6 +54,7 @@ impl<D: BlockDisk> ReadLog<D> {
             pool,
             validator,
             count,
+            view,
         }
     }
 }

@@ -6,10 +6,12 @@ ghost use Rattle.als_record.specs.Validity.{IsValidLog};
 ghost use Rattle.als_validator.specs.Validated.{IsValidatorOf};
 ghost use Rattle.als_scan.specs.Scanned.{IsWhole, taken_up};
 ghost use Rattle.als_tables.specs.Fronts.{IsOfFront};
+ghost use Rattle.als_view.specs.Showing.{IsWarming};
 ghost use Rattle.als_reopen.specs.Outcomes.{IsBare};
 ghost use Rattle.als_reopen.specs.Reading.{IsReading, IsMet, IsMetBefore};
 ghost use Rattle.als_reopen.specs.Reading.{ScansOn, KeepsImages, IsOneMore, IsFrontOf, CountsDevice, CountsLog, IsScanLeft, IsPoolLeft};
 
+use crate::committing::take_commit;
 use crate::comparing::is_checkpoint_of;
 use crate::fault::Fault;
 use crate::read_log::ReadLog;
@@ -20,13 +22,17 @@ use als_disk::BlockDisk;
 use als_pool::{Pool, change_can_be_read};
 use als_scan::{Scan, Unread};
 use als_tables::Tally;
+use als_view::View;
 use std::alloc::Global;
 
-/// A log that is being read: the records handed out so far are counted, and their changes wait for the pages.
+/// A log that is being read: the records handed out so far are counted, their changes wait for the pages, and their
+/// commits for the readers.
 pub(crate) struct Reading<D: BlockDisk> {
     pub(crate) scan: Scan<D>,
     pub(crate) pool: Pool<D>,
     pub(crate) count: Tally,
+    /// The commits of the records, which wait for the readers.
+    pub(crate) view: View,
     /// The position of the checkpoint was met, and it is that of the records in front of it.
     pub(crate) met: bool,
 }
@@ -38,10 +44,12 @@ impl<D: BlockDisk + Drop> Drop for Reading<D> {
             scan,
             pool,
             count: _,
+            view,
             met: _,
         } = self;
         drop(scan);
         drop(pool);
+        drop(view);
     }
 }
 
@@ -93,8 +101,10 @@ fn check_position(met: bool, end: u64, checkpoint: &Option<Checkpoint>) -> Resul
 
 impl<D: BlockDisk> Reading<D> {
     /// Takes the next record, if there is one. Whether there was is answered.
-    fn take_one(&mut self, checkpoint: &Option<Checkpoint>) -> Result<bool, Fault>
-        requires { IsReading checkpoint.now self.old.scan self.old.pool.pool self.old.count }
+    fn take_one(&mut self, alloc: Global, checkpoint: &Option<Checkpoint>) -> Result<bool, Fault>
+        requires reading { IsReading checkpoint.now self.old.scan self.old.pool.pool self.old.count }
+        requires view { IsWarming self.old.scan.pages self.old.scan.log self.old.view }
+        ensures view { OnOk result (IsWarming self.new.scan.pages self.new.scan.log self.new.view) }
         ensures reading { OnOk result (IsReading checkpoint.now self.new.scan self.new.pool.pool self.new.count) }
         ensures more { IfOk result (λ more. MatchBool more (IsOneMore self.old.scan.log self.new.scan.log)
             (IsWhole self.new.scan × (self.new.scan.log ≡ self.old.scan.log))) }
@@ -115,6 +125,7 @@ impl<D: BlockDisk> Reading<D> {
             return Ok(false);
         };
         self.count.note(&logged);
+        take_commit(alloc, &mut self.view, self.scan.validator(), &logged)?;
         take_change(&mut self.pool, &logged)?;
         Ok(true)
     }
@@ -122,8 +133,10 @@ impl<D: BlockDisk> Reading<D> {
     /// Compares the checkpoint, if its position is reached, and takes the next record, if there is one. Whether there was is answered.
     fn step(&mut self, alloc: Global, checkpoint: &Option<Checkpoint>) -> Result<bool, Fault>
         requires reading { IsReading checkpoint.now self.old.scan self.old.pool.pool self.old.count }
+        requires view { IsWarming self.old.scan.pages self.old.scan.log self.old.view }
         requires met { IsMet self.old.met self.old.scan.log checkpoint.now }
         requires low { IfSome checkpoint.now (λ c. c.numbers.position.0 ≤ self.old.scan.mark) }
+        ensures view { OnOk result (IsWarming self.new.scan.pages self.new.scan.log self.new.view) }
         ensures reading { OnOk result (IsReading checkpoint.now self.new.scan self.new.pool.pool self.new.count) }
         ensures met { OnOk result (IsMet self.new.met self.new.scan.log checkpoint.now) }
         ensures more { IfOk result (λ more. MatchBool more (IsOneMore self.old.scan.log self.new.scan.log)
@@ -139,7 +152,7 @@ impl<D: BlockDisk> Reading<D> {
             → OnOk result (IsFrontOf self.new.scan.log whole) }
     {
         self.met = meet(alloc, self, checkpoint)?;
-        let more = self.take_one(checkpoint)?;
+        let more = self.take_one(alloc, checkpoint)?;
         check_position(self.met, self.scan.end().0, checkpoint)?;
         Ok(more)
     }
@@ -151,8 +164,10 @@ impl<D: BlockDisk> Reading<D> {
         checkpoint: &Option<Checkpoint>,
     ) -> Result<(), Fault>
         requires reading { IsReading checkpoint.now self.old.scan self.old.pool.pool self.old.count }
+        requires view { IsWarming self.old.scan.pages self.old.scan.log self.old.view }
         requires met { IsMet self.old.met self.old.scan.log checkpoint.now }
         requires low { IfSome checkpoint.now (λ c. c.numbers.position.0 ≤ self.old.scan.mark) }
+        ensures view { OnOk result (IsWarming self.new.scan.pages self.new.scan.log self.new.view) }
         ensures reading { OnOk result (IsReading checkpoint.now self.new.scan self.new.pool.pool self.new.count) }
         ensures whole { OnOk result (IsWhole self.new.scan) }
         ensures of_front { OnOk result (IfSome checkpoint.now (IsOfFront self.new.scan.log)) }
@@ -183,6 +198,7 @@ impl<D: BlockDisk> Reading<D> {
             scan,
             pool,
             count: _,
+            view: _,
             met: _,
         } = self;
         // For the prover alone: there are as many blocks as pages that wait for changes.
@@ -199,7 +215,7 @@ impl<D: BlockDisk> Reading<D> {
         requires { IsWhole self.scan }
         ensures log { IfOk result (λ x. x.log ≡ taken_up self.scan x.log.room) }
         ensures judged { IfOk result (λ x. IsValidatorOf self.scan.pages x.validator self.scan.log) }
-        ensures pool { IfOk result (λ x. (x.pool ≡ self.pool) × (x.count ≡ self.count)) }
+        ensures pool { IfOk result (λ x. (x.pool ≡ self.pool) × (x.count ≡ self.count) × (x.view ≡ self.view)) }
         ensures fault { IfErr result (λ u. IsBare u.fault × CountsLog u.fault self.scan.failures (D.failures u.log)) }
         ensures left_log { IfErr result (λ u. IsScanLeft self.scan (D.slot u.log) (D.block_count u.log) (D.attempts u.log)) }
         ensures left_pages { IfErr result (λ u. IsPoolLeft self.pool.pool.frames
@@ -209,6 +225,7 @@ impl<D: BlockDisk> Reading<D> {
             scan,
             pool,
             count,
+            view,
             met: _,
         } = self;
         // For the prover alone: there are as many blocks as pages that wait for changes.
@@ -219,6 +236,7 @@ impl<D: BlockDisk> Reading<D> {
                 pool,
                 validator,
                 count,
+                view,
             }),
             Err(unread) => {
                 let Unread { disk, fault } = unread;

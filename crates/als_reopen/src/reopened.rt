@@ -6,6 +6,7 @@ use als_log::LocalLog;
 use als_pool::Pool;
 use als_tables::Tally;
 use als_validator::Validator;
+use als_view::View;
 
 /// What was read of the devices of a standby.
 pub struct Reopened<D: BlockDisk> {
@@ -19,6 +20,8 @@ pub struct Reopened<D: BlockDisk> {
     pub validator: Validator,
     /// The log's records, counted.
     pub count: Tally,
+    /// The log's commits, which all wait; readers have no list yet.
+    pub view: View,
 }
 
 // Written out: a derived drop is proved wherever what was read is let go of, this one only here.
@@ -30,18 +33,21 @@ impl<D: BlockDisk + Drop> Drop for Reopened<D> {
             pool,
             validator,
             count: _,
+            view,
         } = self;
         drop(log);
         drop(control);
         drop(pool);
         drop(validator);
+        drop(view);
     }
 }
 
 impl<D: BlockDisk> Reopened<D> {
-    /// The log, the control state, the pages, the validator and the counts.
-    pub fn into_parts(self) -> (LocalLog<D>, Control<D>, Pool<D>, Validator, Tally)
-        ensures { (result.0 ≡ self.log) × (result.1 ≡ self.control) × (result.2 ≡ self.pool) × (result.3 ≡ self.validator) × (result.4 ≡ self.count) }
+    /// The log, the control state, the pages, the validator, the counts and the view.
+    pub fn into_parts(self) -> (LocalLog<D>, Control<D>, Pool<D>, Validator, Tally, View)
+        ensures { (result.0 ≡ self.log) × (result.1 ≡ self.control) × (result.2 ≡ self.pool) × (result.3 ≡ self.validator) × (result.4 ≡ self.count)
+            × (result.5 ≡ self.view) }
     {
         let Reopened {
             log,
@@ -49,7 +55,8 @@ impl<D: BlockDisk> Reopened<D> {
             pool,
             validator,
             count,
+            view,
         } = self;
-        (log, control, pool, validator, count)
+        (log, control, pool, validator, count, view)
     }
 }

@@ -1,8 +1,9 @@
-ghost use Rattle.std.specs.Prelude.{◌≡◌, ◌≤◌};
+ghost use Rattle.std.specs.Prelude.{◌≡◌, ◌≤◌, IfSome};
 
 use crate::{Disks, Fault, reopen};
 use als_disk::{BlockDisk, MemDisk};
-use als_record::{Fault as ShapeFault, Lsn};
+use als_record::{Fault as ShapeFault, Key, Lsn};
+use als_view::{Answer, View};
 use std::alloc::Global;
 use std::process::Abort;
 
@@ -16,6 +17,22 @@ const LOG: [u8; 153] = [
     0, 0, 1, 0xff, 1, 0xbb, //
     0, 0, 0, 0x25, 1, 0, 0, 0, 0, 0, 0, 0, 0, 0, 0, 0x74, 0, 0, 0, 0, 0, 0, 0, 0x50, 0, 0, 0, 2, 0,
     0, 0, 0, 0, 1, 1, 0xaa, 0xcc,
+];
+
+// A log of a database of four pages with two commits, at 130 and 195. The first transaction writes slot 0 at 16 and slot 1 at 52, and
+// takes the write at 52 back; the second writes slot 0 at 158.
+const COMMITS: [u8; 223] = [
+    0x41, 0x4c, 0x53, 0x4c, 0x4f, 0x47, 0x30, 0x31, 0, 0, 0, 4, 0, 0, 0, 0, //
+    0, 0, 0, 0x24, 1, 0, 0, 0, 0, 0, 0, 0, 0, 0, 0, 0x10, 0, 0, 0, 0, 0, 0, 0, 0, 0, 0, 0, 1, 0, 0,
+    0, 0, 0, 0xff, 1, 0xaa, //
+    0, 0, 0, 0x24, 1, 0, 0, 0, 0, 0, 0, 0, 0, 0, 0, 0x34, 0, 0, 0, 0, 0, 0, 0, 0x10, 0, 0, 0, 1, 0,
+    0, 0, 0, 1, 0xff, 1, 0xbb, //
+    0, 0, 0, 0x2a, 2, 0, 0, 0, 0, 0, 0, 0, 0, 0, 0, 0x58, 0, 0, 0, 0, 0, 0, 0, 0x34, 0, 0, 0, 1, 0,
+    0, 0, 0, 0, 0, 0, 0x10, 0, 0, 0, 0, 1, 0xff, //
+    0, 0, 0, 0x1c, 3, 0, 0, 0, 0, 0, 0, 0, 0, 0, 0, 0x82, 0, 0, 0, 0, 0, 0, 0, 0x58, 0, 0, 0, 1, //
+    0, 0, 0, 0x25, 1, 0, 0, 0, 0, 0, 0, 0, 0, 0, 0, 0x9e, 0, 0, 0, 0, 0, 0, 0, 0, 0, 0, 0, 2, 0, 0,
+    0, 0, 0, 1, 1, 0xaa, 0xcc, //
+    0, 0, 0, 0x1c, 3, 0, 0, 0, 0, 0, 0, 0, 0, 0, 0, 0xc3, 0, 0, 0, 0, 0, 0, 0, 0x9e, 0, 0, 0, 2,
 ];
 
 // The control block of four pages that acknowledges a mark, with a checkpoint at a position in region 1, or none (0).
@@ -52,6 +69,7 @@ fn checkpoint_block(position: u8, commits: u8) -> [u8; 512] {
 // A device with a block at its front, and another behind that. `None`: a growth was refused.
 fn device(alloc: Global, blocks: u64, first: &[u8; 512], second: &[u8; 512]) -> Option<MemDisk>
     requires { 2 ≤ blocks }
+    ensures { IfSome result (λ d. ⟦<MemDisk as BlockDisk>⟧.block_count d ≡ blocks) }
 {
     let mut disk = MemDisk::new(alloc, blocks);
     disk.write(0, first).ok()?;
@@ -69,25 +87,32 @@ fn log_block(at: usize, byte: u8) -> [u8; 512]
     block
 }
 
+// Three such devices. `None`: a growth was refused.
+fn laid_out(
+    alloc: Global,
+    log: &[u8; 512],
+    control: &[u8; 512],
+    checkpoint: &[u8; 512],
+) -> Option<Disks<MemDisk>>
+    ensures log { IfSome result (λ d. ⟦<MemDisk as BlockDisk>⟧.block_count d.log ≡ 2) }
+    ensures control { IfSome result (λ d. ⟦<MemDisk as BlockDisk>⟧.block_count d.control ≡ 321) }
+    ensures pages { IfSome result (λ d. ⟦<MemDisk as BlockDisk>⟧.block_count d.pages ≡ 4) }
+{
+    Some(Disks {
+        log: device(alloc, 2, log, &[0; 512])?,
+        control: device(alloc, 321, control, checkpoint)?,
+        pages: MemDisk::new(alloc, 4),
+    })
+}
+
 // How many changes wait, and where the log ends, once three such devices are taken up; or why they are not. `None`: a growth was refused.
 fn outcome(
-    rt: &impl Abort,
     alloc: Global,
     log: &[u8; 512],
     control: &[u8; 512],
     checkpoint: &[u8; 512],
 ) -> Option<Result<(usize, Lsn), Fault>> {
-    let log = device(alloc, 2, log, &[0; 512])?;
-    let control = device(alloc, 321, control, checkpoint)?;
-    let pages = MemDisk::new(alloc, 4);
-    let counts = (log.blocks(), control.blocks(), pages.blocks());
-    assert!(rt; 1 <= counts.0 && counts.0 <= 4194304);
-    assert!(rt; 321 <= counts.1 && 4 <= counts.2);
-    let disks = Disks {
-        log,
-        control,
-        pages,
-    };
+    let disks = laid_out(alloc, log, control, checkpoint)?;
     match reopen(alloc, disks, 4, 2) {
         Ok(found) => Some(Ok((found.pool.waiting(), found.log.end()))),
         Err(refused) => match refused.fault {
@@ -105,10 +130,10 @@ fn found(
     control: &[u8; 512],
     checkpoint: &[u8; 512],
 ) -> Result<(usize, Lsn), Fault> {
-    if let Some(found) = outcome(rt, alloc, log, control, checkpoint) {
+    if let Some(found) = outcome(alloc, log, control, checkpoint) {
         return found;
     }
-    match outcome(rt, alloc, log, control, checkpoint) {
+    match outcome(alloc, log, control, checkpoint) {
         Some(found) => found,
         None => panic!(rt; "no memory"),
     }
@@ -177,4 +202,40 @@ fn a_damaged_header_is_refused(rt: HostRuntime) {
         &[0; 512],
     );
     assert_eq!(rt; found, Err(Fault::Shape(ShapeFault::BadHeader)));
+}
+
+// What a reader sees of a slot of page 0: the first byte of its value, how many commits there are, and the LSN of the last one.
+fn seen(view: &View, slot: u8) -> Option<(Option<u8>, u64, Lsn)> {
+    let answer = view.get(Key { page: 0, slot }).ok()?;
+    let Answer {
+        value,
+        commits,
+        lsn,
+    } = answer;
+    let Some(bytes) = value else {
+        return Some((None, commits, lsn));
+    };
+    Some((bytes.as_slice().first().copied(), commits, lsn))
+}
+
+// The commits of the log wait, and readers see them once they are published. `None`: a growth was refused.
+fn commits(rt: &impl Abort, alloc: Global) -> Option<()> {
+    let mut log = [0; 512];
+    log[..223].copy_from_slice(&COMMITS);
+    let disks = laid_out(alloc, &log, &control_block(223, 0), &[0; 512])?;
+    let found = reopen(alloc, disks, 4, 2).ok()?;
+    let mut view = found.into_parts().5;
+    assert_eq!(rt; (view.queued(), seen(&view, 0)), (2, None));
+    view.publish_first(1);
+    assert_eq!(rt; seen(&view, 0), Some((Some(0xaa), 1, Lsn(130))));
+    assert_eq!(rt; seen(&view, 1), Some((None, 1, Lsn(130))));
+    view.publish();
+    assert_eq!(rt; seen(&view, 0), Some((Some(0xcc), 2, Lsn(195))));
+    Some(())
+}
+
+#[test]
+fn the_commits_wait_for_readers(rt: HostRuntime) {
+    let alloc = rt.alloc();
+    assert!(rt; commits(&rt, alloc).is_some() || commits(&rt, alloc).is_some());
 }

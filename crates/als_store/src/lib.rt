@@ -13,10 +13,13 @@ mod laying_out;
 mod origin;
 // The log, the control block, the pages and the transaction table.
 mod store;
+// A store that was opened, with the commits of its log.
+mod opened;
 
 pub use als_ckpt::Phase;
 pub use als_reopen::{Disks, Fault as OpenFault, Unreopened};
 pub use fault::Fault;
+pub use opened::Opened;
 pub use store::Store;
 pub use store::crashing::crash_disks;
 pub use unformatted::Unformatted;

@@ -1,10 +1,12 @@
 ghost use Rattle.std.specs.Prelude.{◌≡◌, ℕ, ◌≤◌, ◌+◌, true, false, IfOk, IfErr};
 ghost use Rattle.als_reopen.specs.Node.{Node, HoldsLog, IsNode};
 ghost use Rattle.als_reopen.specs.Outcomes.{AreSettled, AreLeft, IsOnceAtMost, RefusesOpen, IsBare};
+ghost use Rattle.als_view.specs.Showing.{IsWarming};
 ghost use Rattle.als_store.specs.Opening.{IsOpened, TakesUp, said_in};
 ghost use Rattle.als_store.specs.Staying.{StaysNode};
 
 use super::Store;
+use crate::opened::Opened;
 use crate::origin::Origin;
 use als_disk::BlockDisk;
 use als_pool::pool_ends_below;
@@ -13,7 +15,8 @@ use std::alloc::Global;
 
 impl<D: BlockDisk> Store<D> {
     /// Takes up again the devices of a database of so many pages, of which at most `frames` can be in memory at once: syncs the log, the
-    /// control block and the pages, and then only reads them. The store is recovering: the changes that a page may lack wait.
+    /// control block and the pages, and then only reads them. The store is recovering: the changes that a page may lack wait. So
+    /// do the commits of the log, for readers.
     ///
     /// `Device`: a device failed. `Memory`: a growth was refused. Else the first that is met in reading the control block, its checkpoint,
     /// the log's header and its records: `BadControl`, `Shape` or `Invalid`; then `LogFull`. All hand the devices back.
@@ -22,23 +25,25 @@ impl<D: BlockDisk> Store<D> {
         disks: Disks<D>,
         pages: u32,
         frames: usize,
-    ) -> Result<Store<D>, Unreopened<D>>
+    ) -> Result<Opened<D>, Unreopened<D>>
         requires pages { (1 ≤ pages) × (pages ≤ 4096) }
         requires log { (1 ≤ D.block_count disks.log) × (D.block_count disks.log ≤ 4194304) }
         requires control { 321 ≤ D.block_count disks.control }
         requires page_blocks { pages ≤ D.block_count disks.pages }
-        ensures ok { IfOk result (λ s. IsOpened pages (D.block_count disks.log) (D.failures disks.log + D.failures disks.control + D.failures disks.pages)
-            (D.attempts disks.log + 1 + (D.attempts disks.control + 1) + (D.attempts disks.pages + 1)) s.stored) }
+        ensures ok { IfOk result (λ o. IsOpened pages (D.block_count disks.log) (D.failures disks.log + D.failures disks.control + D.failures disks.pages)
+            (D.attempts disks.log + 1 + (D.attempts disks.control + 1) + (D.attempts disks.pages + 1)) o.store.stored) }
+        // All commits of the log wait for the readers, who have no list yet.
+        ensures view { IfOk result (λ o. IsWarming pages o.store.stored.log o.view) }
         // Devices that hold a log are taken up with it; only a failed device and want of memory are in the way.
         ensures only { (n : Node) → AreSettled (D.slot disks.log) → AreSettled (D.slot disks.control)
             → HoldsLog pages (D.block_count disks.log) (D.slot disks.log) (D.slot disks.control) n
-            → IfOk result (λ s. (s.stored.log ≡ n.log) × (said_in s.stored ≡ n.said)) }
+            → IfOk result (λ o. (o.store.stored.log ≡ n.log) × (said_in o.store.stored ≡ n.said)) }
         ensures bare { (n : Node) → AreSettled (D.slot disks.log) → AreSettled (D.slot disks.control)
             → HoldsLog pages (D.block_count disks.log) (D.slot disks.log) (D.slot disks.control) n → IfErr result (λ u. IsBare u.fault) }
         // And where the devices are sound, so is all that the store promises of the pages, of the control states and of the checkpoints.
         ensures warm { (n : Node) → AreSettled (D.slot disks.log) → AreSettled (D.slot disks.control) → AreSettled (D.slot disks.pages)
             → IsNode pages (D.block_count disks.log) (D.slot disks.log) (D.slot disks.control) (D.slot disks.pages) n
-            → IfOk result (λ s. TakesUp n s.stored) }
+            → IfOk result (λ o. TakesUp n o.store.stored) }
         ensures err { IfErr result (λ u. RefusesOpen u.fault pages (D.block_count disks.log) (D.slot u.disks.log) (D.slot u.disks.control)
             (D.failures disks.log + D.failures disks.control + D.failures disks.pages)
             (D.failures u.disks.log + D.failures u.disks.control + D.failures u.disks.pages)) }
@@ -58,9 +63,9 @@ impl<D: BlockDisk> Store<D> {
         pool_ends_below();
         match reopen(alloc, disks, pages, frames) {
             Ok(reopened) => {
-                let (log, control, pool, validator, count) = reopened.into_parts();
+                let (log, control, pool, validator, count, view) = reopened.into_parts();
                 let origin = Origin::of(&log, &control, &pool);
-                Ok(Store {
+                let store = Store {
                     pages,
                     log,
                     count,
@@ -70,7 +75,8 @@ impl<D: BlockDisk> Store<D> {
                     broken: false,
                     recovering: true,
                     origin,
-                })
+                };
+                Ok(Opened { store, view })
             }
             Err(refused) => Err(refused),
         }

@@ -24,12 +24,33 @@ fn stopped(rt: &impl Abort, alloc: Global) -> Option<Disks<MemDisk>>
     Some(disks)
 }
 
+/// A store over such devices, of which the one commit waits.
+fn reopened(
+    rt: &impl Abort,
+    alloc: Global,
+    disks: Disks<MemDisk>,
+) -> Result<Store<MemDisk>, OpenFault>
+    requires log { 1 ≤ ⟦<MemDisk as BlockDisk>⟧.block_count disks.log }
+    requires few { ⟦<MemDisk as BlockDisk>⟧.block_count disks.log ≤ 4194304 }
+    requires control { 321 ≤ ⟦<MemDisk as BlockDisk>⟧.block_count disks.control }
+    requires pages { 4 ≤ ⟦<MemDisk as BlockDisk>⟧.block_count disks.pages }
+{
+    match Store::open(alloc, disks, 4, 2) {
+        Ok(opened) => {
+            let (store, view) = opened.into_parts();
+            assert_eq!(rt; view.queued(), 1);
+            Ok(store)
+        }
+        Err(refused) => Err(refused.fault),
+    }
+}
+
 /// What was acknowledged stands after a crash. False: memory was refused.
 fn restarts(rt: &impl Abort, alloc: Global) -> bool {
     let Some(disks) = stopped(rt, alloc) else {
         return false;
     };
-    match Store::open(alloc, disks, 4, 2) {
+    match reopened(rt, alloc, disks) {
         Ok(mut store) => {
             assert_eq!(rt; store.end(), Lsn(44));
             assert_eq!(rt; store.acknowledged(), Lsn(44));
@@ -40,8 +61,8 @@ fn restarts(rt: &impl Abort, alloc: Global) -> bool {
             assert!(rt; !store.is_recovering());
             true
         }
-        Err(refused) => {
-            assert!(rt; refused.fault == OpenFault::Memory);
+        Err(fault) => {
+            assert!(rt; fault == OpenFault::Memory);
             false
         }
     }

@@ -7,8 +7,8 @@ use Rattle.als_store.proofs.OpeningLaws.{stored-opened, is-opened, takes-up}
 use Rattle.als_store.proofs.StayingLaws.{left_same}
 use Rattle.als_store.proofs.store.Store.open.Goals as goal
 
-pub invariant_of-result : goal.invariant_of-result
-invariant_of-result g c =
+pub invariant_of-store : goal.invariant_of-store
+invariant_of-store g c =
     let disks = c.args.disks in
     let x = c.in-Ok.reopened in
     let e = c.in-Ok.ensures in
@@ -28,6 +28,12 @@ returns-in-Ok-clause-ok g c =
     rw (c.of-origin.ensures, p.0, p.1, p.2)
     (is-opened c.args.pages (g.D.BlockDisk.block_count disks.log) c.args.frames (g.D.BlockDisk.failures disks.log) (g.D.BlockDisk.attempts disks.log + 1) (g.D.BlockDisk.block_count disks.control) (g.D.BlockDisk.failures disks.control) (g.D.BlockDisk.attempts disks.control + 1)
     (g.D.BlockDisk.block_count disks.pages) (g.D.BlockDisk.failures disks.pages) (g.D.BlockDisk.attempts disks.pages + 1) (g.D.BlockDisk.slot disks.pages) x.log x.control x.pool.pool x.validator x.count e.log e.control e.stored e.ok)
+
+pub returns-in-Ok-clause-view : goal.returns-in-Ok-clause-view
+returns-in-Ok-clause-view g c =
+    let p = c.into_parts-log.ensures in
+    rw (p.0, p.5)
+    c.in-Ok.ensures.view
 
 pub returns-in-Ok-clause-only : goal.returns-in-Ok-clause-only
 returns-in-Ok-clause-only g c =
