@@ -1,7 +1,7 @@
 -- The events of a checkpoint, refused or not, and what they keep.
-use Rattle.std.proofs.Common.{◌≡◌, ℕ, ◌<◌, ◌≤◌, ◌⊎◌, Bool, true, false, [], ◌∷◌, Option, Some, None, Err, Ok, inl, inr, refl, sym, ap, subst, arith}
+use Rattle.std.proofs.Common.{◌≡◌, ℕ, ◌<◌, ◌≤◌, ◌⊎◌, Bool, true, false, [], ◌∷◌, Option, Some, None, Err, Ok, inl, inr, refl, arith}
 use Rattle.std.proofs.lemmas.Bool.{lt-ltb, le-ltb}
-use Rattle.std.specs.Prelude.{◌≢◌, Result, MatchOption, not, is_some, is_none, ◌||◌, IsSomeAnd}
+use Rattle.std.specs.Prelude.{◌≢◌, not, is_some, is_none, ◌||◌, IsSomeAnd}
 use Rattle.als_ckpt.specs.declared.region.Region.{Region}
 use Rattle.als_ckpt.specs.declared.region.Region.TheVariants.{First, Second}
 use Rattle.als_ckpt.specs.Regions.{Begun, HasBlockLeft, IsWhole, blocks_of, position_of}
@@ -11,13 +11,12 @@ use Rattle.als_store.specs.Stored.{Stored, newest, acknowledged}
 use Rattle.als_store.specs.CheckpointEvents.{IsBusy, BeginsCheckpoint, NotBegun, WritesBlock, NoBlock, CanPublish, Publishes, BreaksPublish, NotPublished}
 use Rattle.als_engine.specs.declared.fault.Fault.{Fault}
 use Rattle.als_engine.specs.declared.fault.Fault.TheVariants as fault
-use Rattle.als_engine.specs.declared.step.Step.{Step}
 use Rattle.als_engine.specs.declared.step.Step.TheVariants as step
 use Rattle.als_engine.specs.Faults.{from_store}
 use Rattle.als_engine.specs.Machine.{Machine}
-use Rattle.als_engine.specs.Refusals.{refusal, first_of, Does, same_region, is_ckpt_busy, has_block, is_partly_synced, is_ahead_of}
+use Rattle.als_engine.specs.Refusals.{refusal, first_of, same_region, is_ckpt_busy, has_block, is_partly_synced, is_ahead_of}
 use Rattle.als_engine.specs.Checkpointing.{Begins, WritesNext, PublishesNext, CkptBegins, CkptWrites, CkptPublishes}
-use Rattle.als_engine.proofs.PageLaws.{acting}
+use Rattle.als_engine.proofs.PageLaws.{acting, refusing, with_held, same_held}
 
 -- ---- the tests
 
@@ -80,17 +79,6 @@ partly_in None h = absurd h
 partly_in (Some b) h = lt-ltb b.synced (blocks_of b.checkpoint) (omega (arith, h))
 
 -- ---- refused, or not
-
-refusing : {A : Type 0} (old : Machine) (event : Step) (acts : Result A Fault → Machine → Type 0) (f : Fault) (new : Machine) → refusal old event ≡ Some f → new ≡ old
-    → Does old event acts (Err f) new
-refusing {A} old event acts f new e same =
-    subst (λ (o : Option Fault). MatchOption o (acts (Err f) new) (λ cause. (◌≡◌ {A = Result A Fault} (Err f) (Err cause)) × (new ≡ old))) (sym e) (refl, same)
-
-abbrev with_held : Machine → Stored → Machine
-with_held m held = record m { held = held }
-
-same_held : (m : Machine) (held : Stored) → held ≡ m.held → with_held m held ≡ m
-same_held m held e = ap (λ (h : Stored). with_held m h) e
 
 pub begins : (m : Machine) (held : Stored) → m.held.broken ≡ false → BeginsCheckpoint m.held held → CkptBegins m (Ok tt) (record m { held = held })
 begins m held running done =

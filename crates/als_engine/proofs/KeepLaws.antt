@@ -1,5 +1,6 @@
 -- What each step keeps: what is acknowledged, the log's records, and that an engine has stopped.
-use Rattle.std.proofs.Common.{◌≡◌, ℕ, ◌≤◌, false, List, [], ◌++◌, refl, sym, ap, subst, ◌∙◌, append_assoc, append-nil, arith}
+use Rattle.std.proofs.Common.{◌≡◌, ℕ, ◌≤◌, true, false, List, [], refl, sym, ap, subst, ◌∙◌, append-nil, arith}
+use Rattle.std.proofs.lemmas.Bool.{true≢false}
 use Rattle.als_record.specs.declared.record.Record.{Record}
 use Rattle.als_ckpt.specs.declared.control_state.ControlState.{ControlState}
 use Rattle.als_record.specs.LogText.{end_of}
@@ -16,30 +17,23 @@ le_refl n = omega arith
 pub goes_on_same : (s : ControlState) → GoesOn s s
 goes_on_same s = record { phase = omega arith; seal = λ past. refl }
 
-goes_on_both : (a b c : ControlState) → GoesOn a b → GoesOn b c → GoesOn a c
-goes_on_both a b c p q = record {
-  phase = omega (arith, p.phase, q.phase);
-  seal = λ past. q.seal (omega (arith, p.phase, past)) ∙ p.seal past;
-}
-
-pub keeps_same : (m : Machine) → Keeps m m
-keeps_same m = record { acknowledged = le_refl (acknowledged m.held); more = []; log = sym (append-nil m.held.log); stopped = λ s. s; takeover = goes_on_same m.held.control; pages = refl; limit = refl; warm = λ w. w; ready = λ r. r }
+keeps_same : (m : Machine) → Keeps m m
+keeps_same m = record { acknowledged = le_refl (acknowledged m.held); more = []; log = sym (append-nil m.held.log); stopped = λ s. s; takeover = goes_on_same m.held.control; pages = refl; limit = refl; warm = λ w. w; ready = λ r. r; listed = λ l. l; published = le_refl m.published; shown = λ f t. absurd (true≢false (sym t ∙ f)) }
 
 pub keeps_equal : (old new : Machine) → new ≡ old → Keeps old new
 keeps_equal old new e = subst (λ (m : Machine). Keeps old m) (sym e) (keeps_same old)
 
-pub keeps_both : (a b c : Machine) → Keeps a b → Keeps b c → Keeps a c
-keeps_both a b c p q = record {
-  acknowledged = omega (arith, p.acknowledged, q.acknowledged);
-  more = p.more ++ q.more;
-  log = q.log ∙ ap (λ (log : List Record). log ++ q.more) p.log ∙ append_assoc a.held.log p.more q.more;
-  stopped = λ s. q.stopped (p.stopped s);
-  takeover = goes_on_both a.held.control b.held.control c.held.control p.takeover q.takeover;
-  pages = q.pages ∙ p.pages;
-  limit = q.limit ∙ p.limit;
-  warm = λ w. q.warm (p.warm w);
-  ready = λ r. q.ready (p.ready r);
-}
+-- readers see the same
+pub record IsReadAlike (old new : Machine) : Type 0 where
+  pub listed : new.listed ≡ old.listed
+  pub published : new.published ≡ old.published
+
+pub read_alike : (old new : Machine) (m : Machine) → new ≡ m → m.listed ≡ old.listed → m.published ≡ old.published → IsReadAlike old new
+read_alike old new m is listed published = record { listed = ap (λ (x : Machine). x.listed) is ∙ listed; published = ap (λ (x : Machine). x.published) is ∙ published }
+
+-- then no list is opened
+pub none_opened : (old new : Machine) → IsReadAlike old new → (limit : ℕ) → old.listed ≡ false → new.listed ≡ true → limit ≤ new.published
+none_opened old new alike limit none list = absurd (true≢false (sym list ∙ alike.listed ∙ none))
 
 -- the store has as many pages, was made over sound devices if it was, and does not begin to recover
 pub record IsAsMade (old new : Stored) : Type 0 where

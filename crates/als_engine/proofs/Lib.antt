@@ -4,8 +4,8 @@ pub mod ReadyLaws
 pub mod FeedLaws
 pub mod KeepLaws
 pub mod RefusalLaws
-pub mod RunLaws
 pub mod PageLaws
 pub mod StepLaws
 pub mod CheckpointLaws
 pub mod RestartLaws
+pub mod ReaderLaws

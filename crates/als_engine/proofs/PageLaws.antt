@@ -7,17 +7,18 @@ use Rattle.als_store.specs.declared.fault.Fault.TheVariants as store_fault
 use Rattle.als_ckpt.specs.declared.control_state.ControlState.{ControlState}
 use Rattle.als_store.specs.Stored.{Stored}
 use Rattle.als_store.specs.Takeover.{GoesOn}
-use Rattle.als_store.specs.Events.{CanApply, AppliesFirst, ReadsInVain, CanFlush, FlushesPage, NotShown}
+use Rattle.als_store.specs.Events.{CanApply, AppliesFirst, ReadsInVain, NotApplied, CanFlush, FlushesPage, NotShown}
 use Rattle.als_store.specs.Warm.{WasWarm}
 use Rattle.als_engine.specs.declared.fault.Fault.{Fault}
 use Rattle.als_engine.specs.declared.fault.Fault.TheVariants as fault
 use Rattle.als_engine.specs.Faults.{from_store}
 use Rattle.als_engine.specs.declared.step.Step.{Step}
 use Rattle.als_engine.specs.declared.step.Step.TheVariants as step
+use Rattle.als_engine.specs.Readers.{ended_in}
 use Rattle.als_engine.specs.Machine.{Machine, IsStopped, Keeps}
 use Rattle.als_engine.specs.Refusals.{refusal, Does}
 use Rattle.als_engine.specs.Events.{Applies, Redoes, FlushesOne, WritesPage, ShowsPage}
-use Rattle.als_engine.proofs.KeepLaws.{goes_on_same, keeps_equal, IsAsMade, as_made}
+use Rattle.als_engine.proofs.KeepLaws.{goes_on_same, keeps_equal, IsReadAlike, none_opened, IsAsMade, as_made}
 
 -- an event that is not refused acts
 pub acting : {A : Type 0} (old : Machine) (event : Step) (acts : Result A Fault → Machine → Type 0) (result : Result A Fault) (new : Machine)
@@ -25,8 +26,17 @@ pub acting : {A : Type 0} (old : Machine) (event : Step) (acts : Result A Fault 
 acting old event acts result new e does =
     subst (λ (o : Option Fault). MatchOption o (acts result new) (λ cause. (result ≡ Err cause) × (new ≡ old))) (sym e) does
 
-abbrev with_held : Machine → Stored → Machine
+-- an event that is refused changes nothing
+pub refusing : {A : Type 0} (old : Machine) (event : Step) (acts : Result A Fault → Machine → Type 0) (f : Fault) (new : Machine) → refusal old event ≡ Some f → new ≡ old
+    → Does old event acts (Err f) new
+refusing {A} old event acts f new e same =
+    subst (λ (o : Option Fault). MatchOption o (acts (Err f) new) (λ cause. (◌≡◌ {A = Result A Fault} (Err f) (Err cause)) × (new ≡ old))) (sym e) (refl, same)
+
+abbrev pub with_held : Machine → Stored → Machine
 with_held m held = record m { held = held }
+
+pub same_held : (m : Machine) (held : Stored) → held ≡ m.held → with_held m held ≡ m
+same_held m held e = ap (λ (h : Stored). with_held m h) e
 
 -- ---- redo
 
@@ -36,6 +46,20 @@ apply_not_refused m page running can = rw (running, can.waiting, can.room) refl
 pub applies : (m : Machine) (page : ℕ) (lsn : Lsn) (held : Stored) → m.held.broken ≡ false → AppliesFirst m.held page lsn held → Applies m page (Ok lsn) (record m { held = held })
 applies m page lsn held running done =
     acting m (step.Apply page) (Redoes m page) (Ok lsn) (with_held m held) (apply_not_refused m page running done.can) (record { held = held; becomes = done; after = refl })
+
+pub not_applied : (m : Machine) (page : ℕ) (cause : StoreFault) (held : Stored) → m.held.broken ≡ false → (WasWarm m.held → cause ≡ store_fault.BadPage page → ⊥)
+    → NotApplied m.held page cause held → Applies m page (Err (from_store cause)) (record m { held = held })
+not_applied m page cause held running sound n = elim n [
+  | inl none ↦
+      subst (λ (f : StoreFault). Applies m page (Err (from_store f)) (with_held m held)) (sym none.1)
+      (refusing m (step.Apply page) (Redoes m page) fault.NothingToDo (with_held m held) (rw (running, none.0) refl) (same_held m held none.2))
+  | inr (inl full) ↦
+      subst (λ (f : StoreFault). Applies m page (Err (from_store f)) (with_held m held)) (sym full.2)
+      (refusing m (step.Apply page) (Redoes m page) fault.PoolFull (with_held m held) (rw (running, full.0, full.1) refl) (same_held m held full.3))
+  | inr (inr vain) ↦
+      acting m (step.Apply page) (Redoes m page) (Err (from_store cause)) (with_held m held) (apply_not_refused m page running vain.can)
+      (record { cause = cause; answer = refl; sound = sound; changes = record { held = held; becomes = vain; after = refl } })
+]
 
 -- ---- images
 
@@ -65,8 +89,8 @@ not_shown m page store_fault.LogFull held sound n = absurd n
 
 -- the same log, the same synced control state, and a stopped engine stays stopped
 keeps_log : (old new : Machine) → new.held.control ≡ old.held.control → new.held.log ≡ old.held.log → (IsStopped old → IsStopped new)
-    → IsAsMade old.held new.held → new.limit ≡ old.limit → Keeps old new
-keeps_log old new control log stopped made limit = record {
+    → IsAsMade old.held new.held → new.limit ≡ old.limit → IsReadAlike old new → Keeps old new
+keeps_log old new control log stopped made limit alike = record {
   acknowledged = omega (arith, ap (λ (c : ControlState). c.mark.0) control);
   more = [];
   log = log ∙ sym (append-nil old.held.log);
@@ -76,12 +100,15 @@ keeps_log old new control log stopped made limit = record {
   limit = limit;
   warm = made.warm;
   ready = made.ready;
+  listed = λ l. alike.listed ∙ l;
+  published = omega (arith, alike.published);
+  shown = none_opened old new alike (ended_in old.held);
 }
 
 keeps_pool : (old new : Machine) (held : Stored) → new ≡ record old { held = held } → held.control ≡ old.held.control → held.log ≡ old.held.log
     → (old.held.broken ≡ true → held.broken ≡ true) → IsAsMade old.held held → Keeps old new
 keeps_pool old new held after control log stopped made =
-    subst (λ (m : Machine). Keeps old m) (sym after) (keeps_log old (with_held old held) control log stopped made refl)
+    subst (λ (m : Machine). Keeps old m) (sym after) (keeps_log old (with_held old held) control log stopped made refl (record { listed = refl; published = refl }))
 
 -- a page that was read in vain: all but the pages is as it was
 in_vain : (old held : Stored) (page : ℕ) (cause : StoreFault) → ReadsInVain old page cause held
@@ -102,8 +129,9 @@ same_attempts old new is = omega (arith, ap (λ (m : Machine). m.held.attempts) 
 refused_keeps : (old new : Machine) (page : ℕ) (f : Fault) (o : Option Fault) → MatchOption o (Redoes old page (Err f) new) (λ cause. (◌≡◌ {A = Result Lsn Fault} (Err f) (Err cause)) × (new ≡ old))
     → Keeps old new × (new.held.attempts ≤ old.held.attempts + 1)
 refused_keeps old new page f None r =
-    let v = in_vain old.held r.2.held page r.0 r.2.becomes.reads in
-    (keeps_pool old new r.2.held r.2.after v.0 v.1 (λ s. v.2 ∙ s) v.4, omega (arith, ap (λ (m : Machine). m.held.attempts) r.2.after, v.3))
+    let c = r.changes in
+    let v = in_vain old.held c.held page r.cause c.becomes.reads in
+    (keeps_pool old new c.held c.after v.0 v.1 (λ s. v.2 ∙ s) v.4, omega (arith, ap (λ (m : Machine). m.held.attempts) c.after, v.3))
 refused_keeps old new page f (Some cause) r = (keeps_equal old new r.1, same_attempts old new r.1)
 
 pub not_applied_keeps : (old new : Machine) (page : ℕ) (f : Fault) → Applies old page (Err f) new → Keeps old new × (new.held.attempts ≤ old.held.attempts + 1)

@@ -1,12 +1,21 @@
 -- What a crash leaves of an engine, from what it leaves of the store.
-use Rattle.std.proofs.Common.{◌≡◌, ℕ, ◌≤◌, sym, subst, arith}
+use Rattle.std.proofs.Common.{◌≡◌, ℕ, ◌≤◌, cond, List, [], Option, Some, None, refl, sym, ap, subst, ◌∙◌, arith}
+use Rattle.std.specs.Prelude.{is_some}
+use Rattle.als_record.specs.LogText.{end_of}
+use Rattle.als_view.specs.Fronts.{View}
+use Rattle.als_view.specs.Showing.{IsWarming, published_of}
+use Rattle.als_store.specs.Stored.{Stored}
+use Rattle.als_store.specs.Opening.{IsOpened, TakesUp}
+use Rattle.als_engine.specs.Config.{IsConfig}
+use Rattle.als_engine.specs.Readers.{count_in}
+use Rattle.als_engine.proofs.FeedLaws.{machine}
 use Rattle.als_disk.specs.Slot.{Slot}
 use Rattle.als_reopen.specs.Node.{Node, IsNode}
 use Rattle.als_reopen.specs.Outcomes.{AreSettled}
 use Rattle.als_store.specs.Leaving.{HoldsLeft}
 use Rattle.als_engine.specs.declared.config.Config.{Config}
 use Rattle.als_engine.specs.Machine.{Machine}
-use Rattle.als_engine.specs.Restarts.{IsMadeWith, Holds, Leaves}
+use Rattle.als_engine.specs.Restarts.{IsWarm, IsMadeWith, Holds, Leaves, IsStarted, IsRestarted}
 
 pub crash_leaves : (m : Machine) (config : Config) (log_blocks control_blocks page_blocks : ℕ) (log control pages : ℕ → Slot) → IsMadeWith config m → HoldsLeft m.held log control pages
     → AreSettled log → AreSettled control → AreSettled pages → log_blocks ≡ m.held.blocks → 1 ≤ m.held.blocks → m.held.blocks ≤ 4194304 → 321 ≤ control_blocks → m.held.pages ≤ page_blocks
@@ -20,5 +29,43 @@ crash_leaves m config log_blocks control_blocks page_blocks log control pages ma
     control_settled = control_settled;
     pages_settled = pages_settled;
     node = subst (λ (b : ℕ). IsNode config.pages b log control pages left.node) (sym is) (subst (λ (p : ℕ). IsNode p m.held.blocks log control pages left.node) made.pages left.holds);
+  },
+)
+
+-- ---- an engine that begins again
+
+-- over whatever the devices held
+pub restarted : (config : Config) (held from : Stored) (view waiting : View) (partial : List ℕ) (blocks failures attempts : ℕ) → IsConfig config → held ≡ from → view ≡ waiting
+    → IsOpened config.pages blocks failures attempts from → IsWarming config.pages from.log waiting → partial ≡ [] → IsRestarted config blocks failures attempts (machine held config.pending partial None (published_of view))
+restarted config held from view waiting partial blocks failures attempts numbers same shown o w none =
+    let o_held : IsOpened config.pages blocks failures attempts held = subst (λ (h : Stored). IsOpened config.pages blocks failures attempts h) (sym same) o in
+    let unlisted : published_of view ≡ None = ap (λ (v : View). published_of v) shown ∙ ap (λ b. cond b (Some waiting.commits) None) w.unlisted in
+    record {
+      made = record { numbers = numbers; pages = ap (λ (h : Stored). h.pages) o_held.is; limit = refl };
+      held = o_held;
+      partial = none;
+      refused = refl;
+      listed = ap (λ (n : Option ℕ). is_some n) unlisted;
+      published = ap (λ (n : Option ℕ). count_in n) unlisted;
+    }
+
+-- and over devices that held a node
+pub started : (config : Config) (n : Node) (m : Machine) (blocks failures attempts : ℕ) → IsRestarted config blocks failures attempts m → TakesUp n m.held → IsWarm m × IsStarted config n m
+started config n m blocks failures attempts r t = (
+  t.warm,
+  record {
+    made = r.made;
+    log = t.log;
+    control = t.control;
+    since = ap (λ (h : Stored). h.since) r.held.is;
+    begun = ap (λ (h : Stored). h.begun) r.held.is;
+    running = ap (λ (h : Stored). h.broken) r.held.is;
+    recovering = ap (λ (h : Stored). h.recovering) r.held.is;
+    written = ap (λ (h : Stored). h.written) r.held.is ∙ ap end_of t.log;
+    synced = ap (λ (h : Stored). h.synced) r.held.is ∙ ap end_of t.log;
+    partial = r.partial;
+    refused = r.refused;
+    listed = r.listed;
+    published = r.published;
   },
 )

@@ -29,10 +29,11 @@ pub room_behind : (old new : Holding) (before after : Reception) → TakesOne ol
 room_behind old new before after one room =
     let front = subst (TakesNoMemory old.stored old.spare before.kept) one.reading room in
     let len : length before.kept ≡ record_len one.logged + length after.kept = omega (arith, ap length one.whole, length-append (spelling one.logged) after.kept, length-spelling one.logged) in
-    room_short new.stored new.spare after.kept (omega (arith, (front.1 one.good one.fits).1, len))
+    room_short new.stored new.spare after.kept (omega (arith, (front.2 one.good one.fits).1, len))
 
 -- want of memory is not kept
 pub kept_fault-want : (f : Fault) → kept_fault f ≡ Some fault.Memory → ⊥
+kept_fault-want fault.Recovering e = cc e
 kept_fault-want fault.Sealed e = cc e
 kept_fault-want fault.NotDrained e = cc e
 kept_fault-want fault.NotSealed e = cc e
@@ -62,5 +63,6 @@ kept_fault-want fault.Device e = cc e
 kept_fault-want fault.Stopped e = cc e
 kept_fault-want fault.Memory e = cc e
 kept_fault-want fault.BadControl e = cc e
+kept_fault-want fault.Warming e = cc e
 kept_fault-want fault.Backlog e = cc e
 kept_fault-want fault.BadConfig e = cc e

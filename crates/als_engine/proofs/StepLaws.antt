@@ -2,7 +2,8 @@
 use Rattle.std.proofs.Common.{◌≡◌, ℕ, ◌+◌, ◌≤◌, true, false, List, [], Option, Some, None, Result, Ok, Err, refl, sym, ap, subst, ◌∙◌, arith, append-nil}
 use Rattle.std.specs.Prelude.{MatchOption, IsSomeAnd}
 use Rattle.als_ckpt.specs.declared.control_state.ControlState.{ControlState}
-use Rattle.als_store.specs.Stored.{Stored}
+use Rattle.als_record.specs.declared.lsn.Lsn.{Lsn}
+use Rattle.als_store.specs.Stored.{Stored, acknowledged, newest}
 use Rattle.als_store.specs.Takeover.{GoesOn}
 use Rattle.als_ckpt.specs.Regions.{Begun}
 use Rattle.als_store.specs.CheckpointEvents.{Publishes, BreaksPublish}
@@ -16,8 +17,13 @@ use Rattle.als_engine.specs.Refusals.{refusal, Does}
 use Rattle.als_engine.specs.Feeds.{Feeds}
 use Rattle.als_engine.specs.Events.{Changes, DropsPartial, SyncsAllPages, WritesBlock, SyncsBlocks, MovesMark, Acknowledges, Resyncs, PagesSync, LogWrites, LogSyncs, MarkWrites, ControlSyncs}
 use Rattle.als_engine.specs.Checkpointing.{Begins, WritesNext, PublishesNext, CkptBegins, CkptWrites, CkptPublishes}
+use Rattle.als_engine.specs.Runs.{Steps, reply_of}
+use Rattle.als_engine.specs.Readers.{ended_in}
+use Rattle.als_engine.specs.Publishing.{PublishesEnded, PublishesView}
+use Rattle.als_engine.specs.Readiness.{readied, BecomesReady, Readies}
 use Rattle.als_engine.specs.Takeover.{SealsLog, Undoes, FinishesTakeover, Seals, UndoesOneOf, Finishes}
-use Rattle.als_engine.proofs.KeepLaws.{goes_on_same, keeps_equal, IsAsMade, as_made}
+use Rattle.als_engine.proofs.ReaderLaws.{ended_in-few}
+use Rattle.als_engine.proofs.KeepLaws.{goes_on_same, keeps_equal, IsReadAlike, read_alike, none_opened, IsAsMade, as_made}
 
 -- an event that is refused changes nothing
 keeps_does : {A : Type 0} (old new : Machine) (event : Step) (acts : Result A Fault → Machine → Type 0) (result : Result A Fault) → Does old event acts result new → (acts result new → Keeps old new) → Keeps old new
@@ -34,8 +40,8 @@ record Stays (old new : Stored) : Type 0 where
   broken : old.broken ≡ true → new.broken ≡ true
   made : IsAsMade old new
 
-keeps_stays : (old new : Machine) (held : Stored) → new.held ≡ held → new.limit ≡ old.limit → Stays old.held held → Keeps old new
-keeps_stays old new held e limit s =
+keeps_stays : (old new : Machine) (held : Stored) → new.held ≡ held → new.limit ≡ old.limit → IsReadAlike old new → Stays old.held held → Keeps old new
+keeps_stays old new held e limit alike s =
     let control : new.held.control ≡ old.held.control = ap (λ (h : Stored). h.control) e ∙ s.control in
     record {
       acknowledged = omega (arith, ap (λ (c : ControlState). c.mark.0) control);
@@ -47,10 +53,13 @@ keeps_stays old new held e limit s =
       limit = limit;
       warm = λ w. (as_made held new.held held e refl (λ x. x) (λ x. x)).warm (s.made.warm w);
       ready = λ r. ap (λ (h : Stored). h.recovering) e ∙ s.made.ready r;
+      listed = λ l. alike.listed ∙ l;
+      published = omega (arith, alike.published);
+      shown = none_opened old new alike (ended_in old.held);
     }
 
 keeps_changes : (old new : Machine) (event : Stored → Stored → Type 0) → Changes old event new → ((held : Stored) → event old.held held → Stays old.held held) → Keeps old new
-keeps_changes old new event c k = keeps_stays old new c.held (ap (λ (m : Machine). m.held) c.after) (ap (λ (m : Machine). m.limit) c.after) (k c.held c.becomes)
+keeps_changes old new event c k = keeps_stays old new c.held (ap (λ (m : Machine). m.held) c.after) (ap (λ (m : Machine). m.limit) c.after) (read_alike old new _ c.after refl refl) (k c.held c.becomes)
 
 same_stays : (old new : Stored) → new ≡ old → Stays old new
 same_stays old new e = record { log = ap (λ (h : Stored). h.log) e; control = ap (λ (h : Stored). h.control) e; broken = λ b. ap (λ (h : Stored). h.broken) e ∙ b; made = as_made old new old e refl (λ w. w) (λ r. r) }
@@ -65,7 +74,7 @@ pub keeps_resync : (old new : Machine) (result : Result (Unit {0}) Fault) → Re
 keeps_resync old new result does = keeps_does old new step.Resync (DropsPartial old) result does (go result)
   where
     go : (r : Result (Unit {0}) Fault) → DropsPartial old r new → Keeps old new
-    go (Ok done) e = keeps_stays old new old.held (ap (λ (m : Machine). m.held) e) (ap (λ (m : Machine). m.limit) e) (same_stays old.held old.held refl)
+    go (Ok done) e = keeps_stays old new old.held (ap (λ (m : Machine). m.held) e) (ap (λ (m : Machine). m.limit) e) (read_alike old new _ e refl refl) (same_stays old.held old.held refl)
     go (Err fault) e = absurd e
 
 pub keeps_sync_pages : (old new : Machine) (result : Result (Unit {0}) Fault) → PagesSync old result new → Keeps old new
@@ -131,12 +140,59 @@ keeps_ckpt_publish old new result does = keeps_does old new step.CkptPublish (Pu
     go (Ok done) c = keeps_changes old new _ c (λ held e. published_stays old.held held old.held.begun e)
     go (Err fault) c = keeps_changes old new _ c.1 (λ held e. torn_stays old.held held old.held.begun e)
 
+-- what is published grows, and the store stays as it was but for its recovery
+keeps_more : (old new : Machine) (held : Stored) → new.held ≡ held → new.limit ≡ old.limit → new.listed ≡ true → old.published ≤ new.published → ended_in old.held ≤ new.published → Stays old.held held → Keeps old new
+keeps_more old new held e limit listed more all s =
+    let k : Keeps old (record old { held = new.held; limit = new.limit }) = keeps_stays old (record old { held = new.held; limit = new.limit }) held e limit (record { listed = refl; published = refl }) s in
+    record { acknowledged = k.acknowledged; more = k.more; log = k.log; stopped = k.stopped; takeover = k.takeover; pages = k.pages; limit = k.limit; warm = k.warm; ready = k.ready; listed = λ l. listed; published = more; shown = λ f t. all }
+
+pub keeps_publish_view : (old new : Machine) (result : Result (Unit {0}) Fault) → PublishesView old result new → Keeps old new
+keeps_publish_view old new result does = keeps_does old new step.PublishView (PublishesEnded old) result does (go result)
+  where
+    go : (r : Result (Unit {0}) Fault) → PublishesEnded old r new → Keeps old new
+    go (Ok done) e = keeps_more old new old.held (ap (λ (m : Machine). m.held) e.1) (ap (λ (m : Machine). m.limit) e.1) (ap (λ (m : Machine). m.listed) e.1)
+        (omega (arith, e.0, ap (λ (m : Machine). m.published) e.1)) (omega (arith, ap (λ (m : Machine). m.published) e.1)) (same_stays old.held old.held refl)
+    go (Err fault) e = absurd e
+
+pub keeps_ready : (old new : Machine) (result : Result (Unit {0}) Fault) → old.published ≤ new.published → Readies old result new → Keeps old new
+keeps_ready old new result grows does = keeps_does old new step.Ready (BecomesReady old) result does (go result)
+  where
+    go : (r : Result (Unit {0}) Fault) → BecomesReady old r new → Keeps old new
+    go (Ok done) e =
+        let held = (readied old).held in
+        keeps_more old new held (ap (λ (m : Machine). m.held) e) (ap (λ (m : Machine). m.limit) e) (ap (λ (m : Machine). m.listed) e)
+        grows (omega (arith, ended_in-few old.held, ap (λ (m : Machine). m.published) e))
+        (stays_after old.held held held refl refl refl (λ b. b) refl (λ w. w) (λ r. refl))
+    go (Err fault) e = absurd e
+
 pub keeps_seal : (old new : Machine) (result : Result (Unit {0}) Fault) → Seals old result new → Keeps old new
 keeps_seal old new result does = keeps_does old new step.Seal (SealsLog old) result does (go result)
   where
     go : (r : Result (Unit {0}) Fault) → SealsLog old r new → Keeps old new
-    go (Ok done) s = keeps_stays old new s.held (ap (λ (m : Machine). m.held) s.after) (ap (λ (m : Machine). m.limit) s.after) (set_stays old.held s.held (as_made old.held s.held _ s.seals.after refl (λ w. w) (λ r. r)) (ap (λ (h : Stored). h.log) s.seals.after) (ap (λ (h : Stored). h.control) s.seals.after) (λ b. ap (λ (h : Stored). h.broken) s.seals.after ∙ b))
+    go (Ok done) s = keeps_stays old new s.held (ap (λ (m : Machine). m.held) s.after) (ap (λ (m : Machine). m.limit) s.after) (read_alike old new _ s.after refl refl) (set_stays old.held s.held (as_made old.held s.held _ s.seals.after refl (λ w. w) (λ r. r)) (ap (λ (h : Stored). h.log) s.seals.after) (ap (λ (h : Stored). h.control) s.seals.after) (λ b. ap (λ (h : Stored). h.broken) s.seals.after ∙ b))
     go (Err fault) c = keeps_changes old new _ c.1 (λ held e. set_stays old.held held (as_made old.held held _ e.after refl (λ w. w) (λ r. r)) (ap (λ (h : Stored). h.log) e.after) (ap (λ (h : Stored). h.control) e.after) (λ b. ap (λ (h : Stored). h.broken) e.after))
+
+pub keeps_acknowledged : (old new : Machine) (lsn : Lsn) → acknowledged old.held ≤ (newest old.held).mark.0 → GoesOn old.held.control new.held.control → ControlSyncs old (Ok lsn) new → Keeps old new
+keeps_acknowledged old new lsn marks goes_on does = keeps_does old new step.ControlSync (Acknowledges old) (Ok lsn) does go
+  where
+    go : Acknowledges old (Ok lsn) new → Keeps old new
+    go c =
+        let h = ap (λ (m : Machine). m.held) c.after ∙ c.becomes.after in
+        let alike = read_alike old new _ c.after refl refl in
+        record {
+          acknowledged = omega (arith, marks, ap (λ (x : Stored). acknowledged x) h);
+          more = [];
+          log = ap (λ (x : Stored). x.log) h ∙ sym (append-nil old.held.log);
+          stopped = λ s. ap (λ (x : Stored). x.broken) h ∙ s;
+          takeover = goes_on;
+          pages = ap (λ (x : Stored). x.pages) h;
+          limit = ap (λ (m : Machine). m.limit) c.after;
+          warm = λ w. subst (λ (x : Stored). WasWarm x) (sym h) w;
+          ready = λ r. ap (λ (x : Stored). x.recovering) h ∙ r;
+          listed = λ l. alike.listed ∙ l;
+          published = omega (arith, alike.published);
+          shown = none_opened old new alike (ended_in old.held);
+        }
 
 pub keeps_not_acknowledged : (old new : Machine) (fault : Fault) → ControlSyncs old (Err fault) new → Keeps old new
 keeps_not_acknowledged old new fault does = keeps_does old new step.ControlSync (Acknowledges old) (Err fault) does (λ c. keeps_changes old new _ c.1 (λ held e.
@@ -156,3 +212,17 @@ keeps_finish old new result does = keeps_does old new step.Finish (FinishesTakeo
 pub attempts_refused : (old new : Machine) (piece : List ℕ) (cause : Option Fault) (refused : FeedFault) → Feeds old piece cause (Err refused) new → new.held.attempts ≤ old.held.attempts + 1
 attempts_refused old new piece None refused front = omega (arith, ap (λ (m : Machine). m.held.attempts) front.after)
 attempts_refused old new piece (Some fault) refused same = omega (arith, ap (λ (m : Machine). m.held.attempts) same.1)
+
+-- ---- a reply, and how often a device is called
+
+pub begins_step : (old new : Machine) (result : Result (Unit {0}) Fault) → CkptBegins old result new → Steps old step.CkptBegin (reply_of result) new
+begins_step old new (Ok done) does = does
+begins_step old new (Err fault) does = does
+
+pub attempts_finish : (old new : Machine) (result : Result (Unit {0}) Fault) → Finishes old result new → new.held.attempts ≤ old.held.attempts + 1
+attempts_finish old new result does = go (refusal old step.Finish) result does
+  where
+    go : (r : Option Fault) (answer : Result (Unit {0}) Fault) → MatchOption r (FinishesTakeover old answer new) (λ fault. (answer ≡ Err fault) × (new ≡ old)) → new.held.attempts ≤ old.held.attempts + 1
+    go None (Ok done) c = omega (arith, ap (λ (m : Machine). m.held.attempts) c.after, ap (λ (h : Stored). h.attempts) c.becomes.after)
+    go None (Err fault) c = omega (arith, ap (λ (m : Machine). m.held.attempts) c.1.after, ap (λ (h : Stored). h.attempts) c.1.becomes.after)
+    go (Some cause) answer same = omega (arith, ap (λ (m : Machine). m.held.attempts) same.1)

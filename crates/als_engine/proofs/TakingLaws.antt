@@ -1,8 +1,7 @@
 -- Records that go over one after another, and pieces of bytes one after another.
-use Rattle.std.proofs.Common.{◌≡◌, ℕ, ◌+◌, ◌<◌, List, [], ◌∷◌, ◌++◌, length, take, drop, take-append-drop, Some, None, Result, Ok, Err, refl, sym, ap, subst, ◌∙◌, inl, inr, append_assoc, append-nil, length-append, arith}
+use Rattle.std.proofs.Common.{◌≡◌, ℕ, ◌+◌, ◌<◌, List, [], ◌∷◌, ◌++◌, length, take, drop, take-append-drop, Some, None, Ok, refl, sym, ap, subst, ◌∙◌, inl, inr, append_assoc, append-nil, length-append, arith}
 use Rattle.als_record.specs.declared.record.Record.{Record}
 use Rattle.als_record.specs.Spelling.{record_len, spelling}
-use Rattle.std.specs.Prelude.{IfErr}
 use Rattle.als_record.specs.Reading.{read_record}
 use Rattle.als_record.specs.Validity.{first_bad}
 use Rattle.als_record.specs.LogText.{spellings, end_of}
@@ -11,7 +10,6 @@ use Rattle.als_record.proofs.ReadingLaws.{found_more, fault_more}
 use Rattle.als_record.proofs.LogLaws.{spellings-nil, spellings-append, spellings_push, end_of_push, end_of_is}
 use Rattle.als_receiver.specs.Reception.{Reception, HandsOut, with_kept, fresh}
 use Rattle.als_store.specs.declared.fault.Fault.{Fault as StoreFault}
-use Rattle.als_store.specs.declared.fault.Fault.TheVariants.{LogFull}
 use Rattle.als_store.specs.Stored.{Stored, routed, formatted, IsTooLong, IsRefused}
 use Rattle.als_record.specs.Pages.{change_of}
 use Rattle.als_pool.specs.Pooled.{Pooled}
@@ -23,19 +21,6 @@ use Rattle.als_engine.specs.Feeds.{IsCause, grown, AllFit}
 use Rattle.als_engine.specs.TakingIn.{Meets, Rests, TakesOne, TakesAll, TakesFront}
 
 -- ---- one record
-
-ok_is_no_err : {T E : Type 0} (x : T) (e : E) → Ok x ≡ Err e → ⊥
-ok_is_no_err {T} {E} x e eq = subst (λ (r : Result T E). IfErr r (λ _. ⊥)) eq tt
-
-abbrev pub held_it : Result (Unit {0}) StoreFault
-held_it = Ok tt
-
-abbrev pub full_answer : Result (Unit {0}) StoreFault
-full_answer = Err LogFull
-
--- a record that was held has room
-pub fits_held : (held : Stored) (r : Record) → first_bad held.log r ≡ None → (first_bad held.log r ≡ None → IsTooLong held r → held_it ≡ full_answer) → IsTooLong held r → ⊥
-fits_held held r good full long = ok_is_no_err tt LogFull (full good long)
 
 pub hands_one : (held new : Stored) (before after : Reception) (r : Record) → Meets held before → first_bad held.log r ≡ None → (IsTooLong held r → ⊥) → HandsOut before r after → new ≡ grown held (r ∷ []) → TakesOne held before new after
 hands_one held new before after r meets good fits out more = record {

@@ -7,6 +7,7 @@ use Rattle.als_page.specs.declared.page.Page.{Page}
 use Rattle.als_page.specs.Page.{id_of}
 use Rattle.als_pool.specs.Pooled.{view_of}
 use Rattle.als_store.specs.declared.fault.Fault.{Fault as StoreFault}
+use Rattle.als_store.specs.declared.fault.Fault.TheVariants.{BadPage as NotThePage}
 use Rattle.als_store.specs.Stored.{Stored, StandsAt, IsShown}
 use Rattle.als_store.specs.Warm.{WasWarm}
 use Rattle.als_store.specs.Events.{Breaks, FailsToRead, WritesLog, SyncsLog, WritesMark, BreaksMark, SyncsControl, AppliesFirst, IsNotRedone, FlushesPage, BreaksFlush, SyncsDevice, BreaksSync, FailsToShow}
@@ -37,11 +38,18 @@ abbrev pub DropsPartial : Machine → Result (Unit {0}) Fault → Machine → Ty
 DropsPartial old (Ok done) new = new ≡ resynced old
 DropsPartial old (Err fault) new = ⊥
 
--- The first changes that a page waits for are redone, and its page_LSN is answered; or nothing was, since it was to be read: that failed,
--- or it has all that waited.
+-- Nothing is redone of a page that was to be read: that failed, or it has all that waited. That its block is not the page's does not come where
+-- the devices were sound when the engine was made.
+pub record RedoesNothing (old : Machine) (page : ℕ) (fault : Fault) (new : Machine) : Type 0 where
+  pub cause : StoreFault
+  pub answer : fault ≡ from_store cause
+  pub sound : WasWarm old.held → cause ≡ NotThePage page → ⊥
+  pub changes : Changes old (λ held after. IsNotRedone held page cause after) new
+
+-- the first changes that a page waits for are redone, and its page_LSN is answered; or nothing is
 abbrev pub Redoes : Machine → ℕ → Result Lsn Fault → Machine → Type 0
 Redoes old page (Ok lsn) new = Changes old (λ held after. AppliesFirst held page lsn after) new
-Redoes old page (Err fault) new = (cause : StoreFault) × (fault ≡ from_store cause) × Changes old (λ held after. IsNotRedone held page cause after) new
+Redoes old page (Err fault) new = RedoesNothing old page fault new
 
 -- a page is written to its block, by one write of a device
 abbrev pub WritesPage : Machine → ℕ → Result (Unit {0}) Fault → Machine → Type 0

@@ -10,7 +10,7 @@ use Rattle.als_store.specs.declared.fault.Fault.TheVariants as store_fault
 use Rattle.als_reopen.specs.declared.fault.Fault.{Fault as OpenFault}
 use Rattle.als_reopen.specs.declared.fault.Fault.TheVariants as open_fault
 use Rattle.als_engine.specs.declared.fault.Fault.{Fault}
-use Rattle.als_engine.specs.declared.fault.Fault.TheVariants.{BadHeader, BadLength, BadType, BadReserved, WrongLsn, BadKey, BadValue, BadPrev, OldTransaction, WrongState, WrongUndoNext, WrongCompensation, RecordHeld, BeforeImage, TooManyTransactions, BadCheckpoint, Sealed, LogBehind, NotDrained, CkptBusy, PoolFull, NothingToDo, LogFull, Device, Stopped, Memory, BadPage, BadControl, Backlog, BadConfig, NotSealed}
+use Rattle.als_engine.specs.declared.fault.Fault.TheVariants.{BadHeader, BadLength, BadType, BadReserved, WrongLsn, BadKey, BadValue, BadPrev, OldTransaction, WrongState, WrongUndoNext, WrongCompensation, RecordHeld, BeforeImage, TooManyTransactions, BadCheckpoint, Recovering, Sealed, LogBehind, NotDrained, CkptBusy, PoolFull, NothingToDo, LogFull, Device, Stopped, Memory, BadPage, BadControl, Warming, Backlog, BadConfig, NotSealed}
 
 abbrev pub kind_of : Fault → FaultKind
 kind_of BadHeader = kind.BadHeader
@@ -29,6 +29,7 @@ kind_of (RecordHeld by) = kind.RecordHeld by.0
 kind_of BeforeImage = kind.BeforeImage
 kind_of TooManyTransactions = kind.TooManyTransactions
 kind_of BadCheckpoint = kind.BadCheckpoint
+kind_of Recovering = kind.Recovering
 kind_of Sealed = kind.Sealed
 kind_of LogBehind = kind.LogBehind
 kind_of NotDrained = kind.NotDrained
@@ -41,6 +42,7 @@ kind_of Stopped = kind.Stopped
 kind_of Memory = kind.Memory
 kind_of (BadPage page) = kind.BadPage page
 kind_of BadControl = kind.BadControl
+kind_of Warming = kind.Warming
 kind_of Backlog = kind.Backlog
 kind_of BadConfig = kind.BadConfig
 kind_of NotSealed = kind.NotSealed

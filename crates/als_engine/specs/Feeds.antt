@@ -9,7 +9,7 @@ use Rattle.als_record.specs.LogText.{spellings, end_of}
 use Rattle.als_record.specs.Validity.{first_bad, IsValidLog}
 use Rattle.als_store.specs.Stored.{Stored, with_records, IsTooLong}
 use Rattle.als_engine.specs.declared.fault.Fault.{Fault}
-use Rattle.als_engine.specs.declared.fault.Fault.TheVariants.{BadHeader, BadLength, BadType, BadReserved, WrongLsn, BadKey, BadValue, BadPrev, OldTransaction, WrongState, WrongUndoNext, WrongCompensation, RecordHeld, BeforeImage, TooManyTransactions, BadCheckpoint, Sealed, LogBehind, NotDrained, CkptBusy, PoolFull, NothingToDo, LogFull, Device, Stopped, Memory, BadPage, BadControl, Backlog, BadConfig, NotSealed}
+use Rattle.als_engine.specs.declared.fault.Fault.TheVariants.{BadHeader, BadLength, BadType, BadReserved, WrongLsn, BadKey, BadValue, BadPrev, OldTransaction, WrongState, WrongUndoNext, WrongCompensation, RecordHeld, BeforeImage, TooManyTransactions, BadCheckpoint, Recovering, Sealed, LogBehind, NotDrained, CkptBusy, PoolFull, NothingToDo, LogFull, Device, Stopped, Memory, BadPage, BadControl, Warming, Backlog, BadConfig, NotSealed}
 use Rattle.als_engine.specs.declared.fed.Fed.{Fed}
 use Rattle.als_engine.specs.declared.fed.FeedFault.{FeedFault}
 use Rattle.als_engine.specs.Faults.{from_record, from_cause}
@@ -67,6 +67,7 @@ kept_fault (RecordHeld by) = Some (RecordHeld by)
 kept_fault BeforeImage = Some BeforeImage
 kept_fault TooManyTransactions = Some TooManyTransactions
 kept_fault BadCheckpoint = Some BadCheckpoint
+kept_fault Recovering = Some Recovering
 kept_fault Sealed = Some Sealed
 kept_fault LogBehind = Some LogBehind
 kept_fault NotDrained = Some NotDrained
@@ -79,6 +80,7 @@ kept_fault Stopped = Some Stopped
 kept_fault Memory = None
 kept_fault (BadPage page) = Some (BadPage page)
 kept_fault BadControl = Some BadControl
+kept_fault Warming = Some Warming
 kept_fault Backlog = Some Backlog
 kept_fault BadConfig = Some BadConfig
 kept_fault NotSealed = Some NotSealed

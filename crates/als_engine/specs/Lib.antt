@@ -5,9 +5,12 @@ pub mod Serving
 pub mod Feeds
 pub mod Refusals
 pub mod Events
+pub mod Readiness
 pub mod Takeover
 pub mod Checkpointing
 pub mod TakingIn
+pub mod Readers
+pub mod Publishing
 pub mod Runs
 pub mod Telling
 pub mod Restarts

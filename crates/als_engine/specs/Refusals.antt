@@ -10,16 +10,25 @@ use Rattle.als_pool.specs.Refusals.{has_waiting, is_full as has_no_frame, is_due
 use Rattle.als_store.specs.Stored.{Stored, newest, pending_of, acknowledged}
 use Rattle.als_store.specs.Takeover.{is_following, is_primary, is_drained, is_none as has_none}
 use Rattle.als_engine.specs.declared.fault.Fault.{Fault}
-use Rattle.als_engine.specs.declared.fault.Fault.TheVariants.{Sealed, LogBehind, NotDrained, CkptBusy, PoolFull, NothingToDo, Stopped, Backlog, NotSealed}
+use Rattle.als_engine.specs.declared.fault.Fault.TheVariants.{Recovering, Sealed, LogBehind, NotDrained, CkptBusy, PoolFull, NothingToDo, Stopped, Backlog, NotSealed}
 use Rattle.als_engine.specs.declared.step.Step.{Step}
 use Rattle.als_engine.specs.declared.step.Step.TheVariants as step
 use Rattle.als_engine.specs.Machine.{Machine}
+use Rattle.als_engine.specs.Readers.{ended_in}
 
 -- ---- the causes
 
 -- a write or a sync has failed
 abbrev pub has_stopped : Machine → Bool × Fault
 has_stopped m = (m.held.broken, Stopped)
+
+-- the engine was opened, and is not ready yet
+abbrev pub is_recovering : Machine → Bool × Fault
+is_recovering m = (m.held.recovering, Recovering)
+
+-- it was not opened, or is ready
+abbrev pub is_ready : Machine → Bool × Fault
+is_ready m = (not m.held.recovering, NothingToDo)
 
 -- the log was sealed
 abbrev pub has_sealed : Machine → Bool × Fault
@@ -41,6 +50,14 @@ has_refused (Some fault) = (true, fault) ∷ []
 -- as many changes are pending as the limit allows
 abbrev pub is_full : Machine → Bool
 is_full m = nat_le m.limit (pending_of m.held)
+
+-- a change waits for redo
+abbrev pub is_pending : Stored → Bool
+is_pending held = nat_lt 0 (pending_of held)
+
+-- each commit that ends at or below what is acknowledged is published
+abbrev pub is_published : Machine → Bool
+is_published m = nat_le (ended_in m.held) m.published
 
 -- the log has bytes that are not written
 abbrev pub is_unwritten : Stored → Bool
@@ -80,11 +97,11 @@ is_ahead_of (Some b) held = nat_lt (acknowledged held) (position_of b)
 
 -- of a feed, whatever the piece
 abbrev pub feed_causes : Machine → List (Bool × Fault)
-feed_causes m = has_stopped m ∷ has_sealed m ∷ has_refused m.refused ++ (is_full m, Backlog) ∷ []
+feed_causes m = has_stopped m ∷ is_recovering m ∷ has_sealed m ∷ has_refused m.refused ++ (is_full m, Backlog) ∷ []
 
 abbrev pub causes : Machine → Step → List (Bool × Fault)
 causes m (step.Feed piece) = feed_causes m
-causes m step.Resync = has_stopped m ∷ has_sealed m ∷ []
+causes m step.Resync = has_stopped m ∷ is_recovering m ∷ has_sealed m ∷ []
 causes m (step.Apply page) = has_stopped m ∷ (not (has_waiting m.held.pool page), NothingToDo) ∷ (has_no_frame m.held.pool page, PoolFull) ∷ []
 causes m (step.Flush page) =
     has_stopped m ∷ (not (is_due (view_of m.held.pool page)), NothingToDo) ∷ (is_behind (view_of m.held.pool page) (acknowledged m.held), LogBehind) ∷ []
@@ -93,9 +110,11 @@ causes m step.LogWrite = has_stopped m ∷ (not (is_unwritten m.held), NothingTo
 causes m step.LogSync = has_stopped m ∷ []
 causes m step.MarkWrite = has_stopped m ∷ (not (is_unmarked m.held), NothingToDo) ∷ []
 causes m step.ControlSync = has_stopped m ∷ []
-causes m step.Seal = has_stopped m ∷ has_sealed m ∷ (is_unsynced m.held, LogBehind) ∷ []
-causes m step.UndoOne = has_stopped m ∷ is_unsealed m ∷ (has_none (unended m.held.log), NothingToDo) ∷ []
-causes m step.Finish = has_stopped m ∷ is_unsealed m ∷ (is_primary m.held, NothingToDo) ∷ (not (is_drained m.held), NotDrained) ∷ []
+causes m step.PublishView = has_stopped m ∷ is_recovering m ∷ (is_published m, NothingToDo) ∷ []
+causes m step.Ready = has_stopped m ∷ is_ready m ∷ (is_pending m.held, NotDrained) ∷ []
+causes m step.Seal = has_stopped m ∷ is_recovering m ∷ has_sealed m ∷ (is_unsynced m.held, LogBehind) ∷ []
+causes m step.UndoOne = has_stopped m ∷ is_recovering m ∷ is_unsealed m ∷ (has_none (unended m.held.log), NothingToDo) ∷ []
+causes m step.Finish = has_stopped m ∷ is_recovering m ∷ is_unsealed m ∷ (is_primary m.held, NothingToDo) ∷ (not (is_drained m.held), NotDrained) ∷ []
 causes m step.CkptBegin = has_stopped m ∷ (is_ckpt_busy m.held, CkptBusy) ∷ []
 causes m step.CkptBlock = has_stopped m ∷ (not (has_block m.held.begun), NothingToDo) ∷ []
 causes m step.CkptPublish =

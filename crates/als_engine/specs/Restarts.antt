@@ -2,13 +2,17 @@
 use Rattle.std.specs.Prelude.{◌≡◌, ℕ, true, false, [], None}
 use Rattle.als_record.specs.LogText.{end_of}
 use Rattle.als_disk.specs.Slot.{Slot}
+use Rattle.als_reopen.specs.declared.fault.Fault.{Fault as OpenFault}
 use Rattle.als_reopen.specs.Node.{Node, IsNode}
-use Rattle.als_reopen.specs.Outcomes.{AreSettled}
+use Rattle.als_reopen.specs.Outcomes.{AreSettled, RefusesOpen}
 use Rattle.als_store.specs.Leaving.{MayLeave}
+use Rattle.als_store.specs.Opening.{IsOpened}
 use Rattle.als_store.specs.Staying.{StaysNode}
 use Rattle.als_store.specs.Warm.{WasWarm}
 use Rattle.als_engine.specs.declared.config.Config.{Config}
+use Rattle.als_engine.specs.declared.fault.Fault.{Fault}
 use Rattle.als_engine.specs.Config.{IsConfig, IsWorld}
+use Rattle.als_engine.specs.Faults.{from_open}
 use Rattle.als_engine.specs.Machine.{Machine}
 
 -- the engine was made over sound devices, and so its pages, its checkpoints and its takeover are still those of its log
@@ -41,7 +45,8 @@ pub record Leaves (old : Machine) (n : Node) : Type 0 where
   pub may : MayLeave old.held n
   pub ends : end_of n.log ≡ n.said.state.mark.0
 
--- An engine that begins again with what the devices held: nothing is unsynced, partial or refused. It is recovering.
+-- An engine that begins again with what the devices held: nothing is unsynced, partial or refused. It is recovering, and readers have no
+-- list of commits yet.
 pub record IsStarted (config : Config) (n : Node) (new : Machine) : Type 0 where
   pub made : IsMadeWith config new
   pub log : new.held.log ≡ n.log
@@ -54,3 +59,24 @@ pub record IsStarted (config : Config) (n : Node) (new : Machine) : Type 0 where
   pub synced : new.held.synced ≡ end_of n.log
   pub partial : new.partial ≡ []
   pub refused : new.refused ≡ None
+  pub listed : new.listed ≡ false
+  pub published : new.published ≡ 0
+
+-- ---- over any contents
+
+-- An engine over devices that may have held anything: its log is valid, ends at the mark, is all synced and fits the device with its tail; what
+-- waits for each page are its changes from where a restart looks for them. Nothing is partial or refused, it is recovering, and readers have no list.
+pub record IsRestarted (config : Config) (blocks failures attempts : ℕ) (m : Machine) : Type 0 where
+  pub made : IsMadeWith config m
+  pub held : IsOpened config.pages blocks failures attempts m.held
+  pub partial : m.partial ≡ []
+  pub refused : m.refused ≡ None
+  pub listed : m.listed ≡ false
+  pub published : m.published ≡ 0
+
+-- Devices that are large enough are refused by the store's fault: a device has failed, a growth was refused, or the devices, as they are handed
+-- back, hold no log.
+pub record RefusesRestart (config : Config) (blocks : ℕ) (log control : ℕ → Slot) (before now : ℕ) (fault : Fault) : Type 0 where
+  pub cause : OpenFault
+  pub answer : fault ≡ from_open cause
+  pub stands : RefusesOpen cause config.pages blocks log control before now

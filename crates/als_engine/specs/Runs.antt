@@ -1,5 +1,5 @@
--- Runs of the small machine.
-use Rattle.std.specs.Prelude.{◌≡◌, List, [], ◌∷◌, Result, Ok, Err}
+-- Steps of the small machine.
+use Rattle.std.specs.Prelude.{Result, Ok, Err}
 use Rattle.als_engine.specs.declared.fault.Fault.{Fault}
 use Rattle.als_engine.specs.declared.step.Step.{Step}
 use Rattle.als_engine.specs.declared.step.Step.TheVariants as step
@@ -9,6 +9,8 @@ use Rattle.als_engine.specs.Machine.{Machine}
 use Rattle.als_engine.specs.Refusals.{feed_refusal}
 use Rattle.als_engine.specs.Feeds.{Feeds}
 use Rattle.als_engine.specs.Events.{Resyncs, Applies, FlushesOne, PagesSync, LogWrites, LogSyncs, MarkWrites, ControlSyncs}
+use Rattle.als_engine.specs.Publishing.{PublishesView}
+use Rattle.als_engine.specs.Readiness.{Readies}
 use Rattle.als_engine.specs.Takeover.{Seals, UndoesOneOf, Finishes}
 use Rattle.als_engine.specs.Checkpointing.{CkptBegins, CkptWrites, CkptPublishes}
 
@@ -43,6 +45,10 @@ Steps old step.CkptBlock reply.Done new = CkptWrites old (Ok tt) new
 Steps old step.CkptBlock (reply.Refused fault) new = CkptWrites old (Err fault) new
 Steps old step.CkptPublish reply.Done new = CkptPublishes old (Ok tt) new
 Steps old step.CkptPublish (reply.Refused fault) new = CkptPublishes old (Err fault) new
+Steps old step.PublishView reply.Done new = PublishesView old (Ok tt) new
+Steps old step.PublishView (reply.Refused fault) new = PublishesView old (Err fault) new
+Steps old step.Ready reply.Done new = Readies old (Ok tt) new
+Steps old step.Ready (reply.Refused fault) new = Readies old (Err fault) new
 Steps old step.Seal reply.Done new = Seals old (Ok tt) new
 Steps old step.Seal (reply.Refused fault) new = Seals old (Err fault) new
 Steps old step.UndoOne (reply.Undone lsn) new = UndoesOneOf old (Ok lsn) new
@@ -51,10 +57,3 @@ Steps old step.Finish reply.Done new = Finishes old (Ok tt) new
 Steps old step.Finish (reply.Refused fault) new = Finishes old (Err fault) new
 -- no other reply comes
 Steps _ _ _ _ = ⊥
-
--- The steps have these replies, one after another, and lead from old to new.
-abbrev pub Run : Machine → List Step → List Reply → Machine → Type 0
-Run old [] [] new = new ≡ old
-Run old (step ∷ steps) (reply ∷ replies) new = (mid : Machine) × Steps old step reply mid × Run mid steps replies new
-Run old [] (reply ∷ replies) new = ⊥
-Run old (step ∷ steps) [] new = ⊥

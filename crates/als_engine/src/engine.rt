@@ -1,5 +1,6 @@
-ghost use Rattle.std.specs.Prelude.{◌≡◌, ℕ, ◌<◌, ◌≤◌, ◌+◌, ◌^◌, ◌⊎◌, true, false, List, [], ◌∷◌, ◌++◌, length, Some, None, Ok, Err, IfOk, IfErr, OnOk, OnErr, IsErrOf, IsOk};
+ghost use Rattle.std.specs.Prelude.{◌≡◌, ℕ, ◌<◌, ◌≤◌, ◌+◌, ◌^◌, ◌⊎◌, not, true, false, List, [], ◌∷◌, ◌++◌, length, Some, None, Ok, Err, IfOk, IfErr, OnOk, OnErr, IsErrOf, IsOk};
 ghost use Rattle.als_record.specs.LogText.{end_of};
+ghost use Rattle.als_record.specs.Validity.{is_valid};
 ghost use Rattle.als_record.specs.Table.{table_of};
 ghost use Rattle.als_analysis.specs.Open.{rows_of};
 ghost use Rattle.als_store.specs.Stored.{acknowledged, pending_of, formatted_pool};
@@ -12,6 +13,7 @@ ghost use Rattle.als_store.specs.Formatting.{IsHalfFormatted};
 ghost use Rattle.als_engine.specs.Config.{IsConfig, IsWorld};
 ghost use Rattle.als_engine.specs.Machine.{formatted_machine, state_of, state_from, Keeps};
 ghost use Rattle.als_engine.specs.Serving.{HasRoomForPiece};
+ghost use Rattle.als_engine.specs.Readers.{ended_in};
 ghost use Rattle.als_engine.specs.Refusals.{feed_refusal};
 ghost use Rattle.als_engine.specs.Feeds.{Feeds, kept_fault};
 ghost use Rattle.als_engine.specs.Events.{Resyncs, Applies, FlushesOne, PagesSync, LogWrites, LogSyncs, MarkWrites, ControlSyncs, Reads, ShowsPage};
@@ -20,6 +22,10 @@ ghost use Rattle.als_engine.specs.Takeover.{Seals, UndoesOneOf, Finishes};
 ghost use Rattle.als_store.specs.Takeover.{IsUnderTakeover, IsFinished, is_primary, HasRoomToUndo, GoesOn};
 ghost use Rattle.als_engine.specs.Runs.{Steps, reply_of};
 
+// The end of a recovery.
+mod readiness;
+// What readers see.
+mod reading;
 // Crash and restart.
 mod restart;
 
@@ -36,6 +42,7 @@ use als_page::Page;
 use als_receiver::Receiver;
 use als_record::{FIRST_LSN, LoggedPage, Lsn, Record};
 use als_store::{Disks, Phase, Store};
+use als_view::{View, a_view_goes_on};
 use std::alloc::Global;
 use std::marker::Model;
 
@@ -49,17 +56,21 @@ pub struct Engine<D: BlockDisk> {
     receiver: Receiver,
     limit: usize,
     refused: Option<Fault>,
+    // What readers see.
+    shown: View,
 }
 
 impl<D: BlockDisk> Model for Engine<D> {
     ghost use Rattle.als_engine.specs.Serving.{Serving};
-    ghost use Rattle.als_engine.specs.TakingIn.{IsReady};
+    ghost use Rattle.std.specs.Prelude.{is_some};
+    ghost use Rattle.als_view.specs.Showing.{published_of};
+    ghost use Rattle.als_engine.specs.Readers.{count_in, IsServing};
 
     ghost Value = { Serving };
 
-    ghost view = { λ e. record { machine = record { held = e.store.stored; limit = e.limit; partial = e.receiver.kept; refused = e.refused }; spare = e.store.spare; room = e.receiver.room } };
+    ghost view = { λ e. record { machine = record { held = e.store.stored; limit = e.limit; partial = e.receiver.kept; refused = e.refused; listed = is_some (published_of e.shown); published = count_in (published_of e.shown) }; spare = e.store.spare; room = e.receiver.room } };
 
-    ghost invariant = { λ e. IsReady e.store.stored e.receiver e.refused };
+    ghost invariant = { λ e. IsServing e.store.stored e.receiver e.refused e.shown };
 }
 
 // Written out: a derived drop would be proved part by part wherever an engine is let go of, this one only here.
@@ -71,9 +82,11 @@ impl<D: BlockDisk + Drop> Drop for Engine<D> {
             receiver,
             limit: _,
             refused: _,
+            shown,
         } = self;
         drop(store);
         drop(receiver);
+        drop(shown);
     }
 }
 
@@ -102,14 +115,24 @@ impl<D: BlockDisk> Engine<D> {
             });
         }
         let pages = config.pages as u32;
+        let Ok(shown) = View::new(alloc, pages, true) else {
+            return Err(Refused {
+                disks,
+                fault: Fault::Memory,
+            });
+        };
         match Store::format(alloc, disks, pages, config.frames as usize) {
-            Ok(store) => Ok(Engine {
-                alloc,
-                store,
-                receiver: Receiver::new(alloc, FIRST_LSN, pages),
-                limit: config.pending as usize,
-                refused: None,
-            }),
+            Ok(store) => {
+                a_view_goes_on();
+                Ok(Engine {
+                    alloc,
+                    store,
+                    receiver: Receiver::new(alloc, FIRST_LSN, pages),
+                    limit: config.pending as usize,
+                    refused: None,
+                    shown,
+                })
+            }
             Err(unformatted) => Err(Refused {
                 disks: unformatted.disks,
                 fault: Fault::from(unformatted.fault),
@@ -131,14 +154,16 @@ impl<D: BlockDisk> Engine<D> {
             receiver,
             limit: _,
             refused: _,
+            shown,
         } = self;
         drop(receiver);
+        drop(shown);
         store.into_disks()
     }
 
     /// Takes a piece of the primary's log: each record that is whole now goes into the held log, and the rest waits as a
-    /// partial record. Stopped is answered first, then Sealed of a log that was sealed, then in Refusing the kept fault, then Backlog where the pending changes have
-    /// reached the limit: then nothing is taken. After another fault the whole records in front of it are held and no partial
+    /// partial record. Stopped is answered first, then Recovering before `ready`, then Sealed of a log that was sealed, then in Refusing the kept
+    /// fault, then Backlog where the pending changes have reached the limit: then nothing is taken. After another fault the whole records in front of it are held and no partial
     /// record is kept; a fault of the record (2 to 16) is kept, LogFull and Memory are not. Memory does not come where there
     /// is room for the piece.
     pub fn feed(&mut self, piece: &[u8]) -> Result<Fed, FeedFault>
@@ -149,6 +174,9 @@ impl<D: BlockDisk> Engine<D> {
         let stopped = self.store.is_broken();
         if stopped {
             return Err(refused_whole(Fault::Stopped));
+        }
+        if self.store.is_recovering() {
+            return Err(refused_whole(Fault::Recovering));
         }
         if !self.store.is_following() {
             return Err(refused_whole(Fault::Sealed));
@@ -162,7 +190,13 @@ impl<D: BlockDisk> Engine<D> {
         let end = self.store.end().0;
         let records = self.store.len();
         let partial = self.receiver.partial();
-        match take_piece(self.alloc, &mut self.store, &mut self.receiver, piece) {
+        match take_piece(
+            self.alloc,
+            &mut self.store,
+            &mut self.receiver,
+            &mut self.shown,
+            piece,
+        ) {
             Ok(()) => Ok(Fed {
                 taken: piece.len(),
                 records: self.store.len() - records,
@@ -180,8 +214,8 @@ impl<D: BlockDisk> Engine<D> {
         }
     }
 
-    /// Drops the partial record, and takes the log again after a refusal. Stopped, and then Sealed of a log that was sealed, change
-    /// nothing.
+    /// Drops the partial record, and takes the log again after a refusal. Stopped, then Recovering before `ready`, and then Sealed of a log that
+    /// was sealed, change nothing.
     pub fn resync(&mut self) -> Result<(), Fault>
         ensures resyncs { Resyncs self.old.machine result self.new.machine }
         // The room of the bytes that were dropped is free again.
@@ -189,6 +223,9 @@ impl<D: BlockDisk> Engine<D> {
     {
         if self.store.is_broken() {
             return Err(Fault::Stopped);
+        }
+        if self.store.is_recovering() {
+            return Err(Fault::Recovering);
         }
         if !self.store.is_following() {
             return Err(Fault::Sealed);
@@ -284,6 +321,7 @@ impl<D: BlockDisk> Engine<D> {
             return Err(Fault::Stopped);
         }
         let acknowledged = self.store.ctl_sync()?;
+        a_view_goes_on();
         Ok(acknowledged)
     }
 
@@ -326,13 +364,16 @@ impl<D: BlockDisk> Engine<D> {
     /// Seals the log: writes the control block with phase Sealed and with the log's end as its mark and its seal, drops the partial
     /// record, and takes no more of the source. It makes one write of a device, takes no memory and no room of the log.
     ///
-    /// Stopped. Sealed: the log was sealed before. LogBehind: it is not synced to its end. Device: the write failed, and the
+    /// Stopped. Recovering: it is not ready yet. Sealed: the log was sealed before. LogBehind: it is not synced to its end. Device: the write failed, and the
     /// engine has stopped. They come in this order.
     pub fn seal(&mut self) -> Result<(), Fault>
         ensures { Seals self.old.machine result self.new.machine }
     {
         if self.store.is_broken() {
             return Err(Fault::Stopped);
+        }
+        if self.store.is_recovering() {
+            return Err(Fault::Recovering);
         }
         if !self.store.is_following() {
             return Err(Fault::Sealed);
@@ -349,7 +390,7 @@ impl<D: BlockDisk> Engine<D> {
     /// Holds the next record of the sealed log's tail, and answers its LSN: an end, or the compensation of the newest surviving
     /// update of all losers. The log device has room for the whole tail.
     ///
-    /// Stopped. NotSealed: the log was not sealed. NothingToDo: no transaction is unended. Memory: a growth was refused; nothing
+    /// Stopped. Recovering: it is not ready yet. NotSealed: the log was not sealed. NothingToDo: no transaction is unended. Memory: a growth was refused; nothing
     /// has changed. They come in this order.
     pub fn undo_one(&mut self) -> Result<Lsn, Fault>
         ensures undoes { UndoesOneOf self.old.machine result self.new.machine }
@@ -358,6 +399,9 @@ impl<D: BlockDisk> Engine<D> {
         if self.store.is_broken() {
             return Err(Fault::Stopped);
         }
+        if self.store.is_recovering() {
+            return Err(Fault::Recovering);
+        }
         if self.store.is_following() {
             return Err(Fault::NotSealed);
         }
@@ -365,6 +409,7 @@ impl<D: BlockDisk> Engine<D> {
             return Err(Fault::NothingToDo);
         }
         let lsn = self.store.undo_one()?;
+        a_view_goes_on();
         self.receiver = Receiver::new(self.alloc, self.store.end(), self.store.pages());
         Ok(lsn)
     }
@@ -372,7 +417,7 @@ impl<D: BlockDisk> Engine<D> {
     /// Ends the takeover: writes the control block with phase Primary, by one write of a device. It takes no memory and no room of
     /// the log.
     ///
-    /// Stopped. NotSealed: the log was not sealed. NothingToDo: the takeover is done. NotDrained: a transaction is unended, a change
+    /// Stopped. Recovering: it is not ready yet. NotSealed: the log was not sealed. NothingToDo: the takeover is done. NotDrained: a transaction is unended, a change
     /// waits for redo, or the log is not acknowledged to its end. Device: the write failed, and the engine has stopped. They
     /// come in this order.
     pub fn finish(&mut self) -> Result<(), Fault>
@@ -380,6 +425,9 @@ impl<D: BlockDisk> Engine<D> {
     {
         if self.store.is_broken() {
             return Err(Fault::Stopped);
+        }
+        if self.store.is_recovering() {
+            return Err(Fault::Recovering);
         }
         if self.store.is_following() {
             return Err(Fault::NotSealed);
@@ -426,6 +474,8 @@ impl<D: BlockDisk> Engine<D> {
             Step::CkptBegin => done(self.ckpt_begin()),
             Step::CkptBlock => done(self.ckpt_block()),
             Step::CkptPublish => done(self.ckpt_publish()),
+            Step::PublishView => done(self.publish_view()),
+            Step::Ready => done(self.ready()),
             Step::Seal => done(self.seal()),
             Step::UndoOne => match self.undo_one() {
                 Ok(lsn) => Reply::Undone(lsn),
@@ -445,6 +495,12 @@ impl<D: BlockDisk> Engine<D> {
         ensures leases { result.leases ≡ 0 }
         // The log reaches what is acknowledged.
         ensures stable { acknowledged self.now.machine.held ≤ end_of self.now.machine.held.log }
+        // Readers have a list of published commits unless the engine is recovering. Each of its commits is acknowledged.
+        ensures listed { self.now.machine.listed ≡ not self.now.machine.held.recovering }
+        ensures counted { self.now.machine.published ≤ ended_in self.now.machine.held }
+        ensures unlisted { self.now.machine.listed ≡ false → self.now.machine.published ≡ 0 }
+        // The log is valid.
+        ensures valid { is_valid self.now.machine.held.log ≡ true }
         // Log texts have less than 2^64 bytes, those of the partial record too.
         ensures fits { result.end.0 + result.partial < 2 ^ 64 }
         // What each control state that a crash may leave says of the log is true: past Following the log is the sealed one and a front
@@ -461,6 +517,7 @@ impl<D: BlockDisk> Engine<D> {
         Status {
             state: state(
                 self.store.is_broken(),
+                self.store.is_recovering(),
                 self.store.phase(),
                 self.refused,
                 end,
@@ -558,11 +615,14 @@ fn done(answer: Result<(), Fault>) -> Reply
 }
 
 /// What an engine is doing.
-fn state(broken: bool, phase: Phase, refused: Option<Fault>, end: Lsn) -> State
-    ensures { result ≡ state_from broken phase refused end.0 }
+fn state(broken: bool, recovering: bool, phase: Phase, refused: Option<Fault>, end: Lsn) -> State
+    ensures { result ≡ state_from broken recovering phase refused end.0 }
 {
     if broken {
         return State::Stopped;
+    }
+    if recovering {
+        return State::Recovering;
     }
     match phase {
         Phase::Following => match refused {

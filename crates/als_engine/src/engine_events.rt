@@ -10,7 +10,8 @@ use crate::status::Status;
 use als_analysis::OpenTransaction;
 use als_disk::BlockDisk;
 use als_page::Page;
-use als_record::{LoggedPage, Lsn, Record, TransactionRow};
+use als_record::{Key, LoggedPage, Lsn, Record, TransactionRow};
+use als_view::Answer;
 use std::alloc::Global;
 
 /// The rows of a table, copied.
@@ -76,6 +77,14 @@ impl<D: BlockDisk> Events for Engine<D> {
         Engine::ckpt_publish(self)
     }
 
+    fn publish_view(&mut self) -> Result<(), Fault> {
+        Engine::publish_view(self)
+    }
+
+    fn ready(&mut self) -> Result<(), Fault> {
+        Engine::ready(self)
+    }
+
     fn seal(&mut self) -> Result<(), Fault> {
         Engine::seal(self)
     }
@@ -106,6 +115,10 @@ impl<D: BlockDisk> Events for Engine<D> {
 
     fn next_pending(&self, from: u32) -> Option<u32> {
         Engine::next_pending(self, from)
+    }
+
+    fn read(&self, key: Key) -> Result<Answer, Fault> {
+        Engine::read(self, key)
     }
 
     fn page_now(&mut self, page: u32) -> Result<Page, Fault> {

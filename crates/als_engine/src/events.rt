@@ -8,6 +8,8 @@ ghost use Rattle.als_engine.specs.Refusals.{feed_refusal};
 ghost use Rattle.als_engine.specs.Feeds.{Feeds};
 ghost use Rattle.als_engine.specs.Events.{Resyncs, Applies, FlushesOne, PagesSync, LogWrites, LogSyncs, MarkWrites, ControlSyncs, Reads, ShowsPage};
 ghost use Rattle.als_engine.specs.Checkpointing.{CkptBegins, CkptWrites, CkptPublishes};
+ghost use Rattle.als_engine.specs.Publishing.{PublishesView, ReadsKey};
+ghost use Rattle.als_engine.specs.Readiness.{Readies};
 ghost use Rattle.als_engine.specs.Takeover.{Seals, UndoesOneOf, Finishes};
 ghost use Rattle.als_engine.specs.Telling.{Tells};
 
@@ -15,7 +17,8 @@ use crate::fault::Fault;
 use crate::fed::{Fed, FeedFault};
 use crate::status::Status;
 use als_page::Page;
-use als_record::{LoggedPage, Lsn, Record, TransactionRow};
+use als_record::{Key, LoggedPage, Lsn, Record, TransactionRow};
+use als_view::Answer;
 use std::alloc::Global;
 
 /// What a standby is driven by: its events, and the queries that ask it. An engine has them; so has a handle of an engine that
@@ -77,6 +80,14 @@ pub trait Events {
     fn ckpt_publish(&mut self) -> Result<(), Fault>
         ensures publishes { alone → CkptPublishes (machine self.old) result (machine self.new) };
 
+    /// Publishes for readers the commits that are acknowledged.
+    fn publish_view(&mut self) -> Result<(), Fault>
+        ensures publishes { alone → PublishesView (machine self.old) result (machine self.new) };
+
+    /// Ends the recovery of a standby that was opened, and publishes the commits of its log.
+    fn ready(&mut self) -> Result<(), Fault>
+        ensures readies { alone → Readies (machine self.old) result (machine self.new) };
+
     /// Seals the log at its end: from now on no piece of the primary's log is taken.
     fn seal(&mut self) -> Result<(), Fault>
         ensures seals { alone → Seals (machine self.old) result (machine self.new) };
@@ -112,6 +123,10 @@ pub trait Events {
     /// The first page from there on with pending changes.
     fn next_pending(&self, from: u32) -> Option<u32>
         ensures first { alone → WaitsFirst (machine self.now).held.pool.waits from result };
+
+    /// What the published commits left at a key.
+    fn read(&self, key: Key) -> Result<Answer, Fault>
+        ensures reads { alone → ReadsKey (machine self.now) key result };
 
     /// The page as it is now, which may have to be read from its block.
     fn page_now(&mut self, page: u32) -> Result<Page, Fault>

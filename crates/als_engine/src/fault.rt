@@ -47,6 +47,8 @@ pub enum Fault {
     TooManyTransactions,
     /// A checkpoint's record that does not fit those before it.
     BadCheckpoint,
+    /// The standby was opened and is not ready yet.
+    Recovering,
     /// The log was sealed, and takes no more records of its source.
     Sealed,
     /// The log is not acknowledged past the page_LSN of the page; or it is not synced to its end.
@@ -73,6 +75,8 @@ pub enum Fault {
     },
     /// The control block or its checkpoint is none, the mark stands within a record, or the checkpoint is not that of the log.
     BadControl,
+    /// Readers have no list of commits yet.
+    Warming,
     /// As many changes are pending as the limit allows.
     Backlog,
     /// A number of the configuration is out of its range.
@@ -103,6 +107,7 @@ impl Fault {
             Fault::BeforeImage => FaultKind::BeforeImage,
             Fault::TooManyTransactions => FaultKind::TooManyTransactions,
             Fault::BadCheckpoint => FaultKind::BadCheckpoint,
+            Fault::Recovering => FaultKind::Recovering,
             Fault::Sealed => FaultKind::Sealed,
             Fault::LogBehind => FaultKind::LogBehind,
             Fault::NotDrained => FaultKind::NotDrained,
@@ -115,6 +120,7 @@ impl Fault {
             Fault::Memory => FaultKind::Memory,
             Fault::BadPage { page } => FaultKind::BadPage { page },
             Fault::BadControl => FaultKind::BadControl,
+            Fault::Warming => FaultKind::Warming,
             Fault::Backlog => FaultKind::Backlog,
             Fault::BadConfig => FaultKind::BadConfig,
             Fault::NotSealed => FaultKind::NotSealed,

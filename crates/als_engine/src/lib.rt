@@ -11,6 +11,8 @@ mod refused;
 mod status;
 // What feed answers.
 mod fed;
+// A record held, and its commit queued for readers.
+mod holding;
 // Records from the receiver to the store.
 mod taking_in;
 // The engine and its events.
@@ -19,12 +21,11 @@ mod engine;
 mod events;
 // An engine's events.
 mod engine_events;
-// One step of a run, and its reply.
+// One step of the small machine, and its reply.
 mod step;
-// Runs of steps.
-mod world;
 
 pub use als_store::Disks;
+pub use als_view::Answer;
 pub use config::{CONTROL_BLOCKS, Config, LOG_BLOCK_LIMIT};
 pub use engine::Engine;
 pub use events::Events;
@@ -33,7 +34,6 @@ pub use fed::{Fed, FeedFault};
 pub use refused::Refused;
 pub use status::{State, Status};
 pub use step::{Reply, Step};
-pub use world::{World, run};
 
 #[cfg(test)]
 mod tests;

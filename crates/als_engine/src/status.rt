@@ -4,6 +4,8 @@ use als_record::Lsn;
 /// What the engine is doing.
 #[derive(Clone, Copy, Debug, PartialEq, Eq)]
 pub enum State {
+    /// It was opened, and is not ready yet.
+    Recovering,
     /// It takes the primary's log.
     Following,
     /// A record at this LSN was refused, and so is all that is fed until a resync.

@@ -29,6 +29,10 @@ pub enum Step<'a> {
     CkptBlock,
     /// Publishes the checkpoint.
     CkptPublish,
+    /// Publishes the commits that end at or below what is acknowledged.
+    PublishView,
+    /// Ends the recovery of a standby that was opened, and publishes the commits of its log.
+    Ready,
     /// Seals the log: from then on it takes only its own tail.
     Seal,
     /// Holds the next record of the sealed log's tail.

@@ -4,12 +4,15 @@ ghost use Rattle.als_engine.specs.declared.fault.Fault.TheVariants as fault;
 ghost use Rattle.als_engine.specs.Serving.{HasRoomForBytes};
 ghost use Rattle.als_engine.specs.Feeds.{IsCause};
 ghost use Rattle.als_store.specs.Takeover.{is_following};
+ghost use Rattle.als_engine.specs.Readers.{ViewGoesOn};
 ghost use Rattle.als_engine.specs.TakingIn.{Meets, Rests, TakesOne, TakesAll, TakesFront};
 
 use crate::fault::Fault;
+use crate::holding::hold;
 use als_disk::BlockDisk;
 use als_receiver::Receiver;
 use als_store::Store;
+use als_view::View;
 use std::alloc::Global;
 
 /// How many bytes of a piece go to the receiver at once.
@@ -20,21 +23,24 @@ pub(crate) fn take_piece<D: BlockDisk>(
     alloc: Global,
     held: &mut Store<D>,
     receiver: &mut Receiver,
+    shown: &mut View,
     piece: &[u8],
 ) -> Result<(), Fault>
     requires rests { Rests held.old.stored receiver.old }
     requires following { is_following held.old.stored ≡ true }
     ensures ok { OnOk result (TakesAll held.old.stored (receiver.old.kept ++ piece.now) held.new.stored receiver.new) }
     ensures err { IfErr result (TakesFront held.old.stored (receiver.old.kept ++ piece.now) held.new.stored) }
+    // The view of the log goes on with it.
+    ensures goes_on { ViewGoesOn held.old.stored.log shown.old held.new.stored.log shown.new }
     ensures reserved { length piece.now ≤ 65536 → length piece.now ≤ receiver.old.room → HasRoomForBytes held.old.stored held.old.spare (receiver.old.kept ++ piece.now) → IsErrOf result fault.Memory → ⊥ }
 {
     if piece.len() <= CHUNK {
-        return take_chunk(alloc, held, receiver, piece);
+        return take_chunk(alloc, held, receiver, shown, piece);
     }
     let mut rest = piece;
     while !rest.is_empty() {
         let (chunk, after) = rest.split_at(rest.len().min(CHUNK));
-        take_chunk(alloc, held, receiver, chunk)?;
+        take_chunk(alloc, held, receiver, shown, chunk)?;
         rest = after;
     }
     Ok(())
@@ -45,6 +51,7 @@ fn take_chunk<D: BlockDisk>(
     alloc: Global,
     held: &mut Store<D>,
     receiver: &mut Receiver,
+    shown: &mut View,
     chunk: &[u8],
 ) -> Result<(), Fault>
     requires rests { Rests held.old.stored receiver.old }
@@ -52,12 +59,14 @@ fn take_chunk<D: BlockDisk>(
     requires following { is_following held.old.stored ≡ true }
     ensures ok { OnOk result (TakesAll held.old.stored (receiver.old.kept ++ chunk.now) held.new.stored receiver.new) }
     ensures err { IfErr result (TakesFront held.old.stored (receiver.old.kept ++ chunk.now) held.new.stored) }
+    // The view of the log goes on with it.
+    ensures goes_on { ViewGoesOn held.old.stored.log shown.old held.new.stored.log shown.new }
     ensures reserved { length chunk.now ≤ receiver.old.room → HasRoomForBytes held.old.stored held.old.spare (receiver.old.kept ++ chunk.now) → IsErrOf result fault.Memory → ⊥ }
 {
     // For the prover alone: what always holds of the store.
     let _ = held.end();
     receiver.push(chunk)?;
-    take_records(alloc, held, receiver)
+    take_records(alloc, held, receiver, shown)
 }
 
 /// Gives each record that is whole to the store.
@@ -65,14 +74,17 @@ fn take_records<D: BlockDisk>(
     alloc: Global,
     held: &mut Store<D>,
     receiver: &mut Receiver,
+    shown: &mut View,
 ) -> Result<(), Fault>
     requires meets { Meets held.old.stored receiver.old }
     requires following { is_following held.old.stored ≡ true }
     ensures ok { OnOk result (TakesAll held.old.stored receiver.old.kept held.new.stored receiver.new) }
     ensures err { IfErr result (TakesFront held.old.stored receiver.old.kept held.new.stored) }
+    // The view of the log goes on with it.
+    ensures goes_on { ViewGoesOn held.old.stored.log shown.old held.new.stored.log shown.new }
     ensures reserved { HasRoomForBytes held.old.stored held.old.spare receiver.old.kept → IsErrOf result fault.Memory → ⊥ }
 {
-    while take_record(alloc, held, receiver)? {}
+    while take_record(alloc, held, receiver, shown)? {}
     Ok(())
 }
 
@@ -81,17 +93,20 @@ fn take_record<D: BlockDisk>(
     alloc: Global,
     held: &mut Store<D>,
     receiver: &mut Receiver,
+    shown: &mut View,
 ) -> Result<bool, Fault>
     requires meets { Meets held.old.stored receiver.old }
     requires following { is_following held.old.stored ≡ true }
     ensures ok { IfOk result (λ more. MatchBool more (TakesOne held.old.stored receiver.old held.new.stored receiver.new) ((held.new.stored ≡ held.old.stored) × (receiver.new ≡ receiver.old) × Rests held.old.stored receiver.old)) }
     ensures err { IfErr result (λ fault. (held.new.stored ≡ held.old.stored) × IsCause held.old.stored receiver.old.kept fault) }
+    // The view of the log goes on with it.
+    ensures goes_on { ViewGoesOn held.old.stored.log shown.old held.new.stored.log shown.new }
     ensures reserved { HasRoomForBytes held.old.stored held.old.spare receiver.old.kept → IsErrOf result fault.Memory → ⊥ }
 {
     match receiver.peek() {
         Ok(Some((view, len))) => {
             let logged = view.to_record(alloc)?;
-            held.admit(&logged, receiver.front(len))?;
+            hold(alloc, held, shown, &logged, receiver.front(len))?;
             receiver.advance(len);
             Ok(true)
         }

@@ -1,5 +1,10 @@
 ghost use Rattle.std.specs.Prelude.{◌<◌};
 
+// What readers see.
+mod reading;
+// A recovery, and its end.
+mod recovery;
+
 use super::*;
 use als_disk::{BlockDisk, FailingDisk, Fuse, MemDisk};
 use als_record::Lsn;
@@ -83,18 +88,16 @@ fn standby(alloc: Global, blocks: u64) -> Option<(Engine<Disk>, Fuses)> {
     Some((engine, fuses))
 }
 
-/// Runs the steps over a standby, and compares the replies. False: memory was refused.
-fn replies_are(
-    alloc: Global,
-    engine: Engine<Disk>,
-    steps: &[Step],
-    wanted: &[Reply],
-) -> Option<Engine<Disk>> {
-    let (world, replies) = run(alloc, World::new(engine), steps).ok()?;
-    if replies.as_slice() != wanted {
-        return None;
+/// A standby after these steps. None: a reply is another one than is wanted, as where memory was refused.
+fn replies_are(engine: Engine<Disk>, steps: &[Step], wanted: &[Reply]) -> Option<Engine<Disk>> {
+    let mut engine = engine;
+    for (i, step) in steps.iter().enumerate() {
+        let reply = engine.step(step);
+        if wanted.get(i) != Some(&reply) {
+            return None;
+        }
     }
-    Some(world.into_engine())
+    Some(engine)
 }
 
 /// Feeds a piece, and once more what is left of it where memory is refused: then the whole records in front are held, and
@@ -223,7 +226,7 @@ fn acknowledges(rt: &impl Abort, alloc: Global) -> bool {
         Reply::Done,
         Reply::Refused(Fault::NothingToDo),
     ];
-    let Some(mut engine) = replies_are(alloc, engine, &steps, &wanted) else {
+    let Some(mut engine) = replies_are(engine, &steps, &wanted) else {
         return false;
     };
     assert_eq!(rt; engine.status().acknowledged, Lsn(108));
@@ -266,7 +269,7 @@ fn stops(rt: &impl Abort, alloc: Global, log: u64, control: u64, wanted: &[Reply
         Step::MarkWrite,
         Step::ControlSync,
     ];
-    let Some(engine) = replies_are(alloc, engine, &steps, wanted) else {
+    let Some(engine) = replies_are(engine, &steps, wanted) else {
         return false;
     };
     let status = engine.status();
@@ -355,7 +358,7 @@ fn fills_to(rt: &impl Abort, alloc: Global, piece: &[u8], wanted: Reply, end: Ls
     let Some((engine, _)) = standby(alloc, 1) else {
         return false;
     };
-    let Some(engine) = replies_are(alloc, engine, &[Step::Feed(piece)], &[wanted]) else {
+    let Some(engine) = replies_are(engine, &[Step::Feed(piece)], &[wanted]) else {
         return false;
     };
     let status = engine.status();

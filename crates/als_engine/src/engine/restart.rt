@@ -3,7 +3,8 @@ ghost use Rattle.als_engine.specs.declared.config.Config.{Config as AnyConfig};
 ghost use Rattle.als_engine.specs.declared.fault.Fault.TheVariants as fault;
 ghost use Rattle.als_engine.specs.Config.{IsWorld};
 ghost use Rattle.als_reopen.specs.Node.{Node};
-ghost use Rattle.als_engine.specs.Restarts.{IsWarm, IsMadeWith, Holds, StillHolds, Leaves, IsStarted};
+ghost use Rattle.als_reopen.specs.Outcomes.{AreLeft, IsOnceAtMost};
+ghost use Rattle.als_engine.specs.Restarts.{IsWarm, IsMadeWith, Holds, StillHolds, Leaves, IsStarted, IsRestarted, RefusesRestart};
 
 use super::Engine;
 use crate::config::Config;
@@ -12,6 +13,7 @@ use crate::refused::Refused;
 use als_disk::{BlockDisk, Restart};
 use als_receiver::Receiver;
 use als_store::{Disks, Store};
+use als_view::a_view_goes_on;
 use std::alloc::Global;
 
 impl<D: BlockDisk> Engine<D> {
@@ -22,6 +24,25 @@ impl<D: BlockDisk> Engine<D> {
     /// failed. Memory: a growth was refused. Else the first met in reading control block, checkpoint, log header and records: BadControl,
     /// BadHeader, or the fault of a record. LogFull: the log and its tail together exceed the log device.
     pub fn open(alloc: Global, disks: Disks<D>, config: Config) -> Result<Engine<D>, Refused<D>>
+        // Whatever the devices hold, an engine comes only where the configuration fits them, and has a valid log.
+        ensures fits { IfOk result (λ e. IsWorld config (D.block_count disks.log) (D.block_count disks.control) (D.block_count disks.pages)) }
+        ensures ok { IfOk result (λ e. IsRestarted config (D.block_count disks.log) (D.failures disks.log + D.failures disks.control + D.failures disks.pages)
+            (D.attempts disks.log + 1 + (D.attempts disks.control + 1) + (D.attempts disks.pages + 1)) e.machine) }
+        // Where it does not fit them, BadConfig comes and the devices are as they were; else it never comes.
+        ensures config { (IsWorld config (D.block_count disks.log) (D.block_count disks.control) (D.block_count disks.pages) → ⊥)
+            → IfErr result (λ r. (r.fault ≡ fault.BadConfig) × (r.disks ≡ disks)) }
+        ensures err { IsWorld config (D.block_count disks.log) (D.block_count disks.control) (D.block_count disks.pages)
+            → IfErr result (λ r. RefusesRestart config (D.block_count disks.log) (D.slot r.disks.log) (D.slot r.disks.control)
+            (D.failures disks.log + D.failures disks.control + D.failures disks.pages)
+            (D.failures r.disks.log + D.failures r.disks.control + D.failures r.disks.pages) r.fault) }
+        // The devices come back, of which each block is as it was or as a sync leaves it; each was called once at most.
+        ensures back_log { IfErr result (λ r. AreLeft (D.block_count disks.log) (D.slot disks.log) (D.slot r.disks.log)) }
+        ensures back_control { IfErr result (λ r. AreLeft (D.block_count disks.control) (D.slot disks.control) (D.slot r.disks.control)) }
+        ensures back_pages { IfErr result (λ r. AreLeft config.pages (D.slot disks.pages) (D.slot r.disks.pages)) }
+        ensures counts { IfErr result (λ r. (D.block_count r.disks.log ≡ D.block_count disks.log) × (D.block_count r.disks.control ≡ D.block_count disks.control)
+            × (D.block_count r.disks.pages ≡ D.block_count disks.pages)) }
+        ensures attempts { IfErr result (λ r. IsOnceAtMost (D.attempts disks.log) (D.attempts r.disks.log)
+            × IsOnceAtMost (D.attempts disks.control) (D.attempts r.disks.control) × IsOnceAtMost (D.attempts disks.pages) (D.attempts r.disks.pages)) }
         // Devices that hold a log, a control state and a checkpoint give an engine that begins again with these,
         ensures warm { (n : Node) → Holds config (D.block_count disks.log) (D.block_count disks.control) (D.block_count disks.pages)
             (D.slot disks.log) (D.slot disks.control) (D.slot disks.pages) n
@@ -41,7 +62,9 @@ impl<D: BlockDisk> Engine<D> {
         }
         let pages = config.pages as u32;
         match Store::open(alloc, disks, pages, config.frames as usize) {
-            Ok(store) => {
+            Ok(opened) => {
+                let (store, shown) = opened.into_parts();
+                a_view_goes_on();
                 let receiver = Receiver::new(alloc, store.end(), pages);
                 Ok(Engine {
                     alloc,
@@ -49,6 +72,7 @@ impl<D: BlockDisk> Engine<D> {
                     receiver,
                     limit: config.pending as usize,
                     refused: None,
+                    shown,
                 })
             }
             Err(unopened) => Err(Refused {
@@ -74,8 +98,10 @@ impl<D: Restart> Engine<D> {
             receiver,
             limit: _,
             refused: _,
+            shown,
         } = self;
         drop(receiver);
+        drop(shown);
         store.crash(picks)
     }
 }

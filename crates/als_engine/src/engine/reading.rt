@@ -1,0 +1,45 @@
+ghost use Rattle.als_engine.specs.Publishing.{PublishesView, ReadsKey};
+
+use super::Engine;
+use crate::fault::Fault;
+use als_disk::BlockDisk;
+use als_record::Key;
+use als_view::Answer;
+
+impl<D: BlockDisk> Engine<D> {
+    /// Publishes for readers the commits whose records end at or below the acknowledged LSN, all at once. It calls no device, and takes no
+    /// memory.
+    ///
+    /// Stopped. Recovering: it is not ready yet. NothingToDo: each of them is published. They come in this order.
+    pub fn publish_view(&mut self) -> Result<(), Fault>
+        ensures { PublishesView self.old.machine result self.new.machine }
+    {
+        if self.store.is_broken() {
+            return Err(Fault::Stopped);
+        }
+        if self.store.is_recovering() {
+            return Err(Fault::Recovering);
+        }
+        // For the prover alone: what always holds of the log.
+        let _ = self.store.end();
+        let acknowledged = self.store.acknowledged();
+        if self.shown.count_ended(acknowledged) == 0 {
+            return Err(Fault::NothingToDo);
+        }
+        self.shown.publish_ended(acknowledged);
+        Ok(())
+    }
+
+    /// What the published commits left at a key, how many they are, and the LSN of the last of them, 0 without one: one look-up. A key outside
+    /// the database has nothing. It answers in every state. Warming: the standby was opened and is not ready yet.
+    pub fn read(&self, key: Key) -> Result<Answer, Fault>
+        ensures { ReadsKey self.now.machine key result }
+    {
+        // For the prover alone: what always holds of the log.
+        let _ = self.store.end();
+        match self.shown.read(key) {
+            Ok(answer) => Ok(answer),
+            Err(_) => Err(Fault::Warming),
+        }
+    }
+}
