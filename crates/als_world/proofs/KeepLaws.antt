@@ -1,17 +1,23 @@
 -- What is kept over events, crashes and restarts.
-use Rattle.std.proofs.Common.{◌≡◌, ℕ, ◌≤◌, ◌⊎◌, List, [], ◌∷◌, ◌++◌, inl, inr, refl, sym, ap, subst, ◌∙◌, append_assoc, append-nil, arith}
+use Rattle.std.proofs.lemmas.Bool.{cases_Bool}
+use Rattle.std.proofs.Common.{true, ◌≡◌, ℕ, ◌≤◌, ◌⊎◌, List, [], ◌∷◌, ◌++◌, inl, inr, refl, sym, ap, subst, ◌∙◌, append_assoc, append-nil, arith}
 use Rattle.als_record.specs.declared.record.Record.{Record}
 use Rattle.als_record.specs.LogText.{end_of}
+use Rattle.als_record.specs.Validity.{is_valid}
+use Rattle.als_record.specs.Commits.{commits_of}
+use Rattle.als_view.specs.Showing.{ended_count}
+use Rattle.als_view.proofs.Counting.{count-kept, ended_count-rises}
 use Rattle.als_ckpt.specs.declared.control_state.ControlState.{ControlState}
 use Rattle.als_store.specs.Stored.{acknowledged}
 use Rattle.als_store.specs.Takeover.{GoesOn}
 use Rattle.als_engine.specs.declared.config.Config.{Config}
 use Rattle.als_engine.specs.Machine.{Machine, Keeps as EngineKeeps}
+use Rattle.als_engine.specs.Readers.{ended_in}
 use Rattle.als_reopen.specs.Node.{Node}
 use Rattle.als_engine.specs.Restarts.{IsMadeWith, Leaves, IsStarted}
 use Rattle.als_world.specs.declared.step.WorldReply.{WorldReply}
 use Rattle.als_world.specs.declared.step.WorldReply.TheVariants as reply
-use Rattle.als_world.specs.Standing.{Standing, Up, Down, Agree, Keeps, log_of, control_of}
+use Rattle.als_world.specs.Standing.{Standing, Up, Down, Agree, Keeps, log_of, control_of, counted}
 use Rattle.als_world.specs.Runs.{Opens, Crashes}
 
 -- ---- fronts of one list
@@ -62,6 +68,48 @@ goes_on_both a b c p q = record {
   seal = λ past. q.seal (omega (arith, p.phase, past)) ∙ p.seal past;
 }
 
+-- ---- what is counted
+
+-- what readers have seen of a log is acknowledged
+pub record IsCounted (m : Machine) : Type 0 where
+  pub valid : is_valid m.held.log ≡ true
+  pub stable : acknowledged m.held ≤ end_of m.held.log
+  pub published : m.published ≤ ended_in m.held
+
+-- no more is counted than has ended at what is acknowledged
+counted-ends : (m : Machine) → m.published ≤ ended_in m.held → counted (Up m) ≤ ended_in m.held
+counted-ends m le = elim (cases_Bool m.listed) [
+  | inl y ↦ rw y le
+  | inr n ↦ rw n (omega arith)
+]
+
+counted-event : (old new : Machine) → IsCounted old → is_valid new.held.log ≡ true → EngineKeeps old new → counted (Up old) ≤ counted (Up new)
+counted-event old new c valid k = elim (cases_Bool old.listed) [
+  | inl y ↦ rw (y, k.listed y) k.published
+  | inr n ↦ elim (cases_Bool new.listed) [
+    | inl y ↦ rw (n, y) (k.shown n y)
+    | inr m ↦
+        let same : ended_count (acknowledged old.held) (commits_of new.held.log) ≡ ended_in old.held =
+        ap (λ (l : List Record). ended_count (acknowledged old.held) (commits_of l)) k.log
+        ∙ count-kept old.held.log k.more (acknowledged old.held) (sym (ap is_valid k.log) ∙ valid) c.stable in
+        let more = ended_count-rises (acknowledged old.held) (acknowledged new.held) k.acknowledged (commits_of new.held.log) in
+        rw (n, m) (omega (arith, same, more))
+  ]
+]
+
+counted-left : (old : Machine) (n : Node) → IsCounted old → Leaves old n → counted (Up old) ≤ counted (Down n)
+counted-left old n c l =
+    let reaches : acknowledged old.held ≤ end_of n.log = omega (arith, l.may.above, l.ends) in
+    let same : ended_in old.held ≡ ended_count (acknowledged old.held) (commits_of n.log) =
+    ap (λ (x : List Record). ended_count (acknowledged old.held) (commits_of x)) l.may.front
+    ∙ count-kept n.log l.may.rest (acknowledged old.held) (sym (ap is_valid l.may.front) ∙ c.valid) reaches in
+    let more = ended_count-rises (acknowledged old.held) n.said.state.mark.0 l.may.above (commits_of n.log) in
+    let ends = counted-ends old c.published in
+    omega (arith, same, more, ends)
+
+counted-started : (config : Config) (n : Node) (new : Machine) → IsStarted config n new → counted (Down n) ≤ counted (Up new)
+counted-started config n new s = rw (s.listed, s.control, s.log) (omega arith)
+
 -- ---- what is kept
 
 pub keeps-both : (a b c : Standing) → Keeps a b → Keeps b c → Keeps a c
@@ -69,26 +117,29 @@ keeps-both a b c p q = record {
   acknowledged = omega (arith, p.acknowledged, q.acknowledged);
   text = agree-both (log_of a) (log_of b) (log_of c) (control_of a).mark.0 (control_of b).mark.0 p.acknowledged p.text q.text;
   takeover = goes_on_both (control_of a) (control_of b) (control_of c) p.takeover q.takeover;
+  counted = omega (arith, p.counted, q.counted);
 }
 
 pub keeps-same : (s : Standing) → (control_of s).mark.0 ≤ end_of (log_of s) → Keeps s s
-keeps-same s reaches = record { acknowledged = omega arith; text = agree-same (log_of s) (control_of s).mark.0 reaches; takeover = goes_on_same (control_of s) }
+keeps-same s reaches = record { acknowledged = omega arith; text = agree-same (log_of s) (control_of s).mark.0 reaches; takeover = goes_on_same (control_of s); counted = omega arith }
 
-pub keeps-event : (old new : Machine) → acknowledged old.held ≤ end_of old.held.log → EngineKeeps old new → Keeps (Up old) (Up new)
-keeps-event old new reaches k = record {
+pub keeps-event : (old new : Machine) → IsCounted old → is_valid new.held.log ≡ true → EngineKeeps old new → Keeps (Up old) (Up new)
+keeps-event old new c valid k = record {
   acknowledged = k.acknowledged;
-  text = record { front = old.held.log; lost = []; more = k.more; old = sym (append-nil old.held.log); new = k.log; reaches = reaches };
+  text = record { front = old.held.log; lost = []; more = k.more; old = sym (append-nil old.held.log); new = k.log; reaches = c.stable };
   takeover = k.takeover;
+  counted = counted-event old new c valid k;
 }
 
 pub made-still : (config : Config) (old new : Machine) → EngineKeeps old new → IsMadeWith config old → IsMadeWith config new
 made-still config old new k made = record { numbers = made.numbers; pages = k.pages ∙ made.pages; limit = k.limit ∙ made.limit }
 
-keeps-left : (old : Machine) (n : Node) → Leaves old n → Keeps (Up old) (Down n)
-keeps-left old n l = record {
+keeps-left : (old : Machine) (n : Node) → IsCounted old → Leaves old n → Keeps (Up old) (Down n)
+keeps-left old n c l = record {
   acknowledged = l.may.above;
   text = record { front = n.log; lost = l.may.rest; more = []; old = l.may.front; new = sym (append-nil n.log); reaches = omega (arith, l.may.above, l.ends) };
   takeover = l.may.goes_on;
+  counted = counted-left old n c l;
 }
 
 keeps-started : (config : Config) (n : Node) (new : Machine) → end_of n.log ≡ n.said.state.mark.0 → IsStarted config n new → Keeps (Down n) (Up new)
@@ -96,6 +147,7 @@ keeps-started config n new ends s = record {
   acknowledged = omega (arith, ap (λ (c : ControlState). c.mark.0) s.control);
   text = record { front = n.log; lost = []; more = []; old = sym (append-nil n.log); new = s.log ∙ sym (append-nil n.log); reaches = omega (arith, ends) };
   takeover = subst (λ (c : ControlState). GoesOn n.said.state c) (sym s.control) (goes_on_same n.said.state);
+  counted = counted-started config n new s;
 }
 
 pub keeps-opened : (config : Config) (n : Node) (answer : WorldReply) (new : Standing) → end_of n.log ≡ n.said.state.mark.0 → Opens config n answer new → Keeps (Down n) new
@@ -104,8 +156,9 @@ keeps-opened config n (reply.Restarted end) (Up new) ends o = keeps-started conf
 keeps-opened config n (reply.Refused cause) (Down left) ends o =
     subst (λ (l : Node). Keeps (Down n) (Down l)) (sym o.1) (keeps-same (Down n) (omega (arith, ends)))
 keeps-opened config n (reply.Event answer) new ends o = absurd o
+keeps-opened config n (reply.Answered answer) new ends o = absurd o
 keeps-opened config n (reply.Restarted end) (Down left) ends o = absurd o
 keeps-opened config n (reply.Refused cause) (Up new) ends o = absurd o
 
-pub keeps-crash : (config : Config) (old : Machine) (answer : WorldReply) (new : Standing) → Crashes config old answer new → Keeps (Up old) new
-keeps-crash config old answer new c = keeps-both (Up old) (Down c.left) new (keeps-left old c.left c.leaves) (keeps-opened config c.left answer new c.leaves.ends c.opens)
+pub keeps-crash : (config : Config) (old : Machine) (answer : WorldReply) (new : Standing) → IsCounted old → Crashes config old answer new → Keeps (Up old) new
+keeps-crash config old answer new counts c = keeps-both (Up old) (Down c.left) new (keeps-left old c.left counts c.leaves) (keeps-opened config c.left answer new c.leaves.ends c.opens)

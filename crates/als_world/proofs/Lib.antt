@@ -1,3 +1,4 @@
 pub mod KeepLaws
 pub mod RunLaws
 pub mod StepLaws
+pub mod AskLaws

@@ -1,7 +1,9 @@
 -- One step over a world.
-use Rattle.std.proofs.Common.{◌≡◌, ℕ, ◌≤◌, ◌⊎◌, List, Bor, refl, sym, subst, arith}
+use Rattle.std.proofs.Common.{◌≡◌, ℕ, ◌≤◌, ◌⊎◌, List, Bor, true, refl, sym, subst, arith}
 use Rattle.als_record.specs.declared.lsn.Lsn.{Lsn}
+use Rattle.als_record.specs.declared.key.Key.{Key}
 use Rattle.als_record.specs.LogText.{end_of}
+use Rattle.als_record.specs.Validity.{is_valid}
 use Rattle.als_disk.specs.Slot.{Slot}
 use Rattle.als_engine.specs.declared.config.Config.{Config}
 use Rattle.als_engine.specs.declared.fault.Fault.{Fault}
@@ -23,8 +25,8 @@ use Rattle.als_world.specs.declared.step.WorldStep.TheVariants as step
 use Rattle.als_world.specs.declared.step.WorldReply.{WorldReply}
 use Rattle.als_world.specs.declared.step.WorldReply.TheVariants as reply
 use Rattle.als_world.specs.Standing.{Standing, Up, Down, Shown, Shows}
-use Rattle.als_world.specs.Runs.{Opens, Crashes, Steps, OpensTo, StepsTo}
-use Rattle.als_world.proofs.KeepLaws.{keeps-same, keeps-event, keeps-opened, keeps-crash, made-still}
+use Rattle.als_world.specs.Runs.{AnswersRead, Opens, Crashes, Steps, OpensTo, StepsTo}
+use Rattle.als_world.proofs.KeepLaws.{IsCounted, keeps-same, keeps-event, keeps-opened, keeps-crash, made-still}
 
 -- what a world is that is up, and one that is down
 abbrev pub up : {D : Type 0} → Config → Serving → World D
@@ -62,23 +64,33 @@ module _ {D : Type 0} (slot : D → ℕ → Slot) (count : D → ℕ) (config : 
   -- ---- a step
 
   pub steps-event : (old : Machine) (event : Step) (answer : Reply) (engine : Serving) → IsMadeWith config old → IsWarm old
-      → EngineSteps old event answer engine.machine → EngineKeeps old engine.machine → acknowledged old.held ≤ end_of old.held.log
+      → EngineSteps old event answer engine.machine → EngineKeeps old engine.machine → IsCounted old → is_valid engine.machine.held.log ≡ true
       → StepsTo slot count config (Up old) (step.Event event) (reply.Event answer) (up {D = D} config engine)
   unfolding Steps
-  steps-event old event answer engine made warm steps keeps stable =
-      (Up engine.machine, shows-up engine (made-still config old engine.machine keeps made) (keeps.warm warm), steps, keeps-event old engine.machine stable keeps)
+  steps-event old event answer engine made warm steps keeps counts valid =
+      (Up engine.machine, shows-up engine (made-still config old engine.machine keeps made) (keeps.warm warm), steps, keeps-event old engine.machine counts valid keeps)
 
-  pub steps-crash : (old : Machine) (picks : Bor (List ℕ)) (n : Node) (answer : WorldReply) (after : World D) → Leaves old n → OpensTo slot count config n answer after
+  pub steps-read : (engine : Serving) (key : Key) (answer : WorldReply) → IsMadeWith config engine.machine → IsWarm engine.machine → AnswersRead engine.machine key answer
+      → acknowledged engine.machine.held ≤ end_of engine.machine.held.log → StepsTo slot count config (Up engine.machine) (step.Read key) answer (up {D = D} config engine)
+  unfolding Steps
+  steps-read engine key answer made warm read stable = (Up engine.machine, shows-up engine made warm, (read, refl), keeps-same (Up engine.machine) stable)
+
+  pub steps-crash : (old : Machine) (picks : Bor (List ℕ)) (n : Node) (answer : WorldReply) (after : World D) → IsCounted old → Leaves old n → OpensTo slot count config n answer after
       → StepsTo slot count config (Up old) (step.Crash picks) answer after
   unfolding Steps
-  steps-crash old picks n answer after leaves opens =
+  steps-crash old picks n answer after counts leaves opens =
       let crash : Crashes config old answer opens.0 = record { left = n; leaves = leaves; opens = opens.2 } in
-      (opens.0, opens.1, crash, keeps-crash config old answer opens.0 crash)
+      (opens.0, opens.1, crash, keeps-crash config old answer opens.0 counts crash)
 
   pub steps-refused : (n : Node) (event : Step) (disks : Disks D) → Held slot count config disks n
       → StepsTo slot count config (Down n) (step.Event event) (reply.Refused fault.Stopped) (down {D = D} config disks)
   unfolding Steps
   steps-refused n event disks held = (Down n, shows-down disks n held, (refl, refl), keeps-same (Down n) (omega (arith, held.stays.node.held.ends)))
+
+  pub steps-unread : (n : Node) (key : Key) (disks : Disks D) → Held slot count config disks n
+      → StepsTo slot count config (Down n) (step.Read key) (reply.Refused fault.Stopped) (down {D = D} config disks)
+  unfolding Steps
+  steps-unread n key disks held = (Down n, shows-down disks n held, (refl, refl), keeps-same (Down n) (omega (arith, held.stays.node.held.ends)))
 
   pub steps-again : (n : Node) (picks : Bor (List ℕ)) (answer : WorldReply) (after : World D) → end_of n.log ≡ n.said.state.mark.0 → OpensTo slot count config n answer after
       → StepsTo slot count config (Down n) (step.Crash picks) answer after

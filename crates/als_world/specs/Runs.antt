@@ -1,11 +1,13 @@
 -- Runs of steps over a world.
-use Rattle.std.specs.Prelude.{◌≡◌, ℕ, ◌⊎◌, List, [], ◌∷◌}
+use Rattle.std.specs.Prelude.{◌≡◌, ℕ, ◌⊎◌, List, [], ◌∷◌, Ok, Err}
+use Rattle.als_record.specs.declared.key.Key.{Key}
 use Rattle.als_record.specs.LogText.{end_of}
 use Rattle.als_engine.specs.declared.config.Config.{Config}
 use Rattle.als_engine.specs.declared.fault.Fault.TheVariants as fault
 use Rattle.als_engine.specs.Machine.{Machine}
 use Rattle.als_reopen.specs.Node.{Node}
 use Rattle.als_engine.specs.Restarts.{Leaves, IsStarted}
+use Rattle.als_engine.specs.Publishing.{ReadsKey}
 use Rattle.als_engine.specs.Runs.{Steps as EngineSteps}
 use Rattle.als_world.specs.declared.step.WorldStep.{WorldStep}
 use Rattle.als_world.specs.declared.step.WorldStep.TheVariants as step
@@ -27,11 +29,19 @@ pub record Crashes (config : Config) (old : Machine) (answer : WorldReply) (new 
   pub leaves : Leaves old left
   pub opens : Opens config left answer new
 
--- While the world is up, an event is the small machine's; while it is down, each is refused, and a crash only opens again.
+-- a reader is answered out of what is published
+abbrev pub AnswersRead : Machine → Key → WorldReply → Type 0
+AnswersRead m key (reply.Answered answer) = ReadsKey m key (Ok answer)
+AnswersRead m key (reply.Refused cause) = ReadsKey m key (Err cause)
+AnswersRead m key answer = ⊥
+
+-- While the world is up, an event is the small machine's, and a read changes nothing; while it is down, each is refused, and a crash only opens again.
 unfoldable pub Steps : Config → Standing → WorldStep → WorldReply → Standing → Type 0
 Steps config (Up old) (step.Event event) (reply.Event answer) (Up new) = EngineSteps old event answer new
+Steps config (Up old) (step.Read key) answer new = AnswersRead old key answer × (new ≡ Up old)
 Steps config (Up old) (step.Crash picks) answer new = Crashes config old answer new
 Steps config (Down n) (step.Event event) answer new = (answer ≡ reply.Refused fault.Stopped) × (new ≡ Down n)
+Steps config (Down n) (step.Read key) answer new = (answer ≡ reply.Refused fault.Stopped) × (new ≡ Down n)
 Steps config (Down n) (step.Crash picks) answer new = Opens config n answer new
 Steps config _ _ _ _ = ⊥
 

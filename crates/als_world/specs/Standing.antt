@@ -1,13 +1,16 @@
 -- What a world shows: the small machine while it is up, and what its devices hold while it is down.
-use Rattle.std.specs.Prelude.{◌≡◌, ℕ, true, false, List, ◌++◌, ◌≤◌}
+use Rattle.std.specs.Prelude.{◌≡◌, ℕ, true, false, List, ◌++◌, ◌≤◌, if◌then◌else◌}
 use Rattle.als_record.specs.declared.record.Record.{Record}
 use Rattle.als_record.specs.LogText.{end_of}
+use Rattle.als_record.specs.Commits.{commits_of}
 use Rattle.als_disk.specs.Slot.{Slot}
 use Rattle.als_ckpt.specs.declared.control_state.ControlState.{ControlState}
 use Rattle.als_reopen.specs.Taken.{IsTakenFrom}
+use Rattle.als_view.specs.Showing.{ended_count}
 use Rattle.als_store.specs.Takeover.{GoesOn, IsUnderTakeover, IsFinished, is_primary}
 use Rattle.als_engine.specs.declared.config.Config.{Config}
 use Rattle.als_engine.specs.Machine.{Machine}
+use Rattle.als_engine.specs.Readers.{ended_in}
 use Rattle.als_reopen.specs.Node.{Node}
 use Rattle.als_engine.specs.Restarts.{IsWarm, IsMadeWith, StillHolds}
 use Rattle.als_world.specs.declared.place.Place.{Place}
@@ -43,6 +46,12 @@ control_of (Down n) = n.said.state
 abbrev pub IsSteady : Standing → Type 0
 IsSteady s = (control_of s).mark.0 ≤ end_of (log_of s)
 
+-- How many commits a reader may have been told of: those published, where there is a list; else those whose records end at or below what is
+-- acknowledged.
+abbrev pub counted : Standing → ℕ
+counted (Up m) = if m.listed then m.published else ended_in m.held
+counted (Down n) = ended_count n.said.state.mark.0 (commits_of n.log)
+
 -- The records of two logs agree up to an offset: the logs have a front in common that reaches it.
 pub record Agree (before after : List Record) (offset : ℕ) : Type 0 where
   pub front : List Record
@@ -53,11 +62,12 @@ pub record Agree (before after : List Record) (offset : ℕ) : Type 0 where
   pub reaches : offset ≤ end_of front
 
 -- What is acknowledged stays so, over crashes too, and the text below it stands. What is acknowledged of a takeover stays so too: the phase
--- never falls, and past Following the seal stays.
+-- never falls, and past Following the seal stays. A commit that was counted stays counted.
 pub record Keeps (old new : Standing) : Type 0 where
   pub acknowledged : (control_of old).mark.0 ≤ (control_of new).mark.0
   pub text : Agree (log_of old) (log_of new) (control_of old).mark.0
   pub takeover : GoesOn (control_of old) (control_of new)
+  pub counted : counted old ≤ counted new
 
 -- What each control state says of the log is true: past Following the log is the sealed one and a front of its tail. A finished takeover
 -- holds exactly what the committed transactions of the sealed log left, unless the engine is recovering.

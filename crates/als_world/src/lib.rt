@@ -9,6 +9,8 @@ mod place;
 mod restarting;
 // The world.
 mod world;
+// What a world answers to who asks it.
+mod asking;
 // Runs of steps.
 mod running;
 

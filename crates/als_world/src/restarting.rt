@@ -3,13 +3,14 @@ ghost use Rattle.als_engine.specs.declared.config.Config.{Config as AnyConfig};
 ghost use Rattle.als_reopen.specs.Node.{Node};
 ghost use Rattle.als_engine.specs.Restarts.{Holds, StillHolds, IsMadeWith, IsWarm};
 ghost use Rattle.als_world.specs.Standing.{Standing, Shows, Up, Down};
-ghost use Rattle.als_world.specs.Runs.{OpensTo, StepsTo};
+ghost use Rattle.als_world.specs.Runs.{AnswersRead, OpensTo, StepsTo};
 
 use crate::place::Place;
 use crate::step::{WorldReply, WorldStep};
 use crate::world::World;
 use als_disk::Restart;
 use als_engine::{Config, Disks, Engine, Fault};
+use als_record::Key;
 use als_store::crash_disks;
 use std::alloc::Global;
 
@@ -33,6 +34,16 @@ fn open<D: Restart>(alloc: Global, config: Config, disks: Disks<D>) -> (World<D>
     }
 }
 
+/// What a reader of a standby is answered.
+fn read<D: Restart>(engine: &Engine<D>, key: Key) -> WorldReply
+    ensures { AnswersRead engine.now.machine key result }
+{
+    match engine.read(key) {
+        Ok(answer) => WorldReply::Answered(answer),
+        Err(fault) => WorldReply::Refused(fault),
+    }
+}
+
 /// One step over a standby that is up.
 fn step_up<D: Restart>(
     alloc: Global,
@@ -44,13 +55,19 @@ fn step_up<D: Restart>(
         → StepsTo D.slot D.block_count config (Up engine.machine) step.now result.1 result.0 }
     ensures same { result.0.config ≡ config }
 {
+    let _ = engine.status(); // For the prover alone: what always holds of the engine.
     match step {
         WorldStep::Event(event) => {
-            let _ = engine.status(); // For the prover alone: what always holds of the engine.
             let mut engine = engine;
             let reply = engine.step(event);
+            let _ = engine.status(); // For the prover alone: what always holds of the engine afterwards.
             let place = Place::Up(engine);
             (World { config, place }, WorldReply::Event(reply))
+        }
+        WorldStep::Read(key) => {
+            let reply = read(&engine, *key);
+            let place = Place::Up(engine);
+            (World { config, place }, reply)
         }
         WorldStep::Crash(picks) => {
             let (disks, _) = engine.crash(picks);
@@ -83,7 +100,7 @@ fn step_down<D: Restart>(
     ensures same { result.0.config ≡ config }
 {
     match step {
-        WorldStep::Event(_) => {
+        WorldStep::Event(_) | WorldStep::Read(_) => {
             let place = Place::Down(disks);
             (World { config, place }, WorldReply::Refused(Fault::Stopped))
         }
@@ -101,7 +118,7 @@ pub(crate) fn step_over<D: Restart>(
         → StepsTo D.slot D.block_count world.config old step.now result.1 result.0 }
     ensures same { result.0.config ≡ world.config }
 {
-    let World { config, place } = world;
+    let (config, place) = world.into_parts();
     match place {
         Place::Up(engine) => step_up(alloc, config, engine, step),
         Place::Down(disks) => step_down(alloc, config, disks, step),

@@ -7,10 +7,17 @@ use als_disk::BlockDisk;
 use als_engine::{Config, Engine};
 
 /// What a run of steps goes over: a standby that is up, or the devices that it left. It knows with what a standby begins again.
-#[derive(Drop)]
 pub struct World<D: BlockDisk> {
     pub(crate) config: Config,
     pub(crate) place: Place<D>,
+}
+
+// Written out: a derived drop is proved part by part wherever a world is let go of, this one only here.
+impl<D: BlockDisk + Drop> Drop for World<D> {
+    fn drop(self) {
+        let World { config: _, place } = self;
+        drop(place);
+    }
 }
 
 impl<D: BlockDisk> World<D> {
@@ -22,6 +29,15 @@ impl<D: BlockDisk> World<D> {
             config,
             place: Place::Up(engine),
         }
+    }
+
+    /// Its two parts.
+    pub(crate) fn into_parts(self) -> (Config, Place<D>)
+        ensures config { result.0 ≡ self.config }
+        ensures place { result.1 ≡ self.place }
+    {
+        let World { config, place } = self;
+        (config, place)
     }
 
     /// For the prover alone: what holds of all that a world shows.

@@ -1,0 +1,71 @@
+use super::standby::{holds_page, take};
+use als_disk::MemDisk;
+use als_engine::{Engine, Fault, Reply, State, Step};
+use als_record::Lsn;
+use std::process::Abort;
+
+/// What a takeover takes, of this log at most four records of the tail, which stand in one block.
+const REST: [Step; 11] = [
+    Step::UndoOne,
+    Step::UndoOne,
+    Step::UndoOne,
+    Step::UndoOne,
+    Step::LogWrite,
+    Step::LogSync,
+    Step::MarkWrite,
+    Step::ControlSync,
+    Step::Apply(0),
+    Step::Finish,
+    Step::ControlSync,
+];
+
+/// Takes those of the steps that have something to do. None: memory was refused, also to a device; nothing else refuses one.
+fn take_due(rt: &impl Abort, engine: &mut Engine<MemDisk>, steps: &[Step]) -> Option<()> {
+    for step in steps {
+        if let Reply::Refused(fault) = engine.step(step) {
+            if fault == Fault::Memory || fault == Fault::Device {
+                return None;
+            }
+            assert!(rt;
+                fault == Fault::NothingToDo,
+                "{step:?} was refused: {fault}"
+            );
+        }
+    }
+    Some(())
+}
+
+/// Ends a recovery. A log that was not sealed before is sealed then. None: memory was refused.
+fn seal(rt: &impl Abort, engine: &mut Engine<MemDisk>) -> Option<()> {
+    assert_eq!(rt; engine.status().state, State::Recovering);
+    assert!(rt; engine.step(&Step::UndoOne) == Reply::Refused(Fault::Recovering));
+    take(rt, engine, &[Step::Ready])?;
+    if engine.status().state == State::Following {
+        take(rt, engine, &[Step::Seal, Step::ControlSync])?;
+    }
+    let state = engine.status().state;
+    assert!(rt; state == State::Sealed || state == State::Primary);
+    Some(())
+}
+
+/// Where a log with its tail ends, by where the log ends. That of the first three records has a tail of its own.
+fn taken_over(end: Lsn) -> Lsn {
+    match end.0 {
+        16 => Lsn(16),
+        116 => Lsn(214),
+        _ => Lsn(294),
+    }
+}
+
+/// A standby that has begun again and has redone its log takes over, and then holds the tail and the page that it makes. None: memory was refused.
+pub fn takes_over(rt: &impl Abort, engine: &mut Engine<MemDisk>) -> Option<()> {
+    let end = taken_over(engine.status().end);
+    seal(rt, engine)?;
+    take_due(rt, engine, &REST)?;
+    let status = engine.status();
+    assert_eq!(rt; status.state, State::Primary);
+    assert_eq!(rt; status.end, end);
+    assert_eq!(rt; status.acknowledged, end);
+    assert_eq!(rt; engine.table().len(), 0);
+    holds_page(rt, engine, end)
+}

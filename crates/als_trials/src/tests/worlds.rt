@@ -1,0 +1,146 @@
+ghost use Rattle.std.specs.Prelude.{◌<◌};
+
+use super::standby::CONFIG;
+use super::text::TEXT;
+use als_disk::{FailingDisk, Fuse, MemDisk};
+use als_engine::{Disks, Engine, Fault, Fed, FeedFault, Reply, Step};
+use als_record::Lsn;
+use als_world::{World, WorldReply, WorldStep, run};
+use std::alloc::{AllocError, Global};
+
+type Disk = FailingDisk<MemDisk>;
+
+/// Devices in memory, and what makes the control device fail.
+fn devices(alloc: Global) -> Result<(Disks<Disk>, Fuse), AllocError> {
+    let control = Fuse::new(alloc)?;
+    let disks = Disks {
+        log: FailingDisk::new(MemDisk::new(alloc, 8), Fuse::new(alloc)?),
+        control: FailingDisk::new(MemDisk::new(alloc, 321), control.clone()?),
+        pages: FailingDisk::new(MemDisk::new(alloc, 4), Fuse::new(alloc)?),
+    };
+    Ok((disks, control))
+}
+
+/// A world with a new standby, of which a call of the control device fails. None: memory was refused.
+fn world(alloc: Global, failing: u64) -> Option<World<Disk>>
+    requires { 0 < failing }
+{
+    let Ok((disks, fuse)) = devices(alloc) else {
+        return None;
+    };
+    match Engine::format(alloc, disks, CONFIG) {
+        Ok(engine) => {
+            fuse.fail_at(failing);
+            Some(World::new(engine, CONFIG))
+        }
+        Err(_) => None,
+    }
+}
+
+/// Whether two replies are the same. No reader asks here.
+fn is_same(reply: &WorldReply, wanted: &WorldReply) -> bool {
+    match (reply, wanted) {
+        (WorldReply::Event(reply), WorldReply::Event(wanted)) => reply == wanted,
+        (WorldReply::Restarted(end), WorldReply::Restarted(wanted)) => end == wanted,
+        (WorldReply::Refused(fault), WorldReply::Refused(wanted)) => fault == wanted,
+        _ => false,
+    }
+}
+
+/// Whether these are the wanted replies.
+fn are_same(replies: &[WorldReply], wanted: &[WorldReply]) -> bool {
+    replies.len() == wanted.len()
+        && replies
+            .iter()
+            .zip(wanted.iter())
+            .all(|(reply, wanted)| is_same(reply, wanted))
+}
+
+/// Whether these replies to the steps are wanted. None: memory was refused.
+fn replies(alloc: Global, failing: u64, steps: &[WorldStep], wanted: &[WorldReply]) -> Option<()>
+    requires { 0 < failing }
+{
+    match run(alloc, world(alloc, failing)?, steps) {
+        Ok((world, replies)) => {
+            drop(world);
+            if are_same(replies.as_slice(), wanted) {
+                Some(())
+            } else {
+                None
+            }
+        }
+        Err(world) => {
+            drop(world);
+            None
+        }
+    }
+}
+
+/// A standby is fed, forced and redone, and then crashed: with the older page, and with the newer one. Then a sync of the control device fails
+/// in the restart, and the world is down until the next crash. Once it is ready it takes the rest of the log.
+fn restarts(alloc: Global) -> Option<()> {
+    let steps = [
+        WorldStep::Event(Step::Feed(&TEXT[..100])),
+        WorldStep::Event(Step::LogWrite),
+        WorldStep::Event(Step::LogSync),
+        WorldStep::Event(Step::MarkWrite),
+        WorldStep::Event(Step::ControlSync),
+        WorldStep::Event(Step::Apply(0)),
+        WorldStep::Event(Step::Flush(0)),
+        WorldStep::Crash(&[]),
+        WorldStep::Event(Step::Apply(0)),
+        WorldStep::Event(Step::Flush(0)),
+        WorldStep::Crash(&[255]),
+        WorldStep::Event(Step::Apply(0)),
+        WorldStep::Crash(&[]),
+        WorldStep::Event(Step::LogWrite),
+        WorldStep::Crash(&[]),
+        WorldStep::Event(Step::Feed(&TEXT[100..137])),
+        WorldStep::Event(Step::Ready),
+        WorldStep::Event(Step::Apply(0)),
+        WorldStep::Event(Step::Ready),
+        WorldStep::Event(Step::Feed(&TEXT[100..137])),
+    ];
+    let fed = Fed {
+        taken: 100,
+        records: 3,
+    };
+    let recovering = FeedFault {
+        taken: 0,
+        records: 0,
+        fault: Fault::Recovering,
+    };
+    let rest = Fed {
+        taken: 37,
+        records: 1,
+    };
+    let wanted = [
+        WorldReply::Event(Reply::Fed(fed)),
+        WorldReply::Event(Reply::Done),
+        WorldReply::Event(Reply::Done),
+        WorldReply::Event(Reply::Done),
+        WorldReply::Event(Reply::Acknowledged(Lsn(116))),
+        WorldReply::Event(Reply::Applied(Lsn(80))),
+        WorldReply::Event(Reply::Done),
+        WorldReply::Restarted(Lsn(116)),
+        WorldReply::Event(Reply::Applied(Lsn(80))),
+        WorldReply::Event(Reply::Done),
+        WorldReply::Restarted(Lsn(116)),
+        WorldReply::Event(Reply::Refused(Fault::NothingToDo)),
+        WorldReply::Refused(Fault::Device),
+        WorldReply::Refused(Fault::Stopped),
+        WorldReply::Restarted(Lsn(116)),
+        WorldReply::Event(Reply::FeedRefused(recovering)),
+        WorldReply::Event(Reply::Refused(Fault::NotDrained)),
+        WorldReply::Event(Reply::Refused(Fault::NothingToDo)),
+        WorldReply::Event(Reply::Done),
+        WorldReply::Event(Reply::Fed(rest)),
+    ];
+    // The steps make two calls of the control device, and each restart two: the seventh is the third restart's sync.
+    replies(alloc, 7, &steps, &wanted)
+}
+
+#[test]
+fn a_world_is_crashed_and_begins_again(rt: HostRuntime) {
+    assert!(rt; restarts(rt.alloc()).is_some() || restarts(rt.alloc()).is_some());
+}
