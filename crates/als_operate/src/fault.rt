@@ -1,9 +1,11 @@
 ghost use Rattle.std.specs.Prelude.{◌≡◌, ◌⊎◌, Some};
 ghost use Rattle.als_fault.specs.Kinds.{number_of, name_of, text_of};
-ghost use Rattle.als_operate.specs.declared.fault.Fault.TheVariants.{Memory as OutOfMemory, Stream as StreamFailed, Session as OfSession};
+ghost use Rattle.als_operate.specs.declared.fault.Fault.TheVariants.{Memory as OutOfMemory, Stream as StreamFailed, Folder as OfFolder, Session as OfSession, Refused as OfStandby};
 ghost use Rattle.als_operate.specs.FaultNames.{kind_of};
 
+use als_engine::Fault as EngineFault;
 use als_fault::FaultKind;
+use als_folder::Fault as FolderFault;
 use als_ship::Fault as SessionFault;
 use std::alloc::AllocError;
 use std::io::ErrorKind;
@@ -16,8 +18,12 @@ pub enum Fault {
     Memory,
     /// A file, an address or a stream failed, or there was more than the limit.
     Stream,
+    /// The folder of a standby, or one of its files, is refused.
+    Folder(FolderFault),
     /// The session did not begin, or it ended early.
     Session(SessionFault),
+    /// There is no standby, or it refused an event.
+    Refused(EngineFault),
 }
 
 impl Fault {
@@ -28,7 +34,9 @@ impl Fault {
         match self {
             Fault::Memory => FaultKind::Memory,
             Fault::Stream => FaultKind::Stream,
+            Fault::Folder(fault) => fault.kind(),
             Fault::Session(fault) => fault.kind(),
+            Fault::Refused(fault) => fault.kind(),
         }
     }
 
@@ -82,5 +90,21 @@ impl From<SessionFault> for Fault {
 
     fn from(fault: SessionFault) -> Fault {
         Fault::Session(fault)
+    }
+}
+
+impl From<FolderFault> for Fault {
+    ghost from_gives = { λ cause fault. fault ≡ OfFolder cause };
+
+    fn from(fault: FolderFault) -> Fault {
+        Fault::Folder(fault)
+    }
+}
+
+impl From<EngineFault> for Fault {
+    ghost from_gives = { λ cause fault. fault ≡ OfStandby cause };
+
+    fn from(fault: EngineFault) -> Fault {
+        Fault::Refused(fault)
     }
 }

@@ -1,4 +1,4 @@
-//! What the program does on files and over the network: it ships a log.
+//! What the program does on files and over the network: it ships a log, follows one as a standby, and makes a primary of a standby.
 #![tactic(auto)]
 
 // Why a command is refused.
@@ -7,9 +7,40 @@ mod fault;
 mod whole;
 // A session as the sending end, and what it prints.
 mod shipping;
+// The answer of an event that may have nothing to do.
+mod passing;
+// All that waits for redo.
+mod draining;
+// A standby back to where it was left.
+mod recovering;
+// One checkpoint.
+mod checkpointing;
+// All that is held onto the devices.
+mod settling;
+// All parts of a takeover.
+mod taking_over;
+// A standby whose pages are kept warm.
+mod warm;
+// The engine of a folder.
+mod opening;
+// The records of a database as lines.
+mod database;
+// A standby that follows one session.
+mod standby_command;
+// A standby that becomes a primary.
+mod takeover_command;
 
+pub use checkpointing::checkpoint;
+pub use database::listing;
+pub use draining::drain;
 pub use fault::Fault;
+pub use recovering::recover;
+pub use settling::settle;
 pub use shipping::{LOG_LIMIT, serve, ship};
+pub use standby_command::{Following, follow, standby};
+pub use takeover_command::takeover;
+pub use taking_over::take_over;
+pub use warm::Warm;
 pub use whole::read_whole;
 
 #[cfg(test)]

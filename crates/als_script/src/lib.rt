@@ -9,6 +9,10 @@ mod record_line;
 mod world_line;
 // A line of one step.
 mod step_line;
+// A line of a reader.
+mod read_line;
+// A line that stops the standby and begins it again.
+mod crash_line;
 // A line of several steps.
 mod combined_line;
 // The devices that a line may name.
@@ -23,15 +27,35 @@ mod line;
 mod commands;
 // Log texts made from record lines.
 mod text;
+// The forms of all lines.
+mod forms;
+// What stands at a word's place.
+mod wanted;
+// Why a line is bad.
+mod explaining;
+// A held image as text.
+mod shown_image;
+// A held record as text.
+mod shown_record;
 
 pub use combined_line::CombinedLine;
 pub use commands::{is_command, line_number, number_past};
+pub use crash_line::CrashLine;
 pub use device::Device;
+pub use explaining::{Explanation, explain};
 pub use fail_line::FailLine;
+pub use forms::{FIRST_OF_MAKE, FIRST_OF_SIM, RECORD_FORMS, STEP_FORMS};
 pub use line::Line;
+pub use read_line::ReadLine;
 pub use record_line::RecordLine;
 pub use show_line::ShowLine;
+pub use shown_image::ShownImage;
+pub use shown_record::ShownRecord;
 pub use step_line::StepLine;
 pub use text::{LogText, RawBody, RawImage};
+pub use wanted::Wanted;
 pub use words::Words;
 pub use world_line::WorldLine;
+
+#[cfg(test)]
+mod tests;

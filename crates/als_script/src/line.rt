@@ -1,27 +1,37 @@
 use crate::combined_line::CombinedLine;
+use crate::crash_line::CrashLine;
 use crate::fail_line::FailLine;
+use crate::read_line::ReadLine;
 use crate::record_line::RecordLine;
 use crate::show_line::ShowLine;
 use crate::step_line::StepLine;
 
 /// A line of a simulation behind its first.
 #[derive(Drop)]
-pub enum Line {
+pub enum Line<'a> {
     Record(RecordLine),
     Step(StepLine),
+    Read(ReadLine),
+    Crash(CrashLine<'a>),
     Combined(CombinedLine),
     Fail(FailLine),
     Show(ShowLine),
 }
 
-impl Line {
+impl<'a> Line<'a> {
     /// What a line says; None where it is none of the language.
-    pub fn parse(line: &str) -> Option<Line> {
+    pub fn parse(line: &'a str) -> Option<Line<'a>> {
         if let Some(record) = RecordLine::parse(line) {
             return Some(Line::Record(record));
         }
         if let Some(step) = StepLine::parse(line) {
             return Some(Line::Step(step));
+        }
+        if let Some(read) = ReadLine::parse(line) {
+            return Some(Line::Read(read));
+        }
+        if let Some(crash) = CrashLine::parse(line) {
+            return Some(Line::Crash(crash));
         }
         if let Some(combined) = CombinedLine::parse(line) {
             return Some(Line::Combined(combined));

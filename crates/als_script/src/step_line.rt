@@ -23,6 +23,9 @@ pub enum StepLine {
     CkptBlock,
     /// `ckpt-publish`
     CkptPublish,
+    /// `publish`
+    PublishView,
+    Ready,
     Seal,
     /// `undo`
     UndoOne,
@@ -53,6 +56,8 @@ impl StepLine {
             "ckpt-begin" => StepLine::CkptBegin,
             "ckpt-block" => StepLine::CkptBlock,
             "ckpt-publish" => StepLine::CkptPublish,
+            "publish" => StepLine::PublishView,
+            "ready" => StepLine::Ready,
             "seal" => StepLine::Seal,
             "undo" => StepLine::UndoOne,
             "finish" => StepLine::Finish,

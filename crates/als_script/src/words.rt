@@ -57,6 +57,14 @@ impl<'a> Words<'a> {
         }
     }
 
+    /// How many words are left.
+    pub fn count(&self) -> usize {
+        match self.rest {
+            Some(rest) => rest.as_bytes().split(|byte| *byte == b' ').count(),
+            None => 0,
+        }
+    }
+
     /// Whether all words are read.
     pub fn is_at_end(&self) -> bool {
         self.rest.is_none()

@@ -1,0 +1,7 @@
+use Rattle.als_scan.specs.Scanned.{IsScanned}
+use Rattle.als_inspect.proofs.reading.read_all.Given as goal
+
+abbrev pub invariant-loop-count : goal.invariant-loop-count
+invariant-loop-count g l = record {
+  facts : IsScanned l.scan;
+}

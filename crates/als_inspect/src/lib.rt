@@ -1,0 +1,27 @@
+//! What an operator asks of files that nobody writes: the records of a log, and whether a log or a standby is sound. It changes nothing.
+#![tactic(auto)]
+
+// Why there is no answer.
+mod fault;
+// A file's bytes as a device in memory.
+mod copying;
+// The log text of a file, or of a folder.
+mod log_text;
+// Its records, read and judged.
+mod reading;
+// Which records are printed.
+mod wanted;
+// The records as lines.
+mod dumping;
+// What is not sound.
+mod unsound;
+// Whether all is sound.
+mod verifying;
+
+pub use dumping::dump;
+pub use fault::Fault;
+pub use verifying::verify;
+pub use wanted::Wanted;
+
+#[cfg(test)]
+mod tests;

@@ -1,0 +1,125 @@
+ghost use Rattle.std.specs.Prelude.{◌≤◌, ◌*◌, ℕ, IfOk};
+ghost use Rattle.als_disk.specs.MemDisk.{mem_blocks, mem_slot};
+ghost use Rattle.als_disk.specs.Slot.{IsSettled};
+
+use crate::copying::copy;
+use crate::fault::Fault;
+use als_ckpt::{Fault as ControlFault, read_state};
+use als_disk::MemDisk;
+use als_folder::{Fault as FolderFault, Folder};
+use als_operate::LOG_LIMIT;
+use als_record::LogHeader;
+use als_scan::Scan;
+use std::alloc::Global;
+use std::fs::File;
+use std::os::unix::fs::FileExt;
+use std::rt::Files;
+use std::{fs, io};
+
+/// A log text that begins with a header: a copy of it, of which no record is read yet.
+pub struct LogText {
+    /// Its records, to be read and judged one after another.
+    pub records: Scan<MemDisk>,
+    /// The page count of its header.
+    pub pages: u32,
+}
+
+// Written out: a derived drop is proved wherever a text is let go of, this one only here.
+impl Drop for LogText {
+    fn drop(self) {
+        let LogText { records, pages: _ } = self;
+        drop(records);
+    }
+}
+
+/// The text that stands below an offset in these blocks.
+fn text_in(alloc: Global, disk: MemDisk, pages: u32, end: u64) -> Result<LogText, Fault>
+    requires settled { (k : ℕ) → IsSettled (mem_slot disk k) }
+    requires few { mem_blocks disk ≤ 4194304 }
+    requires low { 16 ≤ end }
+    requires high { end ≤ 512 * mem_blocks disk }
+{
+    match Scan::new(alloc, disk, pages, end) {
+        Ok(records) => Ok(LogText { records, pages }),
+        Err(unread) => {
+            let fault = unread.fault;
+            drop(unread);
+            Err(Fault::Log(fault))
+        }
+    }
+}
+
+/// The text of a log file.
+///
+/// BadHeader: it begins with none. Stream: the file failed, or is longer than the largest log. Memory: there was none for it.
+pub fn text_of_file<R: AllocGlobal + Files<File = File>>(
+    rt: &R,
+    path: &str,
+) -> Result<LogText, Fault> {
+    let file = File::open(rt, path)?;
+    let end = file.metadata()?.len();
+    if end > LOG_LIMIT {
+        return Err(Fault::Stream);
+    }
+    if end < 16 {
+        return Err(Fault::BadHeader);
+    }
+    let pages = pages_of(first_bytes(&file)?)?;
+    let disk = copy(rt.alloc(), &file, end)?;
+    text_in(rt.alloc(), disk, pages, end)
+}
+
+/// The text of a folder's log, as far as it is acknowledged.
+///
+/// BadHeader: it begins with none. BadControl: nothing says how far it is acknowledged. Folder: the folder or a file of it failed, or another
+/// program has it. Memory: there was none for the text.
+pub fn text_of_folder<R: AllocGlobal + Files<File = File>>(
+    rt: &R,
+    folder: &Folder,
+) -> Result<LogText, Fault> {
+    let files = folder.open_to_read(rt)?;
+    let pages = pages_of(first_bytes(&files.log).map_err(FolderFault::from)?)?;
+    let blocks = files.log.metadata().map_err(FolderFault::from)?.len() / 512;
+    let end = mark(rt.alloc(), &files.control, pages, blocks)?;
+    match copy(rt.alloc(), &files.log, end) {
+        Ok(disk) => text_in(rt.alloc(), disk, pages, end),
+        Err(e) => Err(Fault::Folder(FolderFault::from(e))),
+    }
+}
+
+/// How far the log is acknowledged, as the control block says.
+fn mark(alloc: Global, control: &File, pages: u32, blocks: u64) -> Result<u64, Fault>
+    ensures { IfOk result (λ end. (16 ≤ end) × (end ≤ 2147483648)) }
+{
+    let mut disk = match copy(alloc, control, 512) {
+        Ok(disk) => disk,
+        Err(e) => return Err(Fault::Folder(FolderFault::from(e))),
+    };
+    let bytes = blocks.saturating_mul(512);
+    match read_state(&mut disk, pages, bytes) {
+        Ok(state) => {
+            if state.mark.0 > LOG_LIMIT {
+                return Err(Fault::BadControl);
+            }
+            Ok(state.mark.0)
+        }
+        Err(ControlFault::Device) => Err(Fault::Folder(FolderFault::Device)),
+        Err(_) => Err(Fault::BadControl),
+    }
+}
+
+/// The first bytes of a file, as many as a header has.
+fn first_bytes(file: &File) -> io::Result<[u8; 16]> {
+    let mut bytes = [0; 16];
+    file.read_exact_at(&mut bytes, 0)?;
+    Ok(bytes)
+}
+
+/// The page count that a header says.
+fn pages_of(header: [u8; 16]) -> Result<u32, Fault> {
+    match LogHeader::decode(&header) {
+        Ok(Some(header)) => Ok(header.pages),
+        Ok(None) => Err(Fault::BadHeader),
+        Err(_) => Err(Fault::BadHeader),
+    }
+}

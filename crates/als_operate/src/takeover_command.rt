@@ -1,0 +1,38 @@
+use crate::database::listing;
+use crate::fault::Fault;
+use crate::opening::open;
+use crate::standby_command::PENDING;
+use crate::taking_over::take_over;
+use als_disk::BlockDisk;
+use als_engine::Config;
+use als_folder::Folder;
+use std::fs::File;
+use std::io::Write;
+use std::rt::Files;
+
+/// Makes a primary of the standby of a folder, and then prints `end=E` and each record of its database. It may be called again after a
+/// stop: the takeover then goes on.
+///
+/// Device: the folder or one of its files failed, it has no database, or another program has it. Stream: the output failed. Else as
+/// `Engine::open` says, or the first refusal of an event.
+pub fn takeover<R: AllocGlobal + Files<File = File>, O: Write>(
+    rt: &R,
+    dir: &str,
+    output: &mut O,
+) -> Result<(), Fault> {
+    let folder = Folder::hold(rt, dir)?;
+    let devices = folder.open(rt)?;
+    let blocks = devices.pages.blocks();
+    let config = Config {
+        pages: blocks,
+        frames: blocks,
+        pending: PENDING,
+        readers: 1,
+    };
+    let mut engine = open(rt.alloc(), devices, config)?;
+    take_over(&mut engine)?;
+    let records = listing(rt.alloc(), &mut engine)?;
+    writeln!(output, "end={}", engine.status().end.0)?;
+    output.write_all(records.as_bytes())?;
+    Ok(())
+}

@@ -1,0 +1,64 @@
+ghost use Rattle.std.specs.Prelude.{◌≡◌, OnOk};
+ghost use Rattle.als_engine.specs.declared.status.State.TheVariants.{Primary};
+ghost use Rattle.als_engine.specs.Machine.{state_of};
+
+use crate::draining::drain;
+use crate::fault::Fault;
+use crate::recovering::recover;
+use als_engine::{Events, Fault as EngineFault, State};
+use als_ship::force;
+
+/// Makes a primary of a standby: seals the log once all of it is stable, undoes what was not committed, and ends the takeover once that is
+/// stable and redone. The first refusal ends it. It may be called again after a stop: the takeover then goes on.
+pub fn take_over<E: Events>(events: &mut E) -> Result<(), Fault>
+    // Only a primary is answered.
+    ensures done { OnOk result (E.alone → state_of (E.machine events.new) ≡ Primary) }
+{
+    recover(events)?;
+    force(events)?;
+    seal(events)?;
+    undo_all(events)?;
+    force(events)?;
+    drain(events)?;
+    finish(events)?;
+    match events.status().state {
+        State::Primary => Ok(()),
+        _ => Err(Fault::Refused(EngineFault::NotDrained)),
+    }
+}
+
+/// Seals the log, where it was not sealed.
+fn seal<E: Events>(events: &mut E) -> Result<(), EngineFault> {
+    match events.status().state {
+        State::Following | State::Refusing { .. } => {
+            events.seal()?;
+            events.ctl_sync()?;
+            Ok(())
+        }
+        _ => Ok(()),
+    }
+}
+
+/// Holds each record of the log's tail.
+fn undo_all<E: Events>(events: &mut E) -> Result<(), EngineFault> {
+    for _ in 0..u64::MAX {
+        match events.undo_one() {
+            Ok(_) => {}
+            Err(EngineFault::NothingToDo) => return Ok(()),
+            Err(fault) => return Err(fault),
+        }
+    }
+    Err(EngineFault::LogFull)
+}
+
+/// Ends the takeover, where it was not ended.
+fn finish<E: Events>(events: &mut E) -> Result<(), EngineFault> {
+    match events.status().state {
+        State::Primary => Ok(()),
+        _ => {
+            events.finish()?;
+            events.ctl_sync()?;
+            Ok(())
+        }
+    }
+}
