@@ -3,7 +3,8 @@ ghost use Rattle.als_cli.specs.Status.{status_of};
 ghost use Rattle.als_cli.specs.declared.failure.Failure.TheVariants.{Memory};
 
 use als_fault::FaultKind;
-use als_operate::Fault;
+use als_inspect::Fault as InspectFault;
+use als_operate::Fault as OperateFault;
 use std::alloc::{AllocError, AllocFailed};
 use std::io;
 use std::io::{ErrorKind, Write};
@@ -18,6 +19,9 @@ pub enum Failure {
     /// The line of this number, counted from 1, is none of the script language, or it is missing.
     #[error("line {0}: bad line")]
     BadLine(u64),
+    /// A log text would go to a terminal.
+    #[error("als: a log text is bytes, which no terminal shows: write it to a file, or ask for --hex")]
+    BytesOnTerminal,
     /// A growth was refused.
     #[error("als: refused {kind}", kind = FaultKind::Memory)]
     Memory,
@@ -26,7 +30,7 @@ pub enum Failure {
     Stream,
     /// A command is refused, or standard input fails or is too long.
     #[error("als: refused {0}")]
-    Refused(Fault),
+    Refused(FaultKind),
 }
 
 impl Failure {
@@ -35,7 +39,7 @@ impl Failure {
         ensures { result ≡ status_of self.now }
     {
         match self {
-            Failure::Usage(_) | Failure::BadLine(_) => 2,
+            Failure::Usage(_) | Failure::BadLine(_) | Failure::BytesOnTerminal => 2,
             Failure::Memory | Failure::Stream | Failure::Refused(_) => 3,
         }
     }
@@ -78,9 +82,15 @@ impl From<io::Error> for Failure {
     }
 }
 
-impl From<Fault> for Failure {
-    fn from(fault: Fault) -> Failure {
-        Failure::Refused(fault)
+impl From<OperateFault> for Failure {
+    fn from(fault: OperateFault) -> Failure {
+        Failure::Refused(fault.kind())
+    }
+}
+
+impl From<InspectFault> for Failure {
+    fn from(fault: InspectFault) -> Failure {
+        Failure::Refused(fault.kind())
     }
 }
 

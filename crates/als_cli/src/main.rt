@@ -1,6 +1,10 @@
 //! The program `als`: it makes log texts, and runs scripts on a standby.
 #![tactic(auto)]
 
+// Which streams are terminals.
+mod terminals;
+// What the program says beside what it answers.
+mod remarks;
 // All of the program, over any streams.
 mod program;
 // What the command line asks for.
@@ -15,13 +19,23 @@ mod sim;
 mod tests;
 
 use failure::Failure;
-use program::program;
+use program::program_on;
 use std::env;
+use std::io::IsTerminal;
 use std::process::ExitCode;
+use terminals::Terminals;
 
 fn main(rt: HostRuntime) -> ExitCode {
     let status = match words(&rt) {
-        Ok(words) => program(&rt, words.as_slice(), rt.stdin(), rt.stdout(), rt.stderr()),
+        Ok(words) => {
+            let terminals = Terminals {
+                input: rt.stdin().is_terminal(),
+                output: rt.stdout().is_terminal(),
+                errors: rt.stderr().is_terminal(),
+            };
+            let words = words.as_slice();
+            program_on(&rt, terminals, words, rt.stdin(), rt.stdout(), rt.stderr())
+        }
         Err(failure) => failure.report(&mut rt.stderr()),
     };
     ExitCode::from(status)

@@ -14,10 +14,6 @@ mod printing;
 mod refusal_line;
 // What is there, as text.
 mod showing;
-// A held record as text.
-mod shown_record;
-// A held image as text.
-mod shown_image;
 
 use crate::failure::Failure;
 use als_script::{is_command, line_number, number_past};
@@ -27,7 +23,7 @@ use std::io::Write;
 use std::str;
 
 /// The exit status of a script whose world was refused.
-const REFUSED: u8 = 3;
+pub const REFUSED: u8 = 3;
 
 /// `als sim`: runs a script, and answers the exit status. A bad line ends it; what came before has been written.
 pub fn sim<W: Write>(alloc: Global, script: &[u8], output: &mut W) -> Result<u8, Failure> {

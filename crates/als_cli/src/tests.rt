@@ -20,9 +20,15 @@ mod judging;
 mod taking_over;
 // Checkpoints.
 mod checkpointing;
+// Crashes and restarts.
+mod restarting;
+// Takeovers that crash.
+mod crashing;
 // The scripts of the folder of examples.
 mod examples;
 // `als ship`.
 mod shipping;
+// `als standby`, `als takeover`, `als verify` and `als dump`.
+mod following;
 // Requests that want memory.
 mod memory;

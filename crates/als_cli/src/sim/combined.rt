@@ -1,7 +1,8 @@
 use super::disk::Disk;
-use super::stepping::one_step;
-use als_engine::{Fault, Reply, State, Step, World};
+use super::stepping::{end_of, one_event};
+use als_engine::{Fault, Reply, State, Step};
 use als_record::BLOCK_LEN;
+use als_world::World;
 use std::alloc::Global;
 
 /// Makes all that is held certain to survive a crash: writes and syncs the log, and then the control block. Answers what is
@@ -12,7 +13,7 @@ pub fn force(alloc: Global, world: World<Disk>) -> (World<Disk>, Reply) {
         if is_refusal(&reply) {
             break;
         }
-        let (after, answer) = one_step(alloc, world, step);
+        let (after, answer) = one_event(alloc, world, step);
         world = after;
         reply = answer;
     }
@@ -23,8 +24,8 @@ pub fn force(alloc: Global, world: World<Disk>) -> (World<Disk>, Reply) {
 fn write_log(alloc: Global, world: World<Disk>) -> (World<Disk>, Reply) {
     let mut world = world;
     // There is no block past that of the log's end.
-    for _ in 0..=world.engine().status().end.0 / BLOCK_LEN as u64 {
-        let (after, reply) = one_step(alloc, world, Step::LogWrite);
+    for _ in 0..=end_of(&world).0 / BLOCK_LEN as u64 {
+        let (after, reply) = one_event(alloc, world, Step::LogWrite);
         world = after;
         if reply != Reply::Done {
             return (world, reply);
@@ -34,12 +35,16 @@ fn write_log(alloc: Global, world: World<Disk>) -> (World<Disk>, Reply) {
 }
 
 /// Redoes each page that has pending changes, in rising order, and again until nothing is pending. Answers the first
-/// refusal that is not passed over, after which it stops.
+/// refusal that is not passed over, after which it stops: Stopped while the world is down.
 pub fn drain(alloc: Global, world: World<Disk>) -> (World<Disk>, Reply) {
+    let Some(engine) = world.engine() else {
+        return (world, Reply::Refused(Fault::Stopped));
+    };
+    let pending = engine.status().pending;
     let mut world = world;
     // Each round takes one change at least.
-    for _ in 0..world.engine().status().pending {
-        if world.engine().next_pending(0).is_none() {
+    for _ in 0..pending {
+        if next_pending(&world, 0).is_none() {
             break;
         }
         let (after, reply) = redo_each(alloc, world);
@@ -55,11 +60,11 @@ pub fn drain(alloc: Global, world: World<Disk>) -> (World<Disk>, Reply) {
 fn redo_each(alloc: Global, world: World<Disk>) -> (World<Disk>, Reply) {
     let mut world = world;
     let mut from = 0;
-    for _ in 0..world.engine().pages() {
-        let Some(page) = world.engine().next_pending(from) else {
+    for _ in 0..world.config().pages {
+        let Some(page) = next_pending(&world, from) else {
             break;
         };
-        let (after, reply) = one_step(alloc, world, Step::Apply(page));
+        let (after, reply) = one_event(alloc, world, Step::Apply(page));
         world = after;
         if is_refusal(&reply) {
             return (world, reply);
@@ -69,10 +74,16 @@ fn redo_each(alloc: Global, world: World<Disk>) -> (World<Disk>, Reply) {
     (world, Reply::Done)
 }
 
+/// The first page from there on with pending changes.
+fn next_pending(world: &World<Disk>, from: u32) -> Option<u32> {
+    world.engine()?.next_pending(from)
+}
+
 /// A part of a takeover.
 #[derive(Clone, Copy)]
 enum Part {
     Drain,
+    Ready,
     Force,
     Seal,
     Undo,
@@ -80,8 +91,9 @@ enum Part {
 }
 
 /// The parts of a takeover, in order.
-const PARTS: [Part; 7] = [
+const PARTS: [Part; 8] = [
     Part::Drain,
+    Part::Ready,
     Part::Force,
     Part::Seal,
     Part::Undo,
@@ -91,7 +103,7 @@ const PARTS: [Part; 7] = [
 ];
 
 /// Takes over: seals the log once all of it is stable, undoes what was not committed, and ends the takeover once that is stable
-/// and redone. Answers the first refusal that is not passed over, after which it stops.
+/// and redone. A standby that is recovering is made ready first. Answers the first refusal that is not passed over, after which it stops.
 pub fn takeover(alloc: Global, world: World<Disk>) -> (World<Disk>, Reply) {
     let mut world = world;
     for part in PARTS {
@@ -108,6 +120,7 @@ pub fn takeover(alloc: Global, world: World<Disk>) -> (World<Disk>, Reply) {
 fn do_part(alloc: Global, world: World<Disk>, part: Part) -> (World<Disk>, Reply) {
     match part {
         Part::Drain => drain(alloc, world),
+        Part::Ready => ready(alloc, world),
         Part::Force => force(alloc, world),
         Part::Seal => seal(alloc, world),
         Part::Undo => undo(alloc, world),
@@ -115,10 +128,28 @@ fn do_part(alloc: Global, world: World<Disk>, part: Part) -> (World<Disk>, Reply
     }
 }
 
+/// What the standby is doing; Stopped also while the world is down.
+fn state(world: &World<Disk>) -> State {
+    match world.engine() {
+        Some(engine) => engine.status().state,
+        None => State::Stopped,
+    }
+}
+
+/// Ends the recovery, where it was not ended.
+fn ready(alloc: Global, world: World<Disk>) -> (World<Disk>, Reply) {
+    match state(&world) {
+        State::Recovering => one_event(alloc, world, Step::Ready),
+        _ => (world, Reply::Done),
+    }
+}
+
 /// Seals the log, where it was not sealed.
 fn seal(alloc: Global, world: World<Disk>) -> (World<Disk>, Reply) {
-    match world.engine().status().state {
-        State::Following | State::Refusing { .. } => step_and_sync(alloc, world, Step::Seal),
+    match state(&world) {
+        State::Recovering | State::Following | State::Refusing { .. } => {
+            step_and_sync(alloc, world, Step::Seal)
+        }
         State::Sealed | State::Primary | State::Stopped => (world, Reply::Done),
     }
 }
@@ -127,8 +158,8 @@ fn seal(alloc: Global, world: World<Disk>) -> (World<Disk>, Reply) {
 fn undo(alloc: Global, world: World<Disk>) -> (World<Disk>, Reply) {
     let mut world = world;
     // A tail has at most two records for each one of the log, and each of these takes 28 bytes and more.
-    for _ in 0..world.engine().status().end.0 {
-        let (after, reply) = one_step(alloc, world, Step::UndoOne);
+    for _ in 0..end_of(&world).0 {
+        let (after, reply) = one_event(alloc, world, Step::UndoOne);
         world = after;
         match reply {
             Reply::Undone(_) => {}
@@ -140,7 +171,7 @@ fn undo(alloc: Global, world: World<Disk>) -> (World<Disk>, Reply) {
 
 /// Ends the takeover, where it was not ended.
 fn finish(alloc: Global, world: World<Disk>) -> (World<Disk>, Reply) {
-    match world.engine().status().state {
+    match state(&world) {
         State::Primary => (world, Reply::Done),
         _ => step_and_sync(alloc, world, Step::Finish),
     }
@@ -148,11 +179,11 @@ fn finish(alloc: Global, world: World<Disk>) -> (World<Disk>, Reply) {
 
 /// A step that writes the control block, and the sync of it.
 fn step_and_sync(alloc: Global, world: World<Disk>, step: Step) -> (World<Disk>, Reply) {
-    let (world, reply) = one_step(alloc, world, step);
+    let (world, reply) = one_event(alloc, world, step);
     if is_refusal(&reply) {
         return (world, reply);
     }
-    one_step(alloc, world, Step::ControlSync)
+    one_event(alloc, world, Step::ControlSync)
 }
 
 /// Whether a reply ends a combined line: a step that had nothing to do is passed over.

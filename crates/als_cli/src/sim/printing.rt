@@ -1,6 +1,8 @@
 use super::refusal_line::RefusalLine;
 use als_engine::{Fault, Fed, FeedFault, Reply};
 use als_record::Lsn;
+use als_script::ShownImage;
+use als_world::WorldReply;
 use std::io;
 use std::io::Write;
 
@@ -33,6 +35,19 @@ pub fn taken_over<W: Write>(output: &mut W, reply: &Reply, end: Lsn) -> io::Resu
     match reply {
         Reply::Refused(fault) => refused(output, *fault),
         _ => writeln!(output, "ok end={}", end.0),
+    }
+}
+
+/// The line of a crash or of a read.
+pub fn world_reply<W: Write>(output: &mut W, reply: &WorldReply) -> io::Result<()> {
+    match reply {
+        WorldReply::Restarted(end) => writeln!(output, "ok end={}", end.0),
+        WorldReply::Answered(answer) => {
+            let (value, lsn) = (ShownImage(&answer.value), answer.lsn.0);
+            writeln!(output, "ok {value} commits={} lsn={lsn}", answer.commits)
+        }
+        WorldReply::Refused(fault) => refused(output, *fault),
+        WorldReply::Event(_) => Ok(()), // No crash and no read is answered so.
     }
 }
 

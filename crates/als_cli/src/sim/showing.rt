@@ -1,10 +1,11 @@
 use super::disk::Disk;
-use super::shown_image::ShownImage;
-use super::shown_record::ShownRecord;
+use super::stepping::end_of;
 use als_analysis::OpenTransaction;
-use als_engine::{Engine, Fault, State, Status, World};
+use als_engine::{Engine, Fault, State, Status};
 use als_page::Page;
 use als_record::{FIRST_LSN, Lsn, SLOT_COUNT, TransactionState, encoded_len};
+use als_script::{ShownImage, ShownRecord};
+use als_world::World;
 use std::alloc::{AllocError, Global};
 use std::io;
 use std::io::Write;
@@ -29,6 +30,7 @@ pub fn status<W: Write>(output: &mut W, engine: &Engine<Disk>) -> io::Result<()>
 /// The state's name as scripts see it.
 fn state_name(state: State) -> &'static str {
     match state {
+        State::Recovering => "Recovering",
         State::Following => "Following",
         State::Refusing { .. } => "Refusing",
         State::Sealed => "Sealed",
@@ -71,12 +73,11 @@ pub fn dirty<W: Write>(output: &mut W, engine: &Engine<Disk>) -> io::Result<()> 
     Ok(())
 }
 
-/// `show page`, of a page that there is. It is gathered, so that a refusal stands alone. Device: a read failed. Memory: a growth
-/// was refused.
+/// `show page`, of a page that there is. It is gathered, so that a refusal stands alone. Stopped: the world is down. Device: a read
+/// failed. Memory: a growth was refused.
 pub fn page(alloc: Global, world: &mut World<Disk>, number: u32) -> Result<String, Fault> {
     let mut listing = String::new(alloc);
-    if number < world.engine().pages() {
-        let page = world.page_now(number)?;
+    if let Some(page) = world.page_now(number)? {
         writeln!(listing, "page {number} lsn={}", page.lsn().0)?;
         present(&mut listing, number, &page)?;
     }
@@ -86,11 +87,13 @@ pub fn page(alloc: Global, world: &mut World<Disk>, number: u32) -> Result<Strin
 /// `show db`, gathered in the same way.
 pub fn database(alloc: Global, world: &mut World<Disk>) -> Result<String, Fault> {
     let mut listing = String::new(alloc);
-    for number in 0..world.engine().pages() {
-        if number < world.engine().pages() {
-            let page = world.page_now(number)?;
-            present(&mut listing, number, &page)?;
-        }
+    let mut number = 0;
+    for _ in 0..world.config().pages {
+        let Some(page) = world.page_now(number)? else {
+            break;
+        };
+        present(&mut listing, number, &page)?;
+        number = number.saturating_add(1);
     }
     if listing.is_empty() {
         listing.push_str("empty\n")?;
@@ -109,13 +112,13 @@ fn present(listing: &mut String, number: u32, page: &Page) -> Result<(), AllocEr
     Ok(())
 }
 
-/// `show log`: the records from an LSN on. They are gathered, so that a refusal stands alone. Device: a read failed. Memory: a
-/// growth was refused.
+/// `show log`: the records from an LSN on. They are gathered, so that a refusal stands alone. Stopped: the world is down. Device: a read
+/// failed. Memory: a growth was refused.
 pub fn log(alloc: Global, world: &mut World<Disk>, from: u64) -> Result<String, Fault> {
     let mut listing = String::new(alloc);
     let mut at = FIRST_LSN.0;
     // Each record begins at a byte of its own.
-    for _ in FIRST_LSN.0..world.engine().status().end.0 {
+    for _ in FIRST_LSN.0..end_of(world).0 {
         let Some(logged) = world.record_at(Lsn(at))? else {
             break;
         };

@@ -1,10 +1,12 @@
 use super::disk::Disk;
 use super::fuses::Fuses;
-use super::stepping::{one_step, step_of};
+use super::stepping::{end_of, one_event, one_step, step_of};
 use super::{combined, printing, showing};
 use crate::failure::Failure;
-use als_engine::{Config, Disks, Engine, Fault, World};
-use als_script::{CombinedLine, Line, LogText, ShowLine, StepLine, WorldLine};
+use als_engine::{CONTROL_BLOCKS, Config, Disks, Engine, Fault};
+use als_record::Key;
+use als_script::{CombinedLine, CrashLine, Line, LogText, ReadLine, ShowLine, StepLine, WorldLine};
+use als_world::{World, WorldStep};
 use std::alloc::Global;
 use std::io;
 use std::io::Write;
@@ -18,6 +20,8 @@ pub struct Simulation {
     world: World<Disk>,
     fuses: Fuses,
     text: LogText,
+    /// Blocks of the three devices together.
+    blocks: u64,
 }
 
 // Written out: a derived drop is proved part by part wherever a value is let go of, this one only here.
@@ -28,6 +32,7 @@ impl Drop for Simulation {
             world,
             fuses,
             text,
+            blocks: _,
         } = self;
         drop(world);
         drop(fuses);
@@ -45,15 +50,21 @@ impl Simulation {
         let line = WorldLine::parse(line).ok_or(Failure::BadLine(number))?;
         let fuses = Fuses::new(alloc)?;
         let disks = fuses.devices(alloc, &line)?;
-        match engine(alloc, line, disks) {
+        let blocks = line
+            .log
+            .saturating_add(CONTROL_BLOCKS)
+            .saturating_add(line.pages);
+        let config = config(line);
+        match engine(alloc, line, disks, config) {
             Ok(engine) => {
                 let text = LogText::new(alloc, engine.pages())?;
-                let world = World::new(engine);
+                let world = World::new(engine, config);
                 Ok(Ok(Simulation {
                     alloc,
                     world,
                     fuses,
                     text,
+                    blocks,
                 }))
             }
             Err(fault) => Ok(Err(fault)),
@@ -71,6 +82,8 @@ impl Simulation {
         match Line::parse(line).ok_or(Failure::BadLine(number))? {
             Line::Record(record) => simulation.text.push(&record)?,
             Line::Step(step) => return simulation.step(number, step, output),
+            Line::Read(read) => return simulation.read(read, output),
+            Line::Crash(crash) => return simulation.crash(crash, output),
             Line::Combined(combined) => return simulation.combined(combined, output),
             Line::Fail(fail) => {
                 simulation.fuses.set(fail);
@@ -92,15 +105,60 @@ impl Simulation {
             world,
             fuses,
             text,
+            blocks,
         } = self;
         let step = step_of(line, text.bytes()).ok_or(Failure::BadLine(number))?;
-        let (world, reply) = one_step(alloc, world, step);
-        printing::reply(output, &reply, world.engine().status().end)?;
+        let (world, reply) = one_event(alloc, world, step);
+        printing::reply(output, &reply, end_of(&world))?;
         Ok(Simulation {
             alloc,
             world,
             fuses,
             text,
+            blocks,
+        })
+    }
+
+    fn read<W: Write>(self, line: ReadLine, output: &mut W) -> Result<Simulation, Failure> {
+        let Simulation {
+            alloc,
+            world,
+            fuses,
+            text,
+            blocks,
+        } = self;
+        let key = Key {
+            page: line.page,
+            slot: line.slot,
+        };
+        let (world, reply) = one_step(alloc, world, WorldStep::Read(key));
+        printing::world_reply(output, &reply)?;
+        Ok(Simulation {
+            alloc,
+            world,
+            fuses,
+            text,
+            blocks,
+        })
+    }
+
+    fn crash<W: Write>(self, line: CrashLine, output: &mut W) -> Result<Simulation, Failure> {
+        let Simulation {
+            alloc,
+            world,
+            fuses,
+            text,
+            blocks,
+        } = self;
+        let picks = line.picks(alloc, blocks as usize)?;
+        let (world, reply) = one_step(alloc, world, WorldStep::Crash(picks.as_slice()));
+        printing::world_reply(output, &reply)?;
+        Ok(Simulation {
+            alloc,
+            world,
+            fuses,
+            text,
+            blocks,
         })
     }
 
@@ -110,13 +168,14 @@ impl Simulation {
             world,
             fuses,
             text,
+            blocks,
         } = self;
         let (world, reply) = match line {
             CombinedLine::Drain => combined::drain(alloc, world),
             CombinedLine::Force => combined::force(alloc, world),
             CombinedLine::Takeover => combined::takeover(alloc, world),
         };
-        let end = world.engine().status().end;
+        let end = end_of(&world);
         match line {
             CombinedLine::Takeover => printing::taken_over(output, &reply, end)?,
             CombinedLine::Drain | CombinedLine::Force => printing::reply(output, &reply, end)?,
@@ -126,6 +185,7 @@ impl Simulation {
             world,
             fuses,
             text,
+            blocks,
         })
     }
 
@@ -140,25 +200,32 @@ impl Simulation {
             mut world,
             fuses,
             text,
+            blocks,
         } = self;
-        match line {
-            ShowLine::Status => showing::status(output, world.engine())?,
-            ShowLine::Table => showing::table(output, world.engine().table())?,
-            ShowLine::Dirty => showing::dirty(output, world.engine())?,
-            ShowLine::Page { page } => {
-                if page >= world.engine().pages() {
-                    return Err(Failure::BadLine(number));
-                }
-                listed(output, showing::page(alloc, &mut world, page))?;
+        if let ShowLine::Page { page } = line {
+            if u64::from(page) >= world.config().pages {
+                return Err(Failure::BadLine(number));
             }
-            ShowLine::Database => listed(output, showing::database(alloc, &mut world))?,
-            ShowLine::Log { from } => listed(output, showing::log(alloc, &mut world, from))?,
+        }
+        match world.engine() {
+            None => printing::refused(output, Fault::Stopped)?,
+            Some(engine) => match line {
+                ShowLine::Status => showing::status(output, engine)?,
+                ShowLine::Table => showing::table(output, engine.table())?,
+                ShowLine::Dirty => showing::dirty(output, engine)?,
+                ShowLine::Page { page } => {
+                    listed(output, showing::page(alloc, &mut world, page))?
+                }
+                ShowLine::Database => listed(output, showing::database(alloc, &mut world))?,
+                ShowLine::Log { from } => listed(output, showing::log(alloc, &mut world, from))?,
+            },
         }
         Ok(Simulation {
             alloc,
             world,
             fuses,
             text,
+            blocks,
         })
     }
 }
@@ -171,17 +238,26 @@ fn listed<W: Write>(output: &mut W, listing: Result<String, Fault>) -> io::Resul
     }
 }
 
-/// The standby of a world line, over devices that it formats. The number of slots, which only threads have, is judged here.
-fn engine(alloc: Global, line: WorldLine, disks: Disks<Disk>) -> Result<Engine<Disk>, Fault> {
-    if !(1..=WORKER_LIMIT).contains(&line.workers) {
-        return Err(Fault::BadConfig);
-    }
-    let config = Config {
+/// With what the standby of a world line is made.
+fn config(line: WorldLine) -> Config {
+    Config {
         pages: line.pages,
         frames: line.frames,
         pending: line.pending,
         readers: 1,
-    };
+    }
+}
+
+/// The standby of a world line, over devices that it formats. The number of slots, which only threads have, is judged here.
+fn engine(
+    alloc: Global,
+    line: WorldLine,
+    disks: Disks<Disk>,
+    config: Config,
+) -> Result<Engine<Disk>, Fault> {
+    if !(1..=WORKER_LIMIT).contains(&line.workers) {
+        return Err(Fault::BadConfig);
+    }
     match Engine::format(alloc, disks, config) {
         Ok(engine) => Ok(engine),
         Err(refused) => Err(refused.fault),

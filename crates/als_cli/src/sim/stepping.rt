@@ -1,9 +1,11 @@
 use super::disk::Disk;
-use als_engine::{Fault, FeedFault, Reply, Step, World, run};
+use als_engine::{Fault, FeedFault, Reply, Step};
+use als_record::Lsn;
 use als_script::StepLine;
+use als_world::{World, WorldReply, WorldStep, run};
 use std::alloc::Global;
 
-/// The step of a line; None where it names bytes that the text has not.
+/// The event of a line; None where it names bytes that the text has not.
 pub fn step_of(line: StepLine, text: &[u8]) -> Option<Step<'_>> {
     Some(match line {
         StepLine::Feed { from, to } => {
@@ -22,6 +24,8 @@ pub fn step_of(line: StepLine, text: &[u8]) -> Option<Step<'_>> {
         StepLine::CkptBegin => Step::CkptBegin,
         StepLine::CkptBlock => Step::CkptBlock,
         StepLine::CkptPublish => Step::CkptPublish,
+        StepLine::PublishView => Step::PublishView,
+        StepLine::Ready => Step::Ready,
         StepLine::Seal => Step::Seal,
         StepLine::UndoOne => Step::UndoOne,
         StepLine::Finish => Step::Finish,
@@ -29,18 +33,44 @@ pub fn step_of(line: StepLine, text: &[u8]) -> Option<Step<'_>> {
 }
 
 /// Runs one step. Where there is no memory for its reply nothing is run, and the step counts as refused.
-pub fn one_step(alloc: Global, world: World<Disk>, step: Step) -> (World<Disk>, Reply) {
-    let refused = match &step {
+pub fn one_step(alloc: Global, world: World<Disk>, step: WorldStep) -> (World<Disk>, WorldReply) {
+    let steps = [step];
+    match run(alloc, world, &steps) {
+        Ok((world, mut replies)) => {
+            let reply = replies.pop();
+            (world, reply.unwrap_or(WorldReply::Refused(Fault::Memory)))
+        }
+        Err(world) => (world, WorldReply::Refused(Fault::Memory)),
+    }
+}
+
+/// Runs one event. A world that is down refuses it.
+pub fn one_event(alloc: Global, world: World<Disk>, event: Step) -> (World<Disk>, Reply) {
+    let (world, reply) = one_step(alloc, world, WorldStep::Event(event));
+    let reply = match reply {
+        WorldReply::Event(reply) => reply,
+        WorldReply::Refused(fault) => refused(&event, fault),
+        WorldReply::Restarted(_) | WorldReply::Answered(_) => Reply::Done, // No event is answered so.
+    };
+    (world, reply)
+}
+
+/// An event's reply where nothing of it was done.
+fn refused(event: &Step, fault: Fault) -> Reply {
+    match event {
         Step::Feed(_) => Reply::FeedRefused(FeedFault {
             taken: 0,
             records: 0,
-            fault: Fault::Memory,
+            fault,
         }),
-        _ => Reply::Refused(Fault::Memory),
-    };
-    let steps = [step];
-    match run(alloc, world, &steps) {
-        Ok((world, mut replies)) => (world, replies.pop().unwrap_or(refused)),
-        Err(world) => (world, refused),
+        _ => Reply::Refused(fault),
+    }
+}
+
+/// Where the held log ends; 0 while the world is down.
+pub fn end_of(world: &World<Disk>) -> Lsn {
+    match world.engine() {
+        Some(engine) => engine.status().end,
+        None => Lsn(0),
     }
 }

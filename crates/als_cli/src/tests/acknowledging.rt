@@ -1,4 +1,5 @@
 use super::row::{Row, WORLD, run_row, run_scripts};
+use std::fs::File;
 use std::net::Net;
 use std::process::Abort;
 use std::rt::Files;
@@ -91,7 +92,7 @@ fn devices_are_written(rt: HostRuntime) {
 }
 
 /// Records that only the log device has are read from it; a read that fails is refused alone, and changes nothing.
-fn reads_fail<R: Abort + AllocGlobal + Files + Net>(rt: &R) -> Option<()> {
+fn reads_fail<R: Abort + AllocGlobal + Files<File = File> + Net>(rt: &R) -> Option<()> {
     let mut script = String::from_str(rt.alloc(), WORLD).ok()?;
     for trans in 1..21 {
         writeln!(script, "rollback {trans}").ok()?;

@@ -1,4 +1,5 @@
 use crate::program::program;
+use std::fs::File;
 use std::net::Net;
 use std::process::Abort;
 use std::rt::Files;
@@ -51,14 +52,14 @@ fn faults_are_told(rt: HostRuntime) {
     )
 }
 
-fn asks<R: Abort + AllocGlobal + Files + Net>(rt: &R, words: &[&str], part: &str) {
+fn asks<R: Abort + AllocGlobal + Files<File = File> + Net>(rt: &R, words: &[&str], part: &str) {
     assert!(rt;
         answers(rt, words, 0, part) || answers(rt, words, 0, part),
         "{part}"
     );
 }
 
-fn errs<R: Abort + AllocGlobal + Files + Net>(rt: &R, words: &[&str], part: &str) {
+fn errs<R: Abort + AllocGlobal + Files<File = File> + Net>(rt: &R, words: &[&str], part: &str) {
     assert!(rt;
         answers(rt, words, 2, part) || answers(rt, words, 2, part),
         "{part}"
@@ -67,7 +68,12 @@ fn errs<R: Abort + AllocGlobal + Files + Net>(rt: &R, words: &[&str], part: &str
 
 /// Whether a run without input ends with this status and writes one text, with this part in it: to standard output where
 /// it ends well, else to standard error.
-fn answers<R: AllocGlobal + Files + Net>(rt: &R, words: &[&str], wanted: u8, part: &str) -> bool {
+fn answers<R: AllocGlobal + Files<File = File> + Net>(
+    rt: &R,
+    words: &[&str],
+    wanted: u8,
+    part: &str,
+) -> bool {
     let mut output = Vec::new(rt.alloc());
     let mut errors = Vec::new(rt.alloc());
     let status = program(rt, words, std::io::empty(), &mut output, &mut errors);

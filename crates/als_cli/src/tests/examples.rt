@@ -1,7 +1,7 @@
 use super::row::run_scripts;
 
 /// The scripts of the folder of examples, with what they print.
-const EXAMPLES: [(&str, &str); 3] = [
+const EXAMPLES: [(&str, &str); 4] = [
     // `acknowledge.als`
     (
         "# What is acknowledged, when a page may be written, and what a failing device does.
@@ -92,6 +92,50 @@ trans 2 active last=52 undo=52
 ok
 0/0 11
 0/1 22
+",
+    ),
+    // `restart.als`
+    (
+        "# A crash, a restart, and a takeover. Records stand at 16, 52, 80 and 108; the last transaction never commits.
+world pages=4 log=8 frames=4 workers=2 pending=1000
+u 1 0 0 - aa
+commit 1
+end 1
+u 2 0 1 - bb
+feed 16 108
+force
+feed 108 144
+drain
+# The page has a change that is not acknowledged, so it may not be written.
+flush 0
+# Each block keeps the oldest content that a crash may leave. The log ends at what was acknowledged.
+crash old
+show status
+# While it recovers, nothing is fed.
+feed 108 144
+drain
+ready
+feed 108 144
+takeover
+show log 108
+show db
+",
+        "ok taken=92 records=3 end=108
+ok ack=108
+ok taken=36 records=1 end=144
+ok
+refused 22 LogBehind
+ok end=108
+state=Recovering end=108 ack=108 pending=1 leases=0
+refused 20 Recovering taken=0 records=0 end=108
+ok
+ok
+ok taken=36 records=1 end=144
+ok end=214
+108 update trans=2 0/1 - bb prev=0
+144 clr trans=2 0/1 - prev=108 next=0
+186 end trans=2 prev=144
+0/0 aa
 ",
     ),
     // `takeover.als`

@@ -1,4 +1,5 @@
 use super::row::{Row, WORLD, run_row, run_scripts};
+use std::fs::File;
 use std::net::Net;
 use std::process::Abort;
 use std::rt::Files;
@@ -100,7 +101,7 @@ fn records_are_judged(rt: HostRuntime) {
 }
 
 /// More than 256 transactions at once.
-fn limits_transactions<R: Abort + AllocGlobal + Files + Net>(rt: &R) -> Option<()> {
+fn limits_transactions<R: Abort + AllocGlobal + Files<File = File> + Net>(rt: &R) -> Option<()> {
     let (world, _) = WIDE;
     let mut script = String::from_str(rt.alloc(), world).ok()?;
     for trans in 1..258 {

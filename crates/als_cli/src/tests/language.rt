@@ -1,5 +1,6 @@
 use super::row::{Row, WORLD, run_row};
 use crate::program::program;
+use std::fs::File;
 use std::net::Net;
 use std::process::Abort;
 use std::rt::Files;
@@ -33,7 +34,7 @@ const REFUSED_WORLDS: [&str; 11] = [
 ];
 
 /// Lines that are none of the language.
-const BAD_LINES: [&str; 60] = [
+const BAD_LINES: [&str; 72] = [
     " ",
     "nothing",
     "COMMIT 1",
@@ -89,6 +90,18 @@ const BAD_LINES: [&str; 60] = [
     "fail log 1 1",
     "fail log 18446744073709551616",
     "fail disk 1",
+    "crash",
+    "crash ",
+    "crash 256",
+    "crash 1 new",
+    "crash old 1",
+    "crash 1  1",
+    "ready 0",
+    "publish 1",
+    "read 0",
+    "read 0 256",
+    "read 4294967296 0",
+    "read 0 0 0",
     "show",
     "show page",
     "show page 4",
@@ -96,7 +109,7 @@ const BAD_LINES: [&str; 60] = [
     "world pages=4 log=8 frames=4 workers=2 pending=1000",
 ];
 
-fn tells_bad_worlds<R: Abort + AllocGlobal + Files + Net>(rt: &R) -> Option<()> {
+fn tells_bad_worlds<R: Abort + AllocGlobal + Files<File = File> + Net>(rt: &R) -> Option<()> {
     for line in BAD_WORLDS {
         let script = format!(in rt.alloc(); "#\n{line}\n").ok()?;
         run_row(
@@ -112,7 +125,7 @@ fn sim_tells_bad_worlds(rt: HostRuntime) {
     assert!(rt; tells_bad_worlds(&rt).is_some() || tells_bad_worlds(&rt).is_some());
 }
 
-fn tells_bad_lines<R: Abort + AllocGlobal + Files + Net>(rt: &R) -> Option<()> {
+fn tells_bad_lines<R: Abort + AllocGlobal + Files<File = File> + Net>(rt: &R) -> Option<()> {
     for line in BAD_LINES {
         let script = format!(in rt.alloc(); "{WORLD}feed 16 16\n{line}\nfeed 16 16\n").ok()?;
         let output = "ok taken=0 records=0 end=16\n";
@@ -130,7 +143,7 @@ fn sim_tells_bad_lines(rt: HostRuntime) {
 }
 
 /// Empty lines and comments are passed over and counted; a missing first line would come behind the last.
-fn counts_lines<R: Abort + AllocGlobal + Files + Net>(rt: &R) -> Option<()> {
+fn counts_lines<R: Abort + AllocGlobal + Files<File = File> + Net>(rt: &R) -> Option<()> {
     let bare = "world pages=4 log=8 frames=4 workers=2 pending=1000";
     let zeros =
         "world pages=0004 log=08 frames=4 workers=2 pending=1000\nfeed 0016 000000000000000000000016";
@@ -154,7 +167,7 @@ fn sim_counts_lines(rt: HostRuntime) {
 }
 
 /// A line that is no text is a bad line, also where a comment that is none is passed over.
-fn wants_text<R: Abort + AllocGlobal + Files + Net>(rt: &R) -> Option<()> {
+fn wants_text<R: Abort + AllocGlobal + Files<File = File> + Net>(rt: &R) -> Option<()> {
     let script = b"#\xff\nworld pages=4 log=8 frames=4 workers=2 pending=1000\ncommit 1\xff\n";
     let mut output = Vec::new(rt.alloc());
     let mut errors = Vec::new(rt.alloc());
@@ -172,7 +185,7 @@ fn sim_wants_text(rt: HostRuntime) {
 }
 
 /// A world that is refused ends the script, whatever follows.
-fn refuses_worlds<R: Abort + AllocGlobal + Files + Net>(rt: &R) -> Option<()> {
+fn refuses_worlds<R: Abort + AllocGlobal + Files<File = File> + Net>(rt: &R) -> Option<()> {
     for line in REFUSED_WORLDS {
         let script = format!(in rt.alloc(); "{line}\nx\n").ok()?;
         run_row(

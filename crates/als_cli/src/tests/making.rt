@@ -1,5 +1,6 @@
 use super::row::{Row, run_row};
 use crate::program::program;
+use std::fs::File;
 use std::net::Net;
 use std::process::Abort;
 use std::rt::Files;
@@ -82,7 +83,7 @@ fn make_writes_log_texts(rt: HostRuntime) {
 }
 
 /// A value may have 254 bytes, and no more.
-fn takes_long_values<R: Abort + AllocGlobal + Files + Net>(rt: &R) -> Option<()> {
+fn takes_long_values<R: Abort + AllocGlobal + Files<File = File> + Net>(rt: &R) -> Option<()> {
     let longest = "5a".repeat(rt.alloc(), 254).ok()?;
     let script = format!(in rt.alloc(); "pages 1\nu 1 0 0 {longest} {longest}\n").ok()?;
     let head = "414c534c4f4730310000000100000000
@@ -103,7 +104,7 @@ fn make_takes_long_values(rt: HostRuntime) {
 }
 
 /// Without `--hex` the text itself is written.
-fn writes_bytes<R: Abort + AllocGlobal + Files + Net>(rt: &R) -> Option<()> {
+fn writes_bytes<R: Abort + AllocGlobal + Files<File = File> + Net>(rt: &R) -> Option<()> {
     let mut output = Vec::new(rt.alloc());
     let mut errors = Vec::new(rt.alloc());
     let script = b"pages 258\ncommit 3\n".as_slice();
@@ -122,7 +123,7 @@ fn make_writes_bytes(rt: HostRuntime) {
 }
 
 /// A bad line is told by its number, and nothing is written.
-fn tells_bad_lines<R: Abort + AllocGlobal + Files + Net>(rt: &R) -> Option<()> {
+fn tells_bad_lines<R: Abort + AllocGlobal + Files<File = File> + Net>(rt: &R) -> Option<()> {
     for (lines, number) in BAD {
         let errors = format!(in rt.alloc(); "line {number}: bad line\n").ok()?;
         run_row(rt, Row::make_hex(lines, "").failing(errors.as_str(), 2));

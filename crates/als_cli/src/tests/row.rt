@@ -1,4 +1,5 @@
 use crate::program::program;
+use std::fs::File;
 use std::net::Net;
 use std::process::Abort;
 use std::rt::Files;
@@ -47,7 +48,7 @@ impl<'a> Row<'a> {
 }
 
 /// Whether the program writes and answers what the row says.
-fn is_so<R: AllocGlobal + Files + Net>(rt: &R, row: Row) -> bool {
+fn is_so<R: AllocGlobal + Files<File = File> + Net>(rt: &R, row: Row) -> bool {
     let mut output = Vec::new(rt.alloc());
     let mut errors = Vec::new(rt.alloc());
     let script = row.script.as_bytes();
@@ -59,7 +60,7 @@ fn is_so<R: AllocGlobal + Files + Net>(rt: &R, row: Row) -> bool {
 
 /// Runs a row of a table, and again where its first run does not end so: a growth is refused once at most, so the second
 /// run meets none, and tells what differs.
-pub fn run_row<R: Abort + AllocGlobal + Files + Net>(rt: &R, row: Row) {
+pub fn run_row<R: Abort + AllocGlobal + Files<File = File> + Net>(rt: &R, row: Row) {
     if is_so(rt, row) {
         return;
     }
@@ -78,7 +79,11 @@ pub fn run_row<R: Abort + AllocGlobal + Files + Net>(rt: &R, row: Row) {
 }
 
 /// One text behind the other. A growth that is refused once is met by a second try.
-pub fn joined<R: Abort + AllocGlobal + Files + Net>(rt: &R, front: &str, back: &str) -> String {
+pub fn joined<R: Abort + AllocGlobal + Files<File = File> + Net>(
+    rt: &R,
+    front: &str,
+    back: &str,
+) -> String {
     if let Ok(text) = format!(in rt.alloc(); "{front}{back}") {
         return text;
     }
@@ -90,7 +95,7 @@ pub fn joined<R: Abort + AllocGlobal + Files + Net>(rt: &R, front: &str, back: &
 
 /// Runs scripts that end well, each given by its lines and by what they print. In front of each stand lines that print this
 /// by themselves.
-pub fn run_scripts<R: Abort + AllocGlobal + Files + Net>(
+pub fn run_scripts<R: Abort + AllocGlobal + Files<File = File> + Net>(
     rt: &R,
     front: (&str, &str),
     scripts: &[(&str, &str)],

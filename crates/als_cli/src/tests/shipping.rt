@@ -1,10 +1,11 @@
 use crate::program::program;
+use std::fs::File;
 use std::io;
 use std::net::Net;
 use std::rt::Files;
 
 /// Whether shipping this file is refused so, with nothing on standard output. Standard input is not read.
-fn refuses<R: AllocGlobal + Files + Net>(rt: &R, log: &str, wanted: &str) -> bool {
+fn refuses<R: AllocGlobal + Files<File = File> + Net>(rt: &R, log: &str, wanted: &str) -> bool {
     let mut output = Vec::new(rt.alloc());
     let mut errors = Vec::new(rt.alloc());
     let words = ["als", "ship", "--log", log, "--listen", "127.0.0.1:0"];

@@ -1,4 +1,5 @@
 use super::row::{Row, WORLD, run_row, run_scripts};
+use std::fs::File;
 use std::net::Net;
 use std::process::Abort;
 use std::rt::Files;
@@ -223,7 +224,7 @@ fn scripts_are_run(rt: HostRuntime) {
 }
 
 /// A record is held as soon as its last byte has come, whatever the pieces.
-fn feeds_byte_by_byte<R: Abort + AllocGlobal + Files + Net>(rt: &R) -> Option<()> {
+fn feeds_byte_by_byte<R: Abort + AllocGlobal + Files<File = File> + Net>(rt: &R) -> Option<()> {
     let mut script = format!(in rt.alloc(); "{WORLD}u 1 0 0 - aa\ncommit 1\nend 1\n").ok()?;
     let mut output = String::new(rt.alloc());
     let mut end = 16;
@@ -249,7 +250,7 @@ fn feed_byte_by_byte(rt: HostRuntime) {
 }
 
 /// More changes of a page than one redo takes, and a page that has none.
-fn goes_round<R: Abort + AllocGlobal + Files + Net>(rt: &R) -> Option<()> {
+fn goes_round<R: Abort + AllocGlobal + Files<File = File> + Net>(rt: &R) -> Option<()> {
     let world = "world pages=4 log=32 frames=4 workers=2 pending=1000\n";
     let mut script = format!(in rt.alloc(); "{world}u 1 2 0 - 00\nu 1 1 0 - 00\n").ok()?;
     for _ in 0..130 {
@@ -276,7 +277,7 @@ fn drain_goes_round(rt: HostRuntime) {
 }
 
 /// A piece that is longer than what the engine gives to the receiver at once.
-fn takes_a_long_piece<R: Abort + AllocGlobal + Files + Net>(rt: &R) -> Option<()> {
+fn takes_a_long_piece<R: Abort + AllocGlobal + Files<File = File> + Net>(rt: &R) -> Option<()> {
     let world = "world pages=4 log=400 frames=4 workers=2 pending=5000\n";
     let mut script = format!(in rt.alloc(); "{world}u 1 0 0 - 00\n").ok()?;
     for _ in 0..1900 {

@@ -1,5 +1,6 @@
 use super::row::WORLD;
 use crate::program::program;
+use std::fs::File;
 use std::io;
 use std::io::{Read, Write};
 use std::net::Net;
@@ -54,7 +55,7 @@ impl Read for Broken {
 }
 
 /// The most that standard input may have is read, one byte more is refused, and nothing is run.
-fn limits_input<R: Abort + AllocGlobal + Files + Net>(rt: &R) -> Option<()> {
+fn limits_input<R: Abort + AllocGlobal + Files<File = File> + Net>(rt: &R) -> Option<()> {
     let world = WORLD.as_bytes();
     let fed = "feed 16 16\n".as_bytes();
     let rest = 16_777_216 - 64;
@@ -77,7 +78,7 @@ fn input_has_a_limit(rt: HostRuntime) {
 }
 
 /// A reader that fails, at once or behind a whole script, ends the program before anything is run.
-fn readers_fail<R: Abort + AllocGlobal + Files + Net>(rt: &R) -> Option<()> {
+fn readers_fail<R: Abort + AllocGlobal + Files<File = File> + Net>(rt: &R) -> Option<()> {
     assert!(rt; ran(rt, &["als", "make"], Broken, 3, REFUSED)?.is_empty());
     let script = "pages 4\n".as_bytes().chain(Broken);
     assert!(rt; ran(rt, &["als", "make"], script, 3, REFUSED)?.is_empty());
@@ -103,7 +104,7 @@ fn refuses(status: u8, errors: &[u8]) -> Option<()> {
 }
 
 /// A writer that fails is told, also where the buffer is written out behind a bad line.
-fn writers_fail<R: Abort + AllocGlobal + Files + Net>(rt: &R) -> Option<()> {
+fn writers_fail<R: Abort + AllocGlobal + Files<File = File> + Net>(rt: &R) -> Option<()> {
     let words = ["als", "make"];
     for room in [0, 1, 15] {
         let mut errors = Vec::new(rt.alloc());
@@ -135,7 +136,7 @@ fn writers_may_fail(rt: HostRuntime) {
 }
 
 /// What a run writes, where it ends with this status and this on standard error.
-fn ran<R: AllocGlobal + Files + Net, I: Read + Drop>(
+fn ran<R: AllocGlobal + Files<File = File> + Net, I: Read + Drop>(
     rt: &R,
     words: &[&str],
     input: I,
