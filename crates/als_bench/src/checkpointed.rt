@@ -76,7 +76,7 @@ fn dirty_pages<D: BlockDisk + Drop>(engine: &Engine<D>) -> u64 {
 }
 
 /// Writes each block of the checkpoint that is begun, and answers how many these were.
-fn write_blocks<D: BlockDisk + Drop>(engine: &mut Engine<D>) -> u64 {
+pub fn write_blocks<D: BlockDisk + Drop>(engine: &mut Engine<D>) -> u64 {
     let mut count: u64 = 0;
     for _ in 0..u64::MAX {
         if engine.ckpt_block().is_err() {
@@ -121,7 +121,7 @@ fn take_checkpoint<R: Clock, D: BlockDisk + Drop>(
 }
 
 /// Publishes the checkpoint, and syncs the control block that names it.
-fn publish<D: BlockDisk + Drop>(engine: &mut Engine<D>) -> Result<(), Fault> {
+pub fn publish<D: BlockDisk + Drop>(engine: &mut Engine<D>) -> Result<(), Fault> {
     engine.ckpt_publish()?;
     engine.ctl_sync()?;
     Ok(())

@@ -9,7 +9,7 @@ use std::rt::Files;
 /// The blocks of a control device.
 const CONTROL: u64 = 321;
 
-/// What a standby is made with.
+/// The sizes of a standby.
 #[derive(Clone, Copy)]
 pub struct Size {
     pub pages: u32,
@@ -59,19 +59,23 @@ pub fn in_folder<R: AllocGlobal + Files<File = File>>(
     })
 }
 
+/// What a standby is made with.
+pub fn config(size: Size) -> Config {
+    Config {
+        pages: u64::from(size.pages),
+        frames: u64::from(size.frames),
+        pending: 1_000_000,
+        readers: 1,
+    }
+}
+
 /// A standby over new devices.
 pub fn standby<D: BlockDisk + Drop>(
     alloc: Global,
     disks: Disks<D>,
     size: Size,
 ) -> Result<Engine<D>, Fault> {
-    let config = Config {
-        pages: u64::from(size.pages),
-        frames: u64::from(size.frames),
-        pending: 1_000_000,
-        readers: 1,
-    };
-    match Engine::format(alloc, disks, config) {
+    match Engine::format(alloc, disks, config(size)) {
         Ok(engine) => Ok(engine),
         Err(refused) => Err(refused.fault),
     }

@@ -21,6 +21,12 @@ mod forced;
 mod redone;
 // Checkpoints.
 mod checkpointed;
+// Logs of transactions that do not end.
+mod losers;
+// Takeovers.
+mod taken_over;
+// Restarts.
+mod restarted;
 // What is measured, and how it is told.
 mod measure;
 

@@ -5,6 +5,8 @@ use crate::forced::force_all;
 use crate::primary::{PAGES, Primary};
 use crate::reading::{decode_all, judge_all, judge_pieces, receive_all};
 use crate::redone::redo_all;
+use crate::restarted::restart_all;
+use crate::taken_over::take_over_all;
 use std::fs::File;
 use std::io;
 use std::rt::{Clock, Files};
@@ -32,11 +34,13 @@ pub fn measure_all<R: Print + Clock + AllocGlobal + Files<File = File>>(
         measure_log(rt, text.as_slice())?;
         if open == 16 {
             force_all(rt, text.as_slice(), folder)?;
+            restart_all(rt, text.as_slice())?;
         }
         if open == 256 {
             checkpoint_all(rt, text.as_slice())?;
         }
     }
+    take_over_all(rt)?;
     redo_sizes(rt, bytes, folder)
 }
 

@@ -150,6 +150,18 @@ fn force<D: BlockDisk + Drop>(engine: &mut Engine<D>) -> Result<(), Fault> {
     Ok(())
 }
 
+/// Feeds bytes of a log in frames, forces and redoes them.
+pub fn hold<D: BlockDisk + Drop>(engine: &mut Engine<D>, text: &[u8]) -> Result<(), Fault> {
+    for frame in text.chunks(FRAME) {
+        if let Err(refusal) = engine.feed(frame) {
+            return Err(refusal.fault);
+        }
+        force(engine)?;
+        redo_some(engine)?;
+    }
+    Ok(())
+}
+
 /// Redoes all that waits. Where no frame is free, the pages are written and synced first.
 fn redo_waiting<R: Clock, D: BlockDisk + Drop>(
     rt: &R,
@@ -173,7 +185,7 @@ fn redo_waiting<R: Clock, D: BlockDisk + Drop>(
 }
 
 /// Redoes what waits, page by page.
-fn redo_some<D: BlockDisk + Drop>(engine: &mut Engine<D>) -> Result<(), Fault> {
+pub fn redo_some<D: BlockDisk + Drop>(engine: &mut Engine<D>) -> Result<(), Fault> {
     let mut from = 0;
     for _ in 0..u64::MAX {
         let Some(page) = engine.next_pending(from) else {
@@ -206,7 +218,7 @@ fn store_pages<R: Clock, D: BlockDisk + Drop>(
     Ok(answer)
 }
 
-fn flush_rows<D: BlockDisk + Drop>(engine: &mut Engine<D>) -> Result<(), Fault> {
+pub fn flush_rows<D: BlockDisk + Drop>(engine: &mut Engine<D>) -> Result<(), Fault> {
     let mut from = 0u32;
     for _ in 0..u64::MAX {
         let Some(row) = engine.dirty(from) else {
