@@ -28,9 +28,34 @@ text() {
         last { exit }' "$crate/src/command.rt"
 }
 
-# What the program says of an option that has to be given: it stands in command.rt alone.
+# What the program says of a word of the command line $1: it stands in command.rt alone, between the heads of that function and the next.
 option_help() {
-    sed -n "s/^ *\.arg(wanted(alloc, \"$1\", \"[A-Z]*\", \"\(.*\)\"))?;*\$/\1/p" "$crate/src/command.rt"
+    awk -v head="fn $1<" -v name="\"$2\"" '
+        /^fn / { inside = index($0, head) == 1 }
+        inside { text = text " " $0 }
+        END {
+            at = index(text, name)
+            if (!at) exit
+            text = substr(text, at + length(name))
+            sub(/^, *"[A-Z]*", *"/, "", text)
+            sub(/".*/, "", text)
+            print text
+        }' "$crate/src/command.rt"
+}
+
+# A row of the options of a page, so wide: a word with its value, and the help that the function $1 has for it.
+option_row() {
+    printf '      --%-*s  %s\n' "$2" "$3 <$4>" "$(option_help "$1" "$3")"
+}
+
+# The last row of the options of a page, so wide.
+help_row() {
+    printf '  %-*s  Print help\n\n' "$(($1 + 6))" '-h, --help'
+}
+
+# What the program says of the word without a name.
+path_help() {
+    sed -n '/^fn path</,/^}/s/^ *\.help("\(.*\)")$/\1/p' "$crate/src/command.rt"
 }
 
 # The pages as clap lays them out.
@@ -38,8 +63,11 @@ help_page() {
     case "$1" in
         als)
             text ABOUT
-            printf '\nUsage: als <COMMAND>\n\nCommands:\n  make  %s\n  sim   %s\n  ship  %s\n' "$(text MAKE_ABOUT)" "$(text SIM_ABOUT)" "$(text SHIP_ABOUT)"
-            printf '  help  Print this message or the help of the given subcommand(s)\n\nOptions:\n  -h, --help  Print help\n\n'
+            printf '\nUsage: als <COMMAND>\n\nCommands:\n'
+            for command in make sim ship standby takeover dump verify; do
+                printf '  %-8s  %s\n' "$command" "$(text "${command^^}_ABOUT")"
+            done
+            printf '  help      Print this message or the help of the given subcommand(s)\n\nOptions:\n  -h, --help  Print help\n\n'
             text STATUSES
             ;;
         make)
@@ -57,10 +85,41 @@ help_page() {
         ship)
             text SHIP_ABOUT
             printf '\nUsage: als ship --log <FILE> --listen <ADDR>\n\nOptions:\n'
-            printf '      --log <FILE>     %s\n' "$(option_help log)"
-            printf '      --listen <ADDR>  %s\n' "$(option_help listen)"
-            printf '  -h, --help           Print help\n\n'
+            option_row language 13 log FILE
+            option_row language 13 listen ADDR
+            help_row 13
             text SHIP_HELP
+            ;;
+        standby)
+            text STANDBY_ABOUT
+            printf '\nUsage: als standby [OPTIONS] --dir <DIR> --from <ADDR> --pages <N>\n\nOptions:\n'
+            option_row standby 14 dir DIR
+            option_row standby 14 from ADDR
+            option_row standby 14 pages N
+            option_row standby 14 log-blocks B
+            help_row 14
+            text STANDBY_HELP
+            ;;
+        takeover)
+            text TAKEOVER_ABOUT
+            printf '\nUsage: als takeover --dir <DIR>\n\nOptions:\n'
+            option_row takeover 9 dir DIR
+            help_row 9
+            text TAKEOVER_HELP
+            ;;
+        dump)
+            text DUMP_ABOUT
+            printf '\nUsage: als dump [OPTIONS] <PATH>\n\nArguments:\n  <PATH>  %s\n\nOptions:\n' "$(path_help)"
+            option_row dump 10 from LSN
+            option_row dump 10 trans T
+            option_row dump 10 page P
+            help_row 10
+            text DUMP_HELP
+            ;;
+        verify)
+            text VERIFY_ABOUT
+            printf '\nUsage: als verify <PATH>\n\nArguments:\n  <PATH>  %s\n\nOptions:\n  -h, --help  Print help\n\n' "$(path_help)"
+            text VERIFY_HELP
             ;;
     esac
 }
@@ -81,6 +140,10 @@ tell() {
         'make --help' | 'make -h' | 'help make') help_page make ;;
         'sim --help' | 'sim -h' | 'help sim') help_page sim ;;
         'ship --help' | 'ship -h' | 'help ship') help_page ship ;;
+        'standby --help' | 'standby -h' | 'help standby') help_page standby ;;
+        'takeover --help' | 'takeover -h' | 'help takeover') help_page takeover ;;
+        'dump --help' | 'dump -h' | 'help dump') help_page dump ;;
+        'verify --help' | 'verify -h' | 'help verify') help_page verify ;;
         *) return 1 ;;
     esac
 }
