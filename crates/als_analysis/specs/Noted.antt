@@ -1,10 +1,12 @@
 -- The transaction table, and the log of which it is the table.
-use Rattle.std.specs.Prelude.{◌≡◌, ℕ, ◌%◌, ◌^◌, Bool, true, List, map}
+use Rattle.std.specs.Prelude.{◌≡◌, ℕ, ◌%◌, ◌^◌, Bool, true, IsTrue, if◌then◌else◌, List, [], ◌∷◌, ◌++◌, map, Option, Some, None}
 use Rattle.std.specs.List.{sum_by}
+use Rattle.als_record.specs.declared.lsn.Lsn.{Lsn}
 use Rattle.als_record.specs.declared.record.Record.{Record}
 use Rattle.als_record.specs.declared.transaction_row.TransactionRow.{TransactionRow}
-use Rattle.als_record.specs.Transactions.{is_unended, surviving, unended}
+use Rattle.als_record.specs.Transactions.{is_unended, surviving, undo_next_of, unended}
 use Rattle.als_record.specs.Table.{row_of, table_of}
+use Rattle.als_record.specs.Validity.{may_follow}
 use Rattle.als_analysis.specs.Open.{Open, undo_len}
 
 -- a row for each transaction that has not ended, beside each its surviving updates and the bytes that are counted of it, and
@@ -25,6 +27,22 @@ pub record IsTableOf (table : Table) (log : List Record) : Type 0 where
   pub rows : table.rows ≡ table_of log
   pub left : table.left ≡ map (surviving log) (unended log)
   pub bytes : table.bytes ≡ map (λ t. undo_bytes log t % 2 ^ 64) (unended log)
+
+-- what holds of each log of the table with one more record, where that may follow
+abbrev pub WithRecord : Table → Record → (List Record → Type 0) → Type 0
+WithRecord table r P = (log : List Record) → IsTableOf table log → IsTrue (may_follow log r) → P (log ++ r ∷ [])
+
+-- the second table is that of the log of the first one with one more record
+abbrev pub GoesOn : Table → Record → Table → Type 0
+GoesOn old r new = WithRecord old r (IsTableOf new)
+
+-- UndoNxtLSN of an unended transaction
+abbrev pub undo_next_in : List Record → ℕ → Option Lsn
+undo_next_in log t = if is_unended log t then Some (record { 0 = undo_next_of log t }) else None
+
+-- the surviving updates of an unended transaction, none of another one
+abbrev pub survivors_in : List Record → ℕ → List Record
+survivors_in log t = if is_unended log t then surviving log t else []
 
 -- what is kept of an unended transaction of the log
 pub record IsOpenOf (kept : Open) (log : List Record) (t : ℕ) : Type 0 where

@@ -1,5 +1,5 @@
 -- What is kept of a transaction that has not ended.
-use Rattle.std.specs.Prelude.{ℕ, ◌+◌, ◌-◌, ◌%◌, ◌^◌, List, [], ◌∷◌, ◌++◌, length, take, map}
+use Rattle.std.specs.Prelude.{ℕ, ◌+◌, ◌-◌, ◌%◌, ◌^◌, List, [], ◌∷◌, ◌++◌, length, take, map, slice_get, Option, Some, None}
 use Rattle.als_record.specs.declared.record.Body.{Body}
 use Rattle.als_record.specs.declared.record.Body.TheVariants.{Update, Compensation}
 use Rattle.als_record.specs.declared.record.Record.{Record}
@@ -23,6 +23,25 @@ abbrev pub left_after : List Record → Record → Body → List Record
 left_after left r (Update key before after) = left ++ r ∷ []
 left_after left r (Compensation undo_next key after) = take (length left - 1) left
 left_after left r _ = left
+
+abbrev pub left_with : List Record → Record → List Record
+left_with left r = left_after left r r.body
+
+-- the newest of the surviving updates of a transaction
+abbrev pub newest_of : Open → Option Record
+newest_of o = slice_get o.left (length o.left - 1)
+
+abbrev pub lsn_of : Option Record → ℕ
+lsn_of None = 0
+lsn_of (Some r) = r.lsn.0
+
+-- where the undo of a transaction in this state goes on: at the newest of its surviving updates, 0 without one and once it has committed
+abbrev pub undo_from : TransactionState → List Record → ℕ
+undo_from Committed left = 0
+undo_from _ left = lsn_of (slice_get left (length left - 1))
+
+abbrev pub undo_at : Open → ℕ
+undo_at o = undo_from o.row.state o.left
 
 -- the length of the compensation that undoes an update
 abbrev pub undo_len : Record → ℕ

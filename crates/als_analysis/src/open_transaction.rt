@@ -4,7 +4,7 @@ ghost use Rattle.als_record.specs.Spelling.{image_len};
 ghost use Rattle.als_record.specs.Shown.{shown, shown_body, shown_image};
 ghost use Rattle.als_record.specs.Table.{row_after, state_after, state_after_rollback, fresh_row};
 ghost use Rattle.als_record.specs.Transactions.{undo_next_after};
-ghost use Rattle.als_analysis.specs.Open.{left_after, bytes_after, undo_owed, owed, owed_after};
+ghost use Rattle.als_analysis.specs.Open.{left_after, bytes_after, undo_owed, owed, owed_after, undo_from, undo_at};
 
 use crate::fault::Fault;
 use als_record::{
@@ -22,15 +22,19 @@ pub struct OpenTransaction {
     row: TransactionRow,
     left: Vec<Record>,
     undo_bytes: u64,
+    // Kept beside the row: a takeover asks it of each transaction for each record that it appends.
+    undo_at: Lsn,
 }
 
 impl Model for OpenTransaction {
-    ghost use Rattle.std.specs.Prelude.{vec_len, vec_capacity, ◌-◌};
-    ghost use Rattle.als_analysis.specs.Open.{Open};
+    ghost use Rattle.std.specs.Prelude.{◌≡◌, vec_len, vec_capacity, ◌-◌};
+    ghost use Rattle.als_analysis.specs.Open.{Open, undo_from};
 
     ghost Value = { Open };
 
     ghost view = { λ o. record { row = o.row; left = o.left.items; bytes = o.undo_bytes; room = vec_capacity o.left - vec_len o.left } };
+
+    ghost invariant = { λ o. o.undo_at.0 ≡ undo_from o.row.state o.left.items };
 }
 
 /// The length of a compensation that writes this image, in bytes.
@@ -96,6 +100,16 @@ fn next_undo(undo_next: Lsn, logged: &RecordView<'_>) -> Lsn
     }
 }
 
+/// Where the undo of a transaction in this state goes on, of which these updates survive.
+fn undo_from(state: TransactionState, left: &[Record]) -> Lsn
+    ensures { result.0 ≡ undo_from state left.now }
+{
+    match (state, left.last()) {
+        (TransactionState::Active | TransactionState::RollingBack, Some(newest)) => newest.lsn,
+        _ => Lsn(0),
+    }
+}
+
 /// The row of a transaction without a record.
 fn row_without_record(trans: TransId) -> TransactionRow
     ensures { result ≡ fresh_row trans.0 }
@@ -117,6 +131,7 @@ impl OpenTransaction {
             row: row_without_record(TransId(0)),
             left: Vec::with_capacity(alloc, 8)?,
             undo_bytes: 0,
+            undo_at: Lsn(0),
         })
     }
 
@@ -132,6 +147,14 @@ impl OpenTransaction {
         ensures { result.now ≡ self.now.left }
     {
         self.left.as_slice()
+    }
+
+    /// Where its undo goes on: the LSN of its newest surviving update; 0 without one, and once it has committed. It is kept, so
+    /// that no update need be looked at.
+    pub fn undo_at(&self) -> Lsn
+        ensures { result.0 ≡ undo_at self.now }
+    {
+        self.undo_at
     }
 
     /// The bytes that a takeover appends for it, modulo 2^64.
@@ -180,6 +203,7 @@ impl OpenTransaction {
         self.row = row_without_record(trans);
         self.left.clear();
         self.undo_bytes = 0;
+        self.undo_at = Lsn(0);
     }
 
     /// Notes one more record of the transaction.
@@ -206,6 +230,7 @@ impl OpenTransaction {
             }
             _ => {}
         }
+        self.undo_at = undo_from(self.row.state, self.left.as_slice());
     }
 }
 

@@ -1,16 +1,16 @@
-ghost use Rattle.std.specs.Prelude.{◌≡◌, ◌≢◌, ℕ, ◌<◌, ◌≤◌, ◌+◌, ◌%◌, ◌^◌, true, false, IsTrue, List, [], ◌∷◌, ◌++◌, length, vec_len, vec_capacity, slice_index_or, slice_set, IfSome, IfNone, OnOk, OnErr, IsOk, ◌↔◌, MatchOption, if◌then◌else◌};
+ghost use Rattle.std.specs.Prelude.{◌≡◌, ℕ, ◌<◌, ◌+◌, ◌%◌, ◌^◌, true, false, IsTrue, List, [], ◌∷◌, ◌++◌, length, vec_len, vec_capacity};
+ghost use Rattle.std.specs.Prelude.{slice_index_or, slice_set, IfSome, IfNone, OnOk, OnErr, IsOk, ◌↔◌, MatchOption};
 ghost use Rattle.std.specs.List.{remove, All};
 ghost use Rattle.als_record.specs.declared.record.Record.{Record};
 ghost use Rattle.als_record.specs.declared.transaction_row.TransactionRow.{TransactionRow};
-ghost use Rattle.als_record.specs.Transactions.{is_transactional, is_end, is_among, is_unended, surviving, undo_next_of};
+ghost use Rattle.als_record.specs.Transactions.{is_transactional, is_end, is_among, is_unended};
 ghost use Rattle.als_record.specs.Shown.{shown, shown_body};
 ghost use Rattle.als_record.specs.Table.{table_of, row_after, fresh_row};
 ghost use Rattle.als_record.specs.LogText.{end_of};
 ghost use Rattle.als_record.specs.Tail.{reserve_of};
-ghost use Rattle.als_record.specs.Validity.{may_follow};
-ghost use Rattle.als_analysis.specs.Open.{left_after, bytes_after, rows_of, left_of};
+ghost use Rattle.als_analysis.specs.Open.{left_with, bytes_after, rows_of, left_of};
 ghost use Rattle.als_analysis.specs.Kept.{IsRising, IsPlace, MakesRoom, numbers};
-ghost use Rattle.als_analysis.specs.Noted.{IsTableOf, IsOpenOf};
+ghost use Rattle.als_analysis.specs.Noted.{IsTableOf, IsOpenOf, WithRecord, GoesOn, undo_next_in, survivors_in};
 
 use crate::fault::Fault;
 use crate::open_transaction::{OpenTransaction, owed_anew};
@@ -225,7 +225,7 @@ impl TransTable {
         requires room { self.old.has_room ≡ true }
         requires within { at < length self.old.rows }
         ensures rows { (d : TransactionRow) → self.new.rows ≡ slice_set self.old.rows at (row_after (slice_index_or self.old.rows at d) (shown logged.now)) }
-        ensures left { (d : List Record) → self.new.left ≡ slice_set self.old.left at (left_after (slice_index_or self.old.left at d) (shown logged.now) (shown_body logged.now.body)) }
+        ensures left { (d : List Record) → self.new.left ≡ slice_set self.old.left at (left_with (slice_index_or self.old.left at d) (shown logged.now)) }
         ensures bytes { (d : ℕ) → self.new.bytes ≡ slice_set self.old.bytes at (bytes_after (slice_index_or self.old.bytes at d) (shown_body logged.now.body)) }
     {
         let entry = &mut self.entries[at];
@@ -258,7 +258,7 @@ impl TransTable {
         requires few { length self.old.rows < 256 }
         requires rising { All (λ row. row.trans.0 < logged.now.trans.0) self.old.rows }
         ensures rows { self.new.rows ≡ self.old.rows ++ row_after (fresh_row logged.now.trans.0) (shown logged.now) ∷ [] }
-        ensures left { self.new.left ≡ self.old.left ++ left_after [] (shown logged.now) (shown_body logged.now.body) ∷ [] }
+        ensures left { self.new.left ≡ self.old.left ++ left_with [] (shown logged.now) ∷ [] }
         ensures bytes { self.new.bytes ≡ self.old.bytes ++ bytes_after 0 (shown_body logged.now.body) ∷ [] }
     {
         match self.spares.pop() {
@@ -331,7 +331,7 @@ impl TransTable {
         requires within { at < length self.old.rows }
         requires here { (d : TransactionRow) → (slice_index_or self.old.rows at d).trans.0 ≡ logged.now.trans.0 }
         requires kind { is_transactional (shown_body logged.now.body) ≡ true }
-        ensures { (log : List Record) → IsTableOf self.old log → IsTrue (may_follow log (shown logged.now)) → IsTableOf self.new (log ++ (shown logged.now) ∷ []) }
+        ensures { GoesOn self.old (shown logged.now) self.new }
     {
         if is_end_record(&logged.body) {
             self.close(at);
@@ -345,7 +345,7 @@ impl TransTable {
         requires room { self.old.has_room ≡ true }
         requires absent { is_among (numbers self.old.rows) logged.now.trans.0 ≡ false }
         requires kind { is_transactional (shown_body logged.now.body) ≡ true }
-        ensures { (log : List Record) → IsTableOf self.old log → IsTrue (may_follow log (shown logged.now)) → IsTableOf self.new (log ++ (shown logged.now) ∷ []) }
+        ensures { GoesOn self.old (shown logged.now) self.new }
     {
         if is_end_record(&logged.body) {
             return;
@@ -359,7 +359,7 @@ impl TransTable {
     /// A record for which there is room.
     fn put(&mut self, logged: &RecordView<'_>)
         requires room { self.old.has_room ≡ true }
-        ensures { (log : List Record) → IsTableOf self.old log → IsTrue (may_follow log (shown logged.now)) → IsTableOf self.new (log ++ (shown logged.now) ∷ []) }
+        ensures { GoesOn self.old (shown logged.now) self.new }
     {
         if !is_transaction_record(&logged.body) {
             return;
@@ -374,7 +374,7 @@ impl TransTable {
     /// Of any other record it is only said that nothing breaks. An `Err` (Memory) changes nothing, and does not come right
     /// after `reserve`. The cost does not depend on how long the log is, nor on how many updates of a transaction survive.
     pub fn note(&mut self, logged: &RecordView<'_>) -> Result<(), Fault>
-        ensures ok { OnOk result ((log : List Record) → IsTableOf self.old log → IsTrue (may_follow log (shown logged.now)) → IsTableOf self.new (log ++ (shown logged.now) ∷ [])) }
+        ensures ok { OnOk result (GoesOn self.old (shown logged.now) self.new) }
         ensures err { OnErr result (self.new ≡ self.old) }
         ensures reserved { self.old.has_room ≡ true → IsOk result }
     {
@@ -395,7 +395,7 @@ impl TransTable {
 
     /// UndoNxtLSN of a transaction's row: where its undo goes on, 0 where there is nothing to undo. `None`: it has no row.
     pub fn undo_next_of(&self, trans: TransId) -> Option<Lsn>
-        ensures { (log : List Record) → IsTableOf self.now log → result ≡ (if is_unended log trans.0 then Some (record { 0 = undo_next_of log trans.0 }) else None) }
+        ensures { (log : List Record) → IsTableOf self.now log → result ≡ undo_next_in log trans.0 }
     {
         match self.find(trans) {
             Some(at) => Some(self.entries[at].row().undo_next),
@@ -405,7 +405,7 @@ impl TransTable {
 
     /// The updates of an unended transaction that no compensation has undone, in order; none for any other.
     pub fn survivors_of(&self, trans: TransId) -> &[Record]
-        ensures { (log : List Record) → IsTableOf self.now log → result.now ≡ (if is_unended log trans.0 then surviving log trans.0 else []) }
+        ensures { (log : List Record) → IsTableOf self.now log → result.now ≡ survivors_in log trans.0 }
     {
         match self.find(trans) {
             Some(at) => self.entries[at].survivors(),
@@ -425,7 +425,7 @@ impl TransTable {
         requires within { at < length self.now.rows }
         requires here { (d : TransactionRow) → (slice_index_or self.now.rows at d).trans.0 ≡ logged.now.trans.0 }
         requires kind { is_transactional (shown_body logged.now.body) ≡ true }
-        ensures { (log : List Record) → IsTableOf self.now log → IsTrue (may_follow log (shown logged.now)) → result ≡ reserve_of (log ++ (shown logged.now) ∷ []) % 2 ^ 64 }
+        ensures { WithRecord self.now (shown logged.now) (λ log. result ≡ reserve_of log % 2 ^ 64) }
     {
         let entry = &self.entries[at];
         let others = self.reserve.wrapping_sub(entry.owed());
@@ -439,7 +439,7 @@ impl TransTable {
     fn reserve_after_new(&self, logged: &RecordView<'_>) -> u64
         requires absent { is_among (numbers self.now.rows) logged.now.trans.0 ≡ false }
         requires kind { is_transactional (shown_body logged.now.body) ≡ true }
-        ensures { (log : List Record) → IsTableOf self.now log → IsTrue (may_follow log (shown logged.now)) → result ≡ reserve_of (log ++ (shown logged.now) ∷ []) % 2 ^ 64 }
+        ensures { WithRecord self.now (shown logged.now) (λ log. result ≡ reserve_of log % 2 ^ 64) }
     {
         if is_end_record(&logged.body) {
             return self.reserve;
@@ -450,7 +450,7 @@ impl TransTable {
     /// The bytes that a takeover would append after one more record, before that is noted, exact for a log of less than 2^62
     /// bytes. It takes no memory, and the cost does not depend on how long the log is.
     pub fn reserve_after(&self, logged: &RecordView<'_>) -> u64
-        ensures { (log : List Record) → IsTableOf self.now log → IsTrue (may_follow log (shown logged.now)) → end_of (log ++ (shown logged.now) ∷ []) < 2 ^ 62 → result ≡ reserve_of (log ++ (shown logged.now) ∷ []) }
+        ensures { WithRecord self.now (shown logged.now) (λ log. end_of log < 2 ^ 62 → result ≡ reserve_of log) }
     {
         if !is_transaction_record(&logged.body) {
             return self.reserve;

@@ -1,14 +1,14 @@
 -- The next record of a tail, from what is kept of the transactions.
 use Rattle.std.proofs.Common.{◌≡◌, ℕ, ◌-◌, ◌≤◌, ◌<◌, ◌==◌, Bool, true, false, cond, not, ◌&&◌, ◌||◌, List, [], ◌∷◌, ◌++◌, length, map, filter, reverse, Option, Some, None, refl, sym, ap, ◌∙◌, inl, inr, subst, arith, length-append, get_or, zero, suc, le_of_suc-le-suc}
 use Rattle.std.specs.Prelude.{slice_get, find, option_map}
-use Rattle.std.specs.List.{list_any, All, AllByRecursion, Contains}
-use Rattle.std.proofs.lemmas.Bool.{cases_Bool, eqb-true, eq-eqb, false≢true, and_parts, not-true, not-false}
+use Rattle.std.specs.List.{list_any, All, Contains}
+use Rattle.std.proofs.lemmas.Bool.{cases_Bool, eqb-true, false≢true, and_parts}
 use Rattle.std.proofs.lemmas.List.{reverse-append}
-use Rattle.als_record.specs.declared.lsn.Lsn.{Lsn}
 use Rattle.als_record.specs.declared.record.Body.TheVariants.{End}
 use Rattle.als_record.specs.declared.record.Record.{Record}
 use Rattle.als_record.specs.declared.transaction_row.TransactionRow.{TransactionRow}
 use Rattle.als_record.specs.declared.transaction_state.TransactionState.{TransactionState}
+use Rattle.als_record.specs.declared.transaction_state.TransactionState.TheVariants.{Active, Committed, RollingBack}
 use Rattle.als_record.specs.LogText.{end_of}
 use Rattle.als_record.specs.Transactions.{is_among, is_some_left, to_undo, surviving, is_committed, has_rollback, last_lsn, is_unended, is_open, is_loser, unended, all_surviving}
 use Rattle.als_record.specs.Table.{row_of, state_of, table_of}
@@ -18,8 +18,8 @@ use Rattle.als_record.proofs.Survivors.{is_by, all_surviving-by}
 use Rattle.als_record.proofs.Numbers.{eqb-refl, is_among-filter}
 use Rattle.als_record.proofs.Unended.{is_among-unended}
 use Rattle.als_record.proofs.Falling.{losing-first, losing-none}
-use Rattle.als_analysis.specs.Open.{Open, rows_of, left_of}
-use Rattle.als_takeover.specs.Next.{first_of, is_committed_state, is_over, newest_of, lsn_of, undo_at, undo_of, tables}
+use Rattle.als_analysis.specs.Open.{Open, rows_of, left_of, newest_of, lsn_of, undo_from, undo_at}
+use Rattle.als_takeover.specs.Next.{first_of, is_committed_state, is_over, undo_of, tables}
 
 -- ---- lists
 
@@ -83,6 +83,26 @@ committed_state log t = go (is_committed log t) (has_rollback log t)
     go true b = refl
     go false b = open_cases b
 
+-- undo goes on nowhere where there is nothing to undo
+pub over-nowhere : (o : Open) → is_over o ≡ true → undo_at o ≡ 0
+over-nowhere o e = go o.row.state o.left e
+  where
+    go : (s : TransactionState) (left : List Record) → (is_committed_state s || not (is_some_left left)) ≡ true → undo_from s left ≡ 0
+    go Committed left e = refl
+    go Active [] e = refl
+    go Active (u ∷ us) e = absurd (false≢true e)
+    go RollingBack [] e = refl
+    go RollingBack (u ∷ us) e = absurd (false≢true e)
+
+-- and else at the newest update
+undo-open : (o : Open) → is_committed_state o.row.state ≡ false → undo_at o ≡ lsn_of (newest_of o)
+undo-open o e = go o.row.state o.left e
+  where
+    go : (s : TransactionState) (left : List Record) → is_committed_state s ≡ false → undo_from s left ≡ lsn_of (slice_get left (length left - 1))
+    go Committed left e = absurd (false≢true (sym e))
+    go Active left e = refl
+    go RollingBack left e = refl
+
 module _ (log : List Record) (o : Open) (t : ℕ) (k : IsKeptOf log o t) where
   kept-over : is_over o ≡ is_finished log t
   unfolding is_finished row_of surviving
@@ -91,6 +111,10 @@ module _ (log : List Record) (o : Open) (t : ℕ) (k : IsKeptOf log o t) where
   kept-newest : newest_of o ≡ first_of (to_undo log t)
   unfolding surviving
   kept-newest = ap (λ (us : List Record). slice_get us (length us - 1)) k.left ∙ last-reverse (to_undo log t)
+
+  kept-open : is_committed log t ≡ false → undo_at o ≡ lsn_of (first_of (to_undo log t))
+  unfolding row_of
+  kept-open e = undo-open o (ap (λ (row : TransactionRow). is_committed_state row.state) k.row ∙ committed_state log t ∙ e) ∙ ap lsn_of kept-newest
 
 -- ---- the first transaction with nothing to undo
 
@@ -239,8 +263,8 @@ module _ (log : List Record) (es : List Open) (rows : rows_of es ≡ table_of lo
         above s l x more q =
             let r : (k : ℕ) × (k < length es) × ((d : Open) → IsKeptOf log (get_or es k d) s) = kept-of log es (unended log) all_beside s (is_among-unended log s ∙ begun s l) in
             let a : undo_at (get_or es r.0 o) ≤ undo_at o = top r.0 o r.1 in
-            let b : undo_at (get_or es r.0 o) ≡ x.lsn.0 = ap lsn_of (kept-newest log (get_or es r.0 o) s (r.2 o) ∙ ap first_of q) in
-            let d : undo_at o ≡ w.lsn.0 = ap lsn_of newest in
+            let b : undo_at (get_or es r.0 o) ≡ x.lsn.0 = kept-open log (get_or es r.0 o) s (r.2 o) (unfinished s (begun s l)).0 ∙ ap (λ us. lsn_of (first_of us)) q in
+            let d : undo_at o ≡ w.lsn.0 = kept-open log o t kept (unfinished t u).0 ∙ ap (λ us. lsn_of (first_of us)) some.2 in
             subst (λ m. m ≤ w.lsn.0) b (subst (λ m. undo_at (get_or es r.0 o) ≤ m) d a)
 
         sweep : (us : List Record) × (losing log ≡ w ∷ us)

@@ -1,12 +1,14 @@
 -- The next record of a tail, and what it is made from.
-use Rattle.std.specs.Prelude.{ℕ, Bool, true, false, ◌||◌, not, ◌-◌, List, [], ◌∷◌, length, map, slice_get, Option, Some, None}
+use Rattle.std.specs.Prelude.{◌≡◌, ℕ, Bool, true, false, ◌||◌, not, List, [], ◌∷◌, map, Option, Some, None}
 use Rattle.als_record.specs.declared.lsn.Lsn.{Lsn}
 use Rattle.als_record.specs.declared.record.Record.{Record}
 use Rattle.als_record.specs.declared.transaction_state.TransactionState.{TransactionState}
 use Rattle.als_record.specs.declared.transaction_state.TransactionState.TheVariants.{Active, Committed, RollingBack}
+use Rattle.als_record.specs.LogText.{end_of}
+use Rattle.als_record.specs.Table.{table_of}
 use Rattle.als_record.specs.Tail.{undone}
 use Rattle.als_record.specs.Transactions.{is_some_left, surviving, unended}
-use Rattle.als_analysis.specs.Open.{Open}
+use Rattle.als_analysis.specs.Open.{Open, rows_of, left_of}
 
 -- the first of these records, if there is one
 abbrev pub first_of : List Record → Option Record
@@ -22,18 +24,6 @@ is_committed_state RollingBack = false
 abbrev pub is_over : Open → Bool
 is_over o = is_committed_state o.row.state || not (is_some_left o.left)
 
--- the newest of the surviving updates of a transaction
-abbrev pub newest_of : Open → Option Record
-newest_of o = slice_get o.left (length o.left - 1)
-
-abbrev pub lsn_of : Option Record → ℕ
-lsn_of None = 0
-lsn_of (Some r) = r.lsn.0
-
--- where the undo of a transaction goes on
-abbrev pub undo_at : Open → ℕ
-undo_at o = lsn_of (newest_of o)
-
 -- the compensation of an update of a transaction, at the log's end
 abbrev pub undo_of : Open → Lsn → Record → Record
 undo_of o end u = record { lsn = end; prev = o.row.last; trans = o.row.trans; body = undone u.prev u.body }
@@ -41,3 +31,7 @@ undo_of o end u = record { lsn = end; prev = o.row.last; trans = o.row.trans; bo
 -- the surviving updates of each unended transaction
 abbrev pub tables : List Record → List (List Record)
 tables log = map (surviving log) (unended log)
+
+-- these are the unended transactions of a log that ends here
+abbrev pub AreOf : List Record → ℕ → List Open → Type 0
+AreOf log end entries = (rows_of entries ≡ table_of log) × (left_of entries ≡ tables log) × (end ≡ end_of log)

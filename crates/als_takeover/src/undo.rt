@@ -1,21 +1,18 @@
-ghost use Rattle.std.specs.Prelude.{◌≡◌, ◌≤◌, IsTrue, IsOk, Ok, List, [], IfSome, IsNone, ◌↔◌, find, option_map, option_copied};
-ghost use Rattle.std.specs.List.{All, Contains};
-ghost use Rattle.als_record.specs.LogText.{end_of};
+ghost use Rattle.std.specs.Prelude.{◌≡◌, IsTrue, IsOk, Ok, List, option_map, option_copied};
 ghost use Rattle.als_record.specs.Tail.{tail_of, undone};
 ghost use Rattle.als_record.specs.Validity.{is_valid};
 ghost use Rattle.als_record.specs.declared.record.Record.{Record as AnyRecord};
 ghost use Rattle.als_analysis.specs.Noted.{IsTableOf};
-ghost use Rattle.als_analysis.specs.Open.{rows_of, left_of};
-ghost use Rattle.als_record.specs.Table.{table_of};
-ghost use Rattle.als_takeover.specs.Next.{first_of, is_over, newest_of, undo_at, undo_of, tables};
+ghost use Rattle.als_analysis.specs.Open.{newest_of};
+ghost use Rattle.als_takeover.specs.Next.{first_of, is_over, AreOf, undo_of};
 
 use als_analysis::{OpenTransaction, TransTable};
 use als_disk::BlockDisk;
 use als_log::{Fault, LocalLog};
 use als_record::{Body, ImageView, Lsn, Record, TransactionState};
 
-/// Whether nothing of a transaction is to be undone: it has committed, or no update of it survives.
-fn is_finished(kept: &OpenTransaction) -> bool
+/// Whether nothing of a transaction is to be undone, by its state and its updates.
+fn has_nothing_left(kept: &OpenTransaction) -> bool
     ensures { result ≡ is_over kept.now }
 {
     match kept.row().state {
@@ -24,37 +21,19 @@ fn is_finished(kept: &OpenTransaction) -> bool
     }
 }
 
+/// Whether nothing of a transaction is to be undone: it has committed, or no update of it survives. Most often the kept LSN tells
+/// that there is something.
+fn is_finished(kept: &OpenTransaction) -> bool
+    ensures { result ≡ is_over kept.now }
+{
+    kept.undo_at().0 == 0 && has_nothing_left(kept)
+}
+
 /// The newest surviving update of a transaction.
 fn newest_of(kept: &OpenTransaction) -> Option<&Record>
     ensures { option_copied result ≡ newest_of kept.now }
 {
     kept.survivors().last()
-}
-
-/// Where the undo of a transaction goes on, 0 without a surviving update.
-fn undo_at(kept: &OpenTransaction) -> u64
-    ensures { result ≡ undo_at kept.now }
-{
-    match newest_of(kept) {
-        Some(update) => update.lsn.0,
-        None => 0,
-    }
-}
-
-/// The first transaction with nothing to undo.
-fn first_finished(entries: &[OpenTransaction]) -> Option<&OpenTransaction>
-    ensures { option_copied result ≡ find is_over entries.now }
-{
-    entries.iter().find(|kept| is_finished(kept))
-}
-
-/// The transaction whose undo goes on at the greatest LSN of all.
-fn greatest_undo(entries: &[OpenTransaction]) -> Option<&OpenTransaction>
-    ensures empty { IsNone result ↔ (entries.now ≡ []) }
-    ensures listed { IfSome result (λ o. Contains entries.now o.now) }
-    ensures greatest { IfSome result (λ o. All (λ p. undo_at p ≤ undo_at o.now) entries.now) }
-{
-    entries.iter().max_by_key(|kept| undo_at(kept))
 }
 
 /// What undoes an update: its key gets its before image back, and undo goes on at the record before it.
@@ -94,14 +73,24 @@ fn compensation_of(kept: &OpenTransaction, end: Lsn) -> Option<Record>
     }
 }
 
-/// The next record of the tail of a log that ends here, from its transactions.
+/// The next record of the tail of a log that ends here, from its transactions: the end of the first one with nothing to undo,
+/// or else the compensation of the greatest update of all. One pass, which looks at no other update.
 pub(crate) fn next_of(entries: &[OpenTransaction], end: Lsn) -> Option<Record>
-    ensures { (log : List AnyRecord) → IsTrue (is_valid log) → rows_of entries.now ≡ table_of log → left_of entries.now ≡ tables log → end.0 ≡ end_of log → result ≡ first_of (tail_of log) }
+    ensures { (log : List AnyRecord) → IsTrue (is_valid log) → AreOf log end.0 entries.now → result ≡ first_of (tail_of log) }
 {
-    if let Some(kept) = first_finished(entries) {
-        return Some(record_of(kept, end, Body::End));
+    let mut greatest = 0;
+    let mut top = 0;
+    for at in 0..entries.len() {
+        let kept = &entries[at];
+        if is_finished(kept) {
+            return Some(record_of(kept, end, Body::End));
+        }
+        if top <= kept.undo_at().0 {
+            greatest = at;
+            top = kept.undo_at().0;
+        }
     }
-    match greatest_undo(entries) {
+    match entries.get(greatest) {
         Some(kept) => compensation_of(kept, end),
         None => None,
     }
@@ -112,7 +101,7 @@ pub(crate) fn next_of(entries: &[OpenTransaction], end: Lsn) -> Option<Record>
 /// one falling sweep, whoever wrote them, and a transaction ends after its last one.
 ///
 /// The table keeps the surviving updates, so that what a compensation has undone is not met again, no device is read and no
-/// memory taken: it answers `Ok`. It costs one look at each unended transaction, whatever they have to undo.
+/// memory taken: it answers `Ok`. It costs one look at the row of each unended transaction, whatever they have to undo.
 pub fn next_undo<D: BlockDisk>(
     table: &TransTable,
     log: &mut LocalLog<D>,
