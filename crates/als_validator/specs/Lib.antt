@@ -1,3 +1,4 @@
+pub mod Causing
 pub mod FaultNames
 pub mod KeptImages
 pub mod Keys

@@ -1,15 +1,17 @@
-ghost use Rattle.std.specs.Prelude.{◌≡◌, ◌==◌, ◌&&◌, ℕ, ◌≤◌, ◌<◌, not, true, false, List, length, Some, None, MatchOption, option_copied, is_none, nat_le, if◌then◌else◌};
+ghost use Rattle.std.specs.Prelude.{◌≡◌, ◌==◌, ◌&&◌, ℕ, not, true, false, List, MatchOption, option_copied, is_none, nat_le};
 ghost use Rattle.std.specs.List.{list_any};
 ghost use Rattle.als_record.specs.declared.record.Record.{Record};
 ghost use Rattle.als_record.specs.declared.trans_id.TransId.{TransId};
-ghost use Rattle.als_record.specs.Spelling.{IsRecord, IsKey};
+ghost use Rattle.als_record.specs.Spelling.{IsKey};
 ghost use Rattle.als_record.specs.Shown.{shown, shown_body, shown_image};
-ghost use Rattle.als_record.specs.Transactions.{is_transactional, is_end, is_open, unended, greatest_trans};
+ghost use Rattle.als_record.specs.Transactions.{is_transactional, is_end, is_open};
 ghost use Rattle.als_record.specs.Images.{same_image, is_update_at, image_before};
-ghost use Rattle.als_record.specs.Validity.{bad_prev, old_transaction, wrong_state, wrong_undo_next, wrong_compensation, held_by, before_image, too_many, fits_checkpoints, bad_checkpoint, open_checkpoint, is_valid};
+ghost use Rattle.als_record.specs.Validity.{fits_checkpoints};
 ghost use Rattle.als_analysis.specs.Noted.{IsTableOf};
+ghost use Rattle.als_validator.specs.Causing.{TellsBadPrev, TellsOld, TellsWrongState, TellsWrongUndoNext};
+ghost use Rattle.als_validator.specs.Causing.{TellsWrongCompensation, TellsHolder, TellsHolderIn, TellsStale};
+ghost use Rattle.als_validator.specs.Causing.{TellsOneTooMany, TellsBadCheckpoint};
 ghost use Rattle.als_validator.specs.Keys.{AreKeysOf, IsKeyOf};
-ghost use Rattle.als_validator.specs.Seen.{IsPastOf, AreCommitted};
 ghost use Rattle.als_validator.specs.Tests.{state_in, last_in, goes_on, barred, skips, misses};
 
 use crate::key_state::KeyState;
@@ -171,21 +173,21 @@ fn is_listed(ids: &[TransId], trans: TransId) -> bool
 
 /// 8: PrevLSN does not name the record before it of the same transaction.
 pub(crate) fn is_bad_prev(past: &Past, logged: &RecordView<'_>) -> bool
-    ensures { (log : List Record) → IsPastOf past.now log logged.now.trans.0 → result ≡ bad_prev log (shown logged.now) }
+    ensures { TellsBadPrev past.now (shown logged.now) result }
 {
     is_off_chain(past.row, logged)
 }
 
 /// 9: a transaction that has ended, or a new one that does not rise above the greatest TransID.
 pub(crate) fn is_old(past: &Past, greatest: TransId, logged: &RecordView<'_>) -> bool
-    ensures { (log : List Record) → IsPastOf past.now log logged.now.trans.0 → greatest.0 ≡ greatest_trans log → result ≡ old_transaction log (shown logged.now) }
+    ensures { TellsOld past.now greatest (shown logged.now) result }
 {
     is_below(past.row, greatest, logged)
 }
 
 /// 10: what the transaction may no longer write. A checkpoint's record may not name one that has committed.
 pub(crate) fn is_wrong_state(past: &Past, committed: &[TransId], logged: &RecordView<'_>) -> bool
-    ensures { (log : List Record) → IsPastOf past.now log logged.now.trans.0 → AreCommitted committed.now log → old_transaction log (shown logged.now) ≡ false → result ≡ wrong_state log (shown logged.now) }
+    ensures { TellsWrongState past.now committed.now (shown logged.now) result }
 {
     if is_transaction_record(&logged.body) {
         return is_barred(state_of(past.row), past.newest.is_some(), &logged.body);
@@ -195,21 +197,22 @@ pub(crate) fn is_wrong_state(past: &Past, committed: &[TransId], logged: &Record
 
 /// 11: a compensation that does not pass over exactly the update that is to be undone.
 pub(crate) fn is_wrong_undo_next(past: &Past, logged: &RecordView<'_>) -> bool
-    ensures { (log : List Record) → IsPastOf past.now log logged.now.trans.0 → old_transaction log (shown logged.now) ≡ false → result ≡ wrong_undo_next log (shown logged.now) }
+    ensures { TellsWrongUndoNext past.now (shown logged.now) result }
 {
     does_skip(past.newest, &logged.body)
 }
 
 /// 12: a compensation of anything but the update that is to be undone.
 pub(crate) fn is_wrong_compensation(past: &Past, logged: &RecordView<'_>) -> bool
-    ensures { (log : List Record) → IsPastOf past.now log logged.now.trans.0 → old_transaction log (shown logged.now) ≡ false → result ≡ wrong_compensation log (shown logged.now) }
+    ensures { TellsWrongCompensation past.now (shown logged.now) result }
 {
     does_miss(past.newest, &logged.body)
 }
 
 /// What is kept of a key.
 fn kept_of(keys: &[KeyState], key: Key) -> Option<&KeyState>
-    ensures { (pages : ℕ) (log : List Record) → AreKeysOf keys.now pages log → IsKey pages key → MatchOption result (true ≡ false) (λ kept. IsKeyOf kept.now log key) }
+    ensures { (pages : ℕ) (log : List Record) → AreKeysOf keys.now pages log → IsKey pages key
+        → MatchOption result (true ≡ false) (λ kept. IsKeyOf kept.now log key) }
 {
     let at = place(key);
     if at < keys.len() {
@@ -235,7 +238,7 @@ pub(crate) fn holder_of(
     table: &TransTable,
     logged: &RecordView<'_>,
 ) -> Option<TransId>
-    ensures { (pages : ℕ) (log : List Record) → AreKeysOf keys.now pages log → IsTableOf table.now log → is_valid log ≡ true → IsRecord pages (shown logged.now) → result ≡ held_by log (shown logged.now) }
+    ensures { TellsHolder keys.now table.now (shown logged.now) result }
 {
     match &logged.body {
         BodyView::Update { key, .. } => match kept_of(keys, *key) {
@@ -248,7 +251,7 @@ pub(crate) fn holder_of(
 
 /// The transaction that holds a key against another one.
 fn holder_in(kept: &KeyState, table: &TransTable, trans: TransId) -> Option<TransId>
-    ensures { (log : List Record) → IsTableOf table.now log → result ≡ (if not (kept.now.count == 0) && not (kept.now.holder.0 == trans.0) && is_open log kept.now.holder.0 then Some kept.now.holder else None) }
+    ensures { TellsHolderIn kept.now table.now trans result }
 {
     if kept.count == 0 {
         return None;
@@ -264,7 +267,7 @@ fn holder_in(kept: &KeyState, table: &TransTable, trans: TransId) -> Option<Tran
 
 /// 14: an update whose before image is another than the key has.
 pub(crate) fn is_stale(keys: &[KeyState], logged: &RecordView<'_>) -> bool
-    ensures { (pages : ℕ) (log : List Record) → AreKeysOf keys.now pages log → IsRecord pages (shown logged.now) → result ≡ before_image log (shown logged.now) }
+    ensures { TellsStale keys.now (shown logged.now) result }
 {
     match &logged.body {
         BodyView::Update { key, before, .. } => match kept_of(keys, *key) {
@@ -277,14 +280,14 @@ pub(crate) fn is_stale(keys: &[KeyState], logged: &RecordView<'_>) -> bool
 
 /// 15: the first record of one transaction too many.
 pub(crate) fn is_one_too_many(past: &Past, count: usize, logged: &RecordView<'_>) -> bool
-    ensures { (log : List Record) → IsPastOf past.now log logged.now.trans.0 → count ≡ length (unended log) → is_valid log ≡ true → old_transaction log (shown logged.now) ≡ false → result ≡ too_many log (shown logged.now) }
+    ensures { TellsOneTooMany past.now count (shown logged.now) result }
 {
     does_overflow(past.row, count, logged)
 }
 
 /// 16: a checkpoint's record that names a transaction, or does not fit those before it.
 pub(crate) fn is_bad_checkpoint(begun: Lsn, logged: &RecordView<'_>) -> bool
-    ensures { (log : List Record) → begun.0 ≡ open_checkpoint log → result ≡ bad_checkpoint log (shown logged.now) }
+    ensures { TellsBadCheckpoint begun (shown logged.now) result }
 {
     !does_fit(begun, logged)
 }

@@ -58,8 +58,8 @@ impl Validator {
     /// The commit that the last record of the log made, with what survives of its transaction: asked after the record was admitted.
     /// `None`: it is no commit record. Memory: a growth was refused, for what a commit writes alone.
     pub fn commit_made(&self, alloc: Global, last: &AnyRecord) -> Result<Option<Commit>, Fault>
-        ensures ok { IfOk result (λ found. (pages : ℕ) (log : List Record) → IsValidatorOf pages self.now (log ++ last.now ∷ []) → IsValidLog pages (log ++ last.now ∷ [])
-            → commits_of (log ++ last.now ∷ []) ≡ commits_of log ++ option_to_list found) }
+        ensures ok { IfOk result (λ found. (pages : ℕ) (log : List Record) → IsValidatorOf pages self.now (log ++ last.now ∷ [])
+            → IsValidLog pages (log ++ last.now ∷ []) → commits_of (log ++ last.now ∷ []) ≡ commits_of log ++ option_to_list found) }
         ensures err { IfErr result (λ e. e ≡ Memory) }
         ensures reserved { is_commit last.now.body ≡ false → IsOk result }
     {

@@ -36,6 +36,11 @@ impl KeptImage {
         }
     }
 
+    /// The first byte of its value, any other one without a value.
+    pub(crate) fn first_byte(&self) -> u8 {
+        self.bytes[0]
+    }
+
     /// Keeps this image from now on.
     pub(crate) fn set(&mut self, image: &ImageView<'_>)
         ensures { self.new ≡ shown_image image.now }

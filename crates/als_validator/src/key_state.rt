@@ -8,9 +8,10 @@ use als_record::{ImageView, TransId};
 /// committed or ended the count says nothing, and nobody clears it: the next update of the key does.
 #[derive(Drop)]
 pub(crate) struct KeyState {
-    pub(crate) image: KeptImage,
-    pub(crate) holder: TransId,
+    // The numbers stand before the image: with a short value all that a record needs is in 21 bytes.
     pub(crate) count: u64,
+    pub(crate) holder: TransId,
+    pub(crate) image: KeptImage,
 }
 
 impl KeyState {
@@ -20,10 +21,15 @@ impl KeyState {
         ensures count { result.count ≡ 0 }
     {
         KeyState {
-            image: KeptImage::absent(),
-            holder: TransId(0),
             count: 0,
+            holder: TransId(0),
+            image: KeptImage::absent(),
         }
+    }
+
+    /// A word that is made of the front of what is kept and of the image, and says nothing: who asks for it has both at hand.
+    pub(crate) fn word(&self) -> u64 {
+        self.count ^ u64::from(self.image.first_byte())
     }
 
     /// A transaction that may write the key updates it.

@@ -34,7 +34,8 @@ pub(crate) fn unwritten_keys(alloc: Global, pages: u32) -> Result<Vec<KeyState>,
 
 /// Notes what a record writes.
 pub(crate) fn note_change(keys: &mut [KeyState], logged: &RecordView<'_>)
-    ensures { (pages : ℕ) (log : List Record) → AreKeysOf keys.old pages log → IsValidLog pages (log ++ (shown logged.now) ∷ []) → AreKeysOf keys.new pages (log ++ (shown logged.now) ∷ []) }
+    ensures { (pages : ℕ) (log : List Record) → AreKeysOf keys.old pages log
+        → IsValidLog pages (log ++ (shown logged.now) ∷ []) → AreKeysOf keys.new pages (log ++ (shown logged.now) ∷ []) }
 {
     match &logged.body {
         BodyView::Update { key, after, .. } => {

@@ -1,6 +1,8 @@
 //! Which record may follow a valid log: what is kept of the log, and the causes for which a record is refused.
 #![tactic(auto)]
 
+// What is read before it is asked for.
+mod ahead;
 // Each cause by itself.
 mod causes;
 // The commit that a record makes.

@@ -1,4 +1,5 @@
-ghost use Rattle.std.specs.Prelude.{◌≡◌, ◌≢◌, ◌<◌, vec_len, vec_capacity, ℕ, ◌+◌, ◌^◌, List, [], ◌∷◌, ◌++◌, max, map, None, Ok, Err, IsOk, OnOk, OnErr, IfOk, IfErr, slice_index_or};
+ghost use Rattle.std.specs.Prelude.{◌≡◌, ◌≢◌, ◌<◌, vec_len, vec_capacity, ℕ, ◌+◌, ◌^◌, List, [], ◌∷◌, ◌++◌, max, map};
+ghost use Rattle.std.specs.Prelude.{None, Ok, Err, IsOk, OnOk, OnErr, IfOk, IfErr, slice_index_or};
 ghost use Rattle.als_record.specs.declared.record.Record.{Record};
 ghost use Rattle.als_record.specs.Spelling.{IsRecord};
 ghost use Rattle.als_record.specs.Shown.{shown, shown_body};
@@ -15,6 +16,7 @@ ghost use Rattle.als_validator.specs.Keys.{AreKeysOf};
 ghost use Rattle.als_validator.specs.Seen.{AreCommitted};
 ghost use Rattle.als_validator.specs.Validated.{IsValidatorOf, HasRoom};
 
+use crate::ahead::glance_ahead;
 use crate::causes::{
     holder_of, is_bad_checkpoint, is_bad_prev, is_old, is_one_too_many, is_stale,
     is_wrong_compensation, is_wrong_state, is_wrong_undo_next,
@@ -39,6 +41,8 @@ pub struct Validator {
     greatest: TransId,
     // 0: none is open.
     begun: Lsn,
+    // What was read ahead, which says nothing: it is kept so that it is read.
+    glanced: u64,
 }
 
 /// The LSN of the open begin_chkpt after one more record.
@@ -99,12 +103,14 @@ impl Validator {
             committed: Vec::new(alloc),
             greatest: TransId(0),
             begun: Lsn(0),
+            glanced: 0,
         })
     }
 
     /// The first cause for which a record may not follow the log. `check` answers by it, in the words of this crate's faults.
     fn first_cause(&self, logged: &RecordView<'_>) -> Option<Cause>
-        ensures { (pages : ℕ) (log : List Record) → IsValidatorOf pages self.now log → IsValidLog pages log → IsRecord pages (shown logged.now) → result ≡ first_bad log (shown logged.now) }
+        ensures { (pages : ℕ) (log : List Record) → IsValidatorOf pages self.now log → IsValidLog pages log
+            → IsRecord pages (shown logged.now) → result ≡ first_bad log (shown logged.now) }
     {
         let past = past_of(&self.table, logged.trans);
         if is_bad_prev(&past, logged) {
@@ -141,7 +147,8 @@ impl Validator {
     /// their numbers. The cost does not depend on how much is kept, but for a checkpoint's record that wrongly names a
     /// transaction.
     pub fn check(&self, logged: &RecordView<'_>) -> Result<(), Fault>
-        ensures exact { (pages : ℕ) (log : List Record) → IsValidatorOf pages self.now log → IsValidLog pages log → IsRecord pages (shown logged.now) → result ≡ answer_of (first_bad log (shown logged.now)) }
+        ensures exact { (pages : ℕ) (log : List Record) → IsValidatorOf pages self.now log → IsValidLog pages log
+            → IsRecord pages (shown logged.now) → result ≡ answer_of (first_bad log (shown logged.now)) }
         ensures no_memory { IfErr result (λ e. e ≢ Memory) }
     {
         match self.first_cause(logged) {
@@ -166,7 +173,8 @@ impl Validator {
     /// only said that nothing breaks.
     pub fn admit(&mut self, logged: &RecordView<'_>)
         requires { HasRoom self.old }
-        ensures { (pages : ℕ) (log : List Record) → IsValidatorOf pages self.old log → IsValidLog pages (log ++ (shown logged.now) ∷ []) → IsValidatorOf pages self.new (log ++ (shown logged.now) ∷ []) }
+        ensures { (pages : ℕ) (log : List Record) → IsValidatorOf pages self.old log
+            → IsValidLog pages (log ++ (shown logged.now) ∷ []) → IsValidatorOf pages self.new (log ++ (shown logged.now) ∷ []) }
     {
         match self.table.note(logged) {
             Ok(()) => {}
@@ -176,6 +184,19 @@ impl Validator {
         note_commit(&mut self.committed, logged);
         self.greatest = next_greatest(self.greatest, logged);
         self.begun = next_begun(self.begun, logged);
+    }
+
+    /// Reads what is kept of the keys that the next records seem to write, so that it is at hand when they are judged. It
+    /// answers how many bytes these records seem to have: 32 records at most, 0 where there is none. The bytes may be any, and
+    /// nothing is judged. It takes no memory.
+    #[inline(never)]
+    pub fn look_ahead(&mut self, bytes: &[u8]) -> usize
+        ensures kept { (pages : ℕ) (log : List Record) → IsValidatorOf pages self.old log → IsValidatorOf pages self.new log }
+        ensures room { HasRoom self.old → HasRoom self.new }
+    {
+        let (len, seen) = glance_ahead(self.keys.as_slice(), bytes);
+        self.glanced ^= seen;
+        len
     }
 
     /// The transaction table.
@@ -218,7 +239,9 @@ impl Validator {
     /// The bytes that a takeover would append after one more record that may follow the log, before that is taken, exact for a
     /// log of less than 2^62 bytes. It takes no memory, and the cost does not depend on how much is kept.
     pub fn reserve_after(&self, logged: &RecordView<'_>) -> u64
-        ensures { (pages : ℕ) (log : List Record) → IsValidatorOf pages self.now log → logged.now.lsn.0 ≡ end_of log → first_bad log (shown logged.now) ≡ None → end_of (log ++ (shown logged.now) ∷ []) < 2 ^ 62 → result ≡ reserve_of (log ++ (shown logged.now) ∷ []) }
+        ensures { (pages : ℕ) (log : List Record) → IsValidatorOf pages self.now log → logged.now.lsn.0 ≡ end_of log
+            → first_bad log (shown logged.now) ≡ None → end_of (log ++ (shown logged.now) ∷ []) < 2 ^ 62
+            → result ≡ reserve_of (log ++ (shown logged.now) ∷ []) }
     {
         self.table.reserve_after(logged)
     }

@@ -1,0 +1,61 @@
+ghost use Rattle.std.specs.Prelude.{◌≤◌, ◌+◌, length};
+
+use crate::key_state::KeyState;
+use crate::keys::place;
+use als_record::Key;
+
+/// How many records are looked at in one go: the waits for what is kept of their keys then overlap.
+const RECORDS_AHEAD: u32 = 32;
+
+/// The bytes of a record up to the end of its key, whatever it is.
+const FRONT_LEN: usize = 42;
+
+/// The number in four bytes at a place.
+fn word(bytes: &[u8], at: usize) -> u32
+    requires { at + 4 ≤ length bytes.now }
+{
+    u32::from_be_bytes([bytes[at], bytes[at + 1], bytes[at + 2], bytes[at + 3]])
+}
+
+/// The key at a place.
+fn key(bytes: &[u8], at: usize) -> Key
+    requires { at + 5 ≤ length bytes.now }
+{
+    Key {
+        page: word(bytes, at),
+        slot: bytes[at + 4],
+    }
+}
+
+/// A word of what is kept of the key that the record at the front of these bytes seems to write, 0 where it writes none.
+fn glance(keys: &[KeyState], front: &[u8]) -> u64
+    requires { 42 ≤ length front.now }
+{
+    let at = match front[4] {
+        1 => place(key(front, 28)),
+        2 => place(key(front, 36)),
+        _ => return 0,
+    };
+    if at >= keys.len() {
+        return 0;
+    }
+    keys[at].word()
+}
+
+/// Reads a word of what is kept of each key that the records at the front of these bytes seem to write, and answers how many
+/// bytes these records seem to have, and the words together, which say nothing. The bytes may be any.
+pub(crate) fn glance_ahead(keys: &[KeyState], bytes: &[u8]) -> (usize, u64) {
+    let mut from = 0usize;
+    let mut seen = 0u64;
+    for _ in 0..RECORDS_AHEAD {
+        let Some(front) = bytes.get(from..) else {
+            break;
+        };
+        if front.len() < FRONT_LEN {
+            break;
+        }
+        seen ^= glance(keys, front);
+        from = from.saturating_add(word(front, 0) as usize);
+    }
+    (from, seen)
+}
