@@ -1,4 +1,5 @@
 pub mod Committing
 pub mod FaultNames
 pub mod Fronts
+pub mod KeptImages
 pub mod Showing

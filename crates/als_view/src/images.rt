@@ -5,7 +5,8 @@ ghost use Rattle.als_view.specs.Fronts.{AreImagesAfter, place_of, written, writt
 
 use crate::commit::Commit;
 use crate::fault::Fault;
-use als_record::{Image, Key, Lsn, SLOT_COUNT};
+use crate::kept_image::KeptImage;
+use als_record::{Image, ImageView, Key, Lsn, SLOT_COUNT};
 use std::alloc::Global;
 use std::collections::VecDeque;
 
@@ -17,30 +18,30 @@ pub(crate) fn place(key: Key) -> usize
 }
 
 /// The images of the keys of a database with this many pages, of which nobody has written one.
-pub(crate) fn unwritten(alloc: Global, pages: u32) -> Result<Vec<Image>, Fault>
+pub(crate) fn unwritten(alloc: Global, pages: u32) -> Result<Vec<KeptImage>, Fault>
     ensures ok { IfOk result (λ images. AreImagesAfter images.items pages []) }
     ensures err { IfErr result (λ e. e ≡ Memory) }
 {
     let count = pages as usize * SLOT_COUNT;
     let mut images = Vec::with_capacity(alloc, count)?;
     for _ in 0..count {
-        images.push(None)?;
+        images.push(KeptImage::absent())?;
     }
     Ok(images)
 }
 
 /// Gives a key its image. A key outside the database has none.
-pub(crate) fn write(images: &mut [Image], key: Key, after: Image)
+pub(crate) fn write(images: &mut [KeptImage], key: Key, after: Image)
     ensures { images.new ≡ written images.old (record { key = key; after = after }) }
 {
     let at = place(key);
     if (key.slot as usize) < SLOT_COUNT && at < images.len() {
-        images[at] = after;
+        images[at].set(&ImageView::of(&after));
     }
 }
 
 /// Gives the keys that a commit writes their images, in order. Answers its LSN.
-pub(crate) fn write_all(images: &mut [Image], commit: Commit) -> u64
+pub(crate) fn write_all(images: &mut [KeptImage], commit: Commit) -> u64
     ensures images { images.new ≡ written_by images.old commit }
     ensures lsn { result ≡ commit.lsn.0 }
 {
@@ -54,7 +55,7 @@ pub(crate) fn write_all(images: &mut [Image], commit: Commit) -> u64
 /// Takes so many of the first commits out of a queue and gives the keys that they write their images, in order. Answers the
 /// LSN of the last of them, that of the one before without one.
 pub(crate) fn write_first(
-    images: &mut [Image],
+    images: &mut [KeptImage],
     queued: &mut VecDeque<Commit, Global>,
     count: usize,
     before: u64,

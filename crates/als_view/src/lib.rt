@@ -9,6 +9,8 @@ mod committing;
 mod fault;
 // The keys' images.
 mod images;
+// An image in few bytes.
+mod kept_image;
 // What holds of every log and view.
 mod laws;
 // What a view shows of a log.

@@ -7,7 +7,8 @@ ghost use Rattle.als_view.specs.Showing.{IsWarming};
 use crate::commit::Commit;
 use crate::fault::Fault;
 use crate::images;
-use als_record::{Image, ImageView, Key, Lsn, SLOT_COUNT};
+use crate::kept_image::KeptImage;
+use als_record::{Image, Key, Lsn, SLOT_COUNT};
 use std::alloc::Global;
 use std::collections::VecDeque;
 use std::marker::Model;
@@ -28,7 +29,7 @@ pub struct View {
     pages: u32,
     // Whether there is a list of published commits, if only the empty one.
     listed: bool,
-    images: Vec<Image>,
+    images: Vec<KeptImage>,
     // Modulo 2^64, which is exact for the commits of a device's log.
     commits: u64,
     last: Lsn,
@@ -168,6 +169,6 @@ impl View {
         if key.page >= self.pages || key.slot as usize >= SLOT_COUNT {
             return None;
         }
-        ImageView::of(&self.images[images::place(key)]).to_image()
+        self.images[images::place(key)].image()
     }
 }
