@@ -13,7 +13,6 @@ use Rattle.als_record.proofs.Validity.{first_bad-none, may_follow-admitted}
 use Rattle.als_record.proofs.TailFirst.{IsValidLog-push}
 use Rattle.als_receiver.specs.declared.refusal.Refusal.{Refusal}
 use Rattle.als_receiver.specs.Reception.{Reception, fresh, behind, CanHandOut, IsRefusal}
-use Rattle.als_receiver.specs.Reception.{Waits as Pauses}
 use Rattle.als_validator.specs.Validated.{IsValidatorOf}
 use Rattle.als_validator.specs.declared.validator.Validator.{Validator}
 use Rattle.als_scan.specs.declared.fault.Fault.{Fault}
@@ -51,20 +50,11 @@ module _ (r : Reception) (v : Validator) (log : List Record) (is : IsJudge r v l
   here : (x : Result (Option (Record × ℕ)) ShapeFault) → read_record r.pages r.wanted r.kept ≡ x → read_record r.pages (end_of log) r.kept ≡ x
   here x e = ap (λ n. read_record r.pages n r.kept) (sym is.wanted) ∙ e
 
-  pub pauses_there : Pauses r r → read_record r.pages (end_of log) r.kept ≡ Ok None
-  pauses_there w = here (Ok None) w.reading
-
   pub shows_there : (s : Record) (len : ℕ) → CanHandOut r s len → read_record r.pages (end_of log) r.kept ≡ Ok (Some (s, record_len s))
   shows_there s len can = here (Ok (Some (s, record_len s))) can.out.reading
 
   pub refuses_there : (refusal : Refusal) → IsRefusal r refusal → read_record r.pages (end_of log) r.kept ≡ Err refusal.fault
   refuses_there refusal h = here (Err refusal.fault) (refusal_reading r refusal is.unrefused h)
-
-  pub shown_is_some : (s : Record) (len : ℕ) → CanHandOut r s len → read_record r.pages (end_of log) r.kept ≢ Ok None
-  shown_is_some s len can none = let e : ◌≡◌ {A = Result (Option (Record × ℕ)) ShapeFault} (Ok (Some (s, record_len s))) (Ok None) = sym (shows_there s len can) ∙ none in cc e
-
-  pub refused_is_some : (refusal : Refusal) → IsRefusal r refusal → read_record r.pages (end_of log) r.kept ≢ Ok None
-  refused_is_some refusal h none = let e : ◌≡◌ {A = Result (Option (Record × ℕ)) ShapeFault} (Err refusal.fault) (Ok None) = sym (refuses_there refusal h) ∙ none in cc e
 
   -- ---- a record that is taken
 

@@ -107,7 +107,8 @@ GivesNextOf log front (Err fault) = (fault ≡ Device) ⊎ (fault ≡ Memory)
 
 -- why a text of which the header is to be read first is not read at all
 abbrev pub RefusesHeader : Fault → List ℕ → ℕ → ℕ → ℕ → Type 0
-RefusesHeader (Shape fault) text pages before now = (fault ≡ shape.BadHeader) × (read_header (take 16 text) ≢ Ok (Some (record { pages = pages }))) × (now ≡ before)
+RefusesHeader (Shape fault) text pages before now =
+    (fault ≡ shape.BadHeader) × (read_header (take 16 text) ≢ Ok (Some (record { pages = pages }))) × (now ≡ before)
 RefusesHeader Device text pages before now = before < now
 RefusesHeader Memory text pages before now = now ≡ before
 RefusesHeader (Invalid cause) text pages before now = ⊥
@@ -123,7 +124,16 @@ RefusesLog BadControl before now = ⊥
 
 -- a log all of which is written and synced
 abbrev pub taken_up : Scanned → ℕ → Local
-taken_up s room = record { pages = s.pages; log = s.log; written = s.mark; synced = s.mark; blocks = s.blocks; failures = s.failures; attempts = s.attempts; room = room }
+taken_up s room = record {
+  pages = s.pages;
+  log = s.log;
+  written = s.mark;
+  synced = s.mark;
+  blocks = s.blocks;
+  failures = s.failures;
+  attempts = s.attempts;
+  room = room;
+}
 
 -- what a scan is made of
 pub record IsScan (pages mark blocks : ℕ) (slots : ℕ → Slot) (j : Judged) : Type 0 where

@@ -1,4 +1,4 @@
-ghost use Rattle.std.specs.Prelude.{◌≡◌, ◌≢◌, ℕ, ◌<◌, ◌+◌, ◌^◌, List, [], ◌∷◌, ◌++◌, length, MatchBool, None, Ok, OnOk, OnErr, IfOk, IfErr};
+ghost use Rattle.std.specs.Prelude.{◌≡◌, ◌≢◌, ℕ, ◌<◌, ◌+◌, ◌^◌, false, List, [], ◌∷◌, ◌++◌, length, None, Ok, OnOk, OnErr, IfOk, IfErr};
 ghost use Rattle.als_record.specs.declared.record.Record.{Record as AnyRecord};
 ghost use Rattle.als_record.specs.Spelling.{IsRecord};
 ghost use Rattle.als_record.specs.LogText.{end_of};
@@ -12,7 +12,7 @@ ghost use Rattle.als_scan.specs.Judged.{Judged, begun, position_of, reading_of, 
 use crate::fault::Fault;
 use als_log::History;
 use als_receiver::Receiver;
-use als_record::{Lsn, Record, RecordView};
+use als_record::{Lsn, RECORD_LIMIT, Record, RecordView};
 use als_validator::Validator;
 use std::alloc::Global;
 use std::marker::Model;
@@ -51,15 +51,18 @@ impl Drop for Judge {
 }
 
 /// Lets a validator take the record that is seen, where it may follow the log, and copies it.
+// Inlined with all below `Scan::next`, so that a record is not moved from answer to answer.
+#[inline(always)]
 fn admit(validator: &mut Validator, seen: &RecordView<'_>, alloc: Global) -> Result<Record, Fault>
     ensures copy { IfOk result (λ r. r ≡ shown seen.now) }
-    ensures good { OnOk result ((pages : ℕ) (log : List AnyRecord) → IsValidatorOf pages validator.old log → IsValidLog pages log → IsRecord pages (shown seen.now)
-        → first_bad log (shown seen.now) ≡ None) }
-    ensures ok { OnOk result ((pages : ℕ) (log : List AnyRecord) → IsValidatorOf pages validator.old log → IsValidLog pages (log ++ shown seen.now ∷ [])
-        → IsValidatorOf pages validator.new (log ++ shown seen.now ∷ [])) }
-    ensures err { IfErr result (λ fault. (pages : ℕ) (log : List AnyRecord) → IsValidatorOf pages validator.old log → IsValidLog pages log → IsRecord pages (shown seen.now)
-        → IsCauseAt log (shown seen.now) fault) }
-    ensures same { OnErr result ((pages : ℕ) (log : List AnyRecord) → IsValidatorOf pages validator.old log → IsValidatorOf pages validator.new log) }
+    ensures good { OnOk result ((pages : ℕ) (log : List AnyRecord) → IsValidatorOf pages validator.old log
+        → IsValidLog pages log → IsRecord pages (shown seen.now) → first_bad log (shown seen.now) ≡ None) }
+    ensures ok { OnOk result ((pages : ℕ) (log : List AnyRecord) → IsValidatorOf pages validator.old log
+        → IsValidLog pages (log ++ shown seen.now ∷ []) → IsValidatorOf pages validator.new (log ++ shown seen.now ∷ [])) }
+    ensures err { IfErr result (λ fault. (pages : ℕ) (log : List AnyRecord) → IsValidatorOf pages validator.old log
+        → IsValidLog pages log → IsRecord pages (shown seen.now) → IsCauseAt log (shown seen.now) fault) }
+    ensures same { OnErr result ((pages : ℕ) (log : List AnyRecord) → IsValidatorOf pages validator.old log
+        → IsValidatorOf pages validator.new log) }
 {
     validator.check(seen)?;
     validator.reserve()?;
@@ -83,6 +86,7 @@ impl Judge {
     }
 
     /// The offset of the byte that comes next.
+    #[inline]
     pub(crate) fn position(&self) -> u64
         ensures { result ≡ position_of self.now }
     {
@@ -90,21 +94,19 @@ impl Judge {
     }
 
     /// The offset behind the records judged.
+    #[inline]
     pub(crate) fn end(&self) -> Lsn
         ensures { result.0 ≡ end_of self.now.log }
     {
         self.receiver.next_lsn()
     }
 
-    /// Whether they are less than a record.
-    pub(crate) fn waits(&self) -> bool
-        ensures { MatchBool result (reading_of self.now ≡ Ok None) (reading_of self.now ≢ Ok None) }
+    /// Whether fewer bytes have come than the longest record has. If not, the next record wants no more.
+    #[inline]
+    pub(crate) fn is_short(&self) -> bool
+        ensures { result ≡ false → reading_of self.now ≢ Ok None }
     {
-        match self.receiver.peek() {
-            Ok(None) => true,
-            Ok(Some(_)) => false,
-            Err(_) => false,
-        }
+        self.receiver.partial() < RECORD_LIMIT
     }
 
     /// Takes the next bytes.
@@ -120,6 +122,7 @@ impl Judge {
 
     /// Judges the next record, and takes it where it may follow; `None` where no byte is left. No more bytes come for it: what is
     /// left and less than a record is refused.
+    #[inline(always)]
     pub(crate) fn take_one(&mut self, alloc: Global) -> Result<Option<Record>, Fault>
         ensures ok { IfOk result (λ found. TakesNext self.old found self.new) }
         ensures err { IfErr result (λ fault. Refuses self.old fault) }
@@ -144,6 +147,7 @@ impl Judge {
     }
 
     /// What the validator knows of the records judged.
+    #[inline]
     pub(crate) fn validator(&self) -> &Validator
         ensures known { IsValidatorOf self.now.pages result.now self.now.log }
     {

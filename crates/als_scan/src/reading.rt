@@ -75,7 +75,8 @@ fn read_more<D: BlockDisk>(disk: &mut D, judge: &mut Judge, mark: u64) -> Result
     Ok(())
 }
 
-/// Reads on until the next record is whole, or all bytes below a mark have come.
+/// Reads on until as many bytes have come as the longest record has, or all below a mark: none is looked at for it.
+#[inline]
 pub(crate) fn fill<D: BlockDisk>(disk: &mut D, judge: &mut Judge, mark: u64) -> Result<(), Fault>
     requires few { D.block_count disk.old ≤ 4194304 }
     requires high { mark ≤ 512 * D.block_count disk.old }
@@ -90,7 +91,7 @@ pub(crate) fn fill<D: BlockDisk>(disk: &mut D, judge: &mut Judge, mark: u64) -> 
     ensures count { D.block_count disk.new ≡ D.block_count disk.old }
     ensures attempts { D.attempts disk.new ≡ D.attempts disk.old }
 {
-    while judge.position() < mark && judge.waits() {
+    while judge.position() < mark && judge.is_short() {
         read_more(disk, judge, mark)?;
     }
     Ok(())

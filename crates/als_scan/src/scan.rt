@@ -21,7 +21,7 @@ use std::alloc::Global;
 use std::marker::Model;
 
 /// The log that stands on a device below a mark, read from its first record on. Each record is judged by those before it and
-/// then handed out; memory holds what a validator keeps of them and the bytes of one record, and of one block, at most.
+/// then handed out. Memory holds what a validator keeps of them, and the bytes of the longest record and of one block at most.
 pub struct Scan<D: BlockDisk> {
     alloc: Global,
     disk: D,
@@ -93,6 +93,7 @@ impl<D: BlockDisk> Scan<D> {
     /// Any fault of the bytes is that of the first record that is refused. `Shape`: the bytes are no record. `Invalid`: the record
     /// may not follow. `BadControl`: the mark stands within a record. `Device`: the device failed. `Memory`: a growth was refused.
     /// After the last two the call may be made again.
+    #[inline(always)]
     pub fn next(&mut self) -> Result<Option<Record>, Fault>
         ensures ok { IfOk result (λ found. HandsNext self.old found self.new) }
         ensures err { IfErr result (λ fault. RefusesNext self.old fault self.new) }
