@@ -1,8 +1,6 @@
 -- What waits for a page can be redone, as pages are read in, changes are redone, and more changes come.
 use Rattle.std.proofs.Common.{◌≡◌, ◌≢◌, ◌⊎◌, ℕ, zero, suc, ◌<◌, ◌≤◌, List, [], ◌∷◌, ◌++◌, length, take, drop, Option, Some, None, refl, sym, ap, subst, ◌∙◌, inl, inr, length-set, arith}
 use Rattle.std.specs.Prelude.{slice_set, IsSome}
-use Rattle.std.specs.Option.{option_map}
-use Rattle.std.proofs.lemmas.Option.{same_Some}
 use Rattle.std.proofs.lemmas.Bool.{cases_eq}
 use Rattle.std.proofs.lemmas.List.{get_or-set_same, get_or-set_other, take-append-drop, length-take}
 use Rattle.als_record.specs.declared.lsn.Lsn.{Lsn}
@@ -12,7 +10,7 @@ use Rattle.als_record.proofs.PageLaws.{lsn-fold}
 use Rattle.als_frames.specs.Frames.{Framed, Paged, frame_of}
 use Rattle.als_frames.specs.Images.{lsn_or, lsn_now, synced_lsn}
 use Rattle.als_frames.specs.Outcomes.{PutsIn, IsReplaced}
-use Rattle.als_frames.specs.Batch.{AreNext, CanRedo, Redoes as FrameRedoes}
+use Rattle.als_frames.specs.Batch.{AreNext, CanRedo, Redoes as FrameRedoes, redone_frame}
 use Rattle.als_dirty.specs.declared.dirty_page.DirtyPage.{DirtyPage}
 use Rattle.als_pool.specs.Queues.{pending_of, above, count_up_to}
 use Rattle.als_pool.specs.Pooled.{Pooled, WaitsInOrder, IsPooled}
@@ -102,7 +100,14 @@ pooled-redoes old new page inside done waits rows told h =
     (subst (λ (x : List Change). WaitsInOrder new.frames page x) (sym (drop-front w 64)) behind)
     (λ p lt ne. subst (λ (o : Option Framed). AreNext p (lsn_or o 0) (pending_of old.waits p)) (sym (done.sets.others p ne)) (h.ordered p lt)) h
 
--- the page_LSN that a redo answers
-pub redo_lsn : (new : Paged) (page n : ℕ) (f : Framed) → frame_of new page ≡ Some f → Some n ≡ option_map (λ (x : Framed). x.content.lsn) (frame_of new page) → n ≡ lsn_now new page
-redo_lsn new page n f is e =
-    same_Some n f.content.lsn (e ∙ ap (option_map (λ (x : Framed). x.content.lsn)) is) ∙ ap (λ (o : Option Framed). lsn_or o (synced_lsn new page)) (sym is)
+-- the page_LSN that a redo answers is that of the last change
+pub redo_lsn : (new : Paged) (page n : ℕ) (f : Framed) (cs changes : List Change) → frame_of new page ≡ Some (redone_frame f cs) → changes ≡ cs
+    → ((lsn : ℕ) → n ≡ lsn_after lsn changes) → n ≡ lsn_now new page
+redo_lsn new page n f cs changes is same last =
+    last f.content.lsn ∙ ap (lsn_after f.content.lsn) same ∙ sym (lsn-fold f.content cs)
+    ∙ ap (λ (o : Option Framed). lsn_or o (synced_lsn new page)) (sym is)
+
+-- where changes wait, the first ones are some
+pub front-some : (cs front : List Change) → front ≡ take 64 cs → cs ≢ [] → front ≢ []
+front-some [] front is some none = some refl
+front-some (c ∷ cs) front is some none = absurd (cc (is, none))

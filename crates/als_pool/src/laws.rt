@@ -16,7 +16,9 @@ ghost use Rattle.als_pool.specs.Bounds.{EndsBelow};
 ghost use Rattle.als_pool.specs.Outcomes.{CanRoute};
 ghost use Rattle.als_pool.specs.Queues.{pending_of};
 ghost use Rattle.als_pool.specs.Images.{IsPoolOf, IsRowSound, IsRowExact, QueuesOf, IsBelow, IsFromOn, AllLackFrom};
-ghost use Rattle.als_pool.specs.Restart.{row_in, start_of, HasRowsFrom, IsRowOfRestart, HoldsImagesFrom, HoldsImagesOf, TakesInAll, IsRowBelow, CoversPages};
+ghost use Rattle.als_pool.specs.Restart.{row_in, start_of, HasRowsFrom, IsRowOfRestart};
+ghost use Rattle.als_pool.specs.Restart.{HoldsImagesFrom, HoldsImagesOf, TakesInAll, IsRowBelow};
+ghost use Rattle.als_pool.specs.Restart.{CoversPages};
 ghost use Rattle.als_record.specs.declared.lsn.Lsn.{Lsn as AnyLsn};
 ghost use Rattle.als_record.specs.declared.rows.LoggedPage.{LoggedPage as AnyRow};
 
@@ -126,7 +128,8 @@ pub fn opened_pages_are_covered()
 /// below the LSN from which on they wait.
 pub fn change_can_be_read()
     ensures { (front : List AnyRecord) (r : AnyRecord) (change : AnyChange) (position : AnyLsn) (rows : List AnyRow) (pool : Pooled)
-        → HasRowsFrom position rows pool → QueuesOf front pool → IsLog pool.frames.pages (front ++ r ∷ []) → r.lsn.0 ≡ end_of front → change_of r ≡ Some change
+        → HasRowsFrom position rows pool → QueuesOf front pool
+        → IsLog pool.frames.pages (front ++ r ∷ []) → r.lsn.0 ≡ end_of front → change_of r ≡ Some change
         → IsFromOn pool change → total_waiting pool.waits + 1 < 2 ^ 64 → CanRoute pool change }
 {}
 

@@ -93,6 +93,8 @@ impl PageQueue {
         if self.has_room {
             return Ok(());
         }
+        let taken = self.taken;
+        self.taken = close_up(&mut self.changes, taken);
         self.changes.reserve(1)?;
         self.has_room = true;
         Ok(())
@@ -113,7 +115,7 @@ impl PageQueue {
         ensures { self.new ≡ record self.old { pending = drop count self.old.pending } }
     {
         let taken = self.taken + count;
-        self.taken = compact(&mut self.changes, taken);
+        self.taken = settle(&mut self.changes, taken);
     }
 
     /// The same, and answers the flag of what is left: 1 where changes wait, else 0.
@@ -130,19 +132,29 @@ impl PageQueue {
     }
 }
 
-// Lets go of the first changes, once they are more than half of all, and answers how many of those left are taken.
-fn compact(changes: &mut Vec<Change>, taken: usize) -> usize
+// Lets go of all changes once all are redone, and answers how many of those left are redone.
+fn settle(changes: &mut Vec<Change>, taken: usize) -> usize
     requires { taken ≤ vec_len changes.old }
     ensures left { drop result changes.new.items ≡ drop taken changes.old.items }
     ensures taken { result ≤ vec_len changes.new }
     ensures room { vec_len changes.old < vec_capacity changes.old → vec_len changes.new < vec_capacity changes.new }
 {
-    let len = changes.len();
-    if taken == len {
-        empty(changes);
-        return 0;
+    if taken != changes.len() {
+        return taken;
     }
-    if taken <= len / 2 {
+    empty(changes);
+    0
+}
+
+// Where no place is left and more than half of the changes are redone, moves the others to the front, so that none is
+// moved while changes are redone. Answers how many of those left are redone.
+fn close_up(changes: &mut Vec<Change>, taken: usize) -> usize
+    requires { taken ≤ vec_len changes.old }
+    ensures left { drop result changes.new.items ≡ drop taken changes.old.items }
+    ensures taken { result ≤ vec_len changes.new }
+{
+    let len = changes.len();
+    if len < changes.capacity() || taken <= len / 2 {
         return taken;
     }
     changes.rotate_left(taken);

@@ -1,5 +1,8 @@
-ghost use Rattle.std.specs.Prelude.{◌≡◌, ◌<◌, ◌≤◌, ◌+◌, ◌^◌, ◌++◌, ◌∷◌, [], true, false, length, replicate, take, drop, slice_set, IsOk, IfOk, OnOk, OnErr, IsTrue, ◌↔◌, ◌≢◌};
+ghost use Rattle.std.specs.Prelude.{◌≡◌, ◌≢◌, ℕ, ◌<◌, ◌≤◌, ◌+◌, ◌^◌, ◌++◌, ◌∷◌, [], true, false};
+ghost use Rattle.std.specs.Prelude.{length, replicate, take, drop, slice_set, IsOk, IfOk, OnOk};
+ghost use Rattle.std.specs.Prelude.{OnErr, IsTrue, ◌↔◌};
 ghost use Rattle.std.specs.Vec.{vec_len};
+ghost use Rattle.als_record.specs.Pages.{lsn_after};
 ghost use Rattle.als_dirty.specs.Images.{first_lsn};
 ghost use Rattle.als_pool.specs.Queues.{empty_queue, pending_of, has_place, total_waiting, count_up_to, WaitsFirst, IsNextFlag};
 
@@ -135,6 +138,15 @@ impl Queues {
     {
         self.queues[page as usize].count_up_to(lsn)
     }
+}
+
+/// The LSN of the last of some changes.
+pub fn last_lsn(changes: &[Change]) -> Lsn
+    requires { changes.now ≢ [] }
+    ensures { (lsn : ℕ) → result.0 ≡ lsn_after lsn changes.now }
+{
+    let count = changes.len();
+    changes[count - 1].lsn
 }
 
 // The first page from a number on whose flag is set.
