@@ -1,5 +1,6 @@
 -- What each step keeps: what is acknowledged, the log's records, and that an engine has stopped.
-use Rattle.std.proofs.Common.{◌≡◌, ℕ, ◌≤◌, true, false, List, [], refl, sym, ap, subst, ◌∙◌, append-nil, arith}
+use Rattle.std.proofs.Common.{◌≡◌, ℕ, ◌≤◌, true, false, List, [], refl, sym, ap, subst, ◌∙◌}
+use Rattle.std.proofs.Common.{append-nil, arith}
 use Rattle.std.proofs.lemmas.Bool.{true≢false}
 use Rattle.als_record.specs.declared.record.Record.{Record}
 use Rattle.als_ckpt.specs.declared.control_state.ControlState.{ControlState}
@@ -18,7 +19,23 @@ pub goes_on_same : (s : ControlState) → GoesOn s s
 goes_on_same s = record { phase = omega arith; seal = λ past. refl }
 
 keeps_same : (m : Machine) → Keeps m m
-keeps_same m = record { acknowledged = le_refl (acknowledged m.held); more = []; log = sym (append-nil m.held.log); stopped = λ s. s; takeover = goes_on_same m.held.control; pages = refl; limit = refl; warm = λ w. w; ready = λ r. r; listed = λ l. l; published = le_refl m.published; shown = λ f t. absurd (true≢false (sym t ∙ f)) }
+keeps_same m = record {
+  acknowledged = le_refl (acknowledged m.held);
+  more = [];
+  log =
+      sym (append-nil m.held.log);
+  stopped = λ s. s;
+  takeover = goes_on_same m.held.control;
+  pages =
+      refl;
+  limit = refl;
+  warm = λ w. w;
+  ready = λ r. r;
+  listed = λ l. l;
+  published =
+      le_refl m.published;
+  shown = λ f t. absurd (true≢false (sym t ∙ f));
+}
 
 pub keeps_equal : (old new : Machine) → new ≡ old → Keeps old new
 keeps_equal old new e = subst (λ (m : Machine). Keeps old m) (sym e) (keeps_same old)
@@ -28,11 +45,18 @@ pub record IsReadAlike (old new : Machine) : Type 0 where
   pub listed : new.listed ≡ old.listed
   pub published : new.published ≡ old.published
 
-pub read_alike : (old new : Machine) (m : Machine) → new ≡ m → m.listed ≡ old.listed → m.published ≡ old.published → IsReadAlike old new
-read_alike old new m is listed published = record { listed = ap (λ (x : Machine). x.listed) is ∙ listed; published = ap (λ (x : Machine). x.published) is ∙ published }
+pub read_alike : (old new : Machine) (m : Machine) → new ≡ m → m.listed ≡ old.listed
+    → m.published ≡ old.published → IsReadAlike old new
+read_alike old new m is listed published =
+    record {
+      listed = ap (λ (x : Machine). x.listed) is ∙ listed;
+      published =
+          ap (λ (x : Machine). x.published) is ∙ published;
+    }
 
 -- then no list is opened
-pub none_opened : (old new : Machine) → IsReadAlike old new → (limit : ℕ) → old.listed ≡ false → new.listed ≡ true → limit ≤ new.published
+pub none_opened : (old new : Machine) → IsReadAlike old new → (limit : ℕ) → old.listed ≡ false
+    → new.listed ≡ true → limit ≤ new.published
 none_opened old new alike limit none list = absurd (true≢false (sym list ∙ alike.listed ∙ none))
 
 -- the store has as many pages, was made over sound devices if it was, and does not begin to recover
@@ -42,7 +66,8 @@ pub record IsAsMade (old new : Stored) : Type 0 where
   pub ready : old.recovering ≡ false → new.recovering ≡ false
 
 -- so an event leaves it that says of none of them
-pub as_made : (old new held : Stored) → new ≡ held → held.pages ≡ old.pages → (WasWarm old → WasWarm held) → (old.recovering ≡ false → held.recovering ≡ false)
+pub as_made : (old new held : Stored) → new ≡ held → held.pages ≡ old.pages
+    → (WasWarm old → WasWarm held) → (old.recovering ≡ false → held.recovering ≡ false)
     → IsAsMade old new
 as_made old new held is pages warm ready = record {
   pages = ap (λ (s : Stored). s.pages) is ∙ pages;

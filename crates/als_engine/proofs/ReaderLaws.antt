@@ -1,17 +1,22 @@
 -- What readers see of a log goes on with it.
-use Rattle.std.proofs.Common.{◌≡◌, ℕ, ◌+◌, ◌-◌, ◌^◌, ◌≤◌, ◌<◌, Bool, false, true, not, cond, nat_le, List, [], ◌∷◌, ◌++◌, length, Option, Some, None, Ok, refl, sym, ap, subst, ◌∙◌, inl, inr, arith}
+use Rattle.std.proofs.Common.{◌≡◌, ℕ, ◌+◌, ◌-◌, ◌^◌, ◌≤◌, ◌<◌, Bool, false, true, not, cond, nat_le}
+use Rattle.std.proofs.Common.{List, [], ◌∷◌, ◌++◌, length, Option, Some, None, Ok, refl, sym, ap}
+use Rattle.std.proofs.Common.{subst, ◌∙◌, inl, inr, arith}
 use Rattle.std.specs.Prelude.{is_some, filter, ◌⊎◌, Result, Err, MatchOption, IsSomeAnd}
 use Rattle.std.proofs.lemmas.Bool.{cases_Bool, true≢false, lt-leb, le-leb}
 use Rattle.als_record.specs.declared.lsn.Lsn.{Lsn}
 use Rattle.als_record.specs.declared.record.Record.{Record}
 use Rattle.als_record.specs.declared.record.Body.{Body}
-use Rattle.als_record.specs.declared.record.Body.TheVariants.{Update, Compensation, Commit, Rollback, End, BeginCheckpoint, EndCheckpoint}
+use Rattle.als_record.specs.declared.record.Body.TheVariants.{Update, Compensation, Commit}
+use Rattle.als_record.specs.declared.record.Body.TheVariants.{Rollback, End, BeginCheckpoint}
+use Rattle.als_record.specs.declared.record.Body.TheVariants.{EndCheckpoint}
 use Rattle.als_record.specs.Reading.{read_record}
 use Rattle.als_record.specs.LogText.{end_of}
 use Rattle.als_record.specs.Validity.{is_valid}
 use Rattle.als_record.specs.Transactions.{is_commit}
 use Rattle.als_record.specs.Commits.{Commit as Committed, commits_of}
-use Rattle.als_record.specs.Tail.{TailStep, Ends, Undoes, undone, record_for, numbered, tail_steps, tail_of}
+use Rattle.als_record.specs.Tail.{TailStep, Ends, Undoes, undone, record_for, numbered, tail_steps}
+use Rattle.als_record.specs.Tail.{tail_of}
 use Rattle.als_view.specs.Fronts.{View, HasPublished}
 use Rattle.als_view.specs.Showing.{IsShowing, IsWarming, published_of, ended_count}
 use Rattle.als_view.proofs.ViewLaws.{counts}
@@ -22,8 +27,10 @@ use Rattle.als_ckpt.specs.Regions.{Begun}
 use Rattle.als_ckpt.specs.Control.{last_state}
 use Rattle.als_store.specs.declared.fault.Fault.{Fault as StoreFault}
 use Rattle.als_store.specs.declared.fault.Fault.TheVariants as store_fault
-use Rattle.als_store.specs.CheckpointEvents.{Publishes, BreaksPublish, NotPublished, NotBegun, NoBlock}
-use Rattle.als_store.specs.Events.{HasUnmarked, BreaksMark, SyncsControl, ReadsInVain, NotApplied, NotFlushed, NotShown}
+use Rattle.als_store.specs.CheckpointEvents.{Publishes, BreaksPublish, NotPublished, NotBegun}
+use Rattle.als_store.specs.CheckpointEvents.{NoBlock}
+use Rattle.als_store.specs.Events.{HasUnmarked, BreaksMark, SyncsControl, ReadsInVain, NotApplied}
+use Rattle.als_store.specs.Events.{NotFlushed, NotShown}
 use Rattle.als_store.specs.Takeover.{UndoesOne, NotUndone}
 use Rattle.als_store.specs.Opening.{IsOpened}
 use Rattle.als_engine.specs.declared.fault.Fault.{Fault}
@@ -44,7 +51,8 @@ use Rattle.als_engine.proofs.PageLaws.{acting}
 pub goes_on_still : (log : List Record) (view : View) → ViewGoesOn log view log view
 goes_on_still log view = record { shows = λ offset h. h; published = refl; pages = refl }
 
-pub goes_on_then : (a b c : List Record) (u v w : View) → ViewGoesOn a u b v → ViewGoesOn b v c w → ViewGoesOn a u c w
+pub goes_on_then : (a b c : List Record) (u v w : View) → ViewGoesOn a u b v → ViewGoesOn b v c w
+    → ViewGoesOn a u c w
 goes_on_then a b c u v w first second = record {
   shows = λ offset h. second.shows offset (first.shows offset h);
   published = second.published ∙ first.published;
@@ -52,9 +60,17 @@ goes_on_then a b c u v w first second = record {
 }
 
 -- room for a commit shows nothing
-pub goes_on_room : (log : List Record) (old new : View) → new ≡ record old { room = new.room } → ViewGoesOn log old log new
+pub goes_on_room : (log : List Record) (old new : View) → new ≡ record old { room = new.room }
+    → ViewGoesOn log old log new
 goes_on_room log old new e = subst (λ (v : View). ViewGoesOn log old log v) (sym e) (record {
-  shows = λ offset h. record { front = h.front; parts = h.parts; shown = record { images = h.shown.images; count = h.shown.count; last = h.shown.last }; ended = h.ended };
+  shows = λ offset h. record {
+    front = h.front;
+    parts = h.parts;
+    shown =
+        record { images = h.shown.images; count = h.shown.count; last = h.shown.last };
+    ended =
+        h.ended;
+  };
   published = refl;
   pages = refl;
 })
@@ -70,39 +86,54 @@ undone-no_commit prev End = refl
 undone-no_commit prev BeginCheckpoint = refl
 undone-no_commit prev (EndCheckpoint rows pages) = refl
 
-step-no_commit : (log : List Record) (step : TailStep) → is_commit (record_for log step).body ≡ false
+step-no_commit : (log : List Record) (step : TailStep)
+    → is_commit (record_for log step).body ≡ false
 step-no_commit log (Ends t) = refl
 step-no_commit log (Undoes u) = undone-no_commit u.prev u.body
 
-numbered-no_commit : (log : List Record) (steps : List TailStep) (made : Record) (rest : List Record) → numbered log steps ≡ made ∷ rest → is_commit made.body ≡ false
+numbered-no_commit : (log : List Record) (steps : List TailStep) (made : Record)
+    (rest : List Record) → numbered log steps ≡ made ∷ rest → is_commit made.body ≡ false
 unfolding numbered
 numbered-no_commit log [] made rest e = absurd cc
-numbered-no_commit log (step ∷ steps) made rest e = let first : record_for log step ≡ made = cc e in subst (λ (r : Record). is_commit r.body ≡ false) first (step-no_commit log step)
+numbered-no_commit log (step ∷ steps) made rest e =
+    let first : record_for log step ≡ made =
+    cc e in subst (λ (r : Record). is_commit r.body ≡ false) first (step-no_commit log step)
 
-pub tail-no_commit : (log : List Record) (made : Record) (rest : List Record) → tail_of log ≡ made ∷ rest → is_commit made.body ≡ false
+pub tail-no_commit : (log : List Record) (made : Record) (rest : List Record)
+    → tail_of log ≡ made ∷ rest → is_commit made.body ≡ false
 unfolding tail_of
 tail-no_commit log made rest e = numbered-no_commit log (tail_steps log) made rest e
 
 -- ---- how many commits are published
 
-length-filter : (test : Committed → Bool) (cs : List Committed) → length (filter test cs) ≤ length cs
+length-filter : (test : Committed → Bool) (cs : List Committed)
+    → length (filter test cs) ≤ length cs
 length-filter test [] = omega arith
-length-filter test (c ∷ cs) = let h : length (filter test cs) ≤ length cs = length-filter test cs in elim (cases_Bool (test c)) [
-  | inl y ↦ rw y (omega (arith, h))
-  | inr n ↦ rw n (omega (arith, h))
-]
+length-filter test (c ∷ cs) =
+    let h : length (filter test cs) ≤ length cs =
+    length-filter test cs in elim (cases_Bool (test c)) [
+      | inl y ↦ rw y (omega (arith, h))
+      | inr n ↦ rw n (omega (arith, h))
+    ]
 
 pub ended_in-few : (held : Stored) → ended_in held ≤ length (commits_of held.log)
 unfolding ended_count
-ended_in-few held = length-filter (λ c. nat_le (c.lsn.0 + 28) (acknowledged held)) (commits_of held.log)
+ended_in-few held =
+    length-filter (λ c. nat_le (c.lsn.0 + 28) (acknowledged held)) (commits_of held.log)
 
 -- a view counts no more commits than have ended
-few_published : (held : Stored) (view : View) → is_valid held.log ≡ true → end_of held.log < 2 ^ 64 → IsShowing held.log (acknowledged held) view → view.commits ≤ ended_in held
+few_published : (held : Stored) (view : View) → is_valid held.log ≡ true → end_of held.log < 2 ^ 64
+    → IsShowing held.log (acknowledged held) view → view.commits ≤ ended_in held
 few_published held view valid few shows =
     let at : Lsn = record { 0 = acknowledged held - 27 } in
-    omega (arith, counts held.log (acknowledged held) (acknowledged held) at view refl valid few (omega arith) shows)
+    omega (
+      arith,
+      counts held.log (acknowledged held) (acknowledged held) at view refl valid few
+          (omega arith) shows,
+    )
 
-pub counted : (held : Stored) (view : View) → is_valid held.log ≡ true → end_of held.log < 2 ^ 64 → IsSeen held view → count_in (published_of view) ≤ ended_in held
+pub counted : (held : Stored) (view : View) → is_valid held.log ≡ true → end_of held.log < 2 ^ 64
+    → IsSeen held view → count_in (published_of view) ≤ ended_in held
 counted held view valid few seen = elim (cases_Bool view.listed) [
   | inl y ↦ rw y (few_published held view valid few seen.shows)
   | inr n ↦ rw n (omega arith)
@@ -115,36 +146,51 @@ none_counted (Some n) e = absurd cc
 -- ---- what is seen after an event
 
 -- the log, what is acknowledged, the page count and whether it recovers are as they were
-pub seen_still : (old new : Stored) (view : View) → IsSeen old view → (held : Stored) → new ≡ held → held.log ≡ old.log → held.control ≡ old.control → held.pages ≡ old.pages → held.recovering ≡ old.recovering → IsSeen new view
-seen_still old new view seen held is log control pages recovering = subst (λ (h : Stored). IsSeen h view) (sym is) (record {
-  shows = subst (λ (l : List Record). IsShowing l (acknowledged held) view) (sym log) (subst (λ (c : ControlState). IsShowing old.log c.mark.0 view) (sym control) seen.shows);
-  pages = seen.pages ∙ sym pages;
-  listed = seen.listed ∙ ap not (sym recovering);
-  stable = λ r. let low : end_of old.log ≤ acknowledged old = seen.stable (sym recovering ∙ r) in
-      omega (arith, low, ap end_of log, ap (λ (c : ControlState). c.mark.0) control);
-})
+pub seen_still : (old new : Stored) (view : View) → IsSeen old view → (held : Stored) → new ≡ held
+    → held.log ≡ old.log → held.control ≡ old.control → held.pages ≡ old.pages
+    → held.recovering ≡ old.recovering → IsSeen new view
+seen_still old new view seen held is log control pages recovering =
+    subst (λ (h : Stored). IsSeen h view) (sym is) (record {
+      shows = subst (λ (l : List Record). IsShowing l (acknowledged held) view) (sym log)
+          (subst (λ (c : ControlState). IsShowing old.log c.mark.0 view) (sym control) seen.shows);
+      pages = seen.pages ∙ sym pages;
+      listed = seen.listed ∙ ap not (sym recovering);
+      stable = λ r. let low : end_of old.log ≤ acknowledged old = seen.stable (sym recovering ∙ r) in
+          omega (arith, low, ap end_of log, ap (λ (c : ControlState). c.mark.0) control);
+    })
 
 -- a mark that was not written, or perhaps
-pub seen_unmarked : (old new : Stored) (view : View) (cause : StoreFault) → IsSeen old view → ((cause ≡ store_fault.NothingToDo) × (HasUnmarked old → ⊥) × (new ≡ old)) ⊎ ((cause ≡ store_fault.Device) × BreaksMark old new) → IsSeen new view
+pub seen_unmarked : (old new : Stored) (view : View) (cause : StoreFault) → IsSeen old view
+    → ((cause ≡ store_fault.NothingToDo) × (HasUnmarked old → ⊥) × (new ≡ old))
+    ⊎ ((cause ≡ store_fault.Device) × BreaksMark old new) → IsSeen new view
 seen_unmarked old new view cause seen failed = elim failed [
   | inl nothing ↦ seen_still old new view seen old nothing.2 refl refl refl refl
   | inr breaks ↦ seen_still old new view seen _ breaks.1.after refl refl refl refl
 ]
 
 -- a checkpoint that was published, perhaps, or not
-pub seen_checkpoint : (old new : Stored) (view : View) → IsSeen old view → (begun : Option Begun) → IsSomeAnd begun (λ b. Publishes old b new) → IsSeen new view
+pub seen_checkpoint : (old new : Stored) (view : View) → IsSeen old view → (begun : Option Begun)
+    → IsSomeAnd begun (λ b. Publishes old b new) → IsSeen new view
 seen_checkpoint old new view seen None publishes = absurd publishes
-seen_checkpoint old new view seen (Some b) publishes = seen_still old new view seen _ publishes.after refl refl refl refl
+seen_checkpoint old new view seen (Some b) publishes =
+    seen_still old new view seen _ publishes.after refl refl refl refl
 
-seen_torn_checkpoint : (old new : Stored) (view : View) → IsSeen old view → (begun : Option Begun) → IsSomeAnd begun (λ b. BreaksPublish old b new) → IsSeen new view
+seen_torn_checkpoint : (old new : Stored) (view : View) → IsSeen old view → (begun : Option Begun)
+    → IsSomeAnd begun (λ b. BreaksPublish old b new) → IsSeen new view
 seen_torn_checkpoint old new view seen None breaks = absurd breaks
-seen_torn_checkpoint old new view seen (Some b) breaks = seen_still old new view seen _ breaks.after refl refl refl refl
+seen_torn_checkpoint old new view seen (Some b) breaks =
+    seen_still old new view seen _ breaks.after refl refl refl refl
 
-pub seen_no_checkpoint : (old new : Stored) (view : View) (cause : StoreFault) → IsSeen old view → NotPublished old cause new → IsSeen new view
-seen_no_checkpoint old new view store_fault.NothingToDo seen n = seen_still old new view seen old n.1 refl refl refl refl
-seen_no_checkpoint old new view store_fault.CkptBusy seen n = seen_still old new view seen old n.1 refl refl refl refl
-seen_no_checkpoint old new view store_fault.LogBehind seen n = seen_still old new view seen old n.1 refl refl refl refl
-seen_no_checkpoint old new view store_fault.Device seen n = seen_torn_checkpoint old new view seen old.begun n
+pub seen_no_checkpoint : (old new : Stored) (view : View) (cause : StoreFault) → IsSeen old view
+    → NotPublished old cause new → IsSeen new view
+seen_no_checkpoint old new view store_fault.NothingToDo seen n =
+    seen_still old new view seen old n.1 refl refl refl refl
+seen_no_checkpoint old new view store_fault.CkptBusy seen n =
+    seen_still old new view seen old n.1 refl refl refl refl
+seen_no_checkpoint old new view store_fault.LogBehind seen n =
+    seen_still old new view seen old n.1 refl refl refl refl
+seen_no_checkpoint old new view store_fault.Device seen n =
+    seen_torn_checkpoint old new view seen old.begun n
 seen_no_checkpoint old new view store_fault.Memory seen n = absurd n
 seen_no_checkpoint old new view (store_fault.Invalid cause) seen n = absurd n
 seen_no_checkpoint old new view store_fault.PoolFull seen n = absurd n
@@ -153,38 +199,68 @@ seen_no_checkpoint old new view (store_fault.BadPage page) seen n = absurd n
 
 -- ---- what is not done changes neither the log nor the control states
 
-ready_still : (old held : Stored) (receiver : Reception) (refused : Option Fault) → IsReady old receiver refused → held.log ≡ old.log → held.pages ≡ old.pages → held.control ≡ old.control → held.since ≡ old.since
+ready_still : (old held : Stored) (receiver : Reception) (refused : Option Fault)
+    → IsReady old receiver refused → held.log ≡ old.log → held.pages ≡ old.pages
+    → held.control ≡ old.control → held.since ≡ old.since
     → IsReady held receiver refused
 ready_still old held receiver refused r log pages control since = record {
   rests = record {
-    meets = record { wanted = r.rests.meets.wanted ∙ sym (ap end_of log); pages = r.rests.meets.pages ∙ sym pages; takes = r.rests.meets.takes };
-    waits = ap (λ p. read_record p (end_of held.log) receiver.kept) pages ∙ ap (λ (l : List Record). read_record old.pages (end_of l) receiver.kept) log ∙ r.rests.waits;
+    meets = record {
+      wanted = r.rests.meets.wanted ∙ sym (ap end_of log);
+      pages =
+          r.rests.meets.pages ∙ sym pages;
+      takes = r.rests.meets.takes;
+    };
+    waits = ap (λ p. read_record p (end_of held.log) receiver.kept) pages
+        ∙ ap (λ (l : List Record). read_record old.pages (end_of l) receiver.kept) log
+        ∙ r.rests.waits;
     short = r.rests.short;
   };
-  marks = omega (arith, r.marks, ap (λ (c : ControlState). c.mark.0) control, ap (λ (c : ControlState). (last_state c held.since).mark.0) control, ap (λ (cs : List ControlState). (last_state old.control cs).mark.0) since);
+  marks = omega (
+    arith,
+    r.marks,
+    ap (λ (c : ControlState). c.mark.0) control,
+    ap
+        (λ (c : ControlState). (last_state c held.since).mark.0) control,
+    ap
+        (λ (cs : List ControlState). (last_state old.control cs).mark.0) since,
+  );
   no_want = r.no_want;
 }
 
-serving_still : (old new : Stored) (receiver : Reception) (refused : Option Fault) (view : View) → IsServing old receiver refused view → (held : Stored) → new ≡ held → held.log ≡ old.log → held.pages ≡ old.pages
-    → held.control ≡ old.control → held.since ≡ old.since → held.recovering ≡ old.recovering → IsServing new receiver refused view
-serving_still old new receiver refused view serving held is log pages control since recovering = record {
-  ready = subst (λ (h : Stored). IsReady h receiver refused) (sym is) (ready_still old held receiver refused serving.ready log pages control since);
-  seen = seen_still old new view serving.seen held is log control pages recovering;
-}
+serving_still : (old new : Stored) (receiver : Reception) (refused : Option Fault) (view : View)
+    → IsServing old receiver refused view → (held : Stored) → new ≡ held → held.log ≡ old.log
+    → held.pages ≡ old.pages
+    → held.control ≡ old.control → held.since ≡ old.since → held.recovering ≡ old.recovering
+    → IsServing new receiver refused view
+serving_still old new receiver refused view serving held is log pages control since recovering =
+    record {
+      ready = subst (λ (h : Stored). IsReady h receiver refused) (sym is)
+          (ready_still old held receiver refused serving.ready log pages control since);
+      seen = seen_still old new view serving.seen held is log control pages recovering;
+    }
 
 -- a page that was read in vain
-serving_in_vain : (old new : Stored) (receiver : Reception) (refused : Option Fault) (view : View) (page : ℕ) (cause : StoreFault) → IsServing old receiver refused view → ReadsInVain old page cause new → IsServing new receiver refused view
-serving_in_vain old new receiver refused view page store_fault.NothingToDo s r = serving_still old new receiver refused view s _ r.after refl refl refl refl refl
-serving_in_vain old new receiver refused view page store_fault.Device s r = serving_still old new receiver refused view s _ r.after refl refl refl refl refl
-serving_in_vain old new receiver refused view page (store_fault.BadPage p) s r = serving_still old new receiver refused view s old r.1 refl refl refl refl refl
-serving_in_vain old new receiver refused view page store_fault.Memory s r = serving_still old new receiver refused view s old r refl refl refl refl refl
+serving_in_vain : (old new : Stored) (receiver : Reception) (refused : Option Fault) (view : View)
+    (page : ℕ) (cause : StoreFault) → IsServing old receiver refused view
+    → ReadsInVain old page cause new → IsServing new receiver refused view
+serving_in_vain old new receiver refused view page store_fault.NothingToDo s r =
+    serving_still old new receiver refused view s _ r.after refl refl refl refl refl
+serving_in_vain old new receiver refused view page store_fault.Device s r =
+    serving_still old new receiver refused view s _ r.after refl refl refl refl refl
+serving_in_vain old new receiver refused view page (store_fault.BadPage p) s r =
+    serving_still old new receiver refused view s old r.1 refl refl refl refl refl
+serving_in_vain old new receiver refused view page store_fault.Memory s r =
+    serving_still old new receiver refused view s old r refl refl refl refl refl
 serving_in_vain old new receiver refused view page (store_fault.Invalid cause) s r = absurd r
 serving_in_vain old new receiver refused view page store_fault.LogBehind s r = absurd r
 serving_in_vain old new receiver refused view page store_fault.CkptBusy s r = absurd r
 serving_in_vain old new receiver refused view page store_fault.PoolFull s r = absurd r
 serving_in_vain old new receiver refused view page store_fault.LogFull s r = absurd r
 
-pub serving_not_applied : (old new : Stored) (receiver : Reception) (refused : Option Fault) (view : View) (page : ℕ) (cause : StoreFault) → IsServing old receiver refused view → NotApplied old page cause new → IsServing new receiver refused view
+pub serving_not_applied : (old new : Stored) (receiver : Reception) (refused : Option Fault)
+    (view : View) (page : ℕ) (cause : StoreFault) → IsServing old receiver refused view
+    → NotApplied old page cause new → IsServing new receiver refused view
 serving_not_applied old new receiver refused view page cause s n = elim n [
   | inl none ↦ serving_still old new receiver refused view s old none.2 refl refl refl refl refl
   | inr other ↦ elim other [
@@ -193,10 +269,15 @@ serving_not_applied old new receiver refused view page cause s n = elim n [
   ]
 ]
 
-pub serving_not_flushed : (old new : Stored) (receiver : Reception) (refused : Option Fault) (view : View) (page : ℕ) (cause : StoreFault) → IsServing old receiver refused view → NotFlushed old page cause new → IsServing new receiver refused view
-serving_not_flushed old new receiver refused view page store_fault.NothingToDo s n = serving_still old new receiver refused view s old n.1 refl refl refl refl refl
-serving_not_flushed old new receiver refused view page store_fault.LogBehind s n = serving_still old new receiver refused view s old n.2 refl refl refl refl refl
-serving_not_flushed old new receiver refused view page store_fault.Device s n = serving_still old new receiver refused view s _ n.after refl refl refl refl refl
+pub serving_not_flushed : (old new : Stored) (receiver : Reception) (refused : Option Fault)
+    (view : View) (page : ℕ) (cause : StoreFault) → IsServing old receiver refused view
+    → NotFlushed old page cause new → IsServing new receiver refused view
+serving_not_flushed old new receiver refused view page store_fault.NothingToDo s n =
+    serving_still old new receiver refused view s old n.1 refl refl refl refl refl
+serving_not_flushed old new receiver refused view page store_fault.LogBehind s n =
+    serving_still old new receiver refused view s old n.2 refl refl refl refl refl
+serving_not_flushed old new receiver refused view page store_fault.Device s n =
+    serving_still old new receiver refused view s _ n.after refl refl refl refl refl
 serving_not_flushed old new receiver refused view page (store_fault.Invalid cause) s n = absurd n
 serving_not_flushed old new receiver refused view page store_fault.LogFull s n = absurd n
 serving_not_flushed old new receiver refused view page store_fault.CkptBusy s n = absurd n
@@ -204,9 +285,13 @@ serving_not_flushed old new receiver refused view page store_fault.PoolFull s n 
 serving_not_flushed old new receiver refused view page store_fault.Memory s n = absurd n
 serving_not_flushed old new receiver refused view page (store_fault.BadPage p) s n = absurd n
 
-pub serving_not_begun : (old new : Stored) (receiver : Reception) (refused : Option Fault) (view : View) (cause : StoreFault) → IsServing old receiver refused view → NotBegun old cause new → IsServing new receiver refused view
-serving_not_begun old new receiver refused view store_fault.CkptBusy s n = serving_still old new receiver refused view s old n.1 refl refl refl refl refl
-serving_not_begun old new receiver refused view store_fault.Memory s n = serving_still old new receiver refused view s old n.1 refl refl refl refl refl
+pub serving_not_begun : (old new : Stored) (receiver : Reception) (refused : Option Fault)
+    (view : View) (cause : StoreFault) → IsServing old receiver refused view
+    → NotBegun old cause new → IsServing new receiver refused view
+serving_not_begun old new receiver refused view store_fault.CkptBusy s n =
+    serving_still old new receiver refused view s old n.1 refl refl refl refl refl
+serving_not_begun old new receiver refused view store_fault.Memory s n =
+    serving_still old new receiver refused view s old n.1 refl refl refl refl refl
 serving_not_begun old new receiver refused view store_fault.NothingToDo s n = absurd n
 serving_not_begun old new receiver refused view (store_fault.Invalid cause) s n = absurd n
 serving_not_begun old new receiver refused view store_fault.LogBehind s n = absurd n
@@ -215,9 +300,13 @@ serving_not_begun old new receiver refused view store_fault.LogFull s n = absurd
 serving_not_begun old new receiver refused view store_fault.Device s n = absurd n
 serving_not_begun old new receiver refused view (store_fault.BadPage p) s n = absurd n
 
-pub serving_no_block : (old new : Stored) (receiver : Reception) (refused : Option Fault) (view : View) (cause : StoreFault) → IsServing old receiver refused view → NoBlock old cause new → IsServing new receiver refused view
-serving_no_block old new receiver refused view store_fault.NothingToDo s n = serving_still old new receiver refused view s old n.1 refl refl refl refl refl
-serving_no_block old new receiver refused view store_fault.Device s n = serving_still old new receiver refused view s _ n.1.after refl refl refl refl refl
+pub serving_no_block : (old new : Stored) (receiver : Reception) (refused : Option Fault)
+    (view : View) (cause : StoreFault) → IsServing old receiver refused view → NoBlock old cause new
+    → IsServing new receiver refused view
+serving_no_block old new receiver refused view store_fault.NothingToDo s n =
+    serving_still old new receiver refused view s old n.1 refl refl refl refl refl
+serving_no_block old new receiver refused view store_fault.Device s n =
+    serving_still old new receiver refused view s _ n.1.after refl refl refl refl refl
 serving_no_block old new receiver refused view store_fault.CkptBusy s n = absurd n
 serving_no_block old new receiver refused view store_fault.Memory s n = absurd n
 serving_no_block old new receiver refused view (store_fault.Invalid cause) s n = absurd n
@@ -226,9 +315,13 @@ serving_no_block old new receiver refused view store_fault.PoolFull s n = absurd
 serving_no_block old new receiver refused view store_fault.LogFull s n = absurd n
 serving_no_block old new receiver refused view (store_fault.BadPage p) s n = absurd n
 
-pub serving_not_undone : (old new : Stored) (receiver : Reception) (refused : Option Fault) (view : View) (cause : StoreFault) → IsServing old receiver refused view → NotUndone old cause new → IsServing new receiver refused view
-serving_not_undone old new receiver refused view store_fault.NothingToDo s n = serving_still old new receiver refused view s old n.1 refl refl refl refl refl
-serving_not_undone old new receiver refused view store_fault.Memory s n = serving_still old new receiver refused view s old n.1 refl refl refl refl refl
+pub serving_not_undone : (old new : Stored) (receiver : Reception) (refused : Option Fault)
+    (view : View) (cause : StoreFault) → IsServing old receiver refused view
+    → NotUndone old cause new → IsServing new receiver refused view
+serving_not_undone old new receiver refused view store_fault.NothingToDo s n =
+    serving_still old new receiver refused view s old n.1 refl refl refl refl refl
+serving_not_undone old new receiver refused view store_fault.Memory s n =
+    serving_still old new receiver refused view s old n.1 refl refl refl refl refl
 serving_not_undone old new receiver refused view store_fault.CkptBusy s n = absurd n
 serving_not_undone old new receiver refused view (store_fault.Invalid cause) s n = absurd n
 serving_not_undone old new receiver refused view store_fault.LogBehind s n = absurd n
@@ -237,9 +330,13 @@ serving_not_undone old new receiver refused view store_fault.LogFull s n = absur
 serving_not_undone old new receiver refused view store_fault.Device s n = absurd n
 serving_not_undone old new receiver refused view (store_fault.BadPage p) s n = absurd n
 
-pub serving_not_shown : (old new : Stored) (receiver : Reception) (refused : Option Fault) (view : View) (page : ℕ) (cause : StoreFault) → IsServing old receiver refused view → NotShown old page cause new → IsServing new receiver refused view
-serving_not_shown old new receiver refused view page store_fault.Device s n = serving_still old new receiver refused view s _ n.after refl refl refl refl refl
-serving_not_shown old new receiver refused view page (store_fault.BadPage p) s n = serving_still old new receiver refused view s old n.after refl refl refl refl refl
+pub serving_not_shown : (old new : Stored) (receiver : Reception) (refused : Option Fault)
+    (view : View) (page : ℕ) (cause : StoreFault) → IsServing old receiver refused view
+    → NotShown old page cause new → IsServing new receiver refused view
+serving_not_shown old new receiver refused view page store_fault.Device s n =
+    serving_still old new receiver refused view s _ n.after refl refl refl refl refl
+serving_not_shown old new receiver refused view page (store_fault.BadPage p) s n =
+    serving_still old new receiver refused view s old n.after refl refl refl refl refl
 serving_not_shown old new receiver refused view page store_fault.NothingToDo s n = absurd n
 serving_not_shown old new receiver refused view page store_fault.Memory s n = absurd n
 serving_not_shown old new receiver refused view page (store_fault.Invalid cause) s n = absurd n
@@ -251,69 +348,94 @@ serving_not_shown old new receiver refused view page store_fault.LogFull s n = a
 -- ---- what is seen then
 
 -- a new engine, of whose view nothing is queued
-pub seen_new : (held : Stored) (view : View) → HasPublished view [] → view.queued ≡ [] → view.listed ≡ true → view.pages ≡ held.pages → held.log ≡ [] → held.recovering ≡ false
-    → ((offset : ℕ) (v : View) → HasPublished v [] → v.queued ≡ [] → IsShowing [] offset v) → IsSeen held view
+pub seen_new : (held : Stored) (view : View) → HasPublished view [] → view.queued ≡ []
+    → view.listed ≡ true → view.pages ≡ held.pages → held.log ≡ [] → held.recovering ≡ false
+    → ((offset : ℕ) (v : View) → HasPublished v [] → v.queued ≡ [] → IsShowing [] offset v)
+    → IsSeen held view
 seen_new held view none queued listed pages log ready start = record {
-  shows = subst (λ (l : List Record). IsShowing l (acknowledged held) view) (sym log) (start (acknowledged held) view none queued);
+  shows = subst (λ (l : List Record). IsShowing l (acknowledged held) view) (sym log)
+      (start (acknowledged held) view none queued);
   pages = pages;
   listed = ap (λ b. is_some (cond b (Some view.commits) None)) listed ∙ ap not (sym ready);
   stable = λ r. absurd (true≢false (sym r ∙ ready));
 }
 
-pub new_list : (view : View) → HasPublished view [] → view.listed ≡ true → published_of view ≡ Some 0
+pub new_list : (view : View) → HasPublished view [] → view.listed ≡ true
+    → published_of view ≡ Some 0
 new_list view none listed = ap (λ b. cond b (Some view.commits) None) listed ∙ ap Some none.count
 
 -- an engine over devices that were taken up again: all commits of its log wait
-pub serving_opened : (held from : Stored) (receiver : Reception) (view waiting : View) (end pages blocks failures attempts : ℕ) → held ≡ from → view ≡ waiting → IsOpened pages blocks failures attempts from
+pub serving_opened : (held from : Stored) (receiver : Reception) (view waiting : View)
+    (end pages blocks failures attempts : ℕ) → held ≡ from → view ≡ waiting
+    → IsOpened pages blocks failures attempts from
     → IsWarming pages from.log waiting → receiver ≡ fresh end pages → end ≡ end_of held.log
-    → ((log : List Record) (offset : ℕ) (v : View) → HasPublished v [] → v.queued ≡ commits_of log → IsShowing log offset v) → IsServing held receiver None view
-serving_opened held from receiver view waiting end pages blocks failures attempts same shown o w fresh_is at waits =
-    subst (λ (v : View). IsServing held receiver None v) (sym shown) (subst (λ (h : Stored). IsServing h receiver None waiting) (sym same) (record {
-      ready = ready_opened from receiver end pages (ap (λ (h : Stored). h.since) o.is) fresh_is (at ∙ ap (λ (h : Stored). end_of h.log) same) (sym (ap (λ (h : Stored). h.pages) o.is));
+    → ((log : List Record) (offset : ℕ) (v : View) → HasPublished v [] → v.queued ≡ commits_of log
+    → IsShowing log offset v) → IsServing held receiver None view
+serving_opened held from receiver view waiting end pages blocks failures attempts same shown o w
+    fresh_is at waits =
+    subst (λ (v : View). IsServing held receiver None v) (sym shown)
+    (subst (λ (h : Stored). IsServing h receiver None waiting) (sym same) (record {
+      ready = ready_opened from receiver end pages (ap (λ (h : Stored). h.since) o.is) fresh_is
+          (at ∙ ap (λ (h : Stored). end_of h.log) same) (sym (ap (λ (h : Stored). h.pages) o.is));
       seen = record {
         shows = waits from.log (acknowledged from) waiting w.shown w.queued;
         pages = w.pages_are ∙ sym (ap (λ (h : Stored). h.pages) o.is);
-        listed = ap (λ b. is_some (cond b (Some waiting.commits) None)) w.unlisted ∙ ap not (sym (ap (λ (h : Stored). h.recovering) o.is));
+        listed = ap (λ b. is_some (cond b (Some waiting.commits) None)) w.unlisted
+            ∙ ap not (sym (ap (λ (h : Stored). h.recovering) o.is));
         stable = λ r. omega (arith, o.ends, ap (λ (h : Stored). acknowledged h) o.is);
       };
     }))
 
 -- the log grew, and the view with it
-pub seen_grown : (old new : Stored) (before view : View) (records : List Record) → IsSeen old before → new ≡ grown old records → ViewGoesOn old.log before new.log view → old.recovering ≡ false → IsSeen new view
+pub seen_grown : (old new : Stored) (before view : View) (records : List Record) → IsSeen old before
+    → new ≡ grown old records → ViewGoesOn old.log before new.log view → old.recovering ≡ false
+    → IsSeen new view
 seen_grown old new before view records seen is on ready = record {
-  shows = subst (λ (n : ℕ). IsShowing new.log n view) (sym (ap (λ (h : Stored). acknowledged h) is)) (on.shows (acknowledged old) seen.shows);
+  shows = subst (λ (n : ℕ). IsShowing new.log n view) (sym (ap (λ (h : Stored). acknowledged h) is))
+      (on.shows (acknowledged old) seen.shows);
   pages = on.pages ∙ seen.pages ∙ sym (ap (λ (h : Stored). h.pages) is);
-  listed = ap (λ (n : Option ℕ). is_some n) on.published ∙ seen.listed ∙ ap not (sym (ap (λ (h : Stored). h.recovering) is));
+  listed = ap (λ (n : Option ℕ). is_some n) on.published ∙ seen.listed
+      ∙ ap not (sym (ap (λ (h : Stored). h.recovering) is));
   stable = λ r. absurd (true≢false (sym r ∙ ap (λ (h : Stored). h.recovering) is ∙ ready));
 }
 
 -- a record of the tail is held
-pub seen_undone : (old new : Stored) (view : View) (lsn : Lsn) → IsSeen old view → UndoesOne old lsn new → is_valid new.log ≡ true → old.recovering ≡ false
-    → ((log : List Record) (r : Record) (offset : ℕ) (v : View) → is_valid (log ++ r ∷ []) ≡ true → is_commit r.body ≡ false → IsShowing log offset v → IsShowing (log ++ r ∷ []) offset v)
+pub seen_undone : (old new : Stored) (view : View) (lsn : Lsn) → IsSeen old view
+    → UndoesOne old lsn new → is_valid new.log ≡ true → old.recovering ≡ false
+    → ((log : List Record) (r : Record) (offset : ℕ) (v : View) → is_valid (log ++ r ∷ []) ≡ true
+    → is_commit r.body ≡ false → IsShowing log offset v → IsShowing (log ++ r ∷ []) offset v)
     → IsSeen new view
 seen_undone old new view lsn seen undoes valid ready other =
     let log : new.log ≡ old.log ++ undoes.made ∷ [] = ap (λ (h : Stored). h.log) undoes.after in
-    let on : ViewGoesOn old.log view new.log view = subst (λ (l : List Record). ViewGoesOn old.log view l view) (sym log) (record {
-      shows = λ offset h. other old.log undoes.made offset view (sym (ap is_valid log) ∙ valid) (tail-no_commit old.log undoes.made undoes.rest undoes.first) h;
+    let on : ViewGoesOn old.log view new.log view =
+    subst (λ (l : List Record). ViewGoesOn old.log view l view) (sym log) (record {
+      shows = λ offset h. other old.log undoes.made offset view (sym (ap is_valid log) ∙ valid)
+          (tail-no_commit old.log undoes.made undoes.rest undoes.first) h;
       published = refl;
       pages = refl;
     }) in
     seen_grown old new view view (undoes.made ∷ []) seen undoes.after on ready
 
 -- more of the log is acknowledged
-pub seen_synced : (old new : Stored) (view : View) (lsn : Lsn) → IsSeen old view → acknowledged old ≤ (newest old).mark.0 → SyncsControl old lsn new
-    → ((log : List Record) (before after : ℕ) (v : View) → before ≤ after → IsShowing log before v → IsShowing log after v) → IsSeen new view
-seen_synced old new view lsn seen marks syncs rises = subst (λ (h : Stored). IsSeen h view) (sym syncs.after) (record {
-  shows = rises old.log (acknowledged old) (newest old).mark.0 view marks seen.shows;
-  pages = seen.pages;
-  listed = seen.listed;
-  stable = λ r. let low : end_of old.log ≤ acknowledged old = seen.stable r in omega (arith, low, marks);
-})
+pub seen_synced : (old new : Stored) (view : View) (lsn : Lsn) → IsSeen old view
+    → acknowledged old ≤ (newest old).mark.0 → SyncsControl old lsn new
+    → ((log : List Record) (before after : ℕ) (v : View) → before ≤ after → IsShowing log before v
+    → IsShowing log after v) → IsSeen new view
+seen_synced old new view lsn seen marks syncs rises =
+    subst (λ (h : Stored). IsSeen h view) (sym syncs.after) (record {
+      shows = rises old.log (acknowledged old) (newest old).mark.0 view marks seen.shows;
+      pages = seen.pages;
+      listed = seen.listed;
+      stable = λ r. let low : end_of old.log ≤ acknowledged old =
+          seen.stable r in omega (arith, low, marks);
+    })
 
 -- ---- what is published
 
 -- all that is acknowledged
-pub seen_published : (held : Stored) (before view : View) (count : ℕ) → IsSeen held before → held.recovering ≡ false → IsShowing held.log (acknowledged held) view → view.pages ≡ before.pages
+pub seen_published : (held : Stored) (before view : View) (count : ℕ) → IsSeen held before
+    → held.recovering ≡ false → IsShowing held.log (acknowledged held) view
+    → view.pages ≡ before.pages
     → published_of view ≡ Some count → IsSeen held view
 seen_published held before view count seen ready shows pages published = record {
   shows = shows;
@@ -323,43 +445,72 @@ seen_published held before view count seen ready shows pages published = record 
 }
 
 -- and then the recovery ends
-pub seen_ready : (held new : Stored) (before view : View) (count : ℕ) → IsSeen held before → new ≡ record held { recovering = false } → IsShowing held.log (acknowledged held) view → view.pages ≡ before.pages
+pub seen_ready : (held new : Stored) (before view : View) (count : ℕ) → IsSeen held before
+    → new ≡ record held { recovering = false } → IsShowing held.log (acknowledged held) view
+    → view.pages ≡ before.pages
     → published_of view ≡ Some count → IsSeen new view
-seen_ready held new before view count seen is shows pages published = subst (λ (h : Stored). IsSeen h view) (sym is) (record {
-  shows = shows;
-  pages = pages ∙ seen.pages;
-  listed = ap (λ (n : Option ℕ). is_some n) published;
-  stable = λ r. absurd (true≢false (sym r));
-})
+seen_ready held new before view count seen is shows pages published =
+    subst (λ (h : Stored). IsSeen h view) (sym is) (record {
+      shows = shows;
+      pages = pages ∙ seen.pages;
+      listed = ap (λ (n : Option ℕ). is_some n) published;
+      stable = λ r. absurd (true≢false (sym r));
+    })
 
-ready_as_it_is : (held : Stored) (receiver : Reception) (refused : Option Fault) → IsReady held receiver refused → IsReady (record held { recovering = false }) receiver refused
+ready_as_it_is : (held : Stored) (receiver : Reception) (refused : Option Fault)
+    → IsReady held receiver refused → IsReady (record held { recovering = false }) receiver refused
 ready_as_it_is held receiver refused r = record {
-  rests = record { meets = record { wanted = r.rests.meets.wanted; pages = r.rests.meets.pages; takes = r.rests.meets.takes }; waits = r.rests.waits; short = r.rests.short };
+  rests = record {
+    meets =
+        record {
+          wanted = r.rests.meets.wanted;
+          pages = r.rests.meets.pages;
+          takes =
+              r.rests.meets.takes;
+        };
+    waits = r.rests.waits;
+    short = r.rests.short;
+  };
   marks = r.marks;
   no_want = r.no_want;
 }
 
-pub ready_after : (held new : Stored) (receiver : Reception) (refused : Option Fault) → IsReady held receiver refused → new ≡ record held { recovering = false } → IsReady new receiver refused
-ready_after held new receiver refused r is = subst (λ (h : Stored). IsReady h receiver refused) (sym is) (ready_as_it_is held receiver refused r)
+pub ready_after : (held new : Stored) (receiver : Reception) (refused : Option Fault)
+    → IsReady held receiver refused → new ≡ record held { recovering = false }
+    → IsReady new receiver refused
+ready_after held new receiver refused r is =
+    subst (λ (h : Stored). IsReady h receiver refused) (sym is)
+    (ready_as_it_is held receiver refused r)
 
 -- ---- the events
 
-pub publishes_view : (m new : Machine) → m.held.broken ≡ false → m.held.recovering ≡ false → m.published < ended_in m.held → new ≡ record m { listed = true; published = ended_in m.held } → PublishesView m (Ok tt) new
+pub publishes_view : (m new : Machine) → m.held.broken ≡ false → m.held.recovering ≡ false
+    → m.published < ended_in m.held → new ≡ record m { listed = true; published = ended_in m.held }
+    → PublishesView m (Ok tt) new
 publishes_view m new running ready more is =
-    acting m step.PublishView (PublishesEnded m) (Ok tt) new (rw (running, ready, lt-leb (ended_in m.held) m.published more) refl) (more, is)
+    acting m step.PublishView (PublishesEnded m) (Ok tt) new
+    (rw (running, ready, lt-leb (ended_in m.held) m.published more) refl) (more, is)
 
-pub becomes_ready : (m new : Machine) → m.held.broken ≡ false → m.held.recovering ≡ true → pending_of m.held ≡ 0 → new ≡ readied m → Readies m (Ok tt) new
-becomes_ready m new running recovering none is = acting m step.Ready (BecomesReady m) (Ok tt) new (rw (running, recovering, none) refl) is
+pub becomes_ready : (m new : Machine) → m.held.broken ≡ false → m.held.recovering ≡ true
+    → pending_of m.held ≡ 0 → new ≡ readied m → Readies m (Ok tt) new
+becomes_ready m new running recovering none is =
+    acting m step.Ready (BecomesReady m) (Ok tt) new (rw (running, recovering, none) refl) is
 
 -- each acknowledged commit is published
-pub none_to_publish : (m : Machine) → m.held.broken ≡ false → m.held.recovering ≡ false → ended_in m.held ≤ m.published → PublishesView m (Err fault.NothingToDo) m
+pub none_to_publish : (m : Machine) → m.held.broken ≡ false → m.held.recovering ≡ false
+    → ended_in m.held ≤ m.published → PublishesView m (Err fault.NothingToDo) m
 none_to_publish m running ready all =
-    let e : refusal m step.PublishView ≡ Some fault.NothingToDo = rw (running, ready, le-leb (ended_in m.held) m.published all) refl in
-    subst (λ (o : Option Fault). MatchOption o (PublishesEnded m (Err fault.NothingToDo) m) (λ cause. (◌≡◌ {A = Result (Unit {0}) Fault} (Err fault.NothingToDo) (Err cause)) × (m ≡ m))) (sym e) (refl, refl)
+    let e : refusal m step.PublishView ≡ Some fault.NothingToDo =
+    rw (running, ready, le-leb (ended_in m.held) m.published all) refl in
+    subst (λ (o : Option Fault). MatchOption o (PublishesEnded m (Err fault.NothingToDo) m)
+    (λ cause. (◌≡◌ {A = Result (Unit {0}) Fault} (Err fault.NothingToDo) (Err cause))
+    × (m ≡ m))) (sym e) (refl, refl)
 
 -- a view that counts what it is to publish
 abbrev pub IsCountOf : Stored → View → ℕ → ℕ → Type 0
-IsCountOf held view at count = (log : List Record) (below : ℕ) → is_valid log ≡ true → end_of log < 2 ^ 64 → below ≤ at → IsShowing log below view → view.commits + count ≡ ended_count at (commits_of log)
+IsCountOf held view at count =
+    (log : List Record) (below : ℕ) → is_valid log ≡ true → end_of log < 2 ^ 64 → below ≤ at
+    → IsShowing log below view → view.commits + count ≡ ended_count at (commits_of log)
 
 list_in : (view : View) → is_some (published_of view) ≡ true → published_of view ≡ Some view.commits
 list_in view some = elim (cases_Bool view.listed) [
@@ -367,21 +518,29 @@ list_in view some = elim (cases_Bool view.listed) [
   | inr n ↦ absurd (true≢false (sym some ∙ rw n refl))
 ]
 
-pub publishes_more : (held : Stored) (view : View) (at count : ℕ) → IsSeen held view → held.recovering ≡ false → is_valid held.log ≡ true → end_of held.log < 2 ^ 64 → at ≡ acknowledged held → IsCountOf held view at count
+pub publishes_more : (held : Stored) (view : View) (at count : ℕ) → IsSeen held view
+    → held.recovering ≡ false → is_valid held.log ≡ true → end_of held.log < 2 ^ 64
+    → at ≡ acknowledged held → IsCountOf held view at count
     → count_in (published_of view) + count ≡ ended_in held
 publishes_more held view at count seen ready valid few is counts =
     let list : published_of view ≡ Some view.commits = list_in view (seen.listed ∙ ap not ready) in
-    ap (λ (n : Option ℕ). count_in n + count) list ∙ counts held.log (acknowledged held) valid few (omega (arith, is)) seen.shows ∙ ap (λ n. ended_count n (commits_of held.log)) is
+    ap (λ (n : Option ℕ). count_in n + count) list ∙ counts held.log (acknowledged held) valid few
+    (omega (arith, is)) seen.shows ∙ ap (λ n. ended_count n (commits_of held.log)) is
 
 -- a view that publishes
 abbrev pub IsPublishing : View → View → ℕ → Type 0
-IsPublishing old new at = (log : List Record) (below : ℕ) → is_valid log ≡ true → end_of log < 2 ^ 64 → below ≤ at → IsShowing log below old → IsShowing log at new × (published_of new ≡ Some (ended_count at (commits_of log)))
+IsPublishing old new at =
+    (log : List Record) (below : ℕ) → is_valid log ≡ true → end_of log < 2 ^ 64 → below ≤ at
+    → IsShowing log below old
+    → IsShowing log at new × (published_of new ≡ Some (ended_count at (commits_of log)))
 
 pub record PublishedIn (held : Stored) (view : View) : Type 0 where
   pub shows : IsShowing held.log (acknowledged held) view
   pub list : published_of view ≡ Some (ended_in held)
 
-pub published_in : (held : Stored) (old new : View) (at : ℕ) → IsSeen held old → is_valid held.log ≡ true → end_of held.log < 2 ^ 64 → at ≡ acknowledged held → IsPublishing old new at → PublishedIn held new
+pub published_in : (held : Stored) (old new : View) (at : ℕ) → IsSeen held old
+    → is_valid held.log ≡ true → end_of held.log < 2 ^ 64 → at ≡ acknowledged held
+    → IsPublishing old new at → PublishedIn held new
 published_in held old new at seen valid few is publishes =
     let now = publishes held.log (acknowledged held) valid few (omega (arith, is)) seen.shows in
     record {

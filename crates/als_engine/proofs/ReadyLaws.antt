@@ -1,5 +1,6 @@
 -- An engine is ready again after each event.
-use Rattle.std.proofs.Common.{◌≡◌, ℕ, ◌≤◌, ◌⊎◌, List, [], ◌∷◌, ◌++◌, Option, Some, None, inl, inr, refl, sym, subst, arith}
+use Rattle.std.proofs.Common.{◌≡◌, ℕ, ◌≤◌, ◌⊎◌, List, [], ◌∷◌, ◌++◌, Option, Some, None, inl, inr}
+use Rattle.std.proofs.Common.{refl, sym, subst, arith}
 use Rattle.std.specs.Prelude.{◌+◌, Bool, true, IsSomeAnd}
 use Rattle.als_record.specs.declared.lsn.Lsn.{Lsn}
 use Rattle.als_record.specs.declared.record.Record.{Record}
@@ -13,7 +14,8 @@ use Rattle.als_store.specs.declared.fault.Fault.{Fault as StoreFault}
 use Rattle.als_store.specs.declared.fault.Fault.TheVariants.{NothingToDo, Device}
 use Rattle.als_store.specs.Stored.{Stored, formatted, acknowledged, newest}
 use Rattle.als_store.specs.Takeover.{WritesState, BreaksState, UndoesOne, NotUndone}
-use Rattle.als_store.specs.CheckpointEvents.{Publishes, BreaksPublish, NotPublished, with_checkpoint}
+use Rattle.als_store.specs.CheckpointEvents.{Publishes, BreaksPublish, NotPublished}
+use Rattle.als_store.specs.CheckpointEvents.{with_checkpoint}
 use Rattle.als_store.specs.declared.fault.Fault.TheVariants as store_fault
 use Rattle.als_engine.specs.Faults.{from_store}
 use Rattle.als_store.specs.Events.{marked, HasUnmarked, WritesMark, BreaksMark}
@@ -25,7 +27,8 @@ use Rattle.als_engine.proofs.TakingLaws.{rests_new, rests_again}
 use Rattle.als_engine.proofs.RoomLaws.{kept_fault-want}
 
 -- the control state written last is the last one
-pub last_state-push : (state : ControlState) (since : List ControlState) (next : ControlState) → last_state state (since ++ next ∷ []) ≡ next
+pub last_state-push : (state : ControlState) (since : List ControlState) (next : ControlState)
+    → last_state state (since ++ next ∷ []) ≡ next
 last_state-push state [] next = refl
 last_state-push state (x ∷ rest) next = last_state-push x rest next
 
@@ -33,7 +36,9 @@ last_state-push state (x ∷ rest) next = last_state-push x rest next
 pub none_is_no_some : (f : Fault) → ◌≡◌ {A = Option Fault} None (Some f) → ⊥
 none_is_no_some f e = cc e
 
-pub ready_new : (held : Stored) (receiver : Reception) (pages : ℕ) (pool : Pooled) (blocks failures attempts : ℕ) → held ≡ formatted pages pool blocks failures attempts → receiver ≡ fresh 16 pages → IsReady held receiver None
+pub ready_new : (held : Stored) (receiver : Reception) (pages : ℕ) (pool : Pooled)
+    (blocks failures attempts : ℕ) → held ≡ formatted pages pool blocks failures attempts
+    → receiver ≡ fresh 16 pages → IsReady held receiver None
 ready_new held receiver pages pool blocks failures attempts e f = record {
   rests = rests_new held receiver pages pool blocks failures attempts e f;
   marks = subst (λ (h : Stored). acknowledged h ≤ (newest h).mark.0) (sym e) (omega arith);
@@ -41,22 +46,30 @@ ready_new held receiver pages pool blocks failures attempts e f = record {
 }
 
 -- an engine over devices that were taken up again
-pub ready_opened : (held : Stored) (receiver : Reception) (end pages : ℕ) → held.since ≡ [] → receiver ≡ fresh end pages → end ≡ end_of held.log → pages ≡ held.pages → IsReady held receiver None
+pub ready_opened : (held : Stored) (receiver : Reception) (end pages : ℕ) → held.since ≡ []
+    → receiver ≡ fresh end pages → end ≡ end_of held.log → pages ≡ held.pages
+    → IsReady held receiver None
 ready_opened held receiver end pages none f at same = record {
   rests = rests_again held receiver end pages f at same;
-  marks = subst (λ (since : List ControlState). acknowledged held ≤ (last_state held.control since).mark.0) (sym none) (omega arith);
+  marks = subst (λ (since : List ControlState). acknowledged held
+      ≤ (last_state held.control since).mark.0) (sym none) (omega arith);
   no_want = none_is_no_some Memory;
 }
 
 -- a log that grew has the same marks
-pub ready_grown : (held new : Stored) (receiver after : Reception) (refused : Option Fault) (records : List Record) → IsReady held receiver refused → new ≡ grown held records → Rests new after → IsReady new after refused
+pub ready_grown : (held new : Stored) (receiver after : Reception) (refused : Option Fault)
+    (records : List Record) → IsReady held receiver refused → new ≡ grown held records
+    → Rests new after → IsReady new after refused
 ready_grown held new receiver after refused records ready e rests = record {
   rests = rests;
   marks = subst (λ (h : Stored). acknowledged h ≤ (newest h).mark.0) (sym e) ready.marks;
   no_want = ready.no_want;
 }
 
-pub ready_again : (held new : Stored) (receiver after : Reception) (refused : Option Fault) (fault : Fault) (records : List Record) (end pages : ℕ) → IsReady held receiver refused → new ≡ grown held records → after ≡ fresh end pages → end ≡ end_of new.log → pages ≡ new.pages → IsReady new after (kept_fault fault)
+pub ready_again : (held new : Stored) (receiver after : Reception) (refused : Option Fault)
+    (fault : Fault) (records : List Record) (end pages : ℕ) → IsReady held receiver refused
+    → new ≡ grown held records → after ≡ fresh end pages → end ≡ end_of new.log → pages ≡ new.pages
+    → IsReady new after (kept_fault fault)
 ready_again held new receiver after refused fault records end pages ready e f at same = record {
   rests = rests_again new after end pages f at same;
   marks = subst (λ (h : Stored). acknowledged h ≤ (newest h).mark.0) (sym e) ready.marks;
@@ -64,25 +77,54 @@ ready_again held new receiver after refused fault records end pages ready e f at
 }
 
 -- the mark that is written is above the last one
-marked_above : (held : Stored) → HasUnmarked held → acknowledged held ≤ (newest held).mark.0 → acknowledged held ≤ (last_state held.control (held.since ++ marked held ∷ [])).mark.0
-marked_above held above low = rw (last_state-push held.control held.since (marked held)) (omega (arith, above, low))
+marked_above : (held : Stored) → HasUnmarked held → acknowledged held ≤ (newest held).mark.0
+    → acknowledged held ≤ (last_state held.control (held.since ++ marked held ∷ [])).mark.0
+marked_above held above low =
+    rw (last_state-push held.control held.since (marked held)) (omega (arith, above, low))
 
-pub ready_marked : (held new : Stored) (receiver : Reception) (refused : Option Fault) → IsReady held receiver refused → WritesMark held new → IsReady new receiver refused
-ready_marked held new receiver refused ready writes = subst (λ (h : Stored). IsReady h receiver refused) (sym writes.after) (record {
-  rests = record { meets = record { wanted = ready.rests.meets.wanted; pages = ready.rests.meets.pages; takes = ready.rests.meets.takes }; waits = ready.rests.waits; short = ready.rests.short };
-  marks = marked_above held writes.unmarked ready.marks;
-  no_want = ready.no_want;
-})
+pub ready_marked : (held new : Stored) (receiver : Reception) (refused : Option Fault)
+    → IsReady held receiver refused → WritesMark held new → IsReady new receiver refused
+ready_marked held new receiver refused ready writes =
+    subst (λ (h : Stored). IsReady h receiver refused) (sym writes.after) (record {
+      rests = record {
+        meets =
+            record {
+              wanted = ready.rests.meets.wanted;
+              pages = ready.rests.meets.pages;
+              takes =
+                  ready.rests.meets.takes;
+            };
+        waits = ready.rests.waits;
+        short = ready.rests.short;
+      };
+      marks = marked_above held writes.unmarked ready.marks;
+      no_want = ready.no_want;
+    })
 
-pub ready_broken : (held new : Stored) (receiver : Reception) (refused : Option Fault) → IsReady held receiver refused → BreaksMark held new → IsReady new receiver refused
-ready_broken held new receiver refused ready breaks = subst (λ (h : Stored). IsReady h receiver refused) (sym breaks.after) (record {
-  rests = record { meets = record { wanted = ready.rests.meets.wanted; pages = ready.rests.meets.pages; takes = ready.rests.meets.takes }; waits = ready.rests.waits; short = ready.rests.short };
-  marks = marked_above held breaks.unmarked ready.marks;
-  no_want = ready.no_want;
-})
+pub ready_broken : (held new : Stored) (receiver : Reception) (refused : Option Fault)
+    → IsReady held receiver refused → BreaksMark held new → IsReady new receiver refused
+ready_broken held new receiver refused ready breaks =
+    subst (λ (h : Stored). IsReady h receiver refused) (sym breaks.after) (record {
+      rests = record {
+        meets =
+            record {
+              wanted = ready.rests.meets.wanted;
+              pages = ready.rests.meets.pages;
+              takes =
+                  ready.rests.meets.takes;
+            };
+        waits = ready.rests.waits;
+        short = ready.rests.short;
+      };
+      marks = marked_above held breaks.unmarked ready.marks;
+      no_want = ready.no_want;
+    })
 
 -- a mark that was not written, or perhaps
-pub ready_failed : (held new : Stored) (receiver : Reception) (refused : Option Fault) (fault : StoreFault) → IsReady held receiver refused → ((fault ≡ NothingToDo) × (HasUnmarked held → ⊥) × (new ≡ held)) ⊎ ((fault ≡ Device) × BreaksMark held new) → IsReady new receiver refused
+pub ready_failed : (held new : Stored) (receiver : Reception) (refused : Option Fault)
+    (fault : StoreFault) → IsReady held receiver refused
+    → ((fault ≡ NothingToDo) × (HasUnmarked held → ⊥) × (new ≡ held))
+    ⊎ ((fault ≡ Device) × BreaksMark held new) → IsReady new receiver refused
 ready_failed held new receiver refused fault ready failed = elim failed [
   | inl nothing ↦ subst (λ (h : Stored). IsReady h receiver refused) (sym nothing.2) ready
   | inr breaks ↦ ready_broken held new receiver refused ready breaks.1
@@ -91,28 +133,51 @@ ready_failed held new receiver refused fault ready failed = elim failed [
 -- ---- a takeover
 
 -- a receiver of the same log, where a control state more is written
-rests_written : (held : Stored) (state : ControlState) (attempts failures : ℕ) (broken : Bool) (receiver : Reception) → Rests held receiver → Rests (record held { since = held.since ++ state ∷ []; broken = broken; failures = failures; attempts = attempts }) receiver
+rests_written : (held : Stored) (state : ControlState) (attempts failures : ℕ) (broken : Bool)
+    (receiver : Reception) → Rests held receiver
+    → Rests (record held {
+      since = held.since ++ state ∷ [];
+      broken = broken;
+      failures =
+          failures;
+      attempts = attempts;
+    }) receiver
 rests_written held state attempts failures broken receiver r =
-    record { meets = record { wanted = r.meets.wanted; pages = r.meets.pages; takes = r.meets.takes }; waits = r.waits; short = r.short }
+    record {
+      meets = record
+          { wanted = r.meets.wanted; pages = r.meets.pages; takes = r.meets.takes };
+      waits =
+          r.waits;
+      short = r.short;
+    }
 
-state_above : (held : Stored) (state : ControlState) → acknowledged held ≤ state.mark.0 → acknowledged held ≤ (last_state held.control (held.since ++ state ∷ [])).mark.0
+state_above : (held : Stored) (state : ControlState) → acknowledged held ≤ state.mark.0
+    → acknowledged held ≤ (last_state held.control (held.since ++ state ∷ [])).mark.0
 state_above held state low = rw (last_state-push held.control held.since state) low
 
-pub ready_written : (held new : Stored) (state : ControlState) (receiver after : Reception) (refused : Option Fault) → Rests held after → (refused ≡ Some Memory → ⊥) → acknowledged held ≤ state.mark.0 → WritesState state held new → IsReady new after refused
-ready_written held new state receiver after refused rests no_want low writes = subst (λ (h : Stored). IsReady h after refused) (sym writes.after) (record {
-  rests = rests_written held state (held.attempts + 1) held.failures held.broken after rests;
-  marks = state_above held state low;
-  no_want = no_want;
-})
+pub ready_written : (held new : Stored) (state : ControlState) (receiver after : Reception)
+    (refused : Option Fault) → Rests held after → (refused ≡ Some Memory → ⊥)
+    → acknowledged held ≤ state.mark.0 → WritesState state held new → IsReady new after refused
+ready_written held new state receiver after refused rests no_want low writes =
+    subst (λ (h : Stored). IsReady h after refused) (sym writes.after) (record {
+      rests = rests_written held state (held.attempts + 1) held.failures held.broken after rests;
+      marks = state_above held state low;
+      no_want = no_want;
+    })
 
-pub ready_torn : (held new : Stored) (state : ControlState) (receiver : Reception) (refused : Option Fault) → IsReady held receiver refused → acknowledged held ≤ state.mark.0 → BreaksState state held new → IsReady new receiver refused
-ready_torn held new state receiver refused ready low breaks = subst (λ (h : Stored). IsReady h receiver refused) (sym breaks.after) (record {
-  rests = rests_written held state (held.attempts + 1) new.failures true receiver ready.rests;
-  marks = state_above held state low;
-  no_want = ready.no_want;
-})
+pub ready_torn : (held new : Stored) (state : ControlState) (receiver : Reception)
+    (refused : Option Fault) → IsReady held receiver refused → acknowledged held ≤ state.mark.0
+    → BreaksState state held new → IsReady new receiver refused
+ready_torn held new state receiver refused ready low breaks =
+    subst (λ (h : Stored). IsReady h receiver refused) (sym breaks.after) (record {
+      rests = rests_written held state (held.attempts + 1) new.failures true receiver ready.rests;
+      marks = state_above held state low;
+      no_want = ready.no_want;
+    })
 
-pub ready_undone : (held new : Stored) (receiver after : Reception) (refused : Option Fault) (lsn : Lsn) (end pages : ℕ) → IsReady held receiver refused → UndoesOne held lsn new → after ≡ fresh end pages → end ≡ end_of new.log → pages ≡ new.pages → IsReady new after refused
+pub ready_undone : (held new : Stored) (receiver after : Reception) (refused : Option Fault)
+    (lsn : Lsn) (end pages : ℕ) → IsReady held receiver refused → UndoesOne held lsn new
+    → after ≡ fresh end pages → end ≡ end_of new.log → pages ≡ new.pages → IsReady new after refused
 ready_undone held new receiver after refused lsn end pages ready undoes f at same = record {
   rests = rests_again new after end pages f at same;
   marks = subst (λ (h : Stored). acknowledged h ≤ (newest h).mark.0) (sym undoes.after) ready.marks;
@@ -120,7 +185,8 @@ ready_undone held new receiver after refused lsn end pages ready undoes f at sam
 }
 
 -- an undo that is refused for want of memory
-pub undo_wants : (old new : Stored) (fault : StoreFault) → NotUndone old fault new → from_store fault ≡ Memory → fault ≡ store_fault.Memory
+pub undo_wants : (old new : Stored) (fault : StoreFault) → NotUndone old fault new
+    → from_store fault ≡ Memory → fault ≡ store_fault.Memory
 undo_wants old new store_fault.NothingToDo n e = absurd cc
 undo_wants old new store_fault.Memory n e = refl
 undo_wants old new (store_fault.Invalid cause) n e = absurd n
@@ -133,28 +199,60 @@ undo_wants old new (store_fault.BadPage page) n e = absurd n
 
 -- ---- a checkpoint
 
-pub ready_published : (held new : Stored) (receiver : Reception) (refused : Option Fault) → IsReady held receiver refused → (begun : Option Begun) → IsSomeAnd begun (λ b. Publishes held b new) → IsReady new receiver refused
+pub ready_published : (held new : Stored) (receiver : Reception) (refused : Option Fault)
+    → IsReady held receiver refused → (begun : Option Begun)
+    → IsSomeAnd begun (λ b. Publishes held b new) → IsReady new receiver refused
 ready_published held new receiver refused ready None publishes = absurd publishes
-ready_published held new receiver refused ready (Some b) publishes = subst (λ (h : Stored). IsReady h receiver refused) (sym publishes.after) (record {
-  rests = record { meets = record { wanted = ready.rests.meets.wanted; pages = ready.rests.meets.pages; takes = ready.rests.meets.takes }; waits = ready.rests.waits; short = ready.rests.short };
-  marks = state_above held (with_checkpoint held b) ready.marks;
-  no_want = ready.no_want;
-})
+ready_published held new receiver refused ready (Some b) publishes =
+    subst (λ (h : Stored). IsReady h receiver refused) (sym publishes.after) (record {
+      rests = record {
+        meets =
+            record {
+              wanted = ready.rests.meets.wanted;
+              pages = ready.rests.meets.pages;
+              takes =
+                  ready.rests.meets.takes;
+            };
+        waits = ready.rests.waits;
+        short = ready.rests.short;
+      };
+      marks = state_above held (with_checkpoint held b) ready.marks;
+      no_want = ready.no_want;
+    })
 
-ready_publish_torn : (held new : Stored) (receiver : Reception) (refused : Option Fault) → IsReady held receiver refused → (begun : Option Begun) → IsSomeAnd begun (λ b. BreaksPublish held b new) → IsReady new receiver refused
+ready_publish_torn : (held new : Stored) (receiver : Reception) (refused : Option Fault)
+    → IsReady held receiver refused → (begun : Option Begun)
+    → IsSomeAnd begun (λ b. BreaksPublish held b new) → IsReady new receiver refused
 ready_publish_torn held new receiver refused ready None breaks = absurd breaks
-ready_publish_torn held new receiver refused ready (Some b) breaks = subst (λ (h : Stored). IsReady h receiver refused) (sym breaks.after) (record {
-  rests = record { meets = record { wanted = ready.rests.meets.wanted; pages = ready.rests.meets.pages; takes = ready.rests.meets.takes }; waits = ready.rests.waits; short = ready.rests.short };
-  marks = state_above held (with_checkpoint held b) ready.marks;
-  no_want = ready.no_want;
-})
+ready_publish_torn held new receiver refused ready (Some b) breaks =
+    subst (λ (h : Stored). IsReady h receiver refused) (sym breaks.after) (record {
+      rests = record {
+        meets =
+            record {
+              wanted = ready.rests.meets.wanted;
+              pages = ready.rests.meets.pages;
+              takes =
+                  ready.rests.meets.takes;
+            };
+        waits = ready.rests.waits;
+        short = ready.rests.short;
+      };
+      marks = state_above held (with_checkpoint held b) ready.marks;
+      no_want = ready.no_want;
+    })
 
 -- a checkpoint that was not published, or perhaps
-pub ready_unpublished : (held new : Stored) (receiver : Reception) (refused : Option Fault) (fault : StoreFault) → IsReady held receiver refused → NotPublished held fault new → IsReady new receiver refused
-ready_unpublished held new receiver refused store_fault.NothingToDo ready n = subst (λ (h : Stored). IsReady h receiver refused) (sym n.1) ready
-ready_unpublished held new receiver refused store_fault.CkptBusy ready n = subst (λ (h : Stored). IsReady h receiver refused) (sym n.1) ready
-ready_unpublished held new receiver refused store_fault.LogBehind ready n = subst (λ (h : Stored). IsReady h receiver refused) (sym n.1) ready
-ready_unpublished held new receiver refused store_fault.Device ready n = ready_publish_torn held new receiver refused ready held.begun n
+pub ready_unpublished : (held new : Stored) (receiver : Reception) (refused : Option Fault)
+    (fault : StoreFault) → IsReady held receiver refused → NotPublished held fault new
+    → IsReady new receiver refused
+ready_unpublished held new receiver refused store_fault.NothingToDo ready n =
+    subst (λ (h : Stored). IsReady h receiver refused) (sym n.1) ready
+ready_unpublished held new receiver refused store_fault.CkptBusy ready n =
+    subst (λ (h : Stored). IsReady h receiver refused) (sym n.1) ready
+ready_unpublished held new receiver refused store_fault.LogBehind ready n =
+    subst (λ (h : Stored). IsReady h receiver refused) (sym n.1) ready
+ready_unpublished held new receiver refused store_fault.Device ready n =
+    ready_publish_torn held new receiver refused ready held.begun n
 ready_unpublished held new receiver refused store_fault.Memory ready n = absurd n
 ready_unpublished held new receiver refused (store_fault.Invalid cause) ready n = absurd n
 ready_unpublished held new receiver refused store_fault.PoolFull ready n = absurd n

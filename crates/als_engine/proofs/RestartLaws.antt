@@ -1,5 +1,6 @@
 -- What a crash leaves of an engine, from what it leaves of the store.
-use Rattle.std.proofs.Common.{◌≡◌, ℕ, ◌≤◌, cond, List, [], Option, Some, None, refl, sym, ap, subst, ◌∙◌, arith}
+use Rattle.std.proofs.Common.{◌≡◌, ℕ, ◌≤◌, cond, List, [], Option, Some, None, refl, sym, ap, subst}
+use Rattle.std.proofs.Common.{◌∙◌, arith}
 use Rattle.std.specs.Prelude.{is_some}
 use Rattle.als_record.specs.LogText.{end_of}
 use Rattle.als_view.specs.Fronts.{View}
@@ -17,31 +18,57 @@ use Rattle.als_engine.specs.declared.config.Config.{Config}
 use Rattle.als_engine.specs.Machine.{Machine}
 use Rattle.als_engine.specs.Restarts.{IsWarm, IsMadeWith, Holds, Leaves, IsStarted, IsRestarted}
 
-pub crash_leaves : (m : Machine) (config : Config) (log_blocks control_blocks page_blocks : ℕ) (log control pages : ℕ → Slot) → IsMadeWith config m → HoldsLeft m.held log control pages
-    → AreSettled log → AreSettled control → AreSettled pages → log_blocks ≡ m.held.blocks → 1 ≤ m.held.blocks → m.held.blocks ≤ 4194304 → 321 ≤ control_blocks → m.held.pages ≤ page_blocks
-    → (n : Node) × Leaves m n × Holds config log_blocks control_blocks page_blocks log control pages n
+pub crash_leaves : (m : Machine) (config : Config) (log_blocks control_blocks page_blocks : ℕ)
+    (log control pages : ℕ → Slot) → IsMadeWith config m → HoldsLeft m.held log control pages
+    → AreSettled log → AreSettled control → AreSettled pages → log_blocks ≡ m.held.blocks
+    → 1 ≤ m.held.blocks → m.held.blocks ≤ 4194304 → 321 ≤ control_blocks
+    → m.held.pages ≤ page_blocks
+    → (n : Node) × Leaves m n
+    × Holds config log_blocks control_blocks page_blocks log control pages n
 crash_leaves m config log_blocks control_blocks page_blocks log control pages made left log_settled control_settled pages_settled is some few controls page_room = (
   left.node,
   record { may = left.may; ends = left.holds.held.ends },
   record {
-    large = record { numbers = made.numbers; some_blocks = omega (arith, is, some); few_blocks = omega (arith, is, few); control_blocks = controls; page_blocks = omega (arith, made.pages, page_room) };
+    large = record {
+      numbers = made.numbers;
+      some_blocks = omega (arith, is, some);
+      few_blocks =
+          omega (arith, is, few);
+      control_blocks = controls;
+      page_blocks =
+          omega (arith, made.pages, page_room);
+    };
     log_settled = log_settled;
     control_settled = control_settled;
     pages_settled = pages_settled;
-    node = subst (λ (b : ℕ). IsNode config.pages b log control pages left.node) (sym is) (subst (λ (p : ℕ). IsNode p m.held.blocks log control pages left.node) made.pages left.holds);
+    node = subst (λ (b : ℕ). IsNode config.pages b log control pages left.node) (sym is)
+        (subst (λ (p : ℕ). IsNode p m.held.blocks log control pages left.node) made.pages
+        left.holds);
   },
 )
 
 -- ---- an engine that begins again
 
 -- over whatever the devices held
-pub restarted : (config : Config) (held from : Stored) (view waiting : View) (partial : List ℕ) (blocks failures attempts : ℕ) → IsConfig config → held ≡ from → view ≡ waiting
-    → IsOpened config.pages blocks failures attempts from → IsWarming config.pages from.log waiting → partial ≡ [] → IsRestarted config blocks failures attempts (machine held config.pending partial None (published_of view))
-restarted config held from view waiting partial blocks failures attempts numbers same shown o w none =
-    let o_held : IsOpened config.pages blocks failures attempts held = subst (λ (h : Stored). IsOpened config.pages blocks failures attempts h) (sym same) o in
-    let unlisted : published_of view ≡ None = ap (λ (v : View). published_of v) shown ∙ ap (λ b. cond b (Some waiting.commits) None) w.unlisted in
+pub restarted : (config : Config) (held from : Stored) (view waiting : View) (partial : List ℕ)
+    (blocks failures attempts : ℕ) → IsConfig config → held ≡ from → view ≡ waiting
+    → IsOpened config.pages blocks failures attempts from → IsWarming config.pages from.log waiting
+    → partial ≡ [] → IsRestarted config blocks failures attempts
+    (machine held config.pending partial None (published_of view))
+restarted config held from view waiting partial blocks failures attempts numbers same shown o w
+    none =
+    let o_held : IsOpened config.pages blocks failures attempts held =
+    subst (λ (h : Stored). IsOpened config.pages blocks failures attempts h) (sym same) o in
+    let unlisted : published_of view ≡ None =
+    ap (λ (v : View). published_of v) shown ∙ ap (λ b. cond b (Some waiting.commits) None)
+    w.unlisted in
     record {
-      made = record { numbers = numbers; pages = ap (λ (h : Stored). h.pages) o_held.is; limit = refl };
+      made = record {
+        numbers = numbers;
+        pages = ap (λ (h : Stored). h.pages) o_held.is;
+        limit =
+            refl;
+      };
       held = o_held;
       partial = none;
       refused = refl;
@@ -50,7 +77,9 @@ restarted config held from view waiting partial blocks failures attempts numbers
     }
 
 -- and over devices that held a node
-pub started : (config : Config) (n : Node) (m : Machine) (blocks failures attempts : ℕ) → IsRestarted config blocks failures attempts m → TakesUp n m.held → IsWarm m × IsStarted config n m
+pub started : (config : Config) (n : Node) (m : Machine) (blocks failures attempts : ℕ)
+    → IsRestarted config blocks failures attempts m → TakesUp n m.held
+    → IsWarm m × IsStarted config n m
 started config n m blocks failures attempts r t = (
   t.warm,
   record {

@@ -1,5 +1,6 @@
 -- Where there is room no memory is wanted.
-use Rattle.std.proofs.Common.{◌≡◌, ℕ, ◌+◌, ◌<◌, List, length, Some, None, Ok, sym, ap, subst, length-append, lt-ltb, arith}
+use Rattle.std.proofs.Common.{◌≡◌, ℕ, ◌+◌, ◌<◌, List, length, Some, None, Ok, sym, ap, subst}
+use Rattle.std.proofs.Common.{length-append, lt-ltb, arith}
 use Rattle.std.specs.Prelude.{nat_lt}
 use Rattle.std.proofs.lemmas.Bool.{cond-true}
 use Rattle.als_record.specs.Spelling.{record_len, spelling}
@@ -16,19 +17,32 @@ use Rattle.als_engine.specs.Serving.{TakesNoMemory, HasRoomForBytes}
 use Rattle.als_engine.specs.TakingIn.{TakesOne}
 
 -- less than a head is no record yet
-read_record-short : (pages at : ℕ) (bytes : List ℕ) → length bytes < 28 → read_record pages at bytes ≡ Ok None
+read_record-short : (pages at : ℕ) (bytes : List ℕ) → length bytes < 28
+    → read_record pages at bytes ≡ Ok None
 unfolding read_record
-read_record-short pages at bytes lt = cond-true (nat_lt (length bytes) 28) (Ok None) _ (lt-ltb (length bytes) 28 lt)
+read_record-short pages at bytes lt =
+    cond-true (nat_lt (length bytes) 28) (Ok None) _ (lt-ltb (length bytes) 28 lt)
 
 -- and takes no memory
-room_short : (held : Stored) (spare : Spare) (bytes : List ℕ) → length bytes < 28 → HasRoomForBytes held spare bytes
-room_short held spare bytes lt = subst (TakesNoMemory held spare bytes) (sym (read_record-short held.pages (end_of held.log) bytes lt)) tt
+room_short : (held : Stored) (spare : Spare) (bytes : List ℕ) → length bytes < 28
+    → HasRoomForBytes held spare bytes
+room_short held spare bytes lt =
+    subst (TakesNoMemory held spare bytes)
+    (sym (read_record-short held.pages (end_of held.log) bytes lt)) tt
 
 -- behind the one record that there was room for stands nothing that takes memory
-pub room_behind : (old new : Holding) (before after : Reception) → TakesOne old.stored before new.stored after → HasRoomForBytes old.stored old.spare before.kept → HasRoomForBytes new.stored new.spare after.kept
+pub room_behind : (old new : Holding) (before after : Reception)
+    → TakesOne old.stored before new.stored after → HasRoomForBytes old.stored old.spare before.kept
+    → HasRoomForBytes new.stored new.spare after.kept
 room_behind old new before after one room =
     let front = subst (TakesNoMemory old.stored old.spare before.kept) one.reading room in
-    let len : length before.kept ≡ record_len one.logged + length after.kept = omega (arith, ap length one.whole, length-append (spelling one.logged) after.kept, length-spelling one.logged) in
+    let len : length before.kept ≡ record_len one.logged + length after.kept =
+    omega (
+      arith,
+      ap length one.whole,
+      length-append (spelling one.logged) after.kept,
+      length-spelling one.logged,
+    ) in
     room_short new.stored new.spare after.kept (omega (arith, (front.2 one.good one.fits).1, len))
 
 -- want of memory is not kept

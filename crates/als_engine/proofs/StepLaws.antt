@@ -1,5 +1,6 @@
 -- What each event keeps.
-use Rattle.std.proofs.Common.{◌≡◌, ℕ, ◌+◌, ◌≤◌, true, false, List, [], Option, Some, None, Result, Ok, Err, refl, sym, ap, subst, ◌∙◌, arith, append-nil}
+use Rattle.std.proofs.Common.{◌≡◌, ℕ, ◌+◌, ◌≤◌, true, false, List, [], Option, Some, None, Result}
+use Rattle.std.proofs.Common.{Ok, Err, refl, sym, ap, subst, ◌∙◌, arith, append-nil}
 use Rattle.std.specs.Prelude.{MatchOption, IsSomeAnd}
 use Rattle.als_ckpt.specs.declared.control_state.ControlState.{ControlState}
 use Rattle.als_record.specs.declared.lsn.Lsn.{Lsn}
@@ -15,21 +16,30 @@ use Rattle.als_engine.specs.Machine.{Machine, Keeps}
 use Rattle.als_store.specs.Warm.{WasWarm}
 use Rattle.als_engine.specs.Refusals.{refusal, Does}
 use Rattle.als_engine.specs.Feeds.{Feeds}
-use Rattle.als_engine.specs.Events.{Changes, DropsPartial, SyncsAllPages, WritesBlock, SyncsBlocks, MovesMark, Acknowledges, Resyncs, PagesSync, LogWrites, LogSyncs, MarkWrites, ControlSyncs}
-use Rattle.als_engine.specs.Checkpointing.{Begins, WritesNext, PublishesNext, CkptBegins, CkptWrites, CkptPublishes}
+use Rattle.als_engine.specs.Events.{Changes, DropsPartial, SyncsAllPages, WritesBlock, SyncsBlocks}
+use Rattle.als_engine.specs.Events.{MovesMark, Acknowledges, Resyncs, PagesSync, LogWrites}
+use Rattle.als_engine.specs.Events.{LogSyncs, MarkWrites, ControlSyncs}
+use Rattle.als_engine.specs.Checkpointing.{Begins, WritesNext, PublishesNext, CkptBegins}
+use Rattle.als_engine.specs.Checkpointing.{CkptWrites, CkptPublishes}
 use Rattle.als_engine.specs.Runs.{Steps, reply_of}
 use Rattle.als_engine.specs.Readers.{ended_in}
 use Rattle.als_engine.specs.Publishing.{PublishesEnded, PublishesView}
 use Rattle.als_engine.specs.Readiness.{readied, BecomesReady, Readies}
-use Rattle.als_engine.specs.Takeover.{SealsLog, Undoes, FinishesTakeover, Seals, UndoesOneOf, Finishes}
+use Rattle.als_engine.specs.Takeover.{SealsLog, Undoes, FinishesTakeover, Seals, UndoesOneOf}
+use Rattle.als_engine.specs.Takeover.{Finishes}
 use Rattle.als_engine.proofs.ReaderLaws.{ended_in-few}
-use Rattle.als_engine.proofs.KeepLaws.{goes_on_same, keeps_equal, IsReadAlike, read_alike, none_opened, IsAsMade, as_made}
+use Rattle.als_engine.proofs.KeepLaws.{goes_on_same, keeps_equal, IsReadAlike, read_alike}
+use Rattle.als_engine.proofs.KeepLaws.{none_opened, IsAsMade, as_made}
 
 -- an event that is refused changes nothing
-keeps_does : {A : Type 0} (old new : Machine) (event : Step) (acts : Result A Fault → Machine → Type 0) (result : Result A Fault) → Does old event acts result new → (acts result new → Keeps old new) → Keeps old new
+keeps_does : {A : Type 0} (old new : Machine) (event : Step) (acts : Result A Fault → Machine
+    → Type 0) (result : Result A Fault) → Does old event acts result new
+    → (acts result new → Keeps old new) → Keeps old new
 keeps_does {A} old new event acts result does k = go (refusal old event) does
   where
-    go : (r : Option Fault) → MatchOption r (acts result new) (λ fault. (result ≡ Err fault) × (new ≡ old)) → Keeps old new
+    go : (r : Option Fault)
+        → MatchOption r (acts result new) (λ fault. (result ≡ Err fault) × (new ≡ old))
+        → Keeps old new
     go None h = k h
     go (Some fault) h = keeps_equal old new h.1
 
@@ -40,15 +50,18 @@ record Stays (old new : Stored) : Type 0 where
   broken : old.broken ≡ true → new.broken ≡ true
   made : IsAsMade old new
 
-keeps_stays : (old new : Machine) (held : Stored) → new.held ≡ held → new.limit ≡ old.limit → IsReadAlike old new → Stays old.held held → Keeps old new
+keeps_stays : (old new : Machine) (held : Stored) → new.held ≡ held → new.limit ≡ old.limit
+    → IsReadAlike old new → Stays old.held held → Keeps old new
 keeps_stays old new held e limit alike s =
-    let control : new.held.control ≡ old.held.control = ap (λ (h : Stored). h.control) e ∙ s.control in
+    let control : new.held.control ≡ old.held.control =
+    ap (λ (h : Stored). h.control) e ∙ s.control in
     record {
       acknowledged = omega (arith, ap (λ (c : ControlState). c.mark.0) control);
       more = [];
       log = ap (λ (h : Stored). h.log) e ∙ s.log ∙ sym (append-nil old.held.log);
       stopped = λ b. ap (λ (h : Stored). h.broken) e ∙ s.broken b;
-      takeover = subst (λ (c : ControlState). GoesOn old.held.control c) (sym control) (goes_on_same old.held.control);
+      takeover = subst (λ (c : ControlState). GoesOn old.held.control c) (sym control)
+          (goes_on_same old.held.control);
       pages = ap (λ (h : Stored). h.pages) e ∙ s.made.pages;
       limit = limit;
       warm = λ w. (as_made held new.held held e refl (λ x. x) (λ x. x)).warm (s.made.warm w);
@@ -58,122 +71,229 @@ keeps_stays old new held e limit alike s =
       shown = none_opened old new alike (ended_in old.held);
     }
 
-keeps_changes : (old new : Machine) (event : Stored → Stored → Type 0) → Changes old event new → ((held : Stored) → event old.held held → Stays old.held held) → Keeps old new
-keeps_changes old new event c k = keeps_stays old new c.held (ap (λ (m : Machine). m.held) c.after) (ap (λ (m : Machine). m.limit) c.after) (read_alike old new _ c.after refl refl) (k c.held c.becomes)
+keeps_changes : (old new : Machine) (event : Stored → Stored → Type 0) → Changes old event new
+    → ((held : Stored) → event old.held held → Stays old.held held) → Keeps old new
+keeps_changes old new event c k =
+    keeps_stays old new c.held (ap (λ (m : Machine). m.held) c.after)
+    (ap (λ (m : Machine). m.limit) c.after) (read_alike old new _ c.after refl refl)
+    (k c.held c.becomes)
 
 same_stays : (old new : Stored) → new ≡ old → Stays old new
-same_stays old new e = record { log = ap (λ (h : Stored). h.log) e; control = ap (λ (h : Stored). h.control) e; broken = λ b. ap (λ (h : Stored). h.broken) e ∙ b; made = as_made old new old e refl (λ w. w) (λ r. r) }
+same_stays old new e =
+    record {
+      log = ap (λ (h : Stored). h.log) e;
+      control =
+          ap (λ (h : Stored). h.control) e;
+      broken = λ b. ap (λ (h : Stored). h.broken) e
+          ∙ b;
+      made = as_made old new old e refl (λ w. w) (λ r. r);
+    }
 
 -- one of these was set, and nothing else that is kept
-set_stays : (old new : Stored) → IsAsMade old new → new.log ≡ old.log → new.control ≡ old.control → (old.broken ≡ true → new.broken ≡ true) → Stays old new
+set_stays : (old new : Stored) → IsAsMade old new → new.log ≡ old.log → new.control ≡ old.control
+    → (old.broken ≡ true → new.broken ≡ true) → Stays old new
 set_stays old new made p q r = record { log = p; control = q; broken = r; made = made }
 
 -- ---- the events
 
-pub keeps_resync : (old new : Machine) (result : Result (Unit {0}) Fault) → Resyncs old result new → Keeps old new
-keeps_resync old new result does = keeps_does old new step.Resync (DropsPartial old) result does (go result)
+pub keeps_resync : (old new : Machine) (result : Result (Unit {0}) Fault) → Resyncs old result new
+    → Keeps old new
+keeps_resync old new result does =
+    keeps_does old new step.Resync (DropsPartial old) result does (go result)
   where
     go : (r : Result (Unit {0}) Fault) → DropsPartial old r new → Keeps old new
-    go (Ok done) e = keeps_stays old new old.held (ap (λ (m : Machine). m.held) e) (ap (λ (m : Machine). m.limit) e) (read_alike old new _ e refl refl) (same_stays old.held old.held refl)
+    go (Ok done) e = keeps_stays old new old.held (ap (λ (m : Machine). m.held) e)
+        (ap (λ (m : Machine). m.limit) e) (read_alike old new _ e refl refl)
+        (same_stays old.held old.held refl)
     go (Err fault) e = absurd e
 
-pub keeps_sync_pages : (old new : Machine) (result : Result (Unit {0}) Fault) → PagesSync old result new → Keeps old new
-keeps_sync_pages old new result does = keeps_does old new step.SyncPages (SyncsAllPages old) result does (go result)
+pub keeps_sync_pages : (old new : Machine) (result : Result (Unit {0}) Fault)
+    → PagesSync old result new → Keeps old new
+keeps_sync_pages old new result does =
+    keeps_does old new step.SyncPages (SyncsAllPages old) result does (go result)
   where
     go : (r : Result (Unit {0}) Fault) → SyncsAllPages old r new → Keeps old new
-    go (Ok done) c = keeps_changes old new _ c (λ held e. set_stays old.held held (as_made old.held held _ e.after refl (λ w. w) (λ r. r)) (ap (λ (h : Stored). h.log) e.after) (ap (λ (h : Stored). h.control) e.after) (λ b. ap (λ (h : Stored). h.broken) e.after ∙ b))
-    go (Err fault) c = keeps_changes old new _ c.1 (λ held e. set_stays old.held held (as_made old.held held _ e.after refl (λ w. w) (λ r. r)) (ap (λ (h : Stored). h.log) e.after) (ap (λ (h : Stored). h.control) e.after) (λ b. ap (λ (h : Stored). h.broken) e.after))
+    go (Ok done) c = keeps_changes old new _ c
+        (λ held e. set_stays old.held held (as_made old.held held _ e.after refl (λ w. w) (λ r. r))
+        (ap (λ (h : Stored). h.log) e.after) (ap (λ (h : Stored). h.control) e.after)
+        (λ b. ap (λ (h : Stored). h.broken) e.after ∙ b))
+    go (Err fault) c = keeps_changes old new _ c.1
+        (λ held e. set_stays old.held held (as_made old.held held _ e.after refl (λ w. w) (λ r. r))
+        (ap (λ (h : Stored). h.log) e.after) (ap (λ (h : Stored). h.control) e.after)
+        (λ b. ap (λ (h : Stored). h.broken) e.after))
 
-pub keeps_log_write : (old new : Machine) (result : Result (Unit {0}) Fault) → LogWrites old result new → Keeps old new
-keeps_log_write old new result does = keeps_does old new step.LogWrite (WritesBlock old) result does (go result)
+pub keeps_log_write : (old new : Machine) (result : Result (Unit {0}) Fault)
+    → LogWrites old result new → Keeps old new
+keeps_log_write old new result does =
+    keeps_does old new step.LogWrite (WritesBlock old) result does (go result)
   where
     go : (r : Result (Unit {0}) Fault) → WritesBlock old r new → Keeps old new
-    go (Ok done) c = keeps_changes old new _ c (λ held e. set_stays old.held held (as_made old.held held _ e.after refl (λ w. w) (λ r. r)) (ap (λ (h : Stored). h.log) e.after) (ap (λ (h : Stored). h.control) e.after) (λ b. ap (λ (h : Stored). h.broken) e.after ∙ b))
-    go (Err fault) c = keeps_changes old new _ c.1 (λ held e. set_stays old.held held (as_made old.held held _ e.after refl (λ w. w) (λ r. r)) (ap (λ (h : Stored). h.log) e.after) (ap (λ (h : Stored). h.control) e.after) (λ b. ap (λ (h : Stored). h.broken) e.after))
+    go (Ok done) c = keeps_changes old new _ c
+        (λ held e. set_stays old.held held (as_made old.held held _ e.after refl (λ w. w) (λ r. r))
+        (ap (λ (h : Stored). h.log) e.after) (ap (λ (h : Stored). h.control) e.after)
+        (λ b. ap (λ (h : Stored). h.broken) e.after ∙ b))
+    go (Err fault) c = keeps_changes old new _ c.1
+        (λ held e. set_stays old.held held (as_made old.held held _ e.after refl (λ w. w) (λ r. r))
+        (ap (λ (h : Stored). h.log) e.after) (ap (λ (h : Stored). h.control) e.after)
+        (λ b. ap (λ (h : Stored). h.broken) e.after))
 
-pub keeps_log_sync : (old new : Machine) (result : Result (Unit {0}) Fault) → LogSyncs old result new → Keeps old new
-keeps_log_sync old new result does = keeps_does old new step.LogSync (SyncsBlocks old) result does (go result)
+pub keeps_log_sync : (old new : Machine) (result : Result (Unit {0}) Fault)
+    → LogSyncs old result new → Keeps old new
+keeps_log_sync old new result does =
+    keeps_does old new step.LogSync (SyncsBlocks old) result does (go result)
   where
     go : (r : Result (Unit {0}) Fault) → SyncsBlocks old r new → Keeps old new
-    go (Ok done) c = keeps_changes old new _ c (λ held e. set_stays old.held held (as_made old.held held _ e.after refl (λ w. w) (λ r. r)) (ap (λ (h : Stored). h.log) e.after) (ap (λ (h : Stored). h.control) e.after) (λ b. ap (λ (h : Stored). h.broken) e.after ∙ b))
-    go (Err fault) c = keeps_changes old new _ c.1 (λ held e. set_stays old.held held (as_made old.held held _ e.after refl (λ w. w) (λ r. r)) (ap (λ (h : Stored). h.log) e.after) (ap (λ (h : Stored). h.control) e.after) (λ b. ap (λ (h : Stored). h.broken) e.after))
+    go (Ok done) c = keeps_changes old new _ c
+        (λ held e. set_stays old.held held (as_made old.held held _ e.after refl (λ w. w) (λ r. r))
+        (ap (λ (h : Stored). h.log) e.after) (ap (λ (h : Stored). h.control) e.after)
+        (λ b. ap (λ (h : Stored). h.broken) e.after ∙ b))
+    go (Err fault) c = keeps_changes old new _ c.1
+        (λ held e. set_stays old.held held (as_made old.held held _ e.after refl (λ w. w) (λ r. r))
+        (ap (λ (h : Stored). h.log) e.after) (ap (λ (h : Stored). h.control) e.after)
+        (λ b. ap (λ (h : Stored). h.broken) e.after))
 
-pub keeps_mark_write : (old new : Machine) (result : Result (Unit {0}) Fault) → MarkWrites old result new → Keeps old new
-keeps_mark_write old new result does = keeps_does old new step.MarkWrite (MovesMark old) result does (go result)
+pub keeps_mark_write : (old new : Machine) (result : Result (Unit {0}) Fault)
+    → MarkWrites old result new → Keeps old new
+keeps_mark_write old new result does =
+    keeps_does old new step.MarkWrite (MovesMark old) result does (go result)
   where
     go : (r : Result (Unit {0}) Fault) → MovesMark old r new → Keeps old new
-    go (Ok done) c = keeps_changes old new _ c (λ held e. set_stays old.held held (as_made old.held held _ e.after refl (λ w. w) (λ r. r)) (ap (λ (h : Stored). h.log) e.after) (ap (λ (h : Stored). h.control) e.after) (λ b. ap (λ (h : Stored). h.broken) e.after ∙ b))
-    go (Err fault) c = keeps_changes old new _ c.1 (λ held e. set_stays old.held held (as_made old.held held _ e.after refl (λ w. w) (λ r. r)) (ap (λ (h : Stored). h.log) e.after) (ap (λ (h : Stored). h.control) e.after) (λ b. ap (λ (h : Stored). h.broken) e.after))
+    go (Ok done) c = keeps_changes old new _ c
+        (λ held e. set_stays old.held held (as_made old.held held _ e.after refl (λ w. w) (λ r. r))
+        (ap (λ (h : Stored). h.log) e.after) (ap (λ (h : Stored). h.control) e.after)
+        (λ b. ap (λ (h : Stored). h.broken) e.after ∙ b))
+    go (Err fault) c = keeps_changes old new _ c.1
+        (λ held e. set_stays old.held held (as_made old.held held _ e.after refl (λ w. w) (λ r. r))
+        (ap (λ (h : Stored). h.log) e.after) (ap (λ (h : Stored). h.control) e.after)
+        (λ b. ap (λ (h : Stored). h.broken) e.after))
 
 -- of the three parts that stay, by what one event says of the store
-stays_after : (old new held : Stored) → new ≡ held → held.log ≡ old.log → held.control ≡ old.control → (old.broken ≡ true → held.broken ≡ true)
-    → held.pages ≡ old.pages → (WasWarm old → WasWarm held) → (old.recovering ≡ false → held.recovering ≡ false) → Stays old new
+stays_after : (old new held : Stored) → new ≡ held → held.log ≡ old.log → held.control ≡ old.control
+    → (old.broken ≡ true → held.broken ≡ true)
+    → held.pages ≡ old.pages → (WasWarm old → WasWarm held)
+    → (old.recovering ≡ false → held.recovering ≡ false) → Stays old new
 stays_after old new held e log control broken pages warm ready =
-    set_stays old new (as_made old new held e pages warm ready) (ap (λ (h : Stored). h.log) e ∙ log) (ap (λ (h : Stored). h.control) e ∙ control) (λ b. ap (λ (h : Stored). h.broken) e ∙ broken b)
+    set_stays old new (as_made old new held e pages warm ready) (ap (λ (h : Stored). h.log) e ∙ log)
+    (ap (λ (h : Stored). h.control) e ∙ control) (λ b. ap (λ (h : Stored). h.broken) e
+    ∙ broken b)
 
-pub keeps_ckpt_begin : (old new : Machine) (result : Result (Unit {0}) Fault) → CkptBegins old result new → Keeps old new
-keeps_ckpt_begin old new result does = keeps_does old new step.CkptBegin (Begins old) result does (go result)
+pub keeps_ckpt_begin : (old new : Machine) (result : Result (Unit {0}) Fault)
+    → CkptBegins old result new → Keeps old new
+keeps_ckpt_begin old new result does =
+    keeps_does old new step.CkptBegin (Begins old) result does (go result)
   where
     go : (r : Result (Unit {0}) Fault) → Begins old r new → Keeps old new
-    go (Ok done) c = keeps_changes old new _ c (λ held e. stays_after old.held held _ e.after refl refl (λ b. b) refl (λ w. w) (λ r. r))
+    go (Ok done) c = keeps_changes old new _ c
+        (λ held e. stays_after old.held held _ e.after refl refl (λ b. b) refl (λ w. w) (λ r. r))
     go (Err fault) e = keeps_equal old new e.1
 
-pub keeps_ckpt_block : (old new : Machine) (result : Result (Unit {0}) Fault) → CkptWrites old result new → Keeps old new
-keeps_ckpt_block old new result does = keeps_does old new step.CkptBlock (WritesNext old) result does (go result)
+pub keeps_ckpt_block : (old new : Machine) (result : Result (Unit {0}) Fault)
+    → CkptWrites old result new → Keeps old new
+keeps_ckpt_block old new result does =
+    keeps_does old new step.CkptBlock (WritesNext old) result does (go result)
   where
     go : (r : Result (Unit {0}) Fault) → WritesNext old r new → Keeps old new
-    go (Ok done) c = keeps_changes old new _ c (λ held e. stays_after old.held held _ e.after refl refl (λ b. b) refl (λ w. w) (λ r. r))
-    go (Err fault) c = keeps_changes old new _ c.1 (λ held e. stays_after old.held held _ e.after refl refl (λ b. refl) refl (λ w. w) (λ r. r))
+    go (Ok done) c = keeps_changes old new _ c
+        (λ held e. stays_after old.held held _ e.after refl refl (λ b. b) refl (λ w. w) (λ r. r))
+    go (Err fault) c = keeps_changes old new _ c.1
+        (λ held e. stays_after old.held held _ e.after refl refl (λ b. refl) refl (λ w. w) (λ r. r))
 
-published_stays : (old new : Stored) (b : Option Begun) → IsSomeAnd b (λ x. Publishes old x new) → Stays old new
+published_stays : (old new : Stored) (b : Option Begun) → IsSomeAnd b (λ x. Publishes old x new)
+    → Stays old new
 published_stays old new None h = absurd h
-published_stays old new (Some b) h = stays_after old new _ h.after refl refl (λ b. b) refl (λ w. w) (λ r. r)
+published_stays old new (Some b) h =
+    stays_after old new _ h.after refl refl (λ b. b) refl (λ w. w) (λ r. r)
 
-torn_stays : (old new : Stored) (b : Option Begun) → IsSomeAnd b (λ x. BreaksPublish old x new) → Stays old new
+torn_stays : (old new : Stored) (b : Option Begun) → IsSomeAnd b (λ x. BreaksPublish old x new)
+    → Stays old new
 torn_stays old new None h = absurd h
-torn_stays old new (Some b) h = stays_after old new _ h.after refl refl (λ b. refl) refl (λ w. w) (λ r. r)
+torn_stays old new (Some b) h =
+    stays_after old new _ h.after refl refl (λ b. refl) refl (λ w. w) (λ r. r)
 
-pub keeps_ckpt_publish : (old new : Machine) (result : Result (Unit {0}) Fault) → CkptPublishes old result new → Keeps old new
-keeps_ckpt_publish old new result does = keeps_does old new step.CkptPublish (PublishesNext old) result does (go result)
+pub keeps_ckpt_publish : (old new : Machine) (result : Result (Unit {0}) Fault)
+    → CkptPublishes old result new → Keeps old new
+keeps_ckpt_publish old new result does =
+    keeps_does old new step.CkptPublish (PublishesNext old) result does (go result)
   where
     go : (r : Result (Unit {0}) Fault) → PublishesNext old r new → Keeps old new
-    go (Ok done) c = keeps_changes old new _ c (λ held e. published_stays old.held held old.held.begun e)
-    go (Err fault) c = keeps_changes old new _ c.1 (λ held e. torn_stays old.held held old.held.begun e)
+    go (Ok done) c = keeps_changes old new _ c
+        (λ held e. published_stays old.held held old.held.begun e)
+    go (Err fault) c = keeps_changes old new _ c.1
+        (λ held e. torn_stays old.held held old.held.begun e)
 
 -- what is published grows, and the store stays as it was but for its recovery
-keeps_more : (old new : Machine) (held : Stored) → new.held ≡ held → new.limit ≡ old.limit → new.listed ≡ true → old.published ≤ new.published → ended_in old.held ≤ new.published → Stays old.held held → Keeps old new
+keeps_more : (old new : Machine) (held : Stored) → new.held ≡ held → new.limit ≡ old.limit
+    → new.listed ≡ true → old.published ≤ new.published → ended_in old.held ≤ new.published
+    → Stays old.held held → Keeps old new
 keeps_more old new held e limit listed more all s =
-    let k : Keeps old (record old { held = new.held; limit = new.limit }) = keeps_stays old (record old { held = new.held; limit = new.limit }) held e limit (record { listed = refl; published = refl }) s in
-    record { acknowledged = k.acknowledged; more = k.more; log = k.log; stopped = k.stopped; takeover = k.takeover; pages = k.pages; limit = k.limit; warm = k.warm; ready = k.ready; listed = λ l. listed; published = more; shown = λ f t. all }
+    let k : Keeps old (record old { held = new.held; limit = new.limit }) =
+    keeps_stays old (record old { held = new.held; limit = new.limit }) held e limit
+    (record { listed = refl; published = refl }) s in
+    record {
+      acknowledged = k.acknowledged;
+      more = k.more;
+      log = k.log;
+      stopped =
+          k.stopped;
+      takeover = k.takeover;
+      pages = k.pages;
+      limit = k.limit;
+      warm =
+          k.warm;
+      ready = k.ready;
+      listed = λ l. listed;
+      published =
+          more;
+      shown = λ f t. all;
+    }
 
-pub keeps_publish_view : (old new : Machine) (result : Result (Unit {0}) Fault) → PublishesView old result new → Keeps old new
-keeps_publish_view old new result does = keeps_does old new step.PublishView (PublishesEnded old) result does (go result)
+pub keeps_publish_view : (old new : Machine) (result : Result (Unit {0}) Fault)
+    → PublishesView old result new → Keeps old new
+keeps_publish_view old new result does =
+    keeps_does old new step.PublishView (PublishesEnded old) result does (go result)
   where
     go : (r : Result (Unit {0}) Fault) → PublishesEnded old r new → Keeps old new
-    go (Ok done) e = keeps_more old new old.held (ap (λ (m : Machine). m.held) e.1) (ap (λ (m : Machine). m.limit) e.1) (ap (λ (m : Machine). m.listed) e.1)
-        (omega (arith, e.0, ap (λ (m : Machine). m.published) e.1)) (omega (arith, ap (λ (m : Machine). m.published) e.1)) (same_stays old.held old.held refl)
+    go (Ok done) e = keeps_more old new old.held (ap (λ (m : Machine). m.held) e.1)
+        (ap (λ (m : Machine). m.limit) e.1) (ap (λ (m : Machine). m.listed) e.1)
+        (omega (arith, e.0, ap (λ (m : Machine). m.published) e.1))
+        (omega (arith, ap (λ (m : Machine). m.published) e.1))
+        (same_stays old.held old.held refl)
     go (Err fault) e = absurd e
 
-pub keeps_ready : (old new : Machine) (result : Result (Unit {0}) Fault) → old.published ≤ new.published → Readies old result new → Keeps old new
-keeps_ready old new result grows does = keeps_does old new step.Ready (BecomesReady old) result does (go result)
+pub keeps_ready : (old new : Machine) (result : Result (Unit {0}) Fault)
+    → old.published ≤ new.published → Readies old result new → Keeps old new
+keeps_ready old new result grows does =
+    keeps_does old new step.Ready (BecomesReady old) result does (go result)
   where
     go : (r : Result (Unit {0}) Fault) → BecomesReady old r new → Keeps old new
     go (Ok done) e =
         let held = (readied old).held in
-        keeps_more old new held (ap (λ (m : Machine). m.held) e) (ap (λ (m : Machine). m.limit) e) (ap (λ (m : Machine). m.listed) e)
+        keeps_more old new held (ap (λ (m : Machine). m.held) e) (ap (λ (m : Machine). m.limit) e)
+        (ap (λ (m : Machine). m.listed) e)
         grows (omega (arith, ended_in-few old.held, ap (λ (m : Machine). m.published) e))
         (stays_after old.held held held refl refl refl (λ b. b) refl (λ w. w) (λ r. refl))
     go (Err fault) e = absurd e
 
-pub keeps_seal : (old new : Machine) (result : Result (Unit {0}) Fault) → Seals old result new → Keeps old new
+pub keeps_seal : (old new : Machine) (result : Result (Unit {0}) Fault) → Seals old result new
+    → Keeps old new
 keeps_seal old new result does = keeps_does old new step.Seal (SealsLog old) result does (go result)
   where
     go : (r : Result (Unit {0}) Fault) → SealsLog old r new → Keeps old new
-    go (Ok done) s = keeps_stays old new s.held (ap (λ (m : Machine). m.held) s.after) (ap (λ (m : Machine). m.limit) s.after) (read_alike old new _ s.after refl refl) (set_stays old.held s.held (as_made old.held s.held _ s.seals.after refl (λ w. w) (λ r. r)) (ap (λ (h : Stored). h.log) s.seals.after) (ap (λ (h : Stored). h.control) s.seals.after) (λ b. ap (λ (h : Stored). h.broken) s.seals.after ∙ b))
-    go (Err fault) c = keeps_changes old new _ c.1 (λ held e. set_stays old.held held (as_made old.held held _ e.after refl (λ w. w) (λ r. r)) (ap (λ (h : Stored). h.log) e.after) (ap (λ (h : Stored). h.control) e.after) (λ b. ap (λ (h : Stored). h.broken) e.after))
+    go (Ok done) s = keeps_stays old new s.held (ap (λ (m : Machine). m.held) s.after)
+        (ap (λ (m : Machine). m.limit) s.after) (read_alike old new _ s.after refl refl)
+        (set_stays old.held s.held (as_made old.held s.held _ s.seals.after refl (λ w. w) (λ r. r))
+        (ap (λ (h : Stored). h.log) s.seals.after) (ap (λ (h : Stored). h.control) s.seals.after)
+        (λ b. ap (λ (h : Stored). h.broken) s.seals.after ∙ b))
+    go (Err fault) c = keeps_changes old new _ c.1
+        (λ held e. set_stays old.held held (as_made old.held held _ e.after refl (λ w. w) (λ r. r))
+        (ap (λ (h : Stored). h.log) e.after) (ap (λ (h : Stored). h.control) e.after)
+        (λ b. ap (λ (h : Stored). h.broken) e.after))
 
-pub keeps_acknowledged : (old new : Machine) (lsn : Lsn) → acknowledged old.held ≤ (newest old.held).mark.0 → GoesOn old.held.control new.held.control → ControlSyncs old (Ok lsn) new → Keeps old new
-keeps_acknowledged old new lsn marks goes_on does = keeps_does old new step.ControlSync (Acknowledges old) (Ok lsn) does go
+pub keeps_acknowledged : (old new : Machine) (lsn : Lsn)
+    → acknowledged old.held ≤ (newest old.held).mark.0 → GoesOn old.held.control new.held.control
+    → ControlSyncs old (Ok lsn) new → Keeps old new
+keeps_acknowledged old new lsn marks goes_on does =
+    keeps_does old new step.ControlSync (Acknowledges old) (Ok lsn) does go
   where
     go : Acknowledges old (Ok lsn) new → Keeps old new
     go c =
@@ -194,35 +314,71 @@ keeps_acknowledged old new lsn marks goes_on does = keeps_does old new step.Cont
           shown = none_opened old new alike (ended_in old.held);
         }
 
-pub keeps_not_acknowledged : (old new : Machine) (fault : Fault) → ControlSyncs old (Err fault) new → Keeps old new
-keeps_not_acknowledged old new fault does = keeps_does old new step.ControlSync (Acknowledges old) (Err fault) does (λ c. keeps_changes old new _ c.1 (λ held e.
-    set_stays old.held held (as_made old.held held _ e.after refl (λ w. w) (λ r. r)) (ap (λ (h : Stored). h.log) e.after) (ap (λ (h : Stored). h.control) e.after) (λ b. ap (λ (h : Stored). h.broken) e.after)))
+pub keeps_not_acknowledged : (old new : Machine) (fault : Fault) → ControlSyncs old (Err fault) new
+    → Keeps old new
+keeps_not_acknowledged old new fault does =
+    keeps_does old new step.ControlSync (Acknowledges old) (Err fault) does
+    (λ c. keeps_changes old new _ c.1 (λ held e.
+    set_stays old.held held (as_made old.held held _ e.after refl (λ w. w) (λ r. r))
+    (ap (λ (h : Stored). h.log) e.after) (ap (λ (h : Stored). h.control) e.after)
+    (λ b. ap (λ (h : Stored). h.broken) e.after)))
 
-pub keeps_not_undone : (old new : Machine) (fault : Fault) → UndoesOneOf old (Err fault) new → Keeps old new
-keeps_not_undone old new fault does = keeps_does old new step.UndoOne (Undoes old) (Err fault) does (λ same. keeps_equal old new same.1)
+pub keeps_not_undone : (old new : Machine) (fault : Fault) → UndoesOneOf old (Err fault) new
+    → Keeps old new
+keeps_not_undone old new fault does =
+    keeps_does old new step.UndoOne (Undoes old) (Err fault) does
+    (λ same. keeps_equal old new same.1)
 
-pub keeps_finish : (old new : Machine) (result : Result (Unit {0}) Fault) → Finishes old result new → Keeps old new
-keeps_finish old new result does = keeps_does old new step.Finish (FinishesTakeover old) result does (go result)
+pub keeps_finish : (old new : Machine) (result : Result (Unit {0}) Fault) → Finishes old result new
+    → Keeps old new
+keeps_finish old new result does =
+    keeps_does old new step.Finish (FinishesTakeover old) result does (go result)
   where
     go : (r : Result (Unit {0}) Fault) → FinishesTakeover old r new → Keeps old new
-    go (Ok done) c = keeps_changes old new _ c (λ held e. set_stays old.held held (as_made old.held held _ e.after refl (λ w. w) (λ r. r)) (ap (λ (h : Stored). h.log) e.after) (ap (λ (h : Stored). h.control) e.after) (λ b. ap (λ (h : Stored). h.broken) e.after ∙ b))
-    go (Err fault) c = keeps_changes old new _ c.1 (λ held e. set_stays old.held held (as_made old.held held _ e.after refl (λ w. w) (λ r. r)) (ap (λ (h : Stored). h.log) e.after) (ap (λ (h : Stored). h.control) e.after) (λ b. ap (λ (h : Stored). h.broken) e.after))
+    go (Ok done) c = keeps_changes old new _ c
+        (λ held e. set_stays old.held held (as_made old.held held _ e.after refl (λ w. w) (λ r. r))
+        (ap (λ (h : Stored). h.log) e.after) (ap (λ (h : Stored). h.control) e.after)
+        (λ b. ap (λ (h : Stored). h.broken) e.after ∙ b))
+    go (Err fault) c = keeps_changes old new _ c.1
+        (λ held e. set_stays old.held held (as_made old.held held _ e.after refl (λ w. w) (λ r. r))
+        (ap (λ (h : Stored). h.log) e.after) (ap (λ (h : Stored). h.control) e.after)
+        (λ b. ap (λ (h : Stored). h.broken) e.after))
 
 -- a refused feed calls no device
-pub attempts_refused : (old new : Machine) (piece : List ℕ) (cause : Option Fault) (refused : FeedFault) → Feeds old piece cause (Err refused) new → new.held.attempts ≤ old.held.attempts + 1
-attempts_refused old new piece None refused front = omega (arith, ap (λ (m : Machine). m.held.attempts) front.after)
-attempts_refused old new piece (Some fault) refused same = omega (arith, ap (λ (m : Machine). m.held.attempts) same.1)
+pub attempts_refused : (old new : Machine) (piece : List ℕ) (cause : Option Fault)
+    (refused : FeedFault) → Feeds old piece cause (Err refused) new
+    → new.held.attempts ≤ old.held.attempts + 1
+attempts_refused old new piece None refused front =
+    omega (arith, ap (λ (m : Machine). m.held.attempts) front.after)
+attempts_refused old new piece (Some fault) refused same =
+    omega (arith, ap (λ (m : Machine). m.held.attempts) same.1)
 
 -- ---- a reply, and how often a device is called
 
-pub begins_step : (old new : Machine) (result : Result (Unit {0}) Fault) → CkptBegins old result new → Steps old step.CkptBegin (reply_of result) new
+pub begins_step : (old new : Machine) (result : Result (Unit {0}) Fault) → CkptBegins old result new
+    → Steps old step.CkptBegin (reply_of result) new
 begins_step old new (Ok done) does = does
 begins_step old new (Err fault) does = does
 
-pub attempts_finish : (old new : Machine) (result : Result (Unit {0}) Fault) → Finishes old result new → new.held.attempts ≤ old.held.attempts + 1
+pub attempts_finish : (old new : Machine) (result : Result (Unit {0}) Fault)
+    → Finishes old result new → new.held.attempts ≤ old.held.attempts + 1
 attempts_finish old new result does = go (refusal old step.Finish) result does
   where
-    go : (r : Option Fault) (answer : Result (Unit {0}) Fault) → MatchOption r (FinishesTakeover old answer new) (λ fault. (answer ≡ Err fault) × (new ≡ old)) → new.held.attempts ≤ old.held.attempts + 1
-    go None (Ok done) c = omega (arith, ap (λ (m : Machine). m.held.attempts) c.after, ap (λ (h : Stored). h.attempts) c.becomes.after)
-    go None (Err fault) c = omega (arith, ap (λ (m : Machine). m.held.attempts) c.1.after, ap (λ (h : Stored). h.attempts) c.1.becomes.after)
+    go : (r : Option Fault) (answer : Result (Unit {0}) Fault)
+        → MatchOption r (FinishesTakeover old answer new) (λ fault. (answer ≡ Err fault)
+        × (new ≡ old)) → new.held.attempts ≤ old.held.attempts + 1
+    go None (Ok done) c =
+        omega (
+          arith,
+          ap (λ (m : Machine). m.held.attempts) c.after,
+          ap (λ (h : Stored). h.attempts)
+              c.becomes.after,
+        )
+    go None (Err fault) c =
+        omega (
+          arith,
+          ap (λ (m : Machine). m.held.attempts) c.1.after,
+          ap
+              (λ (h : Stored). h.attempts) c.1.becomes.after,
+        )
     go (Some cause) answer same = omega (arith, ap (λ (m : Machine). m.held.attempts) same.1)

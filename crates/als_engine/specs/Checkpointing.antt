@@ -1,7 +1,8 @@
 -- What stands against the events of a checkpoint, and what they make of the small machine.
 use Rattle.std.specs.Prelude.{◌≡◌, Result, Ok, Err, IsSomeAnd}
 use Rattle.als_store.specs.Events.{Breaks}
-use Rattle.als_store.specs.CheckpointEvents.{BeginsCheckpoint, WritesBlock, Publishes, BreaksPublish}
+use Rattle.als_store.specs.CheckpointEvents.{BeginsCheckpoint, WritesBlock, Publishes}
+use Rattle.als_store.specs.CheckpointEvents.{BreaksPublish}
 use Rattle.als_engine.specs.declared.fault.Fault.{Fault}
 use Rattle.als_engine.specs.declared.fault.Fault.TheVariants.{Memory}
 use Rattle.als_engine.specs.declared.step.Step.TheVariants as step
@@ -21,8 +22,10 @@ WritesNext old (Err fault) new = FailsIn old fault Breaks new
 
 -- the control block is written with the checkpoint's region and position, by one write of a device
 abbrev pub PublishesNext : Machine → Result (Unit {0}) Fault → Machine → Type 0
-PublishesNext old (Ok done) new = Changes old (λ held after. IsSomeAnd held.begun (λ b. Publishes held b after)) new
-PublishesNext old (Err fault) new = FailsIn old fault (λ held after. IsSomeAnd held.begun (λ b. BreaksPublish held b after)) new
+PublishesNext old (Ok done) new =
+    Changes old (λ held after. IsSomeAnd held.begun (λ b. Publishes held b after)) new
+PublishesNext old (Err fault) new =
+    FailsIn old fault (λ held after. IsSomeAnd held.begun (λ b. BreaksPublish held b after)) new
 
 -- ---- refused or not
 

@@ -10,7 +10,9 @@ use Rattle.als_store.specs.declared.fault.Fault.{Fault as StoreFault}
 use Rattle.als_store.specs.declared.fault.Fault.TheVariants.{BadPage as NotThePage}
 use Rattle.als_store.specs.Stored.{Stored, StandsAt, IsShown}
 use Rattle.als_store.specs.Warm.{WasWarm}
-use Rattle.als_store.specs.Events.{Breaks, FailsToRead, WritesLog, SyncsLog, WritesMark, BreaksMark, SyncsControl, AppliesFirst, IsNotRedone, FlushesPage, BreaksFlush, SyncsDevice, BreaksSync, FailsToShow}
+use Rattle.als_store.specs.Events.{Breaks, FailsToRead, WritesLog, SyncsLog, WritesMark, BreaksMark}
+use Rattle.als_store.specs.Events.{SyncsControl, AppliesFirst, IsNotRedone, FlushesPage}
+use Rattle.als_store.specs.Events.{BreaksFlush, SyncsDevice, BreaksSync, FailsToShow}
 use Rattle.als_engine.specs.Faults.{from_store}
 use Rattle.als_engine.specs.declared.fault.Fault.{Fault}
 use Rattle.als_engine.specs.declared.fault.Fault.TheVariants.{Device, Memory, BadPage}
@@ -38,8 +40,8 @@ abbrev pub DropsPartial : Machine → Result (Unit {0}) Fault → Machine → Ty
 DropsPartial old (Ok done) new = new ≡ resynced old
 DropsPartial old (Err fault) new = ⊥
 
--- Nothing is redone of a page that was to be read: that failed, or it has all that waited. That its block is not the page's does not come where
--- the devices were sound when the engine was made.
+-- Nothing is redone of a page that was to be read: that failed, or it has all that waited. That its
+-- block is not the page's does not come where the devices were sound when the engine was made.
 pub record RedoesNothing (old : Machine) (page : ℕ) (fault : Fault) (new : Machine) : Type 0 where
   pub cause : StoreFault
   pub answer : fault ≡ from_store cause
@@ -54,7 +56,8 @@ Redoes old page (Err fault) new = RedoesNothing old page fault new
 -- a page is written to its block, by one write of a device
 abbrev pub WritesPage : Machine → ℕ → Result (Unit {0}) Fault → Machine → Type 0
 WritesPage old page (Ok done) new = Changes old (λ held after. FlushesPage held page after) new
-WritesPage old page (Err fault) new = FailsIn old fault (λ held after. BreaksFlush held page after) new
+WritesPage old page (Err fault) new =
+    FailsIn old fault (λ held after. BreaksFlush held page after) new
 
 -- the pages' device is synced, by one sync
 abbrev pub SyncsAllPages : Machine → Result (Unit {0}) Fault → Machine → Type 0
@@ -76,7 +79,8 @@ abbrev pub MovesMark : Machine → Result (Unit {0}) Fault → Machine → Type 
 MovesMark old (Ok done) new = Changes old WritesMark new
 MovesMark old (Err fault) new = FailsIn old fault BreaksMark new
 
--- the control block is synced, by one sync of a device, and its mark is answered: no log byte below it can be lost
+-- the control block is synced, by one sync of a device, and its mark is answered: no log byte below
+-- it can be lost
 abbrev pub Acknowledges : Machine → Result Lsn Fault → Machine → Type 0
 Acknowledges old (Ok lsn) new = Changes old (λ held after. SyncsControl held lsn after) new
 Acknowledges old (Err fault) new = FailsIn old fault Breaks new
@@ -109,22 +113,28 @@ ControlSyncs old result new = Does old step.ControlSync (Acknowledges old) resul
 
 -- ---- queries that may read a device
 
--- the record at an LSN, if one stands there; memory is wanted for an end_chkpt's rows alone; a read that fails is counted,
--- and nothing else changes
+-- the record at an LSN, if one stands there; memory is wanted for an end_chkpt's rows alone; a read
+-- that fails is counted, and nothing else changes
 abbrev pub Reads : Machine → Lsn → Result (Option Record) Fault → Machine → Type 0
 Reads old lsn (Ok found) new = StandsAt old.held.log lsn found × (new ≡ old)
-Reads old lsn (Err fault) new = ((fault ≡ Memory) × HasRowsAt old.held.log lsn.0 × (new ≡ old)) ⊎ ((fault ≡ Device) × (held : Stored) × FailsToRead old.held held × (new ≡ record old { held = held }))
+Reads old lsn (Err fault) new =
+    ((fault ≡ Memory) × HasRowsAt old.held.log lsn.0 × (new ≡ old))
+    ⊎ ((fault ≡ Device) × (held : Stored) × FailsToRead old.held held
+    × (new ≡ record old { held = held }))
 
--- The block of a page that has no frame is not that of the page: nothing changes. It does not come where the devices were sound when the
--- engine was made.
+-- The block of a page that has no frame is not that of the page: nothing changes. It does not come
+-- where the devices were sound when the engine was made.
 pub record FindsNoPage (old : Machine) (page : ℕ) (fault : Fault) (new : Machine) : Type 0 where
   pub answer : fault ≡ BadPage page
   pub unsound : WasWarm old.held → ⊥
   pub absent : (view_of old.held.pool page).resident ≡ false
   pub after : new ≡ old
 
--- The page of this number, which is the page as it is now where the devices were sound when the engine was made; or none was found. A read
--- that fails is counted, and nothing else changes.
+-- The page of this number, which is the page as it is now where the devices were sound when the
+-- engine was made; or none was found. A read that fails is counted, and nothing else changes.
 abbrev pub ShowsPage : Machine → ℕ → Result Page Fault → Machine → Type 0
-ShowsPage old page (Ok shown) new = (id_of shown ≡ page) × (WasWarm old.held → IsShown old.held page shown) × (new ≡ old)
-ShowsPage old page (Err fault) new = FailsIn old fault (λ held after. FailsToShow held page after) new ⊎ FindsNoPage old page fault new
+ShowsPage old page (Ok shown) new =
+    (id_of shown ≡ page) × (WasWarm old.held → IsShown old.held page shown) × (new ≡ old)
+ShowsPage old page (Err fault) new =
+    FailsIn old fault (λ held after. FailsToShow held page after) new
+    ⊎ FindsNoPage old page fault new

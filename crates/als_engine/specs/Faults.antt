@@ -1,4 +1,5 @@
--- Which of the faults of all crates each fault of the engine is, and which of its own each fault of a lower crate becomes.
+-- Which of the faults of all crates each fault of the engine is, and which of its own each fault of
+-- a lower crate becomes.
 use Rattle.als_fault.specs.declared.fault_kind.FaultKind.{FaultKind}
 use Rattle.als_fault.specs.declared.fault_kind.FaultKind.TheVariants as kind
 use Rattle.als_record.specs.declared.fault.Fault.{Fault as RecordFault}
@@ -10,7 +11,18 @@ use Rattle.als_store.specs.declared.fault.Fault.TheVariants as store_fault
 use Rattle.als_reopen.specs.declared.fault.Fault.{Fault as OpenFault}
 use Rattle.als_reopen.specs.declared.fault.Fault.TheVariants as open_fault
 use Rattle.als_engine.specs.declared.fault.Fault.{Fault}
-use Rattle.als_engine.specs.declared.fault.Fault.TheVariants.{BadHeader, BadLength, BadType, BadReserved, WrongLsn, BadKey, BadValue, BadPrev, OldTransaction, WrongState, WrongUndoNext, WrongCompensation, RecordHeld, BeforeImage, TooManyTransactions, BadCheckpoint, Recovering, Sealed, LogBehind, NotDrained, CkptBusy, PoolFull, NothingToDo, LogFull, Device, Stopped, Memory, BadPage, BadControl, Warming, Backlog, BadConfig, NotSealed}
+use Rattle.als_engine.specs.declared.fault.Fault.TheVariants.{BadHeader, BadLength, BadType}
+use Rattle.als_engine.specs.declared.fault.Fault.TheVariants.{BadReserved, WrongLsn, BadKey}
+use Rattle.als_engine.specs.declared.fault.Fault.TheVariants.{BadValue, BadPrev, OldTransaction}
+use Rattle.als_engine.specs.declared.fault.Fault.TheVariants.{WrongState, WrongUndoNext}
+use Rattle.als_engine.specs.declared.fault.Fault.TheVariants.{WrongCompensation, RecordHeld}
+use Rattle.als_engine.specs.declared.fault.Fault.TheVariants.{BeforeImage, TooManyTransactions}
+use Rattle.als_engine.specs.declared.fault.Fault.TheVariants.{BadCheckpoint, Recovering, Sealed}
+use Rattle.als_engine.specs.declared.fault.Fault.TheVariants.{LogBehind, NotDrained, CkptBusy}
+use Rattle.als_engine.specs.declared.fault.Fault.TheVariants.{PoolFull, NothingToDo, LogFull}
+use Rattle.als_engine.specs.declared.fault.Fault.TheVariants.{Device, Stopped, Memory, BadPage}
+use Rattle.als_engine.specs.declared.fault.Fault.TheVariants.{BadControl, Warming, Backlog}
+use Rattle.als_engine.specs.declared.fault.Fault.TheVariants.{BadConfig, NotSealed}
 
 abbrev pub kind_of : Fault → FaultKind
 kind_of BadHeader = kind.BadHeader

@@ -1,5 +1,6 @@
 -- The feed rule.
-use Rattle.std.specs.Prelude.{◌≡◌, ℕ, ◌-◌, ◌⊎◌, List, [], ◌∷◌, ◌++◌, length, Option, Some, None, MatchOption, Result, Ok, Err}
+use Rattle.std.specs.Prelude.{◌≡◌, ℕ, ◌-◌, ◌⊎◌, List, [], ◌∷◌, ◌++◌, length, Option, Some, None}
+use Rattle.std.specs.Prelude.{MatchOption, Result, Ok, Err}
 use Rattle.als_record.specs.declared.record.Record.{Record}
 use Rattle.als_record.specs.declared.fault.Fault.{Fault as RecordFault}
 use Rattle.als_record.specs.declared.cause.Cause.{Cause}
@@ -9,7 +10,18 @@ use Rattle.als_record.specs.LogText.{spellings, end_of}
 use Rattle.als_record.specs.Validity.{first_bad, IsValidLog}
 use Rattle.als_store.specs.Stored.{Stored, with_records, IsTooLong}
 use Rattle.als_engine.specs.declared.fault.Fault.{Fault}
-use Rattle.als_engine.specs.declared.fault.Fault.TheVariants.{BadHeader, BadLength, BadType, BadReserved, WrongLsn, BadKey, BadValue, BadPrev, OldTransaction, WrongState, WrongUndoNext, WrongCompensation, RecordHeld, BeforeImage, TooManyTransactions, BadCheckpoint, Recovering, Sealed, LogBehind, NotDrained, CkptBusy, PoolFull, NothingToDo, LogFull, Device, Stopped, Memory, BadPage, BadControl, Warming, Backlog, BadConfig, NotSealed}
+use Rattle.als_engine.specs.declared.fault.Fault.TheVariants.{BadHeader, BadLength, BadType}
+use Rattle.als_engine.specs.declared.fault.Fault.TheVariants.{BadReserved, WrongLsn, BadKey}
+use Rattle.als_engine.specs.declared.fault.Fault.TheVariants.{BadValue, BadPrev, OldTransaction}
+use Rattle.als_engine.specs.declared.fault.Fault.TheVariants.{WrongState, WrongUndoNext}
+use Rattle.als_engine.specs.declared.fault.Fault.TheVariants.{WrongCompensation, RecordHeld}
+use Rattle.als_engine.specs.declared.fault.Fault.TheVariants.{BeforeImage, TooManyTransactions}
+use Rattle.als_engine.specs.declared.fault.Fault.TheVariants.{BadCheckpoint, Recovering, Sealed}
+use Rattle.als_engine.specs.declared.fault.Fault.TheVariants.{LogBehind, NotDrained, CkptBusy}
+use Rattle.als_engine.specs.declared.fault.Fault.TheVariants.{PoolFull, NothingToDo, LogFull}
+use Rattle.als_engine.specs.declared.fault.Fault.TheVariants.{Device, Stopped, Memory, BadPage}
+use Rattle.als_engine.specs.declared.fault.Fault.TheVariants.{BadControl, Warming, Backlog}
+use Rattle.als_engine.specs.declared.fault.Fault.TheVariants.{BadConfig, NotSealed}
 use Rattle.als_engine.specs.declared.fed.Fed.{Fed}
 use Rattle.als_engine.specs.declared.fed.FeedFault.{FeedFault}
 use Rattle.als_engine.specs.Faults.{from_record, from_cause}
@@ -19,13 +31,15 @@ use Rattle.als_engine.specs.Machine.{Machine}
 abbrev pub grown : Stored → List Record → Stored
 grown held records = with_records held records
 
--- the log device has room for each record after those before it, with the tail that a takeover would then append
+-- the log device has room for each record after those before it, with the tail that a takeover
+-- would then append
 abbrev pub AllFit : Stored → List Record → Type 0
 AllFit held [] = Unit {0}
 AllFit held (r ∷ rest) = (IsTooLong held r → ⊥) × AllFit (grown held (r ∷ [])) rest
 
 -- the bytes are the spellings of records that the held log goes on with, and then a rest
-pub record Splits (held : Stored) (bytes : List ℕ) (records : List Record) (rest : List ℕ) : Type 0 where
+pub record Splits (held : Stored) (bytes : List ℕ) (records : List Record)
+    (rest : List ℕ) : Type 0 where
   pub whole : bytes ≡ spellings records ++ rest
   pub is_log : IsValidLog held.pages (held.log ++ records)
   pub fit : AllFit held records
@@ -40,13 +54,19 @@ pub record FeedsAll (old : Machine) (piece : List ℕ) (fed : Fed) (new : Machin
   pub taken : fed.taken ≡ length piece
   pub count : fed.records ≡ length records
 
--- Why a held log does not go on with the rest: it begins with a shape fault, with a record that may not follow, for its
--- first cause, or with one for which the log device has no room; or a growth was refused.
+-- Why a held log does not go on with the rest: it begins with a shape fault, with a record that may
+-- not follow, for its first cause, or with one for which the log device has no room; or a growth
+-- was refused.
 abbrev pub IsCause : Stored → List ℕ → Fault → Type 0
 IsCause held rest fault =
-    ((f : RecordFault) × (read_record held.pages (end_of held.log) rest ≡ Err f) × (fault ≡ from_record f))
-    ⊎ (((r : Record) × (c : Cause) × (read_record held.pages (end_of held.log) rest ≡ Ok (Some (r, record_len r))) × (first_bad held.log r ≡ Some c) × (fault ≡ from_cause c))
-    ⊎ (((r : Record) × (read_record held.pages (end_of held.log) rest ≡ Ok (Some (r, record_len r))) × (first_bad held.log r ≡ None) × IsTooLong held r × (fault ≡ LogFull))
+    ((f : RecordFault) × (read_record held.pages (end_of held.log) rest ≡ Err f)
+    × (fault ≡ from_record f))
+    ⊎ (((r : Record) × (c : Cause)
+    × (read_record held.pages (end_of held.log) rest ≡ Ok (Some (r, record_len r)))
+    × (first_bad held.log r ≡ Some c) × (fault ≡ from_cause c))
+    ⊎ (((r : Record)
+    × (read_record held.pages (end_of held.log) rest ≡ Ok (Some (r, record_len r)))
+    × (first_bad held.log r ≡ None) × IsTooLong held r × (fault ≡ LogFull))
     ⊎ (fault ≡ Memory)))
 
 -- want of room and of memory are not kept: the bytes may be fed again
@@ -86,12 +106,17 @@ kept_fault BadConfig = Some BadConfig
 kept_fault NotSealed = Some NotSealed
 
 -- whole records in front of a fault are held, and no rest is kept
-pub record FeedsFront (old : Machine) (piece : List ℕ) (refusal : FeedFault) (new : Machine) : Type 0 where
+pub record FeedsFront (old : Machine) (piece : List ℕ) (refusal : FeedFault)
+    (new : Machine) : Type 0 where
   pub records : List Record
   pub rest : List ℕ
   pub split : Splits old.held (old.partial ++ piece) records rest
   pub cause : IsCause (grown old.held records) rest refusal.fault
-  pub after : new ≡ record old { held = grown old.held records; partial = []; refused = kept_fault refusal.fault }
+  pub after : new ≡ record old {
+    held = grown old.held records;
+    partial = [];
+    refused = kept_fault refusal.fault;
+  }
   -- the piece's bytes up to the end of the last record held
   pub taken : refusal.taken ≡ length (spellings records) - length old.partial
   pub count : refusal.records ≡ length records
@@ -105,6 +130,9 @@ TakesPiece old piece (Err refusal) new = FeedsFront old piece refusal new
 abbrev pub refused_whole : Fault → FeedFault
 refused_whole fault = record { taken = 0; records = 0; fault = fault }
 
--- A feed that is refused before it begins takes nothing and changes nothing; any other one takes the piece.
+-- A feed that is refused before it begins takes nothing and changes nothing; any other one takes
+-- the piece.
 abbrev pub Feeds : Machine → List ℕ → Option Fault → Result Fed FeedFault → Machine → Type 0
-Feeds old piece refusal result new = MatchOption refusal (TakesPiece old piece result new) (λ fault. (result ≡ Err (refused_whole fault)) × (new ≡ old))
+Feeds old piece refusal result new =
+    MatchOption refusal (TakesPiece old piece result new)
+    (λ fault. (result ≡ Err (refused_whole fault)) × (new ≡ old))

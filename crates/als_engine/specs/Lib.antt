@@ -1,6 +1,7 @@
 pub mod Config
 pub mod Faults
 pub mod Machine
+pub mod Formatting
 pub mod Serving
 pub mod Feeds
 pub mod Refusals

@@ -1,5 +1,5 @@
--- The small machine: what an engine holds. A page is the log's, up to a page_LSN; the log is written and synced up to an offset, and
--- control states are written.
+-- The small machine: what an engine holds. A page is the log's, up to a page_LSN; the log is
+-- written and synced up to an offset, and control states are written.
 use Rattle.std.specs.Prelude.{◌≡◌, ℕ, ◌≤◌, ◌++◌, Bool, true, false, List, [], Option, Some, None}
 use Rattle.als_record.specs.declared.record.Record.{Record}
 use Rattle.als_record.specs.LogText.{end_of}
@@ -17,7 +17,8 @@ use Rattle.als_store.specs.Takeover.{GoesOn}
 use Rattle.als_store.specs.Warm.{WasWarm}
 
 pub record Machine : Type 0 where
-  -- the held log and its pages, and how much of it is on the devices; broken once a write or a sync has failed
+  -- the held log and its pages, and how much of it is on the devices; broken once a write or a sync
+  -- has failed
   pub held : Stored
   -- from how many pending changes on feed is refused
   pub limit : ℕ
@@ -29,10 +30,17 @@ pub record Machine : Type 0 where
   pub listed : Bool
   pub published : ℕ
 
--- a standby over devices that were just formatted: the log device has so many blocks, and the devices had failed so often and
--- were called so often to write or to sync
+-- a standby over devices that were just formatted: the log device has so many blocks, and the
+-- devices had failed so often and were called so often to write or to sync
 abbrev pub formatted_machine : Config → Pooled → ℕ → ℕ → ℕ → Machine
-formatted_machine config pool blocks failures attempts = record { held = formatted config.pages pool blocks failures attempts; limit = config.pending; partial = []; refused = None; listed = true; published = 0 }
+formatted_machine config pool blocks failures attempts = record {
+  held = formatted config.pages pool blocks failures attempts;
+  limit = config.pending;
+  partial = [];
+  refused = None;
+  listed = true;
+  published = 0;
+}
 
 -- no write and no sync has failed
 abbrev pub IsRunning : Machine → Type 0
@@ -54,16 +62,19 @@ state_from false true phase refused end = state.Recovering
 state_from false false phase refused end = state_in phase refused end
 
 abbrev pub state_of : Machine → State
-state_of m = state_from m.held.broken m.held.recovering (newest m.held).phase m.refused (end_of m.held.log)
+state_of m =
+    state_from m.held.broken m.held.recovering (newest m.held).phase m.refused (end_of m.held.log)
 
 -- how many commits of the held log end at or below what is acknowledged
 abbrev pub acknowledged_in : Machine → ℕ
 acknowledged_in m = ended_count (acknowledged m.held) (commits_of m.held.log)
 
--- What is acknowledged stays so, the log only grows, and a stopped engine stays stopped. What is acknowledged of a takeover stays
--- so too: the synced phase never falls, and past Following the seal stays. The page count and the limit stay, an engine that was made
--- over sound devices still was, and one that is not recovering does not begin to. What readers may see stays: there is a list of
--- published commits if there was, and it only grows. A list that is opened has all commits that were acknowledged.
+-- What is acknowledged stays so, the log only grows, and a stopped engine stays stopped. What is
+-- acknowledged of a takeover stays so too: the synced phase never falls, and past Following the
+-- seal stays. The page count and the limit stay, an engine that was made over sound devices still
+-- was, and one that is not recovering does not begin to. What readers may see stays: there is a
+-- list of published commits if there was, and it only grows. A list that is opened has all commits
+-- that were acknowledged.
 pub record Keeps (old new : Machine) : Type 0 where
   pub acknowledged : acknowledged old.held ≤ acknowledged new.held
   pub more : List Record

@@ -16,13 +16,14 @@ count_in None = 0
 count_in (Some count) = count
 
 -- A view of one log becomes one of another log, and the published commits stay.
-pub record ViewGoesOn (log : List Record) (view : View) (next_log : List Record) (next : View) : Type 0 where
+pub record ViewGoesOn (log : List Record) (view : View) (next_log : List Record)
+    (next : View) : Type 0 where
   pub shows : (offset : ℕ) → IsShowing log offset view → IsShowing next_log offset next
   pub published : published_of next ≡ published_of view
   pub pages : next.pages ≡ view.pages
 
--- What readers see is of the held log, and all of it is acknowledged. There is a list of published commits unless the engine is recovering,
--- and until then all of the log is acknowledged.
+-- What readers see is of the held log, and all of it is acknowledged. There is a list of published
+-- commits unless the engine is recovering, and until then all of the log is acknowledged.
 pub record IsSeen (held : Stored) (view : View) : Type 0 where
   pub shows : IsShowing held.log (acknowledged held) view
   pub pages : view.pages ≡ held.pages
@@ -30,7 +31,8 @@ pub record IsSeen (held : Stored) (view : View) : Type 0 where
   pub stable : held.recovering ≡ true → end_of held.log ≤ acknowledged held
 
 -- an engine between two events
-pub record IsServing (held : Stored) (receiver : Reception) (refused : Option Fault) (view : View) : Type 0 where
+pub record IsServing (held : Stored) (receiver : Reception) (refused : Option Fault)
+    (view : View) : Type 0 where
   pub ready : IsReady held receiver refused
   pub seen : IsSeen held view
 

@@ -8,7 +8,11 @@ use Rattle.als_engine.specs.Refusals.{Does}
 
 -- it is not recovering any more, and all commits of the held log are published
 abbrev pub readied : Machine → Machine
-readied m = record m { held = record m.held { recovering = false }; listed = true; published = length (commits_of m.held.log) }
+readied m = record m {
+  held = record m.held { recovering = false };
+  listed = true;
+  published = length (commits_of m.held.log);
+}
 
 abbrev pub BecomesReady : Machine → Result (Unit {0}) Fault → Machine → Type 0
 BecomesReady old (Ok done) new = new ≡ readied old

@@ -1,5 +1,7 @@
 -- Why an event is refused before it does anything.
-use Rattle.std.specs.Prelude.{◌≡◌, nat_lt, nat_le, Bool, true, false, not, ◌||◌, is_some, is_none, List, [], ◌∷◌, ◌++◌, Option, Some, None, MatchOption, Result, Err, if◌then◌else◌}
+use Rattle.std.specs.Prelude.{◌≡◌, nat_lt, nat_le, Bool, true, false, not, ◌||◌, is_some, is_none}
+use Rattle.std.specs.Prelude.{List, [], ◌∷◌, ◌++◌, Option, Some, None, MatchOption, Result, Err}
+use Rattle.std.specs.Prelude.{if◌then◌else◌}
 use Rattle.als_record.specs.LogText.{end_of}
 use Rattle.als_record.specs.Transactions.{unended}
 use Rattle.als_ckpt.specs.declared.region.Region.{Region}
@@ -10,7 +12,10 @@ use Rattle.als_pool.specs.Refusals.{has_waiting, is_full as has_no_frame, is_due
 use Rattle.als_store.specs.Stored.{Stored, newest, pending_of, acknowledged}
 use Rattle.als_store.specs.Takeover.{is_following, is_primary, is_drained, is_none as has_none}
 use Rattle.als_engine.specs.declared.fault.Fault.{Fault}
-use Rattle.als_engine.specs.declared.fault.Fault.TheVariants.{Recovering, Sealed, LogBehind, NotDrained, CkptBusy, PoolFull, NothingToDo, Stopped, Backlog, NotSealed}
+use Rattle.als_engine.specs.declared.fault.Fault.TheVariants.{Recovering, Sealed, LogBehind}
+use Rattle.als_engine.specs.declared.fault.Fault.TheVariants.{NotDrained, CkptBusy, PoolFull}
+use Rattle.als_engine.specs.declared.fault.Fault.TheVariants.{NothingToDo, Stopped, Backlog}
+use Rattle.als_engine.specs.declared.fault.Fault.TheVariants.{NotSealed}
 use Rattle.als_engine.specs.declared.step.Step.{Step}
 use Rattle.als_engine.specs.declared.step.Step.TheVariants as step
 use Rattle.als_engine.specs.Machine.{Machine}
@@ -76,7 +81,8 @@ same_region a b = false
 
 -- a checkpoint is begun, or the last publish is not synced
 abbrev pub is_ckpt_busy : Stored → Bool
-is_ckpt_busy held = is_some held.begun || not (same_region (newest held).published held.control.published)
+is_ckpt_busy held =
+    is_some held.begun || not (same_region (newest held).published held.control.published)
 
 -- a block of the checkpoint is not written
 abbrev pub has_block : Option Begun → Bool
@@ -97,14 +103,19 @@ is_ahead_of (Some b) held = nat_lt (acknowledged held) (position_of b)
 
 -- of a feed, whatever the piece
 abbrev pub feed_causes : Machine → List (Bool × Fault)
-feed_causes m = has_stopped m ∷ is_recovering m ∷ has_sealed m ∷ has_refused m.refused ++ (is_full m, Backlog) ∷ []
+feed_causes m =
+    has_stopped m ∷ is_recovering m ∷ has_sealed m ∷ has_refused m.refused
+    ++ (is_full m, Backlog) ∷ []
 
 abbrev pub causes : Machine → Step → List (Bool × Fault)
 causes m (step.Feed piece) = feed_causes m
 causes m step.Resync = has_stopped m ∷ is_recovering m ∷ has_sealed m ∷ []
-causes m (step.Apply page) = has_stopped m ∷ (not (has_waiting m.held.pool page), NothingToDo) ∷ (has_no_frame m.held.pool page, PoolFull) ∷ []
+causes m (step.Apply page) =
+    has_stopped m ∷ (not (has_waiting m.held.pool page), NothingToDo)
+    ∷ (has_no_frame m.held.pool page, PoolFull) ∷ []
 causes m (step.Flush page) =
-    has_stopped m ∷ (not (is_due (view_of m.held.pool page)), NothingToDo) ∷ (is_behind (view_of m.held.pool page) (acknowledged m.held), LogBehind) ∷ []
+    has_stopped m ∷ (not (is_due (view_of m.held.pool page)), NothingToDo)
+    ∷ (is_behind (view_of m.held.pool page) (acknowledged m.held), LogBehind) ∷ []
 causes m step.SyncPages = has_stopped m ∷ []
 causes m step.LogWrite = has_stopped m ∷ (not (is_unwritten m.held), NothingToDo) ∷ []
 causes m step.LogSync = has_stopped m ∷ []
@@ -112,13 +123,19 @@ causes m step.MarkWrite = has_stopped m ∷ (not (is_unmarked m.held), NothingTo
 causes m step.ControlSync = has_stopped m ∷ []
 causes m step.PublishView = has_stopped m ∷ is_recovering m ∷ (is_published m, NothingToDo) ∷ []
 causes m step.Ready = has_stopped m ∷ is_ready m ∷ (is_pending m.held, NotDrained) ∷ []
-causes m step.Seal = has_stopped m ∷ is_recovering m ∷ has_sealed m ∷ (is_unsynced m.held, LogBehind) ∷ []
-causes m step.UndoOne = has_stopped m ∷ is_recovering m ∷ is_unsealed m ∷ (has_none (unended m.held.log), NothingToDo) ∷ []
-causes m step.Finish = has_stopped m ∷ is_recovering m ∷ is_unsealed m ∷ (is_primary m.held, NothingToDo) ∷ (not (is_drained m.held), NotDrained) ∷ []
+causes m step.Seal =
+    has_stopped m ∷ is_recovering m ∷ has_sealed m ∷ (is_unsynced m.held, LogBehind) ∷ []
+causes m step.UndoOne =
+    has_stopped m ∷ is_recovering m ∷ is_unsealed m
+    ∷ (has_none (unended m.held.log), NothingToDo) ∷ []
+causes m step.Finish =
+    has_stopped m ∷ is_recovering m ∷ is_unsealed m ∷ (is_primary m.held, NothingToDo)
+    ∷ (not (is_drained m.held), NotDrained) ∷ []
 causes m step.CkptBegin = has_stopped m ∷ (is_ckpt_busy m.held, CkptBusy) ∷ []
 causes m step.CkptBlock = has_stopped m ∷ (not (has_block m.held.begun), NothingToDo) ∷ []
 causes m step.CkptPublish =
-    has_stopped m ∷ (is_none m.held.begun, NothingToDo) ∷ (is_partly_synced m.held.begun, CkptBusy) ∷ (is_ahead_of m.held.begun m.held, LogBehind) ∷ []
+    has_stopped m ∷ (is_none m.held.begun, NothingToDo) ∷ (is_partly_synced m.held.begun, CkptBusy)
+    ∷ (is_ahead_of m.held.begun m.held, LogBehind) ∷ []
 
 -- the fault of the first cause that stands
 abbrev pub first_of : List (Bool × Fault) → Option Fault
@@ -134,5 +151,7 @@ abbrev pub feed_refusal : Machine → Option Fault
 feed_refusal m = first_of (feed_causes m)
 
 -- An event that is refused changes nothing; any other one acts.
-abbrev pub Does : {A : Type 0} → Machine → Step → (Result A Fault → Machine → Type 0) → Result A Fault → Machine → Type 0
-Does old event acts result new = MatchOption (refusal old event) (acts result new) (λ fault. (result ≡ Err fault) × (new ≡ old))
+abbrev pub Does : {A : Type 0} → Machine → Step → (Result A Fault → Machine → Type 0)
+    → Result A Fault → Machine → Type 0
+Does old event acts result new =
+    MatchOption (refusal old event) (acts result new) (λ fault. (result ≡ Err fault) × (new ≡ old))

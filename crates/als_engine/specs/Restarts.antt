@@ -15,7 +15,8 @@ use Rattle.als_engine.specs.Config.{IsConfig, IsWorld}
 use Rattle.als_engine.specs.Faults.{from_open}
 use Rattle.als_engine.specs.Machine.{Machine}
 
--- the engine was made over sound devices, and so its pages, its checkpoints and its takeover are still those of its log
+-- the engine was made over sound devices, and so its pages, its checkpoints and its takeover are
+-- still those of its log
 abbrev pub IsWarm : Machine → Type 0
 IsWarm m = WasWarm m.held
 
@@ -25,9 +26,11 @@ pub record IsMadeWith (config : Config) (m : Machine) : Type 0 where
   pub pages : m.held.pages ≡ config.pages
   pub limit : m.limit ≡ config.pending
 
--- Stopped devices, each block of which has one content, hold this log, control state and checkpoint; and they are large enough for the
--- configuration: the log's so many blocks, the control block's, and the pages'.
-pub record Holds (config : Config) (log_blocks control_blocks page_blocks : ℕ) (log control pages : ℕ → Slot) (n : Node) : Type 0 where
+-- Stopped devices, each block of which has one content, hold this log, control state and
+-- checkpoint; and they are large enough for the configuration: the log's so many blocks, the
+-- control block's, and the pages'.
+pub record Holds (config : Config) (log_blocks control_blocks page_blocks : ℕ)
+    (log control pages : ℕ → Slot) (n : Node) : Type 0 where
   pub large : IsWorld config log_blocks control_blocks page_blocks
   pub log_settled : AreSettled log
   pub control_settled : AreSettled control
@@ -35,18 +38,20 @@ pub record Holds (config : Config) (log_blocks control_blocks page_blocks : ℕ)
   pub node : IsNode config.pages log_blocks log control pages n
 
 -- Devices that held it were not taken up again: they hold it on.
-pub record StillHolds (config : Config) (log_blocks control_blocks page_blocks : ℕ) (log control pages : ℕ → Slot) (n : Node) : Type 0 where
+pub record StillHolds (config : Config) (log_blocks control_blocks page_blocks : ℕ)
+    (log control pages : ℕ → Slot) (n : Node) : Type 0 where
   pub large : IsWorld config log_blocks control_blocks page_blocks
   pub stays : StaysNode config.pages log_blocks log control pages n
 
--- A crash may leave this of an engine: one of the control states that were synced or written since, and the front of the log that ends at its
--- mark. What is acknowledged stays so, the phase does not fall, and past Following the seal stays.
+-- A crash may leave this of an engine: one of the control states that were synced or written since,
+-- and the front of the log that ends at its mark. What is acknowledged stays so, the phase does not
+-- fall, and past Following the seal stays.
 pub record Leaves (old : Machine) (n : Node) : Type 0 where
   pub may : MayLeave old.held n
   pub ends : end_of n.log ≡ n.said.state.mark.0
 
--- An engine that begins again with what the devices held: nothing is unsynced, partial or refused. It is recovering, and readers have no
--- list of commits yet.
+-- An engine that begins again with what the devices held: nothing is unsynced, partial or refused.
+-- It is recovering, and readers have no list of commits yet.
 pub record IsStarted (config : Config) (n : Node) (new : Machine) : Type 0 where
   pub made : IsMadeWith config new
   pub log : new.held.log ≡ n.log
@@ -64,8 +69,10 @@ pub record IsStarted (config : Config) (n : Node) (new : Machine) : Type 0 where
 
 -- ---- over any contents
 
--- An engine over devices that may have held anything: its log is valid, ends at the mark, is all synced and fits the device with its tail; what
--- waits for each page are its changes from where a restart looks for them. Nothing is partial or refused, it is recovering, and readers have no list.
+-- An engine over devices that may have held anything: its log is valid, ends at the mark, is all
+-- synced and fits the device with its tail; what waits for each page are its changes from where a
+-- restart looks for them. Nothing is partial or refused, it is recovering, and readers have no
+-- list.
 pub record IsRestarted (config : Config) (blocks failures attempts : ℕ) (m : Machine) : Type 0 where
   pub made : IsMadeWith config m
   pub held : IsOpened config.pages blocks failures attempts m.held
@@ -74,9 +81,10 @@ pub record IsRestarted (config : Config) (blocks failures attempts : ℕ) (m : M
   pub listed : m.listed ≡ false
   pub published : m.published ≡ 0
 
--- Devices that are large enough are refused by the store's fault: a device has failed, a growth was refused, or the devices, as they are handed
--- back, hold no log.
-pub record RefusesRestart (config : Config) (blocks : ℕ) (log control : ℕ → Slot) (before now : ℕ) (fault : Fault) : Type 0 where
+-- Devices that are large enough are refused by the store's fault: a device has failed, a growth was
+-- refused, or the devices, as they are handed back, hold no log.
+pub record RefusesRestart (config : Config) (blocks : ℕ) (log control : ℕ → Slot)
+    (before now : ℕ) (fault : Fault) : Type 0 where
   pub cause : OpenFault
   pub answer : fault ≡ from_open cause
   pub stands : RefusesOpen cause config.pages blocks log control before now

@@ -8,7 +8,8 @@ use Rattle.als_engine.specs.declared.step.Reply.TheVariants as reply
 use Rattle.als_engine.specs.Machine.{Machine}
 use Rattle.als_engine.specs.Refusals.{feed_refusal}
 use Rattle.als_engine.specs.Feeds.{Feeds}
-use Rattle.als_engine.specs.Events.{Resyncs, Applies, FlushesOne, PagesSync, LogWrites, LogSyncs, MarkWrites, ControlSyncs}
+use Rattle.als_engine.specs.Events.{Resyncs, Applies, FlushesOne, PagesSync, LogWrites, LogSyncs}
+use Rattle.als_engine.specs.Events.{MarkWrites, ControlSyncs}
 use Rattle.als_engine.specs.Publishing.{PublishesView}
 use Rattle.als_engine.specs.Readiness.{Readies}
 use Rattle.als_engine.specs.Takeover.{Seals, UndoesOneOf, Finishes}
@@ -21,8 +22,10 @@ reply_of (Err fault) = reply.Refused fault
 
 -- From old, a step may have this reply and lead to new.
 abbrev pub Steps : Machine → Step → Reply → Machine → Type 0
-Steps old (step.Feed piece) (reply.Fed fed) new = Feeds old piece.now (feed_refusal old) (Ok fed) new
-Steps old (step.Feed piece) (reply.FeedRefused fault) new = Feeds old piece.now (feed_refusal old) (Err fault) new
+Steps old (step.Feed piece) (reply.Fed fed) new =
+    Feeds old piece.now (feed_refusal old) (Ok fed) new
+Steps old (step.Feed piece) (reply.FeedRefused fault) new =
+    Feeds old piece.now (feed_refusal old) (Err fault) new
 Steps old step.Resync reply.Done new = Resyncs old (Ok tt) new
 Steps old step.Resync (reply.Refused fault) new = Resyncs old (Err fault) new
 Steps old (step.Apply page) (reply.Applied lsn) new = Applies old page (Ok lsn) new

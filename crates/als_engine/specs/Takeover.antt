@@ -2,7 +2,8 @@
 use Rattle.std.specs.Prelude.{◌≡◌, [], None, Result, Ok, Err}
 use Rattle.als_record.specs.declared.lsn.Lsn.{Lsn}
 use Rattle.als_store.specs.Stored.{Stored}
-use Rattle.als_store.specs.Takeover.{WritesState, BreaksState, sealed_state, finished_state, UndoesOne}
+use Rattle.als_store.specs.Takeover.{WritesState, BreaksState, sealed_state, finished_state}
+use Rattle.als_store.specs.Takeover.{UndoesOne}
 use Rattle.als_engine.specs.declared.fault.Fault.{Fault}
 use Rattle.als_engine.specs.declared.fault.Fault.TheVariants.{Memory}
 use Rattle.als_engine.specs.declared.step.Step.TheVariants as step
@@ -10,8 +11,8 @@ use Rattle.als_engine.specs.Machine.{Machine}
 use Rattle.als_engine.specs.Refusals.{Does}
 use Rattle.als_engine.specs.Events.{Changes, FailsIn}
 
--- the control block is written with the log's end as its mark and its seal; the partial record is dropped, and nothing is refused
--- any more
+-- the control block is written with the log's end as its mark and its seal; the partial record is
+-- dropped, and nothing is refused any more
 pub record SealsHeld (old new : Machine) : Type 0 where
   pub held : Stored
   pub seals : WritesState (sealed_state old.held) old.held held
@@ -19,7 +20,8 @@ pub record SealsHeld (old new : Machine) : Type 0 where
 
 abbrev pub SealsLog : Machine → Result (Unit {0}) Fault → Machine → Type 0
 SealsLog old (Ok done) new = SealsHeld old new
-SealsLog old (Err fault) new = FailsIn old fault (λ held after. BreaksState (sealed_state held) held after) new
+SealsLog old (Err fault) new =
+    FailsIn old fault (λ held after. BreaksState (sealed_state held) held after) new
 
 -- the next record of the sealed log's tail is held; there is no partial record
 pub record UndoesNext (old : Machine) (lsn : Lsn) (new : Machine) : Type 0 where
@@ -33,8 +35,10 @@ Undoes old (Err fault) new = (fault ≡ Memory) × (new ≡ old)
 
 -- the control block is written with phase Primary
 abbrev pub FinishesTakeover : Machine → Result (Unit {0}) Fault → Machine → Type 0
-FinishesTakeover old (Ok done) new = Changes old (λ held after. WritesState (finished_state held) held after) new
-FinishesTakeover old (Err fault) new = FailsIn old fault (λ held after. BreaksState (finished_state held) held after) new
+FinishesTakeover old (Ok done) new =
+    Changes old (λ held after. WritesState (finished_state held) held after) new
+FinishesTakeover old (Err fault) new =
+    FailsIn old fault (λ held after. BreaksState (finished_state held) held after) new
 
 -- ---- refused or not
 

@@ -23,16 +23,24 @@ pub record Rests (held : Stored) (receiver : Reception) : Type 0 where
   pub waits : read_record held.pages (end_of held.log) receiver.kept ≡ Ok None
   pub short : length receiver.kept < 54560
 
--- and the last mark written is not below the acknowledged one, and want of memory is not kept: so it is between two events
+-- and the last mark written is not below the acknowledged one, and want of memory is not kept: so
+-- it is between two events
 pub record IsReady (held : Stored) (receiver : Reception) (refused : Option Fault) : Type 0 where
   pub rests : Rests held receiver
   pub marks : acknowledged held ≤ (newest held).mark.0
   pub no_want : refused ≡ Some Memory → ⊥
 
+-- a record that may follow the log, and for which there is room, is held
+abbrev pub HoldsRecord : Stored → Record → Stored → Type 0
+HoldsRecord old logged new =
+    (first_bad old.log logged ≡ None) × (IsTooLong old logged → ⊥) × (new ≡ grown old (logged ∷ []))
+
 -- the next record goes over
-pub record TakesOne (old : Stored) (before : Reception) (new : Stored) (receiver : Reception) : Type 0 where
+pub record TakesOne (old : Stored) (before : Reception) (new : Stored)
+    (receiver : Reception) : Type 0 where
   pub logged : Record
-  pub reading : read_record old.pages (end_of old.log) before.kept ≡ Ok (Some (logged, record_len logged))
+  pub reading : read_record old.pages (end_of old.log) before.kept
+      ≡ Ok (Some (logged, record_len logged))
   pub whole : before.kept ≡ spelling logged ++ receiver.kept
   pub good : first_bad old.log logged ≡ None
   pub fits : IsTooLong old logged → ⊥
@@ -40,14 +48,16 @@ pub record TakesOne (old : Stored) (before : Reception) (new : Stored) (receiver
   pub meets : Meets new receiver
 
 -- of these bytes the held log goes on with the records in front, and the receiver keeps the rest
-pub record TakesAll (old : Stored) (bytes : List ℕ) (new : Stored) (receiver : Reception) : Type 0 where
+pub record TakesAll (old : Stored) (bytes : List ℕ) (new : Stored)
+    (receiver : Reception) : Type 0 where
   pub records : List Record
   pub whole : bytes ≡ spellings records ++ receiver.kept
   pub fit : AllFit old records
   pub after : new ≡ grown old records
   pub rests : Rests new receiver
 
--- of these bytes the held log goes on with the records in front, and for this cause not with the rest
+-- of these bytes the held log goes on with the records in front, and for this cause not with the
+-- rest
 pub record TakesFront (old : Stored) (bytes : List ℕ) (new : Stored) (fault : Fault) : Type 0 where
   pub records : List Record
   pub rest : List ℕ

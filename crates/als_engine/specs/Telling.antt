@@ -5,7 +5,8 @@ use Rattle.als_store.specs.Stored.{acknowledged, pending_of}
 use Rattle.als_engine.specs.declared.status.Status.{Status}
 use Rattle.als_engine.specs.Machine.{Machine, state_of}
 
--- its state, where its log ends, the bytes of the record that is not whole yet, what is acknowledged, and what waits for redo
+-- its state, where its log ends, the bytes of the record that is not whole yet, what is
+-- acknowledged, and what waits for redo
 pub record Tells (m : Machine) (status : Status) : Type 0 where
   pub state : status.state ≡ state_of m
   pub end : status.end.0 ≡ end_of m.held.log

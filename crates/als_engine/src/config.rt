@@ -7,7 +7,8 @@ use als_store::Disks;
 /// The blocks of the largest log device.
 pub const LOG_BLOCK_LIMIT: u64 = 4_194_304;
 
-/// The blocks that a control device has at least: the control block's, and two checkpoint regions of 160.
+/// The blocks that a control device has at least: the control block's, and two checkpoint regions
+/// of 160.
 pub const CONTROL_BLOCKS: u64 = 321;
 
 /// What an engine is made with. Numbers out of range are refused when it is made.
@@ -39,7 +40,8 @@ impl Config {
 
     /// And each device has as many blocks as it needs.
     pub fn fits<D: BlockDisk>(&self, disks: &Disks<D>) -> bool
-        ensures { IsTrue result ↔ IsWorld self.now (D.block_count disks.now.log) (D.block_count disks.now.control) (D.block_count disks.now.pages) }
+        ensures { IsTrue result ↔ IsWorld self.now (D.block_count disks.now.log)
+            (D.block_count disks.now.control) (D.block_count disks.now.pages) }
     {
         self.is_valid()
             && (1..=LOG_BLOCK_LIMIT).contains(&disks.log.blocks())

@@ -6,7 +6,9 @@ ghost use Rattle.als_engine.specs.declared.fault.Fault.TheVariants as fault;
 ghost use Rattle.als_engine.specs.Machine.{Machine};
 ghost use Rattle.als_engine.specs.Refusals.{feed_refusal};
 ghost use Rattle.als_engine.specs.Feeds.{Feeds};
-ghost use Rattle.als_engine.specs.Events.{Resyncs, Applies, FlushesOne, PagesSync, LogWrites, LogSyncs, MarkWrites, ControlSyncs, Reads, ShowsPage};
+ghost use Rattle.als_engine.specs.Events.{Resyncs, Applies, FlushesOne, PagesSync};
+ghost use Rattle.als_engine.specs.Events.{LogWrites, LogSyncs, MarkWrites, ControlSyncs};
+ghost use Rattle.als_engine.specs.Events.{Reads, ShowsPage};
 ghost use Rattle.als_engine.specs.Checkpointing.{CkptBegins, CkptWrites, CkptPublishes};
 ghost use Rattle.als_engine.specs.Publishing.{PublishesView, ReadsKey};
 ghost use Rattle.als_engine.specs.Readiness.{Readies};
@@ -21,8 +23,8 @@ use als_record::{Key, LoggedPage, Lsn, Record, TransactionRow};
 use als_view::Answer;
 use std::alloc::Global;
 
-/// What a standby is driven by: its events, and the queries that ask it. An engine has them; so has a handle of an engine that
-/// others drive too, of which the small machine says nothing.
+/// What a standby is driven by: its events, and the queries that ask it. An engine has them; so has
+/// a handle of an engine that others drive too, of which the small machine says nothing.
 pub trait Events {
     /// Nobody else makes events: each call is one step of the small machine.
     ghost alone: { Type 0 };
@@ -34,7 +36,8 @@ pub trait Events {
 
     /// Takes a piece of the primary's log.
     fn feed(&mut self, piece: &[u8]) -> Result<Fed, FeedFault>
-        ensures feeds { alone → Feeds (machine self.old) piece.now (feed_refusal (machine self.old)) result (machine self.new) };
+        ensures feeds { alone → Feeds (machine self.old) piece.now (feed_refusal (machine self.old))
+            result (machine self.new) };
 
     /// Drops the partial record, and takes the log again after a refusal.
     fn resync(&mut self) -> Result<(), Fault>
@@ -102,14 +105,17 @@ pub trait Events {
 
     // ---- the queries
 
-    /// What it tells of itself. Log texts have less than 2^64 bytes, those of the partial record too.
+    /// What it tells of itself. Log texts have less than 2^64 bytes, those of the partial record
+    /// too.
     fn status(&self) -> Status
         ensures fits { result.end.0 + result.partial < 2 ^ 64 }
         ensures tells { alone → Tells (machine self.now) result };
 
-    /// The transaction table of the held log, in rising TransID. Only want of memory for the copy is refused.
+    /// The transaction table of the held log, in rising TransID. Only want of memory for the copy
+    /// is refused.
     fn table(&self, alloc: Global) -> Result<Vec<TransactionRow>, Fault>
-        ensures rows { IfOk result (λ rows. alone → rows.items ≡ table_of (machine self.now).held.log) }
+        ensures rows { IfOk result (λ rows. alone
+            → rows.items ≡ table_of (machine self.now).held.log) }
         ensures fails { IfErr result (λ f. f ≡ fault.Memory) };
 
     /// The database's page count.

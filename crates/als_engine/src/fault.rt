@@ -53,9 +53,11 @@ pub enum Fault {
     Sealed,
     /// The log is not acknowledged past the page_LSN of the page; or it is not synced to its end.
     LogBehind,
-    /// A transaction is unended, a change waits for redo, or the log is not acknowledged to its end.
+    /// A transaction is unended, a change waits for redo, or the log is not acknowledged to its
+    /// end.
     NotDrained,
-    /// A checkpoint is begun, the last publish is not synced, or a block of the checkpoint is not written and synced.
+    /// A checkpoint is begun, the last publish is not synced, or a block of the checkpoint is not
+    /// written and synced.
     CkptBusy,
     /// All frames are used, and none is clean.
     PoolFull,
@@ -73,7 +75,8 @@ pub enum Fault {
     BadPage {
         page: u32,
     },
-    /// The control block or its checkpoint is none, the mark stands within a record, or the checkpoint is not that of the log.
+    /// The control block or its checkpoint is none, the mark stands within a record, or the
+    /// checkpoint is not that of the log.
     BadControl,
     /// Readers have no list of commits yet.
     Warming,

@@ -7,7 +7,8 @@ pub struct Fed {
     pub records: usize,
 }
 
-/// A feed that was refused: it took the piece's bytes up to the end of the last record that it held, and so many records.
+/// A feed that was refused: it took the piece's bytes up to the end of the last record that it
+/// held, and so many records.
 #[derive(Clone, Copy, Debug, PartialEq, Eq)]
 pub struct FeedFault {
     pub taken: usize,

@@ -1,4 +1,4 @@
-ghost use Rattle.std.specs.Prelude.{◌≡◌, true, false, [], ◌∷◌, ◌++◌, None, ◌<◌, IsSome, OnOk, OnErr, IfErr};
+ghost use Rattle.std.specs.Prelude.{◌≡◌, true, false, None, ◌<◌, IsSome, OnOk, OnErr, IfErr};
 ghost use Rattle.std.specs.Result.{IsErrOf};
 ghost use Rattle.als_record.specs.Spelling.{IsRecord, spelling};
 ghost use Rattle.als_record.specs.LogText.{end_of};
@@ -6,9 +6,10 @@ ghost use Rattle.als_record.specs.Transactions.{is_commit};
 ghost use Rattle.als_record.specs.Validity.{first_bad};
 ghost use Rattle.als_store.specs.declared.fault.Fault.TheVariants as fault;
 ghost use Rattle.als_store.specs.Spare.{HasSpare};
-ghost use Rattle.als_store.specs.Stored.{with_records, IsRefused, IsTooLong};
+ghost use Rattle.als_store.specs.Stored.{IsRefused, IsTooLong};
 ghost use Rattle.als_store.specs.Takeover.{is_following};
 ghost use Rattle.als_engine.specs.Readers.{ViewGoesOn};
+ghost use Rattle.als_engine.specs.TakingIn.{HoldsRecord};
 
 use als_disk::BlockDisk;
 use als_record::{Body, Record};
@@ -16,7 +17,8 @@ use als_store::{Fault, Store};
 use als_view::{Commit, View, a_view_goes_on};
 use std::alloc::Global;
 
-/// Holds a record, and queues for readers the commit that it makes, if it makes one. All memory is taken before the record is held.
+/// Holds a record, and queues for readers the commit that it makes, if it makes one. All memory is
+/// taken before the record is held.
 pub(crate) fn hold<D: BlockDisk>(
     alloc: Global,
     held: &mut Store<D>,
@@ -28,12 +30,15 @@ pub(crate) fn hold<D: BlockDisk>(
     requires at { logged.now.lsn.0 ≡ end_of held.old.stored.log }
     requires spelled { bytes.now ≡ spelling logged.now }
     requires following { is_following held.old.stored ≡ true }
-    ensures ok { OnOk result ((first_bad held.old.stored.log logged.now ≡ None) × (IsTooLong held.old.stored logged.now → ⊥) × (held.new.stored ≡ with_records held.old.stored (logged.now ∷ []))) }
+    ensures ok { OnOk result (HoldsRecord held.old.stored logged.now held.new.stored) }
     ensures err { OnErr result (held.new.stored ≡ held.old.stored) }
     ensures cause { IfErr result (IsRefused held.old.stored logged.now) }
     ensures goes_on { ViewGoesOn held.old.stored.log shown.old held.new.stored.log shown.new }
-    // Memory is wanted for a commit, or for a record that may follow and for which a part has no room yet.
-    ensures reserved { is_commit logged.now.body ≡ false → (first_bad held.old.stored.log logged.now ≡ None → (IsTooLong held.old.stored logged.now → ⊥) → HasSpare held.old.spare logged.now)
+    // Memory is wanted for a commit, or for a record that may follow and for which a part has no
+    // room yet.
+    ensures reserved { is_commit logged.now.body ≡ false
+        → (first_bad held.old.stored.log logged.now ≡ None
+        → (IsTooLong held.old.stored logged.now → ⊥) → HasSpare held.old.spare logged.now)
         → IsErrOf result fault.Memory → ⊥ }
 {
     match logged.body {
@@ -63,7 +68,7 @@ fn hold_commit<D: BlockDisk>(
     requires at { logged.now.lsn.0 ≡ end_of held.old.stored.log }
     requires spelled { bytes.now ≡ spelling logged.now }
     requires following { is_following held.old.stored ≡ true }
-    ensures ok { OnOk result ((first_bad held.old.stored.log logged.now ≡ None) × (IsTooLong held.old.stored logged.now → ⊥) × (held.new.stored ≡ with_records held.old.stored (logged.now ∷ []))) }
+    ensures ok { OnOk result (HoldsRecord held.old.stored logged.now held.new.stored) }
     ensures err { OnErr result (held.new.stored ≡ held.old.stored) }
     ensures cause { IfErr result (IsRefused held.old.stored logged.now) }
     ensures goes_on { ViewGoesOn held.old.stored.log shown.old held.new.stored.log shown.new }

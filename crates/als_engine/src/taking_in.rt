@@ -28,11 +28,15 @@ pub(crate) fn take_piece<D: BlockDisk>(
 ) -> Result<(), Fault>
     requires rests { Rests held.old.stored receiver.old }
     requires following { is_following held.old.stored ≡ true }
-    ensures ok { OnOk result (TakesAll held.old.stored (receiver.old.kept ++ piece.now) held.new.stored receiver.new) }
-    ensures err { IfErr result (TakesFront held.old.stored (receiver.old.kept ++ piece.now) held.new.stored) }
+    ensures ok { OnOk result (TakesAll held.old.stored (receiver.old.kept ++ piece.now)
+        held.new.stored receiver.new) }
+    ensures err { IfErr result (TakesFront held.old.stored (receiver.old.kept ++ piece.now)
+        held.new.stored) }
     // The view of the log goes on with it.
     ensures goes_on { ViewGoesOn held.old.stored.log shown.old held.new.stored.log shown.new }
-    ensures reserved { length piece.now ≤ 65536 → length piece.now ≤ receiver.old.room → HasRoomForBytes held.old.stored held.old.spare (receiver.old.kept ++ piece.now) → IsErrOf result fault.Memory → ⊥ }
+    ensures reserved { length piece.now ≤ 65536 → length piece.now ≤ receiver.old.room
+        → HasRoomForBytes held.old.stored held.old.spare (receiver.old.kept ++ piece.now)
+        → IsErrOf result fault.Memory → ⊥ }
 {
     if piece.len() <= CHUNK {
         return take_chunk(alloc, held, receiver, shown, piece);
@@ -57,11 +61,15 @@ fn take_chunk<D: BlockDisk>(
     requires rests { Rests held.old.stored receiver.old }
     requires few { length chunk.now ≤ 65536 }
     requires following { is_following held.old.stored ≡ true }
-    ensures ok { OnOk result (TakesAll held.old.stored (receiver.old.kept ++ chunk.now) held.new.stored receiver.new) }
-    ensures err { IfErr result (TakesFront held.old.stored (receiver.old.kept ++ chunk.now) held.new.stored) }
+    ensures ok { OnOk result (TakesAll held.old.stored (receiver.old.kept ++ chunk.now)
+        held.new.stored receiver.new) }
+    ensures err { IfErr result (TakesFront held.old.stored (receiver.old.kept ++ chunk.now)
+        held.new.stored) }
     // The view of the log goes on with it.
     ensures goes_on { ViewGoesOn held.old.stored.log shown.old held.new.stored.log shown.new }
-    ensures reserved { length chunk.now ≤ receiver.old.room → HasRoomForBytes held.old.stored held.old.spare (receiver.old.kept ++ chunk.now) → IsErrOf result fault.Memory → ⊥ }
+    ensures reserved { length chunk.now ≤ receiver.old.room
+        → HasRoomForBytes held.old.stored held.old.spare (receiver.old.kept ++ chunk.now)
+        → IsErrOf result fault.Memory → ⊥ }
 {
     // For the prover alone: what always holds of the store.
     let _ = held.end();
@@ -78,11 +86,13 @@ fn take_records<D: BlockDisk>(
 ) -> Result<(), Fault>
     requires meets { Meets held.old.stored receiver.old }
     requires following { is_following held.old.stored ≡ true }
-    ensures ok { OnOk result (TakesAll held.old.stored receiver.old.kept held.new.stored receiver.new) }
+    ensures ok { OnOk result (TakesAll held.old.stored receiver.old.kept held.new.stored
+        receiver.new) }
     ensures err { IfErr result (TakesFront held.old.stored receiver.old.kept held.new.stored) }
     // The view of the log goes on with it.
     ensures goes_on { ViewGoesOn held.old.stored.log shown.old held.new.stored.log shown.new }
-    ensures reserved { HasRoomForBytes held.old.stored held.old.spare receiver.old.kept → IsErrOf result fault.Memory → ⊥ }
+    ensures reserved { HasRoomForBytes held.old.stored held.old.spare receiver.old.kept
+        → IsErrOf result fault.Memory → ⊥ }
 {
     while take_record(alloc, held, receiver, shown)? {}
     Ok(())
@@ -97,11 +107,16 @@ fn take_record<D: BlockDisk>(
 ) -> Result<bool, Fault>
     requires meets { Meets held.old.stored receiver.old }
     requires following { is_following held.old.stored ≡ true }
-    ensures ok { IfOk result (λ more. MatchBool more (TakesOne held.old.stored receiver.old held.new.stored receiver.new) ((held.new.stored ≡ held.old.stored) × (receiver.new ≡ receiver.old) × Rests held.old.stored receiver.old)) }
-    ensures err { IfErr result (λ fault. (held.new.stored ≡ held.old.stored) × IsCause held.old.stored receiver.old.kept fault) }
+    ensures ok { IfOk result (λ more. MatchBool more
+        (TakesOne held.old.stored receiver.old held.new.stored receiver.new)
+        ((held.new.stored ≡ held.old.stored) × (receiver.new ≡ receiver.old)
+        × Rests held.old.stored receiver.old)) }
+    ensures err { IfErr result (λ fault. (held.new.stored ≡ held.old.stored)
+        × IsCause held.old.stored receiver.old.kept fault) }
     // The view of the log goes on with it.
     ensures goes_on { ViewGoesOn held.old.stored.log shown.old held.new.stored.log shown.new }
-    ensures reserved { HasRoomForBytes held.old.stored held.old.spare receiver.old.kept → IsErrOf result fault.Memory → ⊥ }
+    ensures reserved { HasRoomForBytes held.old.stored held.old.spare receiver.old.kept
+        → IsErrOf result fault.Memory → ⊥ }
 {
     match receiver.peek() {
         Ok(Some((view, len))) => {

@@ -88,7 +88,8 @@ fn standby(alloc: Global, blocks: u64) -> Option<(Engine<Disk>, Fuses)> {
     Some((engine, fuses))
 }
 
-/// A standby after these steps. None: a reply is another one than is wanted, as where memory was refused.
+/// A standby after these steps. None: a reply is another one than is wanted, as where memory was
+/// refused.
 fn replies_are(engine: Engine<Disk>, steps: &[Step], wanted: &[Reply]) -> Option<Engine<Disk>> {
     let mut engine = engine;
     for (i, step) in steps.iter().enumerate() {
@@ -100,8 +101,8 @@ fn replies_are(engine: Engine<Disk>, steps: &[Step], wanted: &[Reply]) -> Option
     Some(engine)
 }
 
-/// Feeds a piece, and once more what is left of it where memory is refused: then the whole records in front are held, and
-/// nothing else has changed.
+/// Feeds a piece, and once more what is left of it where memory is refused: then the whole records
+/// in front are held, and nothing else has changed.
 fn feed_again(rt: &impl Abort, engine: &mut Engine<Disk>, piece: &[u8]) -> bool {
     let before = engine.status();
     match engine.feed(piece) {
@@ -163,7 +164,8 @@ fn a_log_in_pieces_makes_warm_pages(rt: HostRuntime) {
     assert!(rt; takes_pieces(&rt, rt.alloc()) || takes_pieces(&rt, rt.alloc()));
 }
 
-/// Bytes that are no record, in the room of a partial record that was dropped: their refusal takes no memory.
+/// Bytes that are no record, in the room of a partial record that was dropped: their refusal takes
+/// no memory.
 fn refuses_with_no_memory(rt: &impl Abort, alloc: Global) -> bool {
     let Some((mut engine, _)) = standby(alloc, 8) else {
         return false;
@@ -191,7 +193,8 @@ fn a_refusal_takes_no_memory(rt: HostRuntime) {
     assert!(rt; refuses_with_no_memory(&rt, rt.alloc()) || refuses_with_no_memory(&rt, rt.alloc()));
 }
 
-/// The log is written and synced, then marked and acknowledged, each where there is something to do.
+/// The log is written and synced, then marked and acknowledged, each where there is something to
+/// do.
 fn acknowledges(rt: &impl Abort, alloc: Global) -> bool {
     let Some((engine, _)) = standby(alloc, 8) else {
         return false;
@@ -244,7 +247,8 @@ fn what_is_stored_is_acknowledged(rt: HostRuntime) {
     assert!(rt; acknowledges(&rt, rt.alloc()) || acknowledges(&rt, rt.alloc()));
 }
 
-/// The log device's or the control device's next call but so many fails. Then each event is refused, and the queries go on.
+/// The log device's or the control device's next call but so many fails. Then each event is
+/// refused, and the queries go on.
 fn stops(rt: &impl Abort, alloc: Global, log: u64, control: u64, wanted: &[Reply]) -> bool
     requires log { 0 < log }
     requires control { 0 < control }
@@ -367,7 +371,8 @@ fn fills_to(rt: &impl Abort, alloc: Global, piece: &[u8], wanted: Reply, end: Ls
     true
 }
 
-/// A log device of one block has room for a sixth record and the tail after it only if its value has one byte.
+/// A log device of one block has room for a sixth record and the tail after it only if its value
+/// has one byte.
 fn fills_one_block(rt: &impl Abort, alloc: Global) -> bool {
     let all = Reply::Fed(Fed {
         taken: 216,
@@ -387,7 +392,8 @@ fn a_log_device_keeps_room_for_the_tail(rt: HostRuntime) {
     assert!(rt; fills_one_block(&rt, rt.alloc()) || fills_one_block(&rt, rt.alloc()));
 }
 
-/// How new devices with so many blocks each are refused. `None`: memory was refused, or they were not.
+/// How new devices with so many blocks each are refused. `None`: memory was refused, or they were
+/// not.
 fn refused(alloc: Global, config: Config, log: u64, control: u64, pages: u64) -> Option<Fault> {
     let disks = Disks {
         log: MemDisk::new(alloc, log),

@@ -1,5 +1,8 @@
--- What each call of the pool leaves: how many pages there are, how many changes wait, and what the devices counted.
-use Rattle.std.proofs.Common.{◌≡◌, ℕ, zero, suc, ◌+◌, ◌<◌, ◌≤◌, Bool, List, [], ◌∷◌, length, filter, drop, Option, Some, None, refl, sym, ap, subst, ◌∙◌, inl, inr, arith, length-drop, length-set}
+-- What each call of the pool leaves: how many pages there are, how many changes wait, and what the
+-- devices counted.
+use Rattle.std.proofs.Common.{◌≡◌, ℕ, zero, suc, ◌+◌, ◌<◌, ◌≤◌, Bool, List, [], ◌∷◌, length, filter}
+use Rattle.std.proofs.Common.{drop, Option, Some, None, refl, sym, ap, subst, ◌∙◌, inl, inr, arith}
+use Rattle.std.proofs.Common.{length-drop, length-set}
 use Rattle.std.specs.Prelude.{◌++◌, not, slice_set, IfSome, MatchOption}
 use Rattle.std.proofs.lemmas.Bool.{cases_lt}
 use Rattle.std.proofs.lemmas.List.Filters.{length-filter_both}
@@ -39,15 +42,26 @@ pub calm_same : (v : Pooled) → IsCalm v v
 calm_same v = record { count = refl; few = omega arith; attempts = refl; sure = refl }
 
 pub calm_twice : (a b c : Pooled) → IsCalm a b → IsCalm b c → IsCalm a c
-calm_twice a b c p q = record { count = q.count ∙ p.count; few = omega (arith, p.few, q.few); attempts = q.attempts ∙ p.attempts; sure = q.sure ∙ p.sure }
+calm_twice a b c p q =
+    record {
+      count = q.count ∙ p.count;
+      few = omega (arith, p.few, q.few);
+      attempts =
+          q.attempts ∙ p.attempts;
+      sure = q.sure ∙ p.sure;
+    }
 
 -- a page for which no more changes wait than before
-set_past : (waits : List (List Change)) (page : ℕ) (new : List Change) → length waits ≤ page → slice_set waits page new ≡ waits
+set_past : (waits : List (List Change)) (page : ℕ) (new : List Change) → length waits ≤ page
+    → slice_set waits page new ≡ waits
 set_past [] page new le = refl
 set_past (q ∷ waits) zero new le = absurd (omega (arith, le))
-set_past (q ∷ waits) (suc page) new le = ap (λ (w : List (List Change)). q ∷ w) (set_past waits page new (omega (arith, le)))
+set_past (q ∷ waits) (suc page) new le =
+    ap (λ (w : List (List Change)). q ∷ w) (set_past waits page new (omega (arith, le)))
 
-few-set : (waits : List (List Change)) (page : ℕ) (new : List Change) → length new ≤ length (pending_of waits page) → total_waiting (slice_set waits page new) ≤ total_waiting waits
+few-set : (waits : List (List Change)) (page : ℕ) (new : List Change)
+    → length new ≤ length (pending_of waits page)
+    → total_waiting (slice_set waits page new) ≤ total_waiting waits
 few-set waits page new le = elim (cases_lt page (length waits)) [
   | inl lt ↦ omega (arith, le, total-set waits page new lt)
   | inr past ↦ omega (arith, ap total_waiting (set_past waits page new past))
@@ -56,42 +70,69 @@ few-set waits page new le = elim (cases_lt page (length waits)) [
 fewer_above : (test : Change → Bool) (cs : List Change) → length (filter test cs) ≤ length cs
 fewer_above test cs = omega (arith, length-filter_both test (λ c. not (test c)) (λ c. refl) cs)
 
-pub calm_loads : (old new : Pooled) (page end : ℕ) → Loads old new page end → IsCalm old new × (new.frames.failures ≡ old.frames.failures)
+pub calm_loads : (old new : Pooled) (page end : ℕ) → Loads old new page end
+    → IsCalm old new × (new.frames.failures ≡ old.frames.failures)
 calm_loads old new page end l = (
   record {
-    count = ap (λ (v : Pooled). length v.waits) l.same ∙ length-set old.waits page (above l.content.lsn (pending_of old.waits page));
-    few = omega (arith, ap (λ (v : Pooled). total_waiting v.waits) l.same, few-set old.waits page (above l.content.lsn (pending_of old.waits page)) (fewer_above _ (pending_of old.waits page)));
+    count = ap (λ (v : Pooled). length v.waits) l.same
+        ∙ length-set old.waits page (above l.content.lsn (pending_of old.waits page));
+    few = omega (
+      arith,
+      ap (λ (v : Pooled). total_waiting v.waits) l.same,
+      few-set old.waits page
+          (above l.content.lsn (pending_of old.waits page))
+          (fewer_above _ (pending_of old.waits page)),
+    );
     attempts = ap (λ (v : Paged). v.attempts) l.puts.same;
     sure = ap (λ (v : Paged). v.sure) l.puts.same;
   },
   ap (λ (v : Paged). v.failures) l.puts.same,
 )
 
-calm_resident : (old new : Pooled) (page end : ℕ) (f : Option Framed) → frame_of old.frames page ≡ f → MakesResident old new page end → IsCalm old new × (new.frames.failures ≡ old.frames.failures)
-calm_resident old new page end None e made = calm_loads old new page end (subst (λ (o : Option Framed). MatchOption o (Loads old new page end) (λ f. new ≡ old)) e made)
+calm_resident : (old new : Pooled) (page end : ℕ) (f : Option Framed) → frame_of old.frames page ≡ f
+    → MakesResident old new page end → IsCalm old new × (new.frames.failures ≡ old.frames.failures)
+calm_resident old new page end None e made =
+    calm_loads old new page end
+    (subst (λ (o : Option Framed). MatchOption o (Loads old new page end) (λ f. new ≡ old)) e
+    made)
 calm_resident old new page end (Some f) e made =
-    let same : new ≡ old = subst (λ (o : Option Framed). MatchOption o (Loads old new page end) (λ f. new ≡ old)) e made in
-    (subst (λ (v : Pooled). IsCalm old v) (sym same) (calm_same old), ap (λ (v : Pooled). v.frames.failures) same)
+    let same : new ≡ old =
+    subst (λ (o : Option Framed). MatchOption o (Loads old new page end) (λ f. new ≡ old)) e
+    made in (
+      subst (λ (v : Pooled). IsCalm old v) (sym same) (calm_same old),
+      ap
+          (λ (v : Pooled). v.frames.failures) same,
+    )
 
-calm_redoes : (old new : Pooled) (page : ℕ) (lsn : Lsn) → Redoes old new page lsn → IsCalm old new × (new.frames.failures ≡ old.frames.failures)
+calm_redoes : (old new : Pooled) (page : ℕ) (lsn : Lsn) → Redoes old new page lsn
+    → IsCalm old new × (new.frames.failures ≡ old.frames.failures)
 calm_redoes old new page lsn r = (
   record {
-    count = ap (λ (v : Pooled). length v.waits) r.same ∙ length-set old.waits page (drop 64 (pending_of old.waits page));
-    few = omega (arith, ap (λ (v : Pooled). total_waiting v.waits) r.same, few-set old.waits page (drop 64 (pending_of old.waits page)) (omega (arith, length-drop 64 (pending_of old.waits page))));
+    count = ap (λ (v : Pooled). length v.waits) r.same
+        ∙ length-set old.waits page (drop 64 (pending_of old.waits page));
+    few = omega (
+      arith,
+      ap (λ (v : Pooled). total_waiting v.waits) r.same,
+      few-set old.waits page
+          (drop 64 (pending_of old.waits page))
+          (omega (arith, length-drop 64 (pending_of old.waits page))),
+    );
     attempts = ap (λ (v : Paged). v.attempts) r.redoes.same;
     sure = ap (λ (v : Paged). v.sure) r.redoes.same;
   },
   ap (λ (v : Paged). v.failures) r.redoes.same,
 )
 
-pub calm_applies : (old new : Pooled) (page end : ℕ) (lsn : Lsn) → Applies old new page end lsn → IsCalm old new × (new.frames.failures ≡ old.frames.failures)
+pub calm_applies : (old new : Pooled) (page end : ℕ) (lsn : Lsn) → Applies old new page end lsn
+    → IsCalm old new × (new.frames.failures ≡ old.frames.failures)
 calm_applies old new page end lsn a =
     let first = calm_resident old a.loaded page end (frame_of old.frames page) refl a.resident in
     let second = calm_redoes a.loaded new page lsn a.redoes in
     (calm_twice old a.loaded new first.0 second.0, second.1 ∙ first.1)
 
 -- a pool of which the frames alone changed
-pub calm_frames : (old new : Pooled) → new ≡ record old { frames = new.frames } → new.frames.attempts ≡ old.frames.attempts → new.frames.sure ≡ old.frames.sure → IsCalm old new
+pub calm_frames : (old new : Pooled) → new ≡ record old { frames = new.frames }
+    → new.frames.attempts ≡ old.frames.attempts → new.frames.sure ≡ old.frames.sure → IsCalm old new
 calm_frames old new same attempts sure = record {
   count = ap (λ (v : Pooled). length v.waits) same;
   few = omega (arith, ap (λ (v : Pooled). total_waiting v.waits) same);
@@ -100,37 +141,64 @@ calm_frames old new same attempts sure = record {
 }
 
 -- the pool is as it was
-equal : (old new : Pooled) → new ≡ old → IsCalm old new × (new.frames.failures ≡ old.frames.failures)
-equal old new e = (subst (λ (v : Pooled). IsCalm old v) (sym e) (calm_same old), ap (λ (v : Pooled). v.frames.failures) e)
+equal : (old new : Pooled) → new ≡ old
+    → IsCalm old new × (new.frames.failures ≡ old.frames.failures)
+equal old new e = (
+  subst (λ (v : Pooled). IsCalm old v) (sym e) (calm_same old),
+  ap
+      (λ (v : Pooled). v.frames.failures) e,
+)
 
-pub calm_refused : (reason : PoolFault) (old new : Held) (page end : ℕ) → RefusesApply reason old new page end → IsCalm old.pool new.pool × Counts reason old.pool.frames.failures new.pool.frames.failures
+pub calm_refused : (reason : PoolFault) (old new : Held) (page end : ℕ)
+    → RefusesApply reason old new page end → IsCalm old.pool new.pool
+    × Counts reason old.pool.frames.failures new.pool.frames.failures
 calm_refused pool_fault.NothingToDo old new page end r = elim r [
   | inl none ↦ equal old.pool new.pool (ap (λ (h : Held). h.pool) none.1)
   | inr all ↦ calm_loads old.pool new.pool page end all.loads
 ]
 calm_refused pool_fault.PoolFull old new page end r =
-    let e = r.1.refuses.1 in (calm_frames old.pool new.pool r.1.same (ap (λ (v : Paged). v.attempts) e) (ap (λ (v : Paged). v.sure) e), ap (λ (v : Paged). v.failures) e)
+    let e = r.1.refuses.1 in (
+      calm_frames old.pool new.pool r.1.same (ap (λ (v : Paged). v.attempts) e)
+          (ap (λ (v : Paged). v.sure) e),
+      ap (λ (v : Paged). v.failures) e,
+    )
 calm_refused pool_fault.Device old new page end r =
-    let e = r.1.refuses.1.same in (calm_frames old.pool new.pool r.1.same (ap (λ (v : Paged). v.attempts) e) (ap (λ (v : Paged). v.sure) e), r.1.refuses.1.failed)
+    let e = r.1.refuses.1.same in (
+      calm_frames old.pool new.pool r.1.same (ap (λ (v : Paged). v.attempts) e)
+          (ap (λ (v : Paged). v.sure) e),
+      r.1.refuses.1.failed,
+    )
 calm_refused (pool_fault.BadPage p) old new page end r =
-    let e = r.1.refuses.3 in (calm_frames old.pool new.pool r.1.same (ap (λ (v : Paged). v.attempts) e) (ap (λ (v : Paged). v.sure) e), ap (λ (v : Paged). v.failures) e)
+    let e = r.1.refuses.3 in (
+      calm_frames old.pool new.pool r.1.same (ap (λ (v : Paged). v.attempts) e)
+          (ap (λ (v : Paged). v.sure) e),
+      ap (λ (v : Paged). v.failures) e,
+    )
 calm_refused pool_fault.Memory old new page end r = equal old.pool new.pool r.1.same
 calm_refused pool_fault.LogBehind old new page end r = absurd r
 
 -- a record more
-pub routed_count : (pool : Pooled) (change : Option Change) → IfSome change (CanRoute pool) → (length (routed pool change).waits ≡ length pool.waits) × (total_waiting (routed pool change).waits ≤ total_waiting pool.waits + 1)
+pub routed_count : (pool : Pooled) (change : Option Change) → IfSome change (CanRoute pool)
+    → (length (routed pool change).waits ≡ length pool.waits)
+    × (total_waiting (routed pool change).waits ≤ total_waiting pool.waits + 1)
     × ((routed pool change).frames ≡ pool.frames)
 routed_count pool None can = (refl, omega arith, refl)
 routed_count pool (Some c) can =
     let more = pending_of pool.waits c.key.page ++ c ∷ [] in (
       length-set pool.waits c.key.page more,
-      omega (arith, total-set pool.waits c.key.page more can.in_range, length-append (pending_of pool.waits c.key.page) (c ∷ [])),
+      omega (
+        arith,
+        total-set pool.waits c.key.page more can.in_range,
+        length-append
+            (pending_of pool.waits c.key.page) (c ∷ []),
+      ),
       refl,
     )
 
 -- ---- faults
 
-pub bad_page_from : (reason : PoolFault) (page : ℕ) → of_pool reason ≡ fault.BadPage page → reason ≡ pool_fault.BadPage page
+pub bad_page_from : (reason : PoolFault) (page : ℕ) → of_pool reason ≡ fault.BadPage page
+    → reason ≡ pool_fault.BadPage page
 bad_page_from pool_fault.LogBehind page e = absurd cc
 bad_page_from pool_fault.PoolFull page e = absurd cc
 bad_page_from pool_fault.NothingToDo page e = absurd cc
@@ -139,7 +207,9 @@ bad_page_from pool_fault.Memory page e = absurd cc
 bad_page_from (pool_fault.BadPage p) page e = let same : p ≡ page = cc in ap pool_fault.BadPage same
 
 pub calm_show : (old new : Pooled) (page : ℕ) → ReadRefused DiskFailed old new page → IsCalm old new
-calm_show old new page r = let e = r.refuses.same in calm_frames old new r.same (ap (λ (v : Paged). v.attempts) e) (ap (λ (v : Paged). v.sure) e)
+calm_show old new page r =
+    let e = r.refuses.same in calm_frames old new r.same (ap (λ (v : Paged). v.attempts) e)
+    (ap (λ (v : Paged). v.sure) e)
 
 pub raised : (others before now : ℕ) → before < now → others + before < others + now
 raised others before now lt = omega (arith, lt)

@@ -11,7 +11,8 @@ use Rattle.als_dirty.specs.Rows.{rec_lsn_of}
 use Rattle.als_pool.specs.Images.{IsRowSound}
 use Rattle.als_store.specs.Stored.{Stored, acknowledged, FrontsFit}
 
--- the bytes of a control block with a mark that is acknowledged or above, and below which the whole log is synced
+-- the bytes of a control block with a mark that is acknowledged or above, and below which the whole
+-- log is synced
 pub record IsControlOf (s : Stored) (content : List ℕ) : Type 0 where
   pub state : ControlState
   pub one : Contains (s.control ∷ s.since) state
@@ -21,8 +22,9 @@ pub record IsControlOf (s : Stored) (content : List ℕ) : Type 0 where
   pub below : state.mark.0 ≤ s.synced
   pub front : IsFrontEnd s.log state.mark.0
 
--- Every candidate of the log device has the log's text below the synced end, and every candidate control block has a mark
--- from the acknowledged LSN to the synced end. So a crash leaves, whatever it picks, all acknowledged bytes below the mark.
+-- Every candidate of the log device has the log's text below the synced end, and every candidate
+-- control block has a mark from the acknowledged LSN to the synced end. So a crash leaves, whatever
+-- it picks, all acknowledged bytes below the mark.
 pub record AreKept (s : Stored) (log control : ℕ → Slot) : Type 0 where
   pub text : AllHaveText (λ b. (log b).candidates) (log_text s.pages s.log) s.synced
   pub marks : (content : List ℕ) → Contains (control 0).candidates content → IsControlOf s content
@@ -30,8 +32,10 @@ pub record AreKept (s : Stored) (log control : ℕ → Slot) : Type 0 where
   pub room : end_of s.log ≤ 512 * s.blocks
   pub fit : FrontsFit s.blocks (acknowledged s) s.log
 
--- Whatever a crash leaves in a page's block is an image of the page from below what is acknowledged, which lacks no record of the log
--- below the page's RecLSN, and none where the page has no row.
+-- Whatever a crash leaves in a page's block is an image of the page from below what is
+-- acknowledged, which lacks no record of the log below the page's RecLSN, and none where the page
+-- has no row.
 abbrev pub AreImages : Stored → (ℕ → Slot) → Type 0
-AreImages s blocks = (page : ℕ) (content : List ℕ) → page < s.pages → Contains (blocks page).candidates content
+AreImages s blocks =
+    (page : ℕ) (content : List ℕ) → page < s.pages → Contains (blocks page).candidates content
     → IsRowSound s.log page (acknowledged s) (rec_lsn_of s.pool.dirty page) content

@@ -3,11 +3,13 @@ use Rattle.std.specs.Prelude.{◌≡◌, ◌⊎◌, ℕ, ◌+◌, ◌<◌, true,
 use Rattle.als_record.specs.declared.lsn.Lsn.{Lsn}
 use Rattle.als_record.specs.LogText.{end_of}
 use Rattle.als_log.specs.Local.{next_written, whole_end}
+use Rattle.als_log.specs.Reading.{HasRowsAt}
 use Rattle.als_ckpt.specs.declared.control_state.ControlState.{ControlState}
 use Rattle.als_ckpt.specs.Regions.{blocks_synced}
 use Rattle.als_pool.specs.Pooled.{view_of}
 use Rattle.als_pool.specs.Refusals.{has_waiting, is_full, is_due, is_behind}
-use Rattle.als_pool.specs.Outcomes.{Applies, HasAll, Flushes, FlushFails, SyncsPages, SyncPagesFails, ReadRefused}
+use Rattle.als_pool.specs.Outcomes.{Applies, HasAll, Flushes, FlushFails, SyncsPages}
+use Rattle.als_pool.specs.Outcomes.{SyncPagesFails, ReadRefused}
 use Rattle.als_frames.specs.declared.fault.Fault.TheVariants.{Device as DiskFailed}
 use Rattle.als_store.specs.declared.fault.Fault.{Fault}
 use Rattle.als_store.specs.declared.fault.Fault.TheVariants as fault
@@ -16,12 +18,23 @@ use Rattle.als_store.specs.Stored.{Stored, newest, acknowledged}
 -- a device failed in the one write or sync of the event: nothing else changed
 pub record Breaks (old new : Stored) : Type 0 where
   pub failed : old.failures < new.failures
-  pub after : new ≡ record old { broken = true; failures = new.failures; attempts = old.attempts + 1 }
+  pub after : new ≡ record old {
+    broken = true;
+    failures = new.failures;
+    attempts = old.attempts + 1;
+  }
 
 -- a device failed in a read: nothing else changed
 pub record FailsToRead (old new : Stored) : Type 0 where
   pub failed : old.failures < new.failures
   pub after : new ≡ record old { failures = new.failures }
+
+-- no record was read at an LSN: memory was wanted for the rows of an end_chkpt, or the device
+-- failed
+abbrev pub NotRead : Stored → Lsn → Fault → Stored → Type 0
+NotRead old lsn f new =
+    ((f ≡ fault.Memory) × HasRowsAt old.log lsn.0 × (new ≡ old))
+    ⊎ ((f ≡ fault.Device) × FailsToRead old new)
 
 -- the log has bytes that are not written
 abbrev pub HasUnwritten : Stored → Type 0
@@ -30,11 +43,23 @@ HasUnwritten s = s.written < end_of s.log
 -- the first block with unwritten bytes is written
 pub record WritesLog (old new : Stored) : Type 0 where
   pub unwritten : HasUnwritten old
-  pub after : new ≡ record old { written = next_written old.log old.written; attempts = old.attempts + 1 }
+  pub after : new ≡ record old {
+    written = next_written old.log old.written;
+    attempts = old.attempts + 1;
+  }
+
+-- a block of the log was not written: each is, or the device failed
+abbrev pub NotWritten : Stored → Fault → Stored → Type 0
+NotWritten old f new =
+    ((f ≡ fault.NothingToDo) × (HasUnwritten old → ⊥) × (new ≡ old))
+    ⊎ ((f ≡ fault.Device) × HasUnwritten old × Breaks old new)
 
 -- the log is synced: up to its last record that is wholly written
 pub record SyncsLog (old new : Stored) : Type 0 where
-  pub after : new ≡ record old { synced = whole_end old.log old.written; attempts = old.attempts + 1 }
+  pub after : new ≡ record old {
+    synced = whole_end old.log old.written;
+    attempts = old.attempts + 1;
+  }
 
 -- the synced end is above the last mark written
 abbrev pub HasUnmarked : Stored → Type 0
@@ -53,12 +78,29 @@ pub record WritesMark (old new : Stored) : Type 0 where
 pub record BreaksMark (old new : Stored) : Type 0 where
   pub unmarked : HasUnmarked old
   pub failed : old.failures < new.failures
-  pub after : new ≡ record old { since = old.since ++ marked old ∷ []; broken = true; failures = new.failures; attempts = old.attempts + 1 }
+  pub after : new ≡ record old {
+    since = old.since ++ marked old ∷ [];
+    broken = true;
+    failures = new.failures;
+    attempts = old.attempts + 1;
+  }
 
--- the control device is synced: the last control state alone stays, and its mark is answered; so are the blocks written of a checkpoint
+-- the mark was not written: the last one is the synced end already, or the device failed
+abbrev pub NotMarked : Stored → Fault → Stored → Type 0
+NotMarked old f new =
+    ((f ≡ fault.NothingToDo) × (HasUnmarked old → ⊥) × (new ≡ old))
+    ⊎ ((f ≡ fault.Device) × BreaksMark old new)
+
+-- the control device is synced: the last control state alone stays, and its mark is answered; so
+-- are the blocks written of a checkpoint
 pub record SyncsControl (old : Stored) (lsn : Lsn) (new : Stored) : Type 0 where
   pub answer : lsn ≡ (newest old).mark
-  pub after : new ≡ record old { control = newest old; since = []; begun = blocks_synced old.begun; attempts = old.attempts + 1 }
+  pub after : new ≡ record old {
+    control = newest old;
+    since = [];
+    begun = blocks_synced old.begun;
+    attempts = old.attempts + 1;
+  }
 
 -- ---- redo
 
@@ -67,7 +109,8 @@ pub record CanApply (s : Stored) (page : ℕ) : Type 0 where
   pub waiting : has_waiting s.pool page ≡ true
   pub room : is_full s.pool page ≡ false
 
--- The first changes that wait for a page are redone, at most 64; it was read into a frame if it had none.
+-- The first changes that wait for a page are redone, at most 64; it was read into a frame if it had
+-- none.
 pub record AppliesFirst (old : Stored) (page : ℕ) (lsn : Lsn) (new : Stored) : Type 0 where
   pub can : CanApply old page
   pub applies : Applies old.pool new.pool page (end_of old.log) lsn
@@ -81,11 +124,13 @@ pub record FindsAll (old : Stored) (page : ℕ) (new : Stored) : Type 0 where
 -- the pages' device failed in a read, which is counted: nothing else changed
 pub record FailsToFetch (old new : Stored) : Type 0 where
   pub failed : old.failures < new.failures
-  pub counted : new.pool ≡ record old.pool { frames = record old.pool.frames { failures = new.pool.frames.failures } }
+  pub counted : new.pool ≡ record old.pool {
+    frames = record old.pool.frames { failures = new.pool.frames.failures };
+  }
   pub after : new ≡ record old { pool = new.pool; failures = new.failures }
 
--- by the fault, what reading a page came to: it has all that waited; the device failed; the block is not the page's; or a growth was
--- refused
+-- by the fault, what reading a page came to: it has all that waited; the device failed; the block
+-- is not the page's; or a growth was refused
 abbrev pub ReadsInVain : Stored → ℕ → Fault → Stored → Type 0
 ReadsInVain old page fault.NothingToDo new = FindsAll old page new
 ReadsInVain old page fault.Device new = FailsToFetch old new
@@ -97,18 +142,20 @@ ReadsInVain old page fault.CkptBusy new = ⊥
 ReadsInVain old page fault.PoolFull new = ⊥
 ReadsInVain old page fault.LogFull new = ⊥
 
--- Nothing was redone of a page for which changes wait and which can get a frame: it had none, and was to be read.
+-- Nothing was redone of a page for which changes wait and which can get a frame: it had none, and
+-- was to be read.
 pub record IsNotRedone (old : Stored) (page : ℕ) (answer : Fault) (new : Stored) : Type 0 where
   pub can : CanApply old page
   pub absent : (view_of old.pool page).resident ≡ false
   pub reads : ReadsInVain old page answer new
 
--- Nothing was redone: no change waits for the page; or it has no frame and none can be had, which is found before it is read; or it was
--- read in vain.
+-- Nothing was redone: no change waits for the page; or it has no frame and none can be had, which
+-- is found before it is read; or it was read in vain.
 abbrev pub NotApplied : Stored → ℕ → Fault → Stored → Type 0
 NotApplied old page answer new =
     ((has_waiting old.pool page ≡ false) × (answer ≡ fault.NothingToDo) × (new ≡ old))
-    ⊎ (((has_waiting old.pool page ≡ true) × (is_full old.pool page ≡ true) × (answer ≡ fault.PoolFull) × (new ≡ old))
+    ⊎ (((has_waiting old.pool page ≡ true) × (is_full old.pool page ≡ true)
+    × (answer ≡ fault.PoolFull) × (new ≡ old))
     ⊎ IsNotRedone old page answer new)
 
 -- ---- images
@@ -129,12 +176,20 @@ pub record BreaksFlush (old : Stored) (page : ℕ) (new : Stored) : Type 0 where
   pub can : CanFlush old page
   pub fails : FlushFails old.pool new.pool page old.control.mark
   pub failed : old.failures < new.failures
-  pub after : new ≡ record old { pool = new.pool; broken = true; failures = new.failures; attempts = old.attempts + 1 }
+  pub after : new ≡ record old {
+    pool = new.pool;
+    broken = true;
+    failures = new.failures;
+    attempts = old.attempts + 1;
+  }
 
--- a page was not written: there is nothing to write, or the log is not acknowledged past its page_LSN, or the device failed
+-- a page was not written: there is nothing to write, or the log is not acknowledged past its
+-- page_LSN, or the device failed
 abbrev pub NotFlushed : Stored → ℕ → Fault → Stored → Type 0
 NotFlushed old page fault.NothingToDo new = (is_due (view_of old.pool page) ≡ false) × (new ≡ old)
-NotFlushed old page fault.LogBehind new = (is_due (view_of old.pool page) ≡ true) × (is_behind (view_of old.pool page) (acknowledged old) ≡ true) × (new ≡ old)
+NotFlushed old page fault.LogBehind new =
+    (is_due (view_of old.pool page) ≡ true)
+    × (is_behind (view_of old.pool page) (acknowledged old) ≡ true) × (new ≡ old)
 NotFlushed old page fault.Device new = BreaksFlush old page new
 NotFlushed old page (fault.Invalid cause) new = ⊥
 NotFlushed old page fault.LogFull new = ⊥
@@ -152,7 +207,12 @@ pub record SyncsDevice (old new : Stored) : Type 0 where
 pub record BreaksSync (old new : Stored) : Type 0 where
   pub fails : SyncPagesFails old.pool new.pool
   pub failed : old.failures < new.failures
-  pub after : new ≡ record old { pool = new.pool; broken = true; failures = new.failures; attempts = old.attempts + 1 }
+  pub after : new ≡ record old {
+    pool = new.pool;
+    broken = true;
+    failures = new.failures;
+    attempts = old.attempts + 1;
+  }
 
 -- a page that has no frame was read, and its block is not that of the page: nothing changed
 pub record IsNoPage (old : Stored) (page p : ℕ) (new : Stored) : Type 0 where

@@ -29,7 +29,14 @@ opened pages blocks log said pool failures attempts = record {
   broken = false;
   failures = failures;
   attempts = attempts;
-  origin = record { log = log; control = said.state; since = []; held = held_of said.state.published said.checkpoint; begun = None; pool = pool };
+  origin = record {
+    log = log;
+    control = said.state;
+    since = [];
+    held = held_of said.state.published said.checkpoint;
+    begun = None;
+    pool = pool;
+  };
   recovering = true;
 }
 
@@ -37,8 +44,9 @@ opened pages blocks log said pool failures attempts = record {
 abbrev pub said_in : Stored → Said
 said_in s = record { state = s.control; checkpoint = held_at s.held s.control.published }
 
--- What an opened store is, whatever the devices held: its log is valid, ends at the mark, and fits the device with its tail; the checkpoint
--- is that of a front of it; no page was read, and what waits for each are its changes from where a restart looks for them.
+-- What an opened store is, whatever the devices held: its log is valid, ends at the mark, and fits
+-- the device with its tail; the checkpoint is that of a front of it; no page was read, and what
+-- waits for each are its changes from where a restart looks for them.
 pub record IsOpened (pages blocks failures attempts : ℕ) (s : Stored) : Type 0 where
   pub said : Said
   pub is : s ≡ opened pages blocks s.log said s.pool failures attempts

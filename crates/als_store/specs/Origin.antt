@@ -18,4 +18,11 @@ pub record Origin : Type 0 where
 
 -- the same of the parts
 abbrev pub origin_of : Local → Controlled → Pooled → Origin
-origin_of l c pool = record { log = l.log; control = c.synced; since = c.since; held = c.held; begun = c.begun; pool = pool }
+origin_of l c pool = record {
+  log = l.log;
+  control = c.synced;
+  since = c.since;
+  held = c.held;
+  begun = c.begun;
+  pool = pool;
+}

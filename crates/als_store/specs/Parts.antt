@@ -1,5 +1,6 @@
 -- The parts of a store, and what holds between them.
-use Rattle.std.specs.Prelude.{◌≡◌, ℕ, ◌≤◌, ◌+◌, ◌*◌, ◌-◌, Bool, true, false, IsTrue, List, length, vec_capacity, vec_len}
+use Rattle.std.specs.Prelude.{◌≡◌, ℕ, ◌≤◌, ◌+◌, ◌*◌, ◌-◌, Bool, true, false, IsTrue, List, length}
+use Rattle.std.specs.Prelude.{vec_capacity, vec_len}
 use Rattle.als_record.specs.declared.record.Record.{Record}
 use Rattle.als_record.specs.LogText.{end_of}
 use Rattle.als_record.specs.Validity.{IsValidLog}
@@ -55,16 +56,18 @@ pub record AreMarks (l : Local) (c : Controlled) : Type 0 where
   pub newest_synced : (newest c).mark.0 ≤ l.synced
   pub fronts : (s : ControlState) → IsAmong c s → IsFrontEnd l.log s.mark.0
 
--- The pool has so many pages, and what it has of each ends below the log's end. Unless the store is broken no write of a page has failed.
+-- The pool has so many pages, and what it has of each ends below the log's end. Unless the store is
+-- broken no write of a page has failed.
 pub record IsHeldPool (pages : ℕ) (log : List Record) (pool : Pooled) (broken : Bool) : Type 0 where
   pub count : length pool.waits ≡ pages
   pub ends : EndsBelow (end_of log) pool
   pub few : total_waiting pool.waits ≤ length log
   pub sure : broken ≡ false → IsTrue pool.frames.sure
 
--- What holds of the parts: the validator is that of the log; and what was true of the log, the control block and the pages when the store
--- was made still is.
-pub record IsStored (pages : ℕ) (l : Local) (held : Tally) (c : Controlled) (pool : Pooled) (validator : Validator) (broken : Bool) (origin : Origin) (recovering : Bool) : Type 0 where
+-- What holds of the parts: the validator is that of the log; and what was true of the log, the
+-- control block and the pages when the store was made still is.
+pub record IsStored (pages : ℕ) (l : Local) (held : Tally) (c : Controlled) (pool : Pooled)
+    (validator : Validator) (broken : Bool) (origin : Origin) (recovering : Bool) : Type 0 where
   pub log_pages : l.pages ≡ pages
   pub is_log : IsValidLog pages l.log
   pub fit : FrontsFit l.blocks c.synced.mark.0 l.log

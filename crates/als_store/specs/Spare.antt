@@ -7,8 +7,9 @@ use Rattle.als_pool.specs.Pooled.{Held, Room}
 use Rattle.als_pool.specs.Outcomes.{HasPlace}
 use Rattle.als_store.specs.Stored.{Stored}
 
--- how many bytes of the log, whether the transaction table has room for one more record, how many commits, and the pool's room:
--- for how many frames, and for which pages there is room for one more change
+-- how many bytes of the log, whether the transaction table has room for one more record, how many
+-- commits, and the pool's room: for how many frames, and for which pages there is room for one more
+-- change
 pub record Spare : Type 0 where
   pub bytes : ℕ
   pub table : Bool

@@ -4,9 +4,10 @@ use Rattle.als_disk.specs.Slot.{Slot}
 use Rattle.als_reopen.specs.Node.{Node, IsNode}
 use Rattle.als_reopen.specs.Outcomes.{AreSettled}
 
--- The blocks that matter are those of settled devices that hold a node: those of the log, the control block and both regions, and those of
--- the pages.
-pub record StaysNode (pages blocks : ℕ) (log control page_slots : ℕ → Slot) (n : Node) : Type 0 where
+-- The blocks that matter are those of settled devices that hold a node: those of the log, the
+-- control block and both regions, and those of the pages.
+pub record StaysNode (pages blocks : ℕ) (log control page_slots : ℕ → Slot)
+    (n : Node) : Type 0 where
   pub log_was : ℕ → Slot
   pub control_was : ℕ → Slot
   pub pages_were : ℕ → Slot

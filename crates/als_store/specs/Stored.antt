@@ -1,6 +1,7 @@
--- What a store holds: the log, how far it is written and synced, the control states, and the pages, each of which is the log's up to a
--- page_LSN.
-use Rattle.std.specs.Prelude.{◌≡◌, ℕ, ◌+◌, ◌*◌, ◌<◌, ◌≤◌, ◌⊎◌, Bool, false, List, [], ◌∷◌, ◌++◌, Option, Some, None, Result, Ok, Err}
+-- What a store holds: the log, how far it is written and synced, the control states, and the pages,
+-- each of which is the log's up to a page_LSN.
+use Rattle.std.specs.Prelude.{◌≡◌, ℕ, ◌+◌, ◌*◌, ◌<◌, ◌≤◌, ◌⊎◌, Bool, false, List, [], ◌∷◌, ◌++◌}
+use Rattle.std.specs.Prelude.{Option, Some, None, Result, Ok, Err}
 use Rattle.std.specs.List.{fold}
 use Rattle.als_record.specs.declared.lsn.Lsn.{Lsn}
 use Rattle.als_record.specs.declared.change.Change.{Change}
@@ -33,14 +34,16 @@ pub record Stored : Type 0 where
   pub pages : ℕ
   pub log : List Record
   pub pool : Pooled
-  -- how many blocks the log device has; up to where it is written; the end of the last record wholly written at its last sync
+  -- how many blocks the log device has; up to where it is written; the end of the last record
+  -- wholly written at its last sync
   pub blocks : ℕ
   pub written : ℕ
   pub synced : ℕ
   -- the synced control state, and those written since, of failed writes too
   pub control : ControlState
   pub since : List ControlState
-  -- the checkpoint that each region of the control device holds whatever a crash leaves, and the one on its way there
+  -- the checkpoint that each region of the control device holds whatever a crash leaves, and the
+  -- one on its way there
   pub held : Held
   pub begun : Option Begun
   -- a write or a sync has failed
@@ -61,40 +64,72 @@ newest s = last_state s.control s.since
 abbrev pub acknowledged : Stored → ℕ
 acknowledged s = s.control.mark.0
 
--- what a record makes of the pages: what it changes, if anything, waits behind what waited for its page
+-- what a record makes of the pages: what it changes, if anything, waits behind what waited for its
+-- page
 abbrev pub routed : Pooled → Option Change → Pooled
 routed pool None = pool
 routed pool (Some change) = with_change pool change
 
 -- the store with records more
 abbrev pub with_records : Stored → List Record → Stored
-with_records s records = record s { log = s.log ++ records; pool = fold (λ pool r. routed pool (change_of r)) s.pool records }
+with_records s records = record s {
+  log = s.log ++ records;
+  pool = fold (λ pool r. routed pool (change_of r)) s.pool records;
+}
 
 -- the pages of a database that was just formatted: so many, and so many frames at most
 abbrev pub formatted_pool : ℕ → ℕ → ℕ → ℕ → ℕ → Pooled
-formatted_pool pages frames blocks failures attempts = new_pool (without_frames pages frames (λ _. only zeros) blocks failures attempts) pages
+formatted_pool pages frames blocks failures attempts =
+    new_pool (without_frames pages frames (λ _. only zeros) blocks failures attempts) pages
 
 -- no records, the first control state, no checkpoint, and these pages
 abbrev pub new_origin : Pooled → Origin
-new_origin pool = record { log = []; control = first_state; since = []; held = nothing_held; begun = None; pool = pool }
+new_origin pool = record {
+  log = [];
+  control = first_state;
+  since = [];
+  held = nothing_held;
+  begun = None;
+  pool = pool;
+}
 
 -- a store over devices that were just formatted
 abbrev pub formatted : ℕ → Pooled → ℕ → ℕ → ℕ → Stored
-formatted pages pool blocks failures attempts = record { pages = pages; log = []; pool = pool; blocks = blocks; written = 16; synced = 16; control = first_state; since = []; held = nothing_held; begun = None; broken = false; failures = failures; attempts = attempts; origin = new_origin pool; recovering = false }
+formatted pages pool blocks failures attempts = record {
+  pages = pages;
+  log = [];
+  pool = pool;
+  blocks = blocks;
+  written = 16;
+  synced = 16;
+  control = first_state;
+  since = [];
+  held = nothing_held;
+  begun = None;
+  broken = false;
+  failures = failures;
+  attempts = attempts;
+  origin = new_origin pool;
+  recovering = false;
+}
 
 -- ---- records
 
--- the log device has no room for the log with a record and with the tail that a takeover would then append
+-- the log device has no room for the log with a record and with the tail that a takeover would then
+-- append
 abbrev pub IsTooLong : Stored → Record → Type 0
 IsTooLong s r = 512 * s.blocks < end_of s.log + record_len r + reserve_of (s.log ++ r ∷ [])
 
--- A log device of so many blocks has room for each front of the log that ends at or above an offset, with the tail that a
--- takeover would append to it. From the acknowledged LSN on these are the logs that a crash may leave: so a takeover can go
--- ahead whatever it leaves.
+-- A log device of so many blocks has room for each front of the log that ends at or above an
+-- offset, with the tail that a takeover would append to it. From the acknowledged LSN on these are
+-- the logs that a crash may leave: so a takeover can go ahead whatever it leaves.
 abbrev pub FrontsFit : ℕ → ℕ → List Record → Type 0
-FrontsFit blocks from log = (front rest : List Record) → log ≡ front ++ rest → from ≤ end_of front → end_of front + reserve_of front ≤ 512 * blocks
+FrontsFit blocks from log =
+    (front rest : List Record) → log ≡ front ++ rest → from ≤ end_of front
+    → end_of front + reserve_of front ≤ 512 * blocks
 
--- why a record is not held: the first cause that it may not follow, or else no room, or a growth was refused
+-- why a record is not held: the first cause that it may not follow, or else no room, or a growth
+-- was refused
 abbrev pub IsRefused : Stored → Record → Fault → Type 0
 IsRefused s r fault =
     ((c : Cause) × (first_bad s.log r ≡ Some c) × (fault ≡ Invalid c))

@@ -11,26 +11,30 @@ use Rattle.als_pool.specs.Pooled.{Pooled, PageView, view_of, unread_of}
 abbrev pub IsRowOf : List Record → ℕ → PageView → Type 0
 IsRowOf log page v = v.row ≡ first_lsn (changes_above log page v.synced)
 
--- Redo of a page: it is resident, its page_LSN is this one, what waits for it is what the log has above that, and its row is exact. No
--- other page's page_LSN changes, and no image.
+-- Redo of a page: it is resident, its page_LSN is this one, what waits for it is what the log has
+-- above that, and its row is exact. No other page's page_LSN changes, and no image.
 pub record ShowsRedo (log : List Record) (old new : Pooled) (page : ℕ) (lsn : Lsn) : Type 0 where
   pub resident : (view_of new page).resident ≡ true
   pub now : (view_of new page).now ≡ lsn.0
   pub rest : pending_of new.waits page ≡ changes_above log page lsn.0
   pub row : IsRowOf log page (view_of new page)
-  pub others : (other : ℕ) → other < length old.waits → other ≢ page → (view_of new other).now ≡ (view_of old other).now
+  pub others : (other : ℕ) → other < length old.waits → other ≢ page
+      → (view_of new other).now ≡ (view_of old other).now
   pub synced : (p : ℕ) → (view_of new p).synced ≡ (view_of old p).synced
 
--- A write of a page: the image last written is the page as it is now. No page's page_LSN changes, and nothing of any other page.
+-- A write of a page: the image last written is the page as it is now. No page's page_LSN changes,
+-- and nothing of any other page.
 pub record ShowsWrite (old new : Pooled) (page : ℕ) : Type 0 where
   pub written : (view_of new page).written ≡ (view_of new page).now
   pub now : (p : ℕ) → p < length old.waits → (view_of new p).now ≡ (view_of old p).now
   pub others : (other : ℕ) → other ≢ page → view_of new other ≡ view_of old other
 
--- A sync of the pages: of each page the image last synced is the one that was last written, and the row of one that was read is exact.
--- No page's page_LSN changes, and each stays resident or not.
+-- A sync of the pages: of each page the image last synced is the one that was last written, and the
+-- row of one that was read is exact. No page's page_LSN changes, and each stays resident or not.
 pub record ShowsSync (log : List Record) (old new : Pooled) : Type 0 where
-  pub synced : (page : ℕ) → page < length old.waits → (view_of new page).synced ≡ (view_of old page).written
-  pub row : (page : ℕ) → page < length old.waits → unread_of new.unread page ≡ None → IsRowOf log page (view_of new page)
+  pub synced : (page : ℕ) → page < length old.waits
+      → (view_of new page).synced ≡ (view_of old page).written
+  pub row : (page : ℕ) → page < length old.waits → unread_of new.unread page ≡ None
+      → IsRowOf log page (view_of new page)
   pub now : (page : ℕ) → page < length old.waits → (view_of new page).now ≡ (view_of old page).now
   pub resident : (page : ℕ) → (view_of new page).resident ≡ (view_of old page).resident

@@ -18,9 +18,9 @@ pub(crate) struct LaidOut<D: BlockDisk> {
     pub(crate) pool: Pool<D>,
 }
 
-/// Lays out the devices: clears and syncs the control block, then writes and syncs empty pages and the log's header, then
-/// writes and syncs the control block. So a stop on the way leaves no control block that speaks of another log or of other
-/// pages. It takes no memory.
+/// Lays out the devices: clears and syncs the control block, then writes and syncs empty pages and
+/// the log's header, then writes and syncs the control block. So a stop on the way leaves no
+/// control block that speaks of another log or of other pages. It takes no memory.
 ///
 /// The devices come back where one of them failed.
 pub(crate) fn lay_out<D: BlockDisk>(
@@ -34,13 +34,30 @@ pub(crate) fn lay_out<D: BlockDisk>(
     requires log { (1 ≤ D.block_count disks.log) × (D.block_count disks.log ≤ 4194304) }
     requires control { 321 ≤ D.block_count disks.control }
     requires page_blocks { pages ≤ D.block_count disks.pages }
-    ensures log { IfOk result (λ laid. laid.log ≡ record { pages = pages; log = []; written = 16; synced = 16; blocks = D.block_count disks.log; failures = D.failures disks.log; attempts = D.attempts disks.log + 2; room = laid.log.room }) }
-    ensures control { IfOk result (λ laid. laid.control ≡ new_control pages (512 * D.block_count disks.log) first_state (D.block_count disks.control) (D.failures disks.control) laid.control.attempts) }
-    ensures pool { IfOk result (λ laid. laid.pool.pool ≡ formatted_pool pages frames (D.block_count disks.pages) (D.failures disks.pages) (D.attempts disks.pages + pages + 1)) }
+    ensures log { IfOk result (λ laid. laid.log ≡ record {
+      pages = pages;
+      log = [];
+      written = 16;
+      synced = 16;
+      blocks = D.block_count disks.log;
+      failures = D.failures disks.log;
+      attempts = D.attempts disks.log + 2;
+      room = laid.log.room;
+    }) }
+    ensures control { IfOk result (λ laid. laid.control
+        ≡ new_control pages (512 * D.block_count disks.log) first_state
+        (D.block_count disks.control) (D.failures disks.control) laid.control.attempts) }
+    ensures pool { IfOk result (λ laid. laid.pool.pool
+        ≡ formatted_pool pages frames (D.block_count disks.pages) (D.failures disks.pages)
+        (D.attempts disks.pages + pages + 1)) }
     ensures is_pool { IfOk result (λ laid. (below : ℕ) → IsPoolOf [] below laid.pool.pool) }
-    ensures device { IfErr result (λ d. D.failures disks.log + D.failures disks.control + D.failures disks.pages < D.failures d.log + D.failures d.control + D.failures d.pages) }
-    ensures left { IfErr result (λ d. IsHalfFormatted pages (D.slot disks.log) (D.slot d.log) (D.slot disks.pages) (D.slot d.pages) (D.slot d.control)) }
-    ensures counts { IfErr result (λ d. (D.block_count d.log ≡ D.block_count disks.log) × (D.block_count d.control ≡ D.block_count disks.control) × (D.block_count d.pages ≡ D.block_count disks.pages)) }
+    ensures device { IfErr result (λ d. D.failures disks.log + D.failures disks.control
+        + D.failures disks.pages < D.failures d.log + D.failures d.control + D.failures d.pages) }
+    ensures left { IfErr result (λ d. IsHalfFormatted pages (D.slot disks.log) (D.slot d.log)
+        (D.slot disks.pages) (D.slot d.pages) (D.slot d.control)) }
+    ensures counts { IfErr result (λ d. (D.block_count d.log ≡ D.block_count disks.log)
+        × (D.block_count d.control ≡ D.block_count disks.control)
+        × (D.block_count d.pages ≡ D.block_count disks.pages)) }
 {
     let Disks {
         log,

@@ -1,4 +1,5 @@
-//! What a standby stores: its log and control block on devices, its pages on a device and in frames, and its transaction table.
+//! What a standby stores: its log and control block on devices, its pages on a device and in
+//! frames, and its transaction table.
 #![tactic(auto)]
 
 // Why an event is refused.

@@ -8,7 +8,8 @@ use als_pool::Pool;
 use std::marker::Model;
 use std::snapshot::Snapshot;
 
-/// What the log, the control block and the pages of a store were when it was made, for clauses alone: it takes no bytes.
+/// What the log, the control block and the pages of a store were when it was made, for clauses
+/// alone: it takes no bytes.
 pub(crate) struct Origin<D: BlockDisk> {
     log: Snapshot<LocalLog<D>>,
     control: Snapshot<Control<D>>,
@@ -23,7 +24,8 @@ impl<D: BlockDisk> Model for Origin<D> {
     ghost view = { λ o. origin_of o.log.value o.control.value o.pool.value.pool };
 }
 
-// Written out: a derived drop is proved part by part wherever a store is let go of, this one only here.
+// Written out: a derived drop is proved part by part wherever a store is let go of, this one only
+// here.
 impl<D: BlockDisk> Drop for Origin<D> {
     fn drop(self) {
         let Origin {

@@ -38,7 +38,8 @@ fn spelled(rt: &impl Abort, alloc: Global, logged: &Record) -> Vec<u8>
     panic!(rt; "memory is refused twice")
 }
 
-/// Admits a commit that names this record before it, again where memory is refused once: then nothing has changed.
+/// Admits a commit that names this record before it, again where memory is refused once: then
+/// nothing has changed.
 fn admit(
     rt: &impl Abort,
     alloc: Global,
@@ -87,7 +88,8 @@ fn devices(alloc: Global) -> Disks<MemDisk>
     }
 }
 
-/// A record is held and acknowledged. False: memory was refused, and where that failed a write the store is broken.
+/// A record is held and acknowledged. False: memory was refused, and where that failed a write the
+/// store is broken.
 fn acknowledges(rt: &impl Abort, alloc: Global) -> bool {
     let Ok(mut store) = Store::format(alloc, devices(alloc), 4, 2) else {
         return false;
@@ -117,7 +119,8 @@ fn a_record_is_acknowledged_or_the_store_is_broken(rt: HostRuntime) {
     assert!(rt; acknowledges(&rt, rt.alloc()) || acknowledges(&rt, rt.alloc()));
 }
 
-/// A record is held in the room that was made for it. False: memory was refused where the devices were formatted.
+/// A record is held in the room that was made for it. False: memory was refused where the devices
+/// were formatted.
 fn holds(rt: &impl Abort, alloc: Global) -> bool {
     let Ok(mut store) = Store::format(alloc, devices(alloc), 4, 2) else {
         return false;
@@ -170,8 +173,8 @@ fn finish(rt: &impl Abort, store: &mut Store<MemDisk>) -> Result<(), Fault> {
     store.finish()
 }
 
-/// A log with a committed transaction is sealed, its tail is held, and the takeover ends. False: memory was refused, and where that
-/// failed a write the store is broken.
+/// A log with a committed transaction is sealed, its tail is held, and the takeover ends. False:
+/// memory was refused, and where that failed a write the store is broken.
 fn takes_over(rt: &impl Abort, alloc: Global) -> bool {
     let Ok(mut store) = Store::format(alloc, devices(alloc), 4, 2) else {
         return false;

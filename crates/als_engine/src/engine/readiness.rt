@@ -7,10 +7,12 @@ use als_disk::BlockDisk;
 use als_view::all_commits_end;
 
 impl<D: BlockDisk> Engine<D> {
-    /// Ends the recovery of a standby that was opened: from then on it takes the primary's log, or goes on with its takeover, by the phase of
-    /// the control block. All commits of its log are published, and readers are answered. It calls no device, and takes no memory.
+    /// Ends the recovery of a standby that was opened: from then on it takes the primary's log, or
+    /// goes on with its takeover, by the phase of the control block. All commits of its log are
+    /// published, and readers are answered. It calls no device, and takes no memory.
     ///
-    /// Stopped. NothingToDo: the standby is not recovering. NotDrained: a change waits for redo. They come in this order.
+    /// Stopped. NothingToDo: the standby is not recovering. NotDrained: a change waits for redo.
+    /// They come in this order.
     pub fn ready(&mut self) -> Result<(), Fault>
         ensures readies { Readies self.old.machine result self.new.machine }
         // What was published stays so.

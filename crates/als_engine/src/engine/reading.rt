@@ -7,10 +7,11 @@ use als_record::Key;
 use als_view::Answer;
 
 impl<D: BlockDisk> Engine<D> {
-    /// Publishes for readers the commits whose records end at or below the acknowledged LSN, all at once. It calls no device, and takes no
-    /// memory.
+    /// Publishes for readers the commits whose records end at or below the acknowledged LSN, all at
+    /// once. It calls no device, and takes no memory.
     ///
-    /// Stopped. Recovering: it is not ready yet. NothingToDo: each of them is published. They come in this order.
+    /// Stopped. Recovering: it is not ready yet. NothingToDo: each of them is published. They come
+    /// in this order.
     pub fn publish_view(&mut self) -> Result<(), Fault>
         ensures { PublishesView self.old.machine result self.new.machine }
     {
@@ -30,8 +31,9 @@ impl<D: BlockDisk> Engine<D> {
         Ok(())
     }
 
-    /// What the published commits left at a key, how many they are, and the LSN of the last of them, 0 without one: one look-up. A key outside
-    /// the database has nothing. It answers in every state. Warming: the standby was opened and is not ready yet.
+    /// What the published commits left at a key, how many they are, and the LSN of the last of
+    /// them, 0 without one: one look-up. A key outside the database has nothing. It answers in
+    /// every state. Warming: the standby was opened and is not ready yet.
     pub fn read(&self, key: Key) -> Result<Answer, Fault>
         ensures { ReadsKey self.now.machine key result }
     {

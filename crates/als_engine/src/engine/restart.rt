@@ -4,7 +4,8 @@ ghost use Rattle.als_engine.specs.declared.fault.Fault.TheVariants as fault;
 ghost use Rattle.als_engine.specs.Config.{IsWorld};
 ghost use Rattle.als_reopen.specs.Node.{Node};
 ghost use Rattle.als_reopen.specs.Outcomes.{AreLeft, IsOnceAtMost};
-ghost use Rattle.als_engine.specs.Restarts.{IsWarm, IsMadeWith, Holds, StillHolds, Leaves, IsStarted, IsRestarted, RefusesRestart};
+ghost use Rattle.als_engine.specs.Restarts.{IsWarm, IsMadeWith, Holds, StillHolds, Leaves};
+ghost use Rattle.als_engine.specs.Restarts.{IsStarted, IsRestarted, RefusesRestart};
 
 use super::Engine;
 use crate::config::Config;
@@ -17,42 +18,65 @@ use als_view::a_view_goes_on;
 use std::alloc::Global;
 
 impl<D: BlockDisk> Engine<D> {
-    /// A standby over devices that one left: it syncs the log's, the control block's and the pages' device, and then only reads. It holds
-    /// the log up to the mark, and each page waits for what its image may lack. It is Recovering. On a refusal the devices come back.
+    /// A standby over devices that one left: it syncs the log's, the control block's and the pages'
+    /// device, and then only reads. It holds the log up to the mark, and each page waits for what
+    /// its image may lack. It is Recovering. On a refusal the devices come back.
     ///
-    /// BadConfig: a number of the configuration is out of its range, or a device has too few blocks, or the log's too many. Device: a device
-    /// failed. Memory: a growth was refused. Else the first met in reading control block, checkpoint, log header and records: BadControl,
-    /// BadHeader, or the fault of a record. LogFull: the log and its tail together exceed the log device.
+    /// BadConfig: a number of the configuration is out of its range, or a device has too few
+    /// blocks, or the log's too many. Device: a device failed. Memory: a growth was refused. Else
+    /// the first met in reading control block, checkpoint, log header and records: BadControl,
+    /// BadHeader, or the fault of a record. LogFull: the log and its tail together exceed the log
+    /// device.
     pub fn open(alloc: Global, disks: Disks<D>, config: Config) -> Result<Engine<D>, Refused<D>>
-        // Whatever the devices hold, an engine comes only where the configuration fits them, and has a valid log.
-        ensures fits { IfOk result (λ e. IsWorld config (D.block_count disks.log) (D.block_count disks.control) (D.block_count disks.pages)) }
-        ensures ok { IfOk result (λ e. IsRestarted config (D.block_count disks.log) (D.failures disks.log + D.failures disks.control + D.failures disks.pages)
-            (D.attempts disks.log + 1 + (D.attempts disks.control + 1) + (D.attempts disks.pages + 1)) e.machine) }
-        // Where it does not fit them, BadConfig comes and the devices are as they were; else it never comes.
-        ensures config { (IsWorld config (D.block_count disks.log) (D.block_count disks.control) (D.block_count disks.pages) → ⊥)
-            → IfErr result (λ r. (r.fault ≡ fault.BadConfig) × (r.disks ≡ disks)) }
-        ensures err { IsWorld config (D.block_count disks.log) (D.block_count disks.control) (D.block_count disks.pages)
-            → IfErr result (λ r. RefusesRestart config (D.block_count disks.log) (D.slot r.disks.log) (D.slot r.disks.control)
+        // Whatever the devices hold, an engine comes only where the configuration fits them, and
+        // has a valid log.
+        ensures fits { IfOk result (λ e. IsWorld config (D.block_count disks.log)
+            (D.block_count disks.control) (D.block_count disks.pages)) }
+        ensures ok { IfOk result (λ e. IsRestarted config (D.block_count disks.log)
             (D.failures disks.log + D.failures disks.control + D.failures disks.pages)
-            (D.failures r.disks.log + D.failures r.disks.control + D.failures r.disks.pages) r.fault) }
-        // The devices come back, of which each block is as it was or as a sync leaves it; each was called once at most.
-        ensures back_log { IfErr result (λ r. AreLeft (D.block_count disks.log) (D.slot disks.log) (D.slot r.disks.log)) }
-        ensures back_control { IfErr result (λ r. AreLeft (D.block_count disks.control) (D.slot disks.control) (D.slot r.disks.control)) }
-        ensures back_pages { IfErr result (λ r. AreLeft config.pages (D.slot disks.pages) (D.slot r.disks.pages)) }
-        ensures counts { IfErr result (λ r. (D.block_count r.disks.log ≡ D.block_count disks.log) × (D.block_count r.disks.control ≡ D.block_count disks.control)
+            (D.attempts disks.log + 1 + (D.attempts disks.control + 1)
+            + (D.attempts disks.pages + 1)) e.machine) }
+        // Where it does not fit them, BadConfig comes and the devices are as they were; else it
+        // never comes.
+        ensures config { (IsWorld config (D.block_count disks.log) (D.block_count disks.control)
+            (D.block_count disks.pages) → ⊥)
+            → IfErr result (λ r. (r.fault ≡ fault.BadConfig) × (r.disks ≡ disks)) }
+        ensures err { IsWorld config (D.block_count disks.log) (D.block_count disks.control)
+            (D.block_count disks.pages)
+            → IfErr result (λ r. RefusesRestart config (D.block_count disks.log)
+            (D.slot r.disks.log) (D.slot r.disks.control)
+            (D.failures disks.log + D.failures disks.control + D.failures disks.pages)
+            (D.failures r.disks.log + D.failures r.disks.control + D.failures r.disks.pages)
+            r.fault) }
+        // The devices come back, of which each block is as it was or as a sync leaves it; each was
+        // called once at most.
+        ensures back_log { IfErr result (λ r.
+            AreLeft (D.block_count disks.log) (D.slot disks.log) (D.slot r.disks.log)) }
+        ensures back_control { IfErr result (λ r. AreLeft (D.block_count disks.control)
+            (D.slot disks.control) (D.slot r.disks.control)) }
+        ensures back_pages { IfErr result (λ r.
+            AreLeft config.pages (D.slot disks.pages) (D.slot r.disks.pages)) }
+        ensures counts { IfErr result (λ r. (D.block_count r.disks.log ≡ D.block_count disks.log)
+            × (D.block_count r.disks.control ≡ D.block_count disks.control)
             × (D.block_count r.disks.pages ≡ D.block_count disks.pages)) }
-        ensures attempts { IfErr result (λ r. IsOnceAtMost (D.attempts disks.log) (D.attempts r.disks.log)
-            × IsOnceAtMost (D.attempts disks.control) (D.attempts r.disks.control) × IsOnceAtMost (D.attempts disks.pages) (D.attempts r.disks.pages)) }
-        // Devices that hold a log, a control state and a checkpoint give an engine that begins again with these,
-        ensures warm { (n : Node) → Holds config (D.block_count disks.log) (D.block_count disks.control) (D.block_count disks.pages)
+        ensures attempts { IfErr result (λ r.
+            IsOnceAtMost (D.attempts disks.log) (D.attempts r.disks.log)
+            × IsOnceAtMost (D.attempts disks.control) (D.attempts r.disks.control)
+            × IsOnceAtMost (D.attempts disks.pages) (D.attempts r.disks.pages)) }
+        // Devices that hold a log, a control state and a checkpoint give an engine that begins
+        // again with these,
+        ensures warm { (n : Node) → Holds config (D.block_count disks.log)
+            (D.block_count disks.control) (D.block_count disks.pages)
             (D.slot disks.log) (D.slot disks.control) (D.slot disks.pages) n
             → IfOk result (λ e. IsWarm e.machine × IsStarted config n e.machine) }
         // or else a device failed or a growth was refused, and the devices still hold the same.
-        ensures bare { (n : Node) → Holds config (D.block_count disks.log) (D.block_count disks.control) (D.block_count disks.pages)
+        ensures bare { (n : Node) → Holds config (D.block_count disks.log)
+            (D.block_count disks.control) (D.block_count disks.pages)
             (D.slot disks.log) (D.slot disks.control) (D.slot disks.pages) n
             → IfErr result (λ r. ((r.fault ≡ fault.Device) ⊎ (r.fault ≡ fault.Memory))
-            × StillHolds config (D.block_count r.disks.log) (D.block_count r.disks.control) (D.block_count r.disks.pages)
-            (D.slot r.disks.log) (D.slot r.disks.control) (D.slot r.disks.pages) n) }
+            × StillHolds config (D.block_count r.disks.log) (D.block_count r.disks.control)
+            (D.block_count r.disks.pages) (D.slot r.disks.log) (D.slot r.disks.control)
+            (D.slot r.disks.pages) n) }
     {
         if !config.fits(&disks) {
             return Err(Refused {
@@ -84,13 +108,15 @@ impl<D: BlockDisk> Engine<D> {
 }
 
 impl<D: Restart> Engine<D> {
-    /// What a crash leaves of the devices: in each block one of its candidates. The blocks of the log's device take the picks first, then
-    /// the control block's, then the pages'. The answer tells how many picks were used.
+    /// What a crash leaves of the devices: in each block one of its candidates. The blocks of the
+    /// log's device take the picks first, then the control block's, then the pages'. The answer
+    /// tells how many picks were used.
     pub fn crash(self, picks: &[u8]) -> (Disks<D>, usize)
         ensures leaves { (config : AnyConfig) → IsMadeWith config self.machine → IsWarm self.machine
             → (n : Node) × Leaves self.machine n
-            × Holds config (D.block_count result.0.log) (D.block_count result.0.control) (D.block_count result.0.pages)
-            (D.slot result.0.log) (D.slot result.0.control) (D.slot result.0.pages) n }
+            × Holds config (D.block_count result.0.log) (D.block_count result.0.control)
+            (D.block_count result.0.pages) (D.slot result.0.log) (D.slot result.0.control)
+            (D.slot result.0.pages) n }
     {
         let Engine {
             alloc: _,

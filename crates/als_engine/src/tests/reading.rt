@@ -11,7 +11,8 @@ fn byte(value: u8) -> Image {
     }
 }
 
-/// What a read of 0/0 says: the value, how many commits there are, and the LSN of the last one. None: there is no list.
+/// What a read of 0/0 says: the value, how many commits there are, and the LSN of the last one.
+/// None: there is no list.
 fn said(engine: &Engine<MemDisk>) -> Option<(Image, u64, u64)> {
     let answer = engine.read(Key { page: 0, slot: 0 }).ok()?;
     let Answer {

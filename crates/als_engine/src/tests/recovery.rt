@@ -1,7 +1,8 @@
 // A standby that was stopped is opened again, and its recovery ends.
 use super::*;
 
-/// The devices of a standby that was stopped after its log was acknowledged. None: memory was refused.
+/// The devices of a standby that was stopped after its log was acknowledged. None: memory was
+/// refused.
 fn stopped(rt: &impl Abort, alloc: Global) -> Option<Disks<MemDisk>> {
     let disks = Disks {
         log: MemDisk::new(alloc, 8),
@@ -19,7 +20,8 @@ fn stopped(rt: &impl Abort, alloc: Global) -> Option<Disks<MemDisk>> {
     Some(disks)
 }
 
-/// It takes no log before its pages are redone and its recovery has ended. None: memory was refused.
+/// It takes no log before its pages are redone and its recovery has ended. None: memory was
+/// refused.
 fn recovers(rt: &impl Abort, alloc: Global) -> Option<()> {
     let disks = stopped(rt, alloc)?;
     let mut engine = Engine::open(alloc, disks, CONFIG).ok()?;

@@ -7,7 +7,8 @@ ghost use Rattle.als_store.specs.Checkpoints.{AreCovering, checkpoint_of};
 ghost use Rattle.als_ckpt_codec.specs.Checkpoint.{AreNumbers};
 ghost use Rattle.als_ckpt.specs.Control.{IsBeginning};
 ghost use Rattle.als_store.specs.declared.fault.Fault.TheVariants as fault;
-ghost use Rattle.als_store.specs.CheckpointEvents.{BeginsCheckpoint, NotBegun, WritesBlock, NoBlock, Publishes, NotPublished};
+ghost use Rattle.als_store.specs.CheckpointEvents.{BeginsCheckpoint, NotBegun, WritesBlock};
+ghost use Rattle.als_store.specs.CheckpointEvents.{NoBlock, Publishes, NotPublished};
 
 use super::Store;
 use crate::fault::Fault;
@@ -27,7 +28,13 @@ fn numbers(
     commits: u64,
     last_commit: Lsn,
 ) -> Numbers
-    ensures value { result ≡ record { position = position; greatest = greatest; open_checkpoint = open_checkpoint; commits = commits; last_commit = last_commit } }
+    ensures value { result ≡ record {
+      position = position;
+      greatest = greatest;
+      open_checkpoint = open_checkpoint;
+      commits = commits;
+      last_commit = last_commit;
+    } }
     ensures fits { AreNumbers result }
 {
     Numbers {
@@ -58,7 +65,8 @@ fn rows_fit(rows: &[LoggedPage])
 }
 
 impl<D: BlockDisk> Store<D> {
-    /// The checkpoint of the log and of the pages as they are now: a copy. Memory: a growth was refused.
+    /// The checkpoint of the log and of the pages as they are now: a copy. Memory: a growth was
+    /// refused.
     fn copied(&self, alloc: Global) -> Result<Checkpoint, Fault>
         ensures ok { IfOk result (λ c. c ≡ checkpoint_of self.now.stored.log self.now.stored.pool) }
         ensures fits { IfOk result (IsBeginning self.now.stored.pages) }
@@ -82,9 +90,11 @@ impl<D: BlockDisk> Store<D> {
         })
     }
 
-    /// Begins a checkpoint: copies both tables, the numbers and the end of the log as they are now. No block of it is written.
+    /// Begins a checkpoint: copies both tables, the numbers and the end of the log as they are now.
+    /// No block of it is written.
     ///
-    /// CkptBusy: one is begun, or the last publish is not synced. Memory: a growth was refused; nothing has changed.
+    /// CkptBusy: one is begun, or the last publish is not synced. Memory: a growth was refused;
+    /// nothing has changed.
     pub fn ckpt_begin(&mut self, alloc: Global) -> Result<(), Fault>
         ensures ok { OnOk result (BeginsCheckpoint self.old.stored self.new.stored) }
         ensures err { IfErr result (λ f. NotBegun self.old.stored f self.new.stored) }
@@ -102,7 +112,8 @@ impl<D: BlockDisk> Store<D> {
         }
     }
 
-    /// Writes the next block of the checkpoint that is begun: one write of the control device. It takes no memory.
+    /// Writes the next block of the checkpoint that is begun: one write of the control device. It
+    /// takes no memory.
     ///
     /// NothingToDo: none is begun, or each block is written. Device: the device failed.
     pub fn ckpt_block(&mut self) -> Result<(), Fault>
@@ -122,11 +133,13 @@ impl<D: BlockDisk> Store<D> {
 
     /// Publishes the checkpoint: one write of the control block. It takes no memory.
     ///
-    /// NothingToDo: none is begun. CkptBusy: a block of it is not written and synced. LogBehind: its position is above the
-    /// acknowledged LSN. Device: the device failed, and the control block may have been written or not.
+    /// NothingToDo: none is begun. CkptBusy: a block of it is not written and synced. LogBehind:
+    /// its position is above the acknowledged LSN. Device: the device failed, and the control block
+    /// may have been written or not.
     pub fn ckpt_publish(&mut self) -> Result<(), Fault>
         requires { self.old.stored.broken ≡ false }
-        ensures ok { OnOk result (IsSomeAnd self.old.stored.begun (λ b. Publishes self.old.stored b self.new.stored)) }
+        ensures ok { OnOk result
+            (IsSomeAnd self.old.stored.begun (λ b. Publishes self.old.stored b self.new.stored)) }
         ensures err { IfErr result (λ f. NotPublished self.old.stored f self.new.stored) }
     {
         // For the prover alone: what always holds of the log and of the control block.
@@ -146,7 +159,9 @@ impl<D: BlockDisk> Store<D> {
 
     /// No checkpoint can be begun: one is, or the last publish is not synced.
     pub fn is_ckpt_busy(&self) -> bool
-        ensures covers { WasWarm self.now.stored → AreCovering self.now.stored.log self.now.stored.pool self.now.stored.held self.now.stored.begun }
+        ensures covers { WasWarm self.now.stored
+            → AreCovering self.now.stored.log self.now.stored.pool self.now.stored.held
+            self.now.stored.begun }
     {
         self.control.is_busy()
     }

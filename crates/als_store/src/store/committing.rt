@@ -1,4 +1,5 @@
-ghost use Rattle.std.specs.Prelude.{◌≡◌, [], ◌∷◌, ◌++◌, None, option_to_list, false, IsOk, IfOk, IfErr};
+ghost use Rattle.std.specs.Prelude.{◌≡◌, [], ◌∷◌, ◌++◌, None, option_to_list, false, IsOk, IfOk};
+ghost use Rattle.std.specs.Prelude.{IfErr};
 ghost use Rattle.als_record.specs.Spelling.{IsRecord};
 ghost use Rattle.als_record.specs.LogText.{end_of};
 ghost use Rattle.als_record.specs.Transactions.{is_commit};
@@ -14,15 +15,19 @@ use als_view::Commit;
 use std::alloc::Global;
 
 impl<D: BlockDisk> Store<D> {
-    /// The commit that a record makes, with what survives of its transaction: asked before the record is held. `None`: it is no commit
-    /// record, or may not follow the log. Memory: a growth was refused, for what a commit writes alone.
+    /// The commit that a record makes, with what survives of its transaction: asked before the
+    /// record is held. `None`: it is no commit record, or may not follow the log. Memory: a growth
+    /// was refused, for what a commit writes alone.
     pub fn commit_of(&self, alloc: Global, logged: &Record) -> Result<Option<Commit>, Fault>
         requires fits { IsRecord self.now.stored.pages logged.now }
         requires at { logged.now.lsn.0 ≡ end_of self.now.stored.log }
-        // Of a record that may follow: the commits of the log with it are those of the log and this one, if there is one.
+        // Of a record that may follow: the commits of the log with it are those of the log and this
+        // one, if there is one.
         ensures ok { IfOk result (λ found. first_bad self.now.stored.log logged.now ≡ None
-            → commits_of (self.now.stored.log ++ logged.now ∷ []) ≡ commits_of self.now.stored.log ++ option_to_list found) }
-        ensures err { IfErr result (λ f. (f ≡ fault.Memory) × (first_bad self.now.stored.log logged.now ≡ None)) }
+            → commits_of (self.now.stored.log ++ logged.now ∷ []) ≡ commits_of self.now.stored.log
+            ++ option_to_list found) }
+        ensures err { IfErr result (λ f. (f ≡ fault.Memory)
+            × (first_bad self.now.stored.log logged.now ≡ None)) }
         ensures reserved { is_commit logged.now.body ≡ false → IsOk result }
     {
         match self.validator.commit_of(alloc, &logged.view()) {

@@ -21,9 +21,9 @@ fn crash_one<D: Restart>(disk: D, picks: &[u8]) -> (D, usize)
     disk.crash(picks)
 }
 
-/// Stopped devices as a crash leaves them: each block has one of its candidates. The blocks that have more than one take the picks in
-/// rising order, those of the log first, then those of the control device, then those of the pages. The answer tells how many picks
-/// were used.
+/// Stopped devices as a crash leaves them: each block has one of its candidates. The blocks that
+/// have more than one take the picks in rising order, those of the log first, then those of the
+/// control device, then those of the pages. The answer tells how many picks were used.
 pub fn crash_disks<D: Restart>(disks: Disks<D>, picks: &[u8]) -> (Disks<D>, usize)
     ensures log { AreSettled (D.slot result.0.log) }
     ensures control { AreSettled (D.slot result.0.control) }
@@ -32,15 +32,19 @@ pub fn crash_disks<D: Restart>(disks: Disks<D>, picks: &[u8]) -> (Disks<D>, usiz
     ensures control_left { IsCrashOf (D.slot disks.control) (D.slot result.0.control) }
     ensures pages_left { IsCrashOf (D.slot disks.pages) (D.slot result.0.pages) }
     // What devices still hold that could not be taken up, they hold on.
-    ensures stays { (count blocks : ℕ) (n : Node) → StaysNode count blocks (D.slot disks.log) (D.slot disks.control) (D.slot disks.pages) n
-        → IsNode count blocks (D.slot result.0.log) (D.slot result.0.control) (D.slot result.0.pages) n }
+    ensures stays { (count blocks : ℕ) (n : Node)
+        → StaysNode count blocks (D.slot disks.log) (D.slot disks.control) (D.slot disks.pages) n
+        → IsNode count blocks (D.slot result.0.log) (D.slot result.0.control)
+        (D.slot result.0.pages) n }
     ensures used { result.1 ≤ length picks.now }
     ensures log_blocks { D.block_count result.0.log ≡ D.block_count disks.log }
     ensures control_blocks { D.block_count result.0.control ≡ D.block_count disks.control }
     ensures page_blocks { D.block_count result.0.pages ≡ D.block_count disks.pages }
-    ensures failures { D.failures result.0.log + D.failures result.0.control + D.failures result.0.pages
+    ensures failures { D.failures result.0.log + D.failures result.0.control
+        + D.failures result.0.pages
         ≡ D.failures disks.log + D.failures disks.control + D.failures disks.pages }
-    ensures attempts { D.attempts result.0.log + D.attempts result.0.control + D.attempts result.0.pages
+    ensures attempts { D.attempts result.0.log + D.attempts result.0.control
+        + D.attempts result.0.pages
         ≡ D.attempts disks.log + D.attempts disks.control + D.attempts disks.pages }
 {
     let Disks {
@@ -64,11 +68,14 @@ pub fn crash_disks<D: Restart>(disks: Disks<D>, picks: &[u8]) -> (Disks<D>, usiz
 }
 
 impl<D: Restart> Store<D> {
-    /// The devices as a crash leaves them: each block has one of its candidates, as `crash_disks` says. The answer tells how many picks
-    /// were used.
+    /// The devices as a crash leaves them: each block has one of its candidates, as `crash_disks`
+    /// says. The answer tells how many picks were used.
     pub fn crash(self, picks: &[u8]) -> (Disks<D>, usize)
-        // They hold one of the control states that were synced or written since, and the front of the log that ends at its mark.
-        ensures node { WasWarm self.stored → HoldsLeft self.stored (D.slot result.0.log) (D.slot result.0.control) (D.slot result.0.pages) }
+        // They hold one of the control states that were synced or written since, and the front of
+        // the log that ends at its mark.
+        ensures node { WasWarm self.stored
+            → HoldsLeft self.stored (D.slot result.0.log) (D.slot result.0.control)
+            (D.slot result.0.pages) }
         ensures log { AreSettled (D.slot result.0.log) }
         ensures control { AreSettled (D.slot result.0.control) }
         ensures pages { AreSettled (D.slot result.0.pages) }
@@ -78,8 +85,10 @@ impl<D: Restart> Store<D> {
         ensures few_blocks { self.stored.blocks ≤ 4194304 }
         ensures control_blocks { 321 ≤ D.block_count result.0.control }
         ensures page_blocks { self.stored.pages ≤ D.block_count result.0.pages }
-        ensures failures { D.failures result.0.log + D.failures result.0.control + D.failures result.0.pages ≡ self.stored.failures }
-        ensures attempts { D.attempts result.0.log + D.attempts result.0.control + D.attempts result.0.pages ≡ self.stored.attempts }
+        ensures failures { D.failures result.0.log + D.failures result.0.control
+            + D.failures result.0.pages ≡ self.stored.failures }
+        ensures attempts { D.attempts result.0.log + D.attempts result.0.control
+            + D.attempts result.0.pages ≡ self.stored.attempts }
     {
         let disks = self.into_disks();
         crash_disks(disks, picks)

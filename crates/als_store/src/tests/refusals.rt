@@ -27,8 +27,10 @@ fn update_at(lsn: Lsn, prev: Lsn, page: u32) -> Record
 /// Devices in memory with one fuse for all.
 fn failing(alloc: Global, fuse: &Fuse) -> Result<Disks<FailingDisk<MemDisk>>, AllocError>
     ensures log { IfOk result (λ d. ⟦<FailingDisk<MemDisk> as BlockDisk>⟧.block_count d.log ≡ 8) }
-    ensures control { IfOk result (λ d. ⟦<FailingDisk<MemDisk> as BlockDisk>⟧.block_count d.control ≡ 321) }
-    ensures pages { IfOk result (λ d. ⟦<FailingDisk<MemDisk> as BlockDisk>⟧.block_count d.pages ≡ 4) }
+    ensures control { IfOk result (λ d. ⟦<FailingDisk<MemDisk> as BlockDisk>⟧.block_count d.control
+        ≡ 321) }
+    ensures pages { IfOk result (λ d. ⟦<FailingDisk<MemDisk> as BlockDisk>⟧.block_count d.pages
+        ≡ 4) }
 {
     let (log, control, pages) = (fuse.clone()?, fuse.clone()?, fuse.clone()?);
     Ok(Disks {
@@ -59,7 +61,8 @@ fn update(
     }
 }
 
-/// Redo, a write and a sync are refused in the order of their causes, though the device would fail. None: memory was refused.
+/// Redo, a write and a sync are refused in the order of their causes, though the device would fail.
+/// None: memory was refused.
 fn refuses(rt: &impl Abort, alloc: Global) -> Option<()> {
     let Ok(fuse) = Fuse::new(alloc) else {
         return None;

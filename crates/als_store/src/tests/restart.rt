@@ -4,7 +4,8 @@ ghost use Rattle.std.specs.Prelude.{◌≤◌, IfSome};
 use super::*;
 use crate::OpenFault;
 
-/// The devices of a store that was stopped after its record was acknowledged. None: memory was refused on the way.
+/// The devices of a store that was stopped after its record was acknowledged. None: memory was
+/// refused on the way.
 fn stopped(rt: &impl Abort, alloc: Global) -> Option<Disks<MemDisk>>
     ensures some { IfSome result (λ d. 1 ≤ ⟦<MemDisk as BlockDisk>⟧.block_count d.log) }
     ensures few { IfSome result (λ d. ⟦<MemDisk as BlockDisk>⟧.block_count d.log ≤ 4194304) }

@@ -1,7 +1,9 @@
 use Rattle.als_store.proofs.tests.admit.Goals as goal
 
 pub admit-answer-requires-clause-fits : goal.admit-answer-requires-clause-fits
-admit-answer-requires-clause-fits g c = c.commit_at-logged.ensures.fits c.args.store.now.stored.pages
+admit-answer-requires-clause-fits g c =
+    c.commit_at-logged.ensures.fits c.args.store.now.stored.pages
 
 pub admit-requires-clause-fits : goal.admit-requires-clause-fits
-admit-requires-clause-fits g c = c.commit_at-logged.ensures.fits c.admit-answer.new.self.stored.pages
+admit-requires-clause-fits g c =
+    c.commit_at-logged.ensures.fits c.admit-answer.new.self.stored.pages

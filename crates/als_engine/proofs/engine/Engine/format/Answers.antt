@@ -11,5 +11,7 @@ invariant_of-result g c =
     let list = c.in-Ok.ensures.ok in
     record {
       ready = ready_new held c.new-in-Ok-format.result _ _ _ _ _ made c.new-in-Ok-format.ensures;
-      seen = seen_new held c.in-Ok.shown list.0 list.3 list.1 (list.2 ∙ sym (ap (λ (s : Stored). s.pages) made)) (ap (λ (s : Stored). s.log) made) (ap (λ (s : Stored). s.recovering) made) c.a_view_goes_on.ensures.start;
+      seen = seen_new held c.in-Ok.shown list.0 list.3 list.1
+          (list.2 ∙ sym (ap (λ (s : Stored). s.pages) made)) (ap (λ (s : Stored). s.log) made)
+          (ap (λ (s : Stored). s.recovering) made) c.a_view_goes_on.ensures.start;
     }

@@ -11,17 +11,27 @@ use Rattle.als_engine.proofs.engine.Engine.open.Goals as goal
 
 pub invariant_of-result : goal.invariant_of-result
 invariant_of-result g c =
-    serving_opened c.into_parts-store.result.0.stored c.in-Ok.opened.store.stored c.new-receiver.result c.into_parts-store.result.1 c.in-Ok.opened.view _ _ _ _ _ (ap (λ (h : Holding). h.stored) c.into_parts-store.ensures.0) c.into_parts-store.ensures.1
-    c.in-Ok.ensures.ok c.in-Ok.ensures.view c.new-receiver.ensures c.end.ensures.end c.a_view_goes_on.ensures.waits
+    serving_opened c.into_parts-store.result.0.stored c.in-Ok.opened.store.stored
+    c.new-receiver.result c.into_parts-store.result.1 c.in-Ok.opened.view _ _ _ _ _
+    (ap (λ (h : Holding). h.stored) c.into_parts-store.ensures.0) c.into_parts-store.ensures.1
+    c.in-Ok.ensures.ok c.in-Ok.ensures.view c.new-receiver.ensures c.end.ensures.end
+    c.a_view_goes_on.ensures.waits
 
 pub returns-in-Ok-clause-ok : goal.returns-in-Ok-clause-ok
 returns-in-Ok-clause-ok g c =
-    restarted c.args.config c.into_parts-store.result.0.stored c.in-Ok.opened.store.stored c.into_parts-store.result.1 c.in-Ok.opened.view c.new-receiver.result.kept _ _ _ (c.fits.ensures.0 c.if-not-fits.false).numbers
-    (ap (λ (h : Holding). h.stored) c.into_parts-store.ensures.0) c.into_parts-store.ensures.1 c.in-Ok.ensures.ok c.in-Ok.ensures.view (ap (λ (r : Reception). r.kept) c.new-receiver.ensures)
+    restarted c.args.config c.into_parts-store.result.0.stored c.in-Ok.opened.store.stored
+    c.into_parts-store.result.1 c.in-Ok.opened.view c.new-receiver.result.kept _ _ _
+    (c.fits.ensures.0 c.if-not-fits.false).numbers
+    (ap (λ (h : Holding). h.stored) c.into_parts-store.ensures.0) c.into_parts-store.ensures.1
+    c.in-Ok.ensures.ok c.in-Ok.ensures.view
+    (ap (λ (r : Reception). r.kept) c.new-receiver.ensures)
 
 pub returns-in-Ok-clause-warm : goal.returns-in-Ok-clause-warm
 returns-in-Ok-clause-warm g c = λ n holds.
     let same = ap (λ (h : Holding). h.stored) c.into_parts-store.ensures.0 in
-    let m = machine c.into_parts-store.result.0.stored c.args.config.pending c.new-receiver.result.kept None (published_of c.into_parts-store.result.1) in
+    let m = machine c.into_parts-store.result.0.stored c.args.config.pending
+    c.new-receiver.result.kept None (published_of c.into_parts-store.result.1) in
     started c.args.config n m _ _ _ (returns-in-Ok-clause-ok g c)
-    (subst (λ (h : Stored). TakesUp n h) (sym same) (c.in-Ok.ensures.warm n holds.log_settled holds.control_settled holds.pages_settled holds.node))
+    (subst (λ (h : Stored). TakesUp n h) (sym same)
+    (c.in-Ok.ensures.warm n holds.log_settled holds.control_settled holds.pages_settled
+    holds.node))

@@ -4,4 +4,5 @@ use Rattle.als_engine.proofs.engine.Engine.page_now.Goals as goal
 pub invariant_of-self : goal.invariant_of-self
 invariant_of-self g c =
     let s = c.self.inside in
-    serving_not_shown s.store.stored c.page_now.new.self.stored s.receiver s.refused s.shown c.args.page c.in_err-found.field-0.0 c.self.invariant c.in_err-found.ensures.err
+    serving_not_shown s.store.stored c.page_now.new.self.stored s.receiver s.refused s.shown
+    c.args.page c.in_err-found.field-0.0 c.self.invariant c.in_err-found.ensures.err

@@ -8,12 +8,15 @@ use Rattle.als_engine.proofs.engine.Engine.read.Goals as goal
 pub returns-in-Ok : goal.returns-in-Ok
 returns-in-Ok g c =
     let s = c.self.inside in
-    let now = c.in-Ok.ensures.ok s.store.stored.log (acknowledged s.store.stored) c.end.ensures.log.valid (omega (arith, c.end.ensures.limit)) c.self.invariant.seen.shows in
+    let now = c.in-Ok.ensures.ok s.store.stored.log (acknowledged s.store.stored)
+    c.end.ensures.log.valid (omega (arith, c.end.ensures.limit)) c.self.invariant.seen.shows in
     rw (← c.self.view_is) (
-      subst (λ (n : ℕ). ReadsFront s.store.stored.log (acknowledged s.store.stored) n c.args.key c.in-Ok.answer) c.self.invariant.seen.pages now.0,
+      subst (λ (n : ℕ). ReadsFront s.store.stored.log (acknowledged s.store.stored) n c.args.key
+          c.in-Ok.answer) c.self.invariant.seen.pages now.0,
       ap (λ (n : Option ℕ). is_some n) now.1,
       sym (ap (λ (n : Option ℕ). count_in n) now.1),
     )
 
 pub returns-in-Err : goal.returns-in-Err
-returns-in-Err g c = rw (← c.self.view_is) (refl, ap (λ (n : Option ℕ). is_some n) c.in-Err.ensures.err.1)
+returns-in-Err g c =
+    rw (← c.self.view_is) (refl, ap (λ (n : Option ℕ). is_some n) c.in-Err.ensures.err.1)

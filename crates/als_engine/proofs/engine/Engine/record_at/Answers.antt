@@ -6,4 +6,9 @@ use Rattle.als_engine.proofs.engine.Engine.record_at.Goals as goal
 
 pub returns : goal.returns
 returns g c =
-    rw (← c.self.view_is) (c.in_ok-found.ensures.ok.0, ap (λ (h : Stored). machine h c.self.inside.limit c.self.inside.receiver.kept c.self.inside.refused (published_of c.self.inside.shown)) c.in_ok-found.ensures.ok.1)
+    rw (← c.self.view_is) (
+      c.in_ok-found.ensures.ok.0,
+      ap
+          (λ (h : Stored). machine h c.self.inside.limit c.self.inside.receiver.kept
+          c.self.inside.refused (published_of c.self.inside.shown)) c.in_ok-found.ensures.ok.1,
+    )

@@ -10,16 +10,24 @@ pub invariant_of-self : goal.invariant_of-self
 invariant_of-self g c =
     let s = c.self.inside in
     record {
-      ready = ready_torn s.store.stored c.seal.new.self.stored (sealed_state s.store.stored) s.receiver s.refused c.self.invariant.ready (omega (arith, c.self.invariant.ready.marks, c.in_err-seal.ensures.rises)) c.in_err-seal.ensures.err.1;
-      seen = seen_still s.store.stored c.seal.new.self.stored s.shown c.self.invariant.seen _ c.in_err-seal.ensures.err.1.after refl refl refl refl;
+      ready = ready_torn s.store.stored c.seal.new.self.stored (sealed_state s.store.stored)
+          s.receiver s.refused c.self.invariant.ready
+          (omega (arith, c.self.invariant.ready.marks, c.in_err-seal.ensures.rises))
+          c.in_err-seal.ensures.err.1;
+      seen = seen_still s.store.stored c.seal.new.self.stored s.shown c.self.invariant.seen _
+          c.in_err-seal.ensures.err.1.after refl refl refl refl;
     }
 
 pub invariant_of-self-2 : goal.invariant_of-self-2
 invariant_of-self-2 g c =
     let s = c.self.inside in
     record {
-      ready = ready_written s.store.stored c.seal.new.self.stored (sealed_state s.store.stored) s.receiver c.drop_partial.new.self _
-          (rests_dropped s.store.stored s.receiver c.drop_partial.new.self c.self.invariant.ready.rests c.drop_partial.ensures.same) (none_is_no_some Memory)
-          (omega (arith, c.self.invariant.ready.marks, c.in_ok-seal.ensures.rises)) c.in_ok-seal.ensures.ok;
-      seen = seen_still s.store.stored c.seal.new.self.stored s.shown c.self.invariant.seen _ c.in_ok-seal.ensures.ok.after refl refl refl refl;
+      ready = ready_written s.store.stored c.seal.new.self.stored (sealed_state s.store.stored)
+          s.receiver c.drop_partial.new.self _
+          (rests_dropped s.store.stored s.receiver c.drop_partial.new.self
+          c.self.invariant.ready.rests c.drop_partial.ensures.same) (none_is_no_some Memory)
+          (omega (arith, c.self.invariant.ready.marks, c.in_ok-seal.ensures.rises))
+          c.in_ok-seal.ensures.ok;
+      seen = seen_still s.store.stored c.seal.new.self.stored s.shown c.self.invariant.seen _
+          c.in_ok-seal.ensures.ok.after refl refl refl refl;
     }

@@ -2,4 +2,6 @@ use Rattle.std.proofs.Common.{arith, refl}
 use Rattle.als_store.proofs.store.Store.acknowledged.Goals as goal
 
 pub returns-clause-front : goal.returns-clause-front
-returns-clause-front g c = rw (← c.self.view_is) (c.self.invariant.marks.fronts c.self.inside.control.synced (0, omega arith, refl))
+returns-clause-front g c =
+    rw (← c.self.view_is) (c.self.invariant.marks.fronts c.self.inside.control.synced
+    (0, omega arith, refl))

@@ -4,4 +4,5 @@ use Rattle.als_store.proofs.store.Store.ckpt_block.Goals as goal
 pub invariant_of-self : goal.invariant_of-self
 invariant_of-self g c =
     let s = c.self.inside in
-    stored-next s.pages s.count s.log s.control s.pool.pool s.validator s.broken s.origin s.recovering c.self.invariant c.write_next.new.self c.in-Ok.ensures.ok.1
+    stored-next s.pages s.count s.log s.control s.pool.pool s.validator s.broken s.origin
+    s.recovering c.self.invariant c.write_next.new.self c.in-Ok.ensures.ok.1

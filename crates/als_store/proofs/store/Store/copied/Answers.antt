@@ -17,7 +17,8 @@ logged_rows-requires g c =
       few = omega (
         arith,
         length_rows c.rows.result.now,
-        ap (λ (rows : List TransactionRow). length rows) (c.rows.ensures.rows s.pages s.log.log h.judged),
+        ap (λ (rows : List TransactionRow). length rows)
+            (c.rows.ensures.rows s.pages s.log.log h.judged),
         c.fits_checkpoint.ensures.few s.log.log h.is_log.valid,
       );
     }
@@ -28,7 +29,8 @@ returns-clause-ok g c =
     let h = c.self.invariant in
     let greatest = c.greatest.ensures s.pages s.log.log h.judged in
     let begun = c.open_checkpoint.ensures s.pages s.log.log h.judged in
-    let rows = c.in_ok-transactions.ensures.value ∙ ap logged_rows (c.rows.ensures.rows s.pages s.log.log h.judged) in
+    let rows = c.in_ok-transactions.ensures.value
+    ∙ ap logged_rows (c.rows.ensures.rows s.pages s.log.log h.judged) in
     let numbers = c.numbers-numbers.ensures.value in
     rw (← c.self.view_is, numbers)
     (λ j. record {
@@ -47,9 +49,19 @@ pub returns-clause-fits : goal.returns-clause-fits
 returns-clause-fits g c =
     let s = c.self.inside in
     let h = c.self.invariant in
-    let rows = c.in_ok-transactions.ensures.value ∙ ap logged_rows (c.rows.ensures.rows s.pages s.log.log h.judged) in
+    let rows = c.in_ok-transactions.ensures.value
+    ∙ ap logged_rows (c.rows.ensures.rows s.pages s.log.log h.judged) in
     rw (← c.self.view_is)
-    (begins s.pages s.log.log s.pool.pool c.numbers-numbers.result c.in_ok-transactions.transactions c.in_ok-pages.pages c.numbers-numbers.ensures.fits
-    (ap (λ (n : Numbers). n.position.0) c.numbers-numbers.ensures.value ∙ c.end.ensures.end) rows c.in_ok-transactions.ensures.fits c.in_ok-pages.ensures.rows
-    (subst (λ (rows : List LoggedPage). AllByRecursion IsLoggedPage rows) c.as_slice.ensures.value c.rows_fit.ensures) (c.in_ok-pages.ensures.tabled ∙ h.paged.count) h.few_pages (end_low s.log.log)
-    (omega (arith, length_logged (table_of s.log.log), c.fits_checkpoint.ensures.few s.log.log h.is_log.valid)) (c.fits_checkpoint.ensures.rising s.log.log h.is_log.valid))
+    (begins s.pages s.log.log s.pool.pool c.numbers-numbers.result c.in_ok-transactions.transactions
+    c.in_ok-pages.pages c.numbers-numbers.ensures.fits
+    (ap (λ (n : Numbers). n.position.0) c.numbers-numbers.ensures.value ∙ c.end.ensures.end) rows
+    c.in_ok-transactions.ensures.fits c.in_ok-pages.ensures.rows
+    (subst (λ (rows : List LoggedPage). AllByRecursion IsLoggedPage rows) c.as_slice.ensures.value
+    c.rows_fit.ensures) (c.in_ok-pages.ensures.tabled ∙ h.paged.count) h.few_pages
+    (end_low s.log.log)
+    (omega (
+      arith,
+      length_logged (table_of s.log.log),
+      c.fits_checkpoint.ensures.few s.log.log
+          h.is_log.valid,
+    )) (c.fits_checkpoint.ensures.rising s.log.log h.is_log.valid))

@@ -15,10 +15,17 @@ invariant_of-self g c =
     let new = c.flush_one.new.self.pool in
     let mark = c.acknowledged-acknowledged.result in
     let at = ap (λ (l : Lsn). l.0) c.acknowledged-acknowledged.ensures.mark in
-    stored-pool s.pages s.count s.log s.control s.pool.pool s.validator s.broken s.origin s.recovering h new s.broken
-    (pool-flushed s.pages s.log.log s.pool.pool new c.args.page mark s.broken h.paged c.in-Ok.ensures.ok (c.in-Ok.ensures.ends (end_of s.log.log) h.paged.ends))
+    stored-pool s.pages s.count s.log s.control s.pool.pool s.validator s.broken s.origin
+    s.recovering h new s.broken
+    (pool-flushed s.pages s.log.log s.pool.pool new c.args.page mark s.broken h.paged
+    c.in-Ok.ensures.ok (c.in-Ok.ensures.ends (end_of s.log.log) h.paged.ends))
     (omega (arith, ap (λ (v : Pooled). total_waiting v.waits) c.in-Ok.ensures.ok.stores.same))
-    (λ is. record { is_pool = c.in-Ok.ensures.keeps s.log.log s.control.synced.mark.0 (omega (arith, at)) is; grows = c.in-Ok.ensures.grows s.log.log s.control.synced.mark.0 (omega (arith, at)) is }) (λ e. e)
+    (λ is. record {
+      is_pool =
+          c.in-Ok.ensures.keeps s.log.log s.control.synced.mark.0 (omega (arith, at)) is;
+      grows = c.in-Ok.ensures.grows s.log.log s.control.synced.mark.0 (omega (arith, at))
+          is;
+    }) (λ e. e)
 
 pub invariant_of-self-in-Err-Device : goal.invariant_of-self-in-Err-Device
 invariant_of-self-in-Err-Device g c =
@@ -29,8 +36,17 @@ invariant_of-self-in-Err-Device g c =
     let mark = c.acknowledged-acknowledged.result in
     let at = ap (λ (l : Lsn). l.0) c.acknowledged-acknowledged.ensures.mark in
     let fails : FlushFails s.pool.pool new c.args.page mark
-    = subst (λ (f : Fault). RefusesFlush f s.pool.pool new c.args.page mark) c.in-Err-Device.field-0-is e.err in
-    stored-pool s.pages s.count s.log s.control s.pool.pool s.validator s.broken s.origin s.recovering h new true
-    (pool-broken s.pages s.log.log s.pool.pool new s.broken h.paged fails.same (e.ends (end_of s.log.log) h.paged.ends))
+    = subst (λ (f : Fault). RefusesFlush f s.pool.pool new c.args.page mark)
+    c.in-Err-Device.field-0-is e.err in
+    stored-pool s.pages s.count s.log s.control s.pool.pool s.validator s.broken s.origin
+    s.recovering h new true
+    (pool-broken s.pages s.log.log s.pool.pool new s.broken h.paged fails.same
+    (e.ends (end_of s.log.log) h.paged.ends))
     (omega (arith, ap (λ (v : Pooled). total_waiting v.waits) fails.same))
-    (λ is. record { is_pool = e.keeps s.log.log s.control.synced.mark.0 (omega (arith, at)) is; grows = e.grows s.log.log s.control.synced.mark.0 (omega (arith, at)) is }) (λ wrong. absurd cc)
+    (λ is. record {
+      is_pool =
+          e.keeps s.log.log s.control.synced.mark.0 (omega (arith, at)) is;
+      grows =
+          e.grows s.log.log s.control.synced.mark.0 (omega (arith, at)) is;
+    })
+    (λ wrong. absurd cc)

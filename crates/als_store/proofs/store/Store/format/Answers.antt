@@ -11,27 +11,43 @@ pub invariant_of-result : goal.invariant_of-result
 invariant_of-result g c =
     let laid = c.in-Ok-lay_out in
     let parts = c.in-Ok in
-    stored-new c.of-origin.result false c.args.pages (g.D.BlockDisk.block_count c.args.disks.log) (g.D.BlockDisk.failures c.args.disks.log) (g.D.BlockDisk.attempts c.args.disks.log + 2)
-    (g.D.BlockDisk.block_count c.args.disks.control) (g.D.BlockDisk.failures c.args.disks.control) laid.laid.control.attempts
+    stored-new c.of-origin.result false c.args.pages (g.D.BlockDisk.block_count c.args.disks.log)
+    (g.D.BlockDisk.failures c.args.disks.log) (g.D.BlockDisk.attempts c.args.disks.log + 2)
+    (g.D.BlockDisk.block_count c.args.disks.control) (g.D.BlockDisk.failures c.args.disks.control)
+    laid.laid.control.attempts
     laid.laid.log laid.laid.control laid.laid.pool.pool
-    (without_frames c.args.pages c.args.frames (λ _. only zeros) (g.D.BlockDisk.block_count c.args.disks.pages) (g.D.BlockDisk.failures c.args.disks.pages) (g.D.BlockDisk.attempts c.args.disks.pages + c.args.pages + 1))
-    parts.parts.validator c.new-in-Ok-lay_out.result c.new-in-Ok-lay_out.ensures c.requires.few_pages c.requires.some_blocks laid.ensures.log laid.ensures.control laid.ensures.pool refl laid.ensures.is_pool (c.pool_ends_below.ensures.of [] 16 laid.laid.pool.pool (laid.ensures.is_pool 16)) parts.ensures.validator
+    (without_frames c.args.pages c.args.frames (λ _. only zeros)
+    (g.D.BlockDisk.block_count c.args.disks.pages) (g.D.BlockDisk.failures c.args.disks.pages)
+    (g.D.BlockDisk.attempts c.args.disks.pages + c.args.pages + 1))
+    parts.parts.validator c.new-in-Ok-lay_out.result c.new-in-Ok-lay_out.ensures
+    c.requires.few_pages c.requires.some_blocks laid.ensures.log laid.ensures.control
+    laid.ensures.pool refl laid.ensures.is_pool
+    (c.pool_ends_below.ensures.of [] 16 laid.laid.pool.pool (laid.ensures.is_pool 16))
+    parts.ensures.validator
 
 pub returns-in-Ok-lay_out-clause-ok : goal.returns-in-Ok-lay_out-clause-ok
 returns-in-Ok-lay_out-clause-ok g c =
     let laid = c.in-Ok-lay_out in
     rw c.of-origin.ensures
-    (view-new c.args.pages (g.D.BlockDisk.block_count c.args.disks.log) (g.D.BlockDisk.failures c.args.disks.log) (g.D.BlockDisk.attempts c.args.disks.log + 2)
-    (g.D.BlockDisk.block_count c.args.disks.control) (g.D.BlockDisk.failures c.args.disks.control) laid.laid.control.attempts laid.laid.log laid.laid.control laid.laid.pool.pool
-    (formatted_pool c.args.pages c.args.frames (g.D.BlockDisk.block_count c.args.disks.pages) (g.D.BlockDisk.failures c.args.disks.pages) (g.D.BlockDisk.attempts c.args.disks.pages + c.args.pages + 1))
+    (view-new c.args.pages (g.D.BlockDisk.block_count c.args.disks.log)
+    (g.D.BlockDisk.failures c.args.disks.log) (g.D.BlockDisk.attempts c.args.disks.log + 2)
+    (g.D.BlockDisk.block_count c.args.disks.control) (g.D.BlockDisk.failures c.args.disks.control)
+    laid.laid.control.attempts laid.laid.log laid.laid.control laid.laid.pool.pool
+    (formatted_pool c.args.pages c.args.frames (g.D.BlockDisk.block_count c.args.disks.pages)
+    (g.D.BlockDisk.failures c.args.disks.pages) (g.D.BlockDisk.attempts c.args.disks.pages
+    + c.args.pages + 1))
     laid.ensures.log laid.ensures.control laid.ensures.pool)
 
 pub returns-in-Ok-lay_out-clause-warm : goal.returns-in-Ok-lay_out-clause-warm
 returns-in-Ok-lay_out-clause-warm g c =
     let laid = c.in-Ok-lay_out in
     rw c.of-origin.ensures
-    (warm-laid c.args.pages (g.D.BlockDisk.block_count c.args.disks.log) (g.D.BlockDisk.failures c.args.disks.log) (g.D.BlockDisk.attempts c.args.disks.log + 2)
-    (g.D.BlockDisk.block_count c.args.disks.control) (g.D.BlockDisk.failures c.args.disks.control) laid.laid.control.attempts
+    (warm-laid c.args.pages (g.D.BlockDisk.block_count c.args.disks.log)
+    (g.D.BlockDisk.failures c.args.disks.log) (g.D.BlockDisk.attempts c.args.disks.log + 2)
+    (g.D.BlockDisk.block_count c.args.disks.control) (g.D.BlockDisk.failures c.args.disks.control)
+    laid.laid.control.attempts
     laid.laid.log laid.laid.control laid.laid.pool.pool
-    (without_frames c.args.pages c.args.frames (λ _. only zeros) (g.D.BlockDisk.block_count c.args.disks.pages) (g.D.BlockDisk.failures c.args.disks.pages) (g.D.BlockDisk.attempts c.args.disks.pages + c.args.pages + 1))
+    (without_frames c.args.pages c.args.frames (λ _. only zeros)
+    (g.D.BlockDisk.block_count c.args.disks.pages) (g.D.BlockDisk.failures c.args.disks.pages)
+    (g.D.BlockDisk.attempts c.args.disks.pages + c.args.pages + 1))
     laid.ensures.log laid.ensures.control laid.ensures.pool laid.ensures.is_pool)

@@ -14,10 +14,17 @@ invariant_of-store g c =
     let e = c.in-Ok.ensures in
     let p = c.into_parts-log.ensures in
     let said = said_now x.control in
-    let ends = c.pool_ends_below.ensures.reads x.log.log (position_in said) (rows_in said) x.pool.pool (subst (λ n. IsLog n x.log.log) (sym (ap (λ (f : Paged). f.pages) e.stored.is)) e.ok.valid.text) e.ok.rows e.ok.queues in
+    let ends = c.pool_ends_below.ensures.reads x.log.log (position_in said) (rows_in said)
+    x.pool.pool (subst (λ n. IsLog n x.log.log) (sym (ap (λ (f : Paged). f.pages) e.stored.is))
+    e.ok.valid.text) e.ok.rows e.ok.queues in
     rw (c.of-origin.ensures, p.0, p.1, p.2, p.3, p.4)
-    (stored-opened c.args.pages (g.D.BlockDisk.block_count disks.log) c.args.frames (g.D.BlockDisk.failures disks.log) (g.D.BlockDisk.attempts disks.log + 1) (g.D.BlockDisk.block_count disks.control) (g.D.BlockDisk.failures disks.control) (g.D.BlockDisk.attempts disks.control + 1)
-    (g.D.BlockDisk.block_count disks.pages) (g.D.BlockDisk.failures disks.pages) (g.D.BlockDisk.attempts disks.pages + 1) (g.D.BlockDisk.slot disks.pages) x.log x.control x.pool.pool x.validator x.count e.log e.control e.stored e.ok ends c.requires.pages.1)
+    (stored-opened c.args.pages (g.D.BlockDisk.block_count disks.log) c.args.frames
+    (g.D.BlockDisk.failures disks.log) (g.D.BlockDisk.attempts disks.log + 1)
+    (g.D.BlockDisk.block_count disks.control) (g.D.BlockDisk.failures disks.control)
+    (g.D.BlockDisk.attempts disks.control + 1)
+    (g.D.BlockDisk.block_count disks.pages) (g.D.BlockDisk.failures disks.pages)
+    (g.D.BlockDisk.attempts disks.pages + 1) (g.D.BlockDisk.slot disks.pages) x.log x.control
+    x.pool.pool x.validator x.count e.log e.control e.stored e.ok ends c.requires.pages.1)
 
 pub returns-in-Ok-clause-ok : goal.returns-in-Ok-clause-ok
 returns-in-Ok-clause-ok g c =
@@ -26,8 +33,13 @@ returns-in-Ok-clause-ok g c =
     let e = c.in-Ok.ensures in
     let p = c.into_parts-log.ensures in
     rw (c.of-origin.ensures, p.0, p.1, p.2)
-    (is-opened c.args.pages (g.D.BlockDisk.block_count disks.log) c.args.frames (g.D.BlockDisk.failures disks.log) (g.D.BlockDisk.attempts disks.log + 1) (g.D.BlockDisk.block_count disks.control) (g.D.BlockDisk.failures disks.control) (g.D.BlockDisk.attempts disks.control + 1)
-    (g.D.BlockDisk.block_count disks.pages) (g.D.BlockDisk.failures disks.pages) (g.D.BlockDisk.attempts disks.pages + 1) (g.D.BlockDisk.slot disks.pages) x.log x.control x.pool.pool x.validator x.count e.log e.control e.stored e.ok)
+    (is-opened c.args.pages (g.D.BlockDisk.block_count disks.log) c.args.frames
+    (g.D.BlockDisk.failures disks.log) (g.D.BlockDisk.attempts disks.log + 1)
+    (g.D.BlockDisk.block_count disks.control) (g.D.BlockDisk.failures disks.control)
+    (g.D.BlockDisk.attempts disks.control + 1)
+    (g.D.BlockDisk.block_count disks.pages) (g.D.BlockDisk.failures disks.pages)
+    (g.D.BlockDisk.attempts disks.pages + 1) (g.D.BlockDisk.slot disks.pages) x.log x.control
+    x.pool.pool x.validator x.count e.log e.control e.stored e.ok)
 
 pub returns-in-Ok-clause-view : goal.returns-in-Ok-clause-view
 returns-in-Ok-clause-view g c =
@@ -53,9 +65,15 @@ returns-in-Ok-clause-warm g c =
     rw (c.of-origin.ensures, p.0, p.1, p.2)
     (λ n log_settled control_settled pages_settled node.
     let same = e.only n log_settled control_settled node.held in
-    takes-up c.args.pages (g.D.BlockDisk.block_count disks.log) c.args.frames (g.D.BlockDisk.failures disks.log) (g.D.BlockDisk.attempts disks.log + 1) (g.D.BlockDisk.block_count disks.control) (g.D.BlockDisk.failures disks.control) (g.D.BlockDisk.attempts disks.control + 1)
-    (g.D.BlockDisk.block_count disks.pages) (g.D.BlockDisk.failures disks.pages) (g.D.BlockDisk.attempts disks.pages + 1) (g.D.BlockDisk.slot disks.pages) x.log x.control x.pool.pool x.validator x.count e.log e.control e.stored e.ok
-    n same.0 same.1 (e.warm n log_settled control_settled pages_settled node) node.taken node.images.listed)
+    takes-up c.args.pages (g.D.BlockDisk.block_count disks.log) c.args.frames
+    (g.D.BlockDisk.failures disks.log) (g.D.BlockDisk.attempts disks.log + 1)
+    (g.D.BlockDisk.block_count disks.control) (g.D.BlockDisk.failures disks.control)
+    (g.D.BlockDisk.attempts disks.control + 1)
+    (g.D.BlockDisk.block_count disks.pages) (g.D.BlockDisk.failures disks.pages)
+    (g.D.BlockDisk.attempts disks.pages + 1) (g.D.BlockDisk.slot disks.pages) x.log x.control
+    x.pool.pool x.validator x.count e.log e.control e.stored e.ok
+    n same.0 same.1 (e.warm n log_settled control_settled pages_settled node) node.taken
+    node.images.listed)
 
 pub returns-in-Err-clause-stays : goal.returns-in-Err-clause-stays
 returns-in-Err-clause-stays g c n log_settled control_settled pages_settled node =
@@ -70,6 +88,7 @@ returns-in-Err-clause-stays g c n log_settled control_settled pages_settled node
       control_settled = control_settled;
       pages_settled = pages_settled;
       log_same = λ k lt. left_same _ _ (log_settled k) (e.back_log k lt);
-      control_same = λ k lt. left_same _ _ (control_settled k) (e.back_control k (omega (arith, lt, c.requires.control)));
+      control_same = λ k lt. left_same _ _ (control_settled k)
+          (e.back_control k (omega (arith, lt, c.requires.control)));
       pages_same = λ k lt. left_same _ _ (pages_settled k) (e.back_pages k lt);
     }

@@ -1,6 +1,6 @@
 use Rattle.std.proofs.Common.{length, ap, ◌∙◌}
 use Rattle.als_record.proofs.RecordLaws.{length-spelling}
-use Rattle.als_store.proofs.store.len_of.Goals as goal
+use Rattle.als_store.proofs.store.holding.len_of.Goals as goal
 
 pub returns : goal.returns
 returns c = ap length c.requires ∙ length-spelling c.args._logged.now

@@ -1,0 +1,62 @@
+ghost use Rattle.als_engine.specs.Events.{LogWrites, LogSyncs, MarkWrites, ControlSyncs};
+ghost use Rattle.als_store.specs.Takeover.{GoesOn};
+
+use super::Engine;
+use crate::fault::Fault;
+use als_disk::BlockDisk;
+use als_record::Lsn;
+use als_view::a_view_goes_on;
+
+impl<D: BlockDisk> Engine<D> {
+    /// Writes the first block of the log with unwritten bytes: it makes one write of a device.
+    /// NothingToDo: there is none. Device: the write failed, and the engine has stopped.
+    pub fn log_write(&mut self) -> Result<(), Fault>
+        ensures { LogWrites self.old.machine result self.new.machine }
+    {
+        if self.store.is_broken() {
+            return Err(Fault::Stopped);
+        }
+        self.store.log_write()?;
+        Ok(())
+    }
+
+    /// Syncs the log: it makes one sync of a device. Device: the sync failed, and the engine has
+    /// stopped.
+    pub fn log_sync(&mut self) -> Result<(), Fault>
+        ensures { LogSyncs self.old.machine result self.new.machine }
+    {
+        if self.store.is_broken() {
+            return Err(Fault::Stopped);
+        }
+        self.store.log_sync()?;
+        Ok(())
+    }
+
+    /// Writes the control block with the log's synced end as its mark: it makes one write of a
+    /// device. NothingToDo: the last mark written is not below it. Device: the write failed, and
+    /// the engine has stopped.
+    pub fn mark_write(&mut self) -> Result<(), Fault>
+        ensures { MarkWrites self.old.machine result self.new.machine }
+    {
+        if self.store.is_broken() {
+            return Err(Fault::Stopped);
+        }
+        self.store.mark_write()?;
+        Ok(())
+    }
+
+    /// Syncs the control block, and answers its mark: the acknowledged LSN from now on. It makes
+    /// one sync of a device. Device: the sync failed, and the engine has stopped.
+    pub fn ctl_sync(&mut self) -> Result<Lsn, Fault>
+        ensures syncs { ControlSyncs self.old.machine result self.new.machine }
+        // Of the synced states the phase never falls, and past Following the seal stays.
+        ensures goes_on { GoesOn self.old.machine.held.control self.new.machine.held.control }
+    {
+        if self.store.is_broken() {
+            return Err(Fault::Stopped);
+        }
+        let acknowledged = self.store.ctl_sync()?;
+        a_view_goes_on();
+        Ok(acknowledged)
+    }
+}

@@ -1,0 +1,45 @@
+ghost use Rattle.als_engine.specs.Checkpointing.{CkptBegins, CkptWrites, CkptPublishes};
+
+use super::Engine;
+use crate::fault::Fault;
+use als_disk::BlockDisk;
+
+impl<D: BlockDisk> Engine<D> {
+    /// Begins a checkpoint: copies both tables, the numbers and the end of the log as they are now.
+    /// CkptBusy: one is begun, or the last publish is not synced. Memory: a growth was refused.
+    pub fn ckpt_begin(&mut self) -> Result<(), Fault>
+        ensures { CkptBegins self.old.machine result self.new.machine }
+    {
+        if self.store.is_broken() {
+            return Err(Fault::Stopped);
+        }
+        self.store.ckpt_begin(self.alloc)?;
+        Ok(())
+    }
+
+    /// Writes the next block of the checkpoint that is begun: it makes one write of a device.
+    /// NothingToDo: none is begun, or each block is written. Device: the write failed, and the
+    /// engine has stopped.
+    pub fn ckpt_block(&mut self) -> Result<(), Fault>
+        ensures { CkptWrites self.old.machine result self.new.machine }
+    {
+        if self.store.is_broken() {
+            return Err(Fault::Stopped);
+        }
+        self.store.ckpt_block()?;
+        Ok(())
+    }
+
+    /// Publishes the checkpoint that is begun: it makes one write of a device. NothingToDo: none is
+    /// begun. CkptBusy: a block of it is not written and synced. LogBehind: its position is above
+    /// the acknowledged LSN. Device: the write failed, and the engine has stopped.
+    pub fn ckpt_publish(&mut self) -> Result<(), Fault>
+        ensures { CkptPublishes self.old.machine result self.new.machine }
+    {
+        if self.store.is_broken() {
+            return Err(Fault::Stopped);
+        }
+        self.store.ckpt_publish()?;
+        Ok(())
+    }
+}

@@ -1,0 +1,99 @@
+ghost use Rattle.std.specs.Prelude.{IsErrOf};
+ghost use Rattle.als_engine.specs.Takeover.{Seals, UndoesOneOf, Finishes};
+ghost use Rattle.als_store.specs.Takeover.{HasRoomToUndo};
+
+use super::Engine;
+use crate::fault::Fault;
+use als_disk::BlockDisk;
+use als_receiver::Receiver;
+use als_record::Lsn;
+use als_view::a_view_goes_on;
+
+impl<D: BlockDisk> Engine<D> {
+    /// Seals the log: writes the control block with phase Sealed and with the log's end as its mark
+    /// and its seal, drops the partial record, and takes no more of the source. It makes one write
+    /// of a device, takes no memory and no room of the log.
+    ///
+    /// Stopped. Recovering: it is not ready yet. Sealed: the log was sealed before. LogBehind: it
+    /// is not synced to its end. Device: the write failed, and the engine has stopped. They come in
+    /// this order.
+    pub fn seal(&mut self) -> Result<(), Fault>
+        ensures { Seals self.old.machine result self.new.machine }
+    {
+        if self.store.is_broken() {
+            return Err(Fault::Stopped);
+        }
+        if self.store.is_recovering() {
+            return Err(Fault::Recovering);
+        }
+        if !self.store.is_following() {
+            return Err(Fault::Sealed);
+        }
+        if self.store.synced().0 < self.store.end().0 {
+            return Err(Fault::LogBehind);
+        }
+        self.store.seal()?;
+        self.receiver.drop_partial();
+        self.refused = None;
+        Ok(())
+    }
+
+    /// Holds the next record of the sealed log's tail, and answers its LSN: an end, or the
+    /// compensation of the newest surviving update of all losers. The log device has room for the
+    /// whole tail.
+    ///
+    /// Stopped. Recovering: it is not ready yet. NotSealed: the log was not sealed. NothingToDo: no
+    /// transaction is unended. Memory: a growth was refused; nothing has changed. They come in this
+    /// order.
+    pub fn undo_one(&mut self) -> Result<Lsn, Fault>
+        ensures undoes { UndoesOneOf self.old.machine result self.new.machine }
+        ensures reserved { HasRoomToUndo self.old.machine.held self.old.spare
+            → IsErrOf result Fault.Memory → ⊥ }
+    {
+        if self.store.is_broken() {
+            return Err(Fault::Stopped);
+        }
+        if self.store.is_recovering() {
+            return Err(Fault::Recovering);
+        }
+        if self.store.is_following() {
+            return Err(Fault::NotSealed);
+        }
+        if !self.store.has_unended() {
+            return Err(Fault::NothingToDo);
+        }
+        let lsn = self.store.undo_one()?;
+        a_view_goes_on();
+        self.receiver = Receiver::new(self.alloc, self.store.end(), self.store.pages());
+        Ok(lsn)
+    }
+
+    /// Ends the takeover: writes the control block with phase Primary, by one write of a device. It
+    /// takes no memory and no room of the log.
+    ///
+    /// Stopped. Recovering: it is not ready yet. NotSealed: the log was not sealed. NothingToDo:
+    /// the takeover is done. NotDrained: a transaction is unended, a change waits for redo, or the
+    /// log is not acknowledged to its end. Device: the write failed, and the engine has stopped.
+    /// They come in this order.
+    pub fn finish(&mut self) -> Result<(), Fault>
+        ensures { Finishes self.old.machine result self.new.machine }
+    {
+        if self.store.is_broken() {
+            return Err(Fault::Stopped);
+        }
+        if self.store.is_recovering() {
+            return Err(Fault::Recovering);
+        }
+        if self.store.is_following() {
+            return Err(Fault::NotSealed);
+        }
+        if self.store.is_primary() {
+            return Err(Fault::NothingToDo);
+        }
+        if !self.store.is_drained() {
+            return Err(Fault::NotDrained);
+        }
+        self.store.finish()?;
+        Ok(())
+    }
+}

@@ -1,0 +1,123 @@
+ghost use Rattle.std.specs.Prelude.{◌≡◌, ◌<◌, false, IfOk, IfErr, OnOk};
+ghost use Rattle.std.specs.Result.{IsErrOf};
+ghost use Rattle.als_dirty.specs.Rows.{IsNextRow};
+ghost use Rattle.als_page.specs.Page.{id_of};
+ghost use Rattle.als_pool.specs.Queues.{WaitsFirst};
+ghost use Rattle.als_store.specs.declared.fault.Fault.TheVariants as fault;
+ghost use Rattle.als_store.specs.Events.{AppliesFirst, NotApplied, FlushesPage, NotFlushed};
+ghost use Rattle.als_store.specs.Events.{SyncsDevice, BreaksSync, NotShown};
+ghost use Rattle.als_store.specs.Stored.{pending_of, IsShown};
+ghost use Rattle.als_store.specs.Views.{ShowsRedo, ShowsWrite, ShowsSync};
+ghost use Rattle.als_store.specs.Warm.{WasWarm};
+
+use super::Store;
+use crate::fault::Fault;
+use als_disk::BlockDisk;
+use als_page::Page;
+use als_pool::Fault as PoolFault;
+use als_record::{LoggedPage, Lsn};
+
+impl<D: BlockDisk> Store<D> {
+    /// Redoes the first changes that a page waits for, at most 64, and answers its page_LSN. A page
+    /// that has no frame is read into one; the changes that it has already no longer wait, and its
+    /// row becomes exact.
+    ///
+    /// NothingToDo: none waits, or there is no such page. PoolFull: the page has no frame, all
+    /// frames are used and none is clean. Device: it could not be read. BadPage: its block has no
+    /// image of it with a page_LSN below the log's end, which never comes where the devices were
+    /// sound when the store was made. Memory: a growth was refused. They come in this order. Then
+    /// again NothingToDo: the page that was read has all that waited, which waits no more.
+    pub fn apply(&mut self, page: u32) -> Result<Lsn, Fault>
+        ensures ok { IfOk result (λ lsn. AppliesFirst self.old.stored page lsn self.new.stored) }
+        ensures err { IfErr result (λ f. NotApplied self.old.stored page f self.new.stored) }
+        ensures views { WasWarm self.old.stored
+            → IfOk result (λ lsn. ShowsRedo self.old.stored.log self.old.stored.pool
+            self.new.stored.pool page lsn) }
+        ensures sound { WasWarm self.old.stored → IfErr result (λ f. f ≡ fault.BadPage page → ⊥) }
+        // Memory is wanted only where there is no room for a frame more.
+        ensures reserved { 0 < self.old.spare.pool.frames → IsErrOf result fault.Memory → ⊥ }
+    {
+        let end = self.log.end();
+        let lsn = self.pool.apply(page, end)?;
+        Ok(lsn)
+    }
+
+    /// Writes a page to its block, if the log is acknowledged past its page_LSN: one write of the
+    /// pages' device.
+    ///
+    /// NothingToDo: the page has no frame, or it is the image last written. LogBehind: its page_LSN
+    /// is not below the acknowledged LSN. Device: the write has failed.
+    pub fn flush(&mut self, page: u32) -> Result<(), Fault>
+        requires { self.old.stored.broken ≡ false }
+        ensures ok { OnOk result (FlushesPage self.old.stored page self.new.stored) }
+        ensures err { IfErr result (λ f. NotFlushed self.old.stored page f self.new.stored) }
+        ensures views { OnOk result (ShowsWrite self.old.stored.pool self.new.stored.pool page) }
+    {
+        let acknowledged = self.control.acknowledged();
+        match self.pool.flush_one(page, acknowledged) {
+            Ok(()) => Ok(()),
+            Err(PoolFault::Device) => {
+                self.broken = true;
+                Err(Fault::Device)
+            }
+            Err(fault) => Err(Fault::from(fault)),
+        }
+    }
+
+    /// Syncs the pages' device, by one sync: of each page the image last written is then the one
+    /// last synced, and the rows move.
+    pub fn sync_pages(&mut self) -> Result<(), Fault>
+        requires { self.old.stored.broken ≡ false }
+        ensures ok { OnOk result (SyncsDevice self.old.stored self.new.stored) }
+        ensures err { IfErr result (λ f. (f ≡ fault.Device)
+            × BreaksSync self.old.stored self.new.stored) }
+        ensures views { WasWarm self.old.stored
+            → OnOk result (ShowsSync self.old.stored.log self.old.stored.pool
+            self.new.stored.pool) }
+    {
+        match self.pool.sync_pages() {
+            Ok(()) => Ok(()),
+            Err(_) => {
+                self.broken = true;
+                Err(Fault::Device)
+            }
+        }
+    }
+
+    /// How many changes wait for redo.
+    pub fn pending(&self) -> usize
+        ensures { result ≡ pending_of self.now.stored }
+    {
+        self.pool.waiting()
+    }
+
+    /// The first page from there on for which changes wait.
+    pub fn next_pending(&self, from: u32) -> Option<u32>
+        ensures { WaitsFirst self.now.stored.pool.waits from result }
+    {
+        self.pool.next_pending(from)
+    }
+
+    /// The first row of the dirty page table from a page on.
+    pub fn next_row(&self, from: u32) -> Option<LoggedPage>
+        ensures { IsNextRow self.now.stored.pool.dirty from result }
+    {
+        self.pool.next_row(from)
+    }
+
+    /// The page as it is now: a copy of the page in its frame, or else of the one in its block,
+    /// which is read. It takes no memory. Device: the read has failed, which is counted. BadPage:
+    /// the block is not that of the page, which never comes where the devices were sound when the
+    /// store was made.
+    pub fn page_now(&mut self, page: u32) -> Result<Page, Fault>
+        requires { page < self.old.stored.pages }
+        ensures ok { WasWarm self.old.stored → IfOk result (IsShown self.old.stored page) }
+        ensures number { IfOk result (λ shown. id_of shown ≡ page) }
+        ensures same { OnOk result (self.new ≡ self.old) }
+        ensures err { IfErr result (λ f. NotShown self.old.stored page f self.new.stored) }
+        ensures sound { WasWarm self.old.stored → IfErr result (λ f. f ≡ fault.BadPage page → ⊥) }
+    {
+        let found = self.pool.page_now(page)?;
+        Ok(found)
+    }
+}
