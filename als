@@ -8,6 +8,7 @@ set -euo pipefail
 top=$(dirname "$(readlink -f "${BASH_SOURCE[0]}")")
 crate="$top/crates/als_cli"
 program="$crate/out/als_cli"
+words="$top/crates/als_program/src/command.rt" # the command line, with its help
 stamp="$crate/out/als.built" # as old as the start of the last build that succeeded
 
 is_stale() {
@@ -25,7 +26,7 @@ text() {
         !found { next }
         !begun { if (!sub(/^ *"/, "")) next; begun = 1 }
         { last = sub(/";$/, ""); gsub(/\\\\/, "\\"); print }
-        last { exit }' "$crate/src/command.rt"
+        last { exit }' "$words"
 }
 
 # What the program says of a word of the command line $1: it stands in command.rt alone, between the heads of that function and the next.
@@ -40,7 +41,7 @@ option_help() {
             sub(/^, *"[A-Z]*", *"/, "", text)
             sub(/".*/, "", text)
             print text
-        }' "$crate/src/command.rt"
+        }' "$words"
 }
 
 # A row of the options of a page, so wide: a word with its value, and the help that the function $1 has for it.
@@ -53,9 +54,9 @@ help_row() {
     printf '  %-*s  Print help\n\n' "$(($1 + 6))" '-h, --help'
 }
 
-# What the program says of the word without a name.
-path_help() {
-    sed -n '/^fn path</,/^}/s/^ *\.help("\(.*\)")$/\1/p' "$crate/src/command.rt"
+# What the program says of the word that the function $1 makes: of the word without a name, or of that which asks for remarks.
+word_help() {
+    sed -n "/^fn $1</,/^}/s/^ *\.help(\"\(.*\)\")\$/\1/p" "$words"
 }
 
 # The pages as clap lays them out.
@@ -73,13 +74,16 @@ help_page() {
         make)
             text MAKE_ABOUT
             printf '\nUsage: als make [OPTIONS]\n\nOptions:\n'
-            printf '      --hex   %s\n' "$(sed -n 's/^ *\.help("\(.*\)");$/\1/p' "$crate/src/command.rt")"
-            printf '  -h, --help  Print help\n\n'
+            printf '      --hex      %s\n' "$(sed -n 's/^ *\.help("\(.*\)");$/\1/p' "$words")"
+            printf '      --explain  %s\n' "$(word_help explain)"
+            printf '  -h, --help     Print help\n\n'
             text MAKE_HELP
             ;;
         sim)
             text SIM_ABOUT
-            printf '\nUsage: als sim\n\nOptions:\n  -h, --help  Print help\n\n'
+            printf '\nUsage: als sim [OPTIONS]\n\nOptions:\n'
+            printf '      --explain  %s\n' "$(word_help explain)"
+            printf '  -h, --help     Print help\n\n'
             text SIM_HELP
             ;;
         ship)
@@ -109,7 +113,7 @@ help_page() {
             ;;
         dump)
             text DUMP_ABOUT
-            printf '\nUsage: als dump [OPTIONS] <PATH>\n\nArguments:\n  <PATH>  %s\n\nOptions:\n' "$(path_help)"
+            printf '\nUsage: als dump [OPTIONS] <PATH>\n\nArguments:\n  <PATH>  %s\n\nOptions:\n' "$(word_help path)"
             option_row dump 10 from LSN
             option_row dump 10 trans T
             option_row dump 10 page P
@@ -118,7 +122,7 @@ help_page() {
             ;;
         verify)
             text VERIFY_ABOUT
-            printf '\nUsage: als verify <PATH>\n\nArguments:\n  <PATH>  %s\n\nOptions:\n  -h, --help  Print help\n\n' "$(path_help)"
+            printf '\nUsage: als verify <PATH>\n\nArguments:\n  <PATH>  %s\n\nOptions:\n  -h, --help  Print help\n\n' "$(word_help path)"
             text VERIFY_HELP
             ;;
     esac
@@ -146,6 +150,7 @@ tell() {
         'verify --help' | 'verify -h' | 'help verify') help_page verify ;;
         *) return 1 ;;
     esac
+    return 0 # Also where nobody reads the page to its end: that is no reason to build.
 }
 
 # ---- the build

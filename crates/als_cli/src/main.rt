@@ -1,29 +1,10 @@
-//! The program `als`: it makes log texts, and runs scripts on a standby.
+//! The program `als`: it makes log texts, runs scripts on a standby, and ships, follows and reads logs.
 #![tactic(auto)]
 
-// Which streams are terminals.
-mod terminals;
-// What the program says beside what it answers.
-mod remarks;
-// All of the program, over any streams.
-mod program;
-// What the command line asks for.
-mod command;
-// Why the program ends without having done what it was asked.
-mod failure;
-// `als make`.
-mod make;
-// `als sim`.
-mod sim;
-#[cfg(test)]
-mod tests;
-
-use failure::Failure;
-use program::program_on;
+use als_program::{Failure, Terminals, program_on};
 use std::env;
 use std::io::IsTerminal;
 use std::process::ExitCode;
-use terminals::Terminals;
 
 fn main(rt: HostRuntime) -> ExitCode {
     let status = match words(&rt) {

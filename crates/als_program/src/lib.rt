@@ -1,0 +1,25 @@
+//! All of the program `als`, over any streams.
+#![tactic(auto)]
+
+// Which streams are terminals.
+mod terminals;
+// What the program says beside what it answers.
+mod remarks;
+// What the command line asks for.
+mod command;
+// Why the program ends without having done what it was asked.
+mod failure;
+// `als make`.
+mod make;
+// Why standard input is not taken.
+mod input_fault;
+// Standard input, whole.
+mod input;
+// The commands that read standard input.
+mod lines;
+// What the command line asks for is done.
+mod running;
+
+pub use failure::Failure;
+pub use running::{program, program_on};
+pub use terminals::Terminals;

@@ -1,0 +1,128 @@
+ghost use Rattle.std.specs.Prelude.{IfOk};
+ghost use Rattle.als_program.specs.Status.{IsStatus};
+
+use crate::command::{Command, args};
+use crate::failure::Failure;
+use crate::lines::{Telling, make_lines, run_script};
+use crate::remarks::Language;
+use crate::terminals::Terminals;
+use als_inspect::{dump, verify};
+use als_operate::{ship, standby, takeover};
+use std::convert::AsStr;
+use std::fs::File;
+use std::io::{BufWriter, Read, Write};
+use std::net::Net;
+use std::rt::Files;
+
+/// All of the program, where no stream is a terminal.
+pub fn program<
+    R: AllocGlobal + Files<File = File> + Net,
+    S: AsStr,
+    I: Read + Drop,
+    O: Write + Drop,
+    E: Write + Drop,
+>(rt: &R, words: &[S], input: I, output: O, errors: E) -> u8
+    ensures status { IsStatus result }
+{
+    let none = Terminals {
+        input: false,
+        output: false,
+        errors: false,
+    };
+    program_on(rt, none, words, input, output, errors)
+}
+
+/// All of the program: does what the words ask for, of which the first is the program's name, and answers the exit
+/// status: 0, 2 for a fault of what the caller wrote, 3 for a refusal. What it has to say of itself goes to `errors`.
+pub fn program_on<
+    R: AllocGlobal + Files<File = File> + Net,
+    S: AsStr,
+    I: Read + Drop,
+    O: Write + Drop,
+    E: Write + Drop,
+>(rt: &R, terminals: Terminals, words: &[S], input: I, output: O, errors: E) -> u8
+    ensures status { IsStatus result }
+{
+    let mut errors = errors;
+    match execute(rt, terminals, words, input, output, &mut errors) {
+        Ok(status) => status,
+        Err(failure) => failure.report(&mut errors),
+    }
+}
+
+/// Runs the command over a buffer, which is written out also where the command fails.
+fn execute<
+    R: AllocGlobal + Files<File = File> + Net,
+    S: AsStr,
+    I: Read + Drop,
+    O: Write + Drop,
+    E: Write,
+>(
+    rt: &R,
+    terminals: Terminals,
+    words: &[S],
+    input: I,
+    output: O,
+    errors: &mut E,
+) -> Result<u8, Failure>
+    ensures status { IfOk result IsStatus }
+{
+    let mut output = BufWriter::new(rt.alloc(), output)?;
+    let outcome = obey(rt, terminals, words, input, &mut output, errors);
+    output.flush()?;
+    outcome
+}
+
+fn obey<R: AllocGlobal + Files<File = File> + Net, S: AsStr, I: Read + Drop, O: Write, E: Write>(
+    rt: &R,
+    terminals: Terminals,
+    words: &[S],
+    input: I,
+    output: &mut O,
+    errors: &mut E,
+) -> Result<u8, Failure>
+    ensures status { IfOk result IsStatus }
+{
+    let alloc = rt.alloc();
+    let command = match args(alloc, words) {
+        Ok(command) => command,
+        Err(help) if !help.use_stderr() => {
+            write!(output, "{help}")?;
+            return Ok(0);
+        }
+        Err(error) => return Err(Failure::from(error)),
+    };
+    match command {
+        Command::Make { hex, explain } => {
+            if terminals.output && !hex {
+                return Err(Failure::BytesOnTerminal);
+            }
+            let telling = Telling::new(Language::Records, terminals, explain);
+            make_lines(alloc, telling, hex, input, output, errors)
+        }
+        Command::Sim { explain } => {
+            let telling = Telling::new(Language::Script, terminals, explain);
+            run_script(alloc, telling, input, output, errors)
+        }
+        command => operate(rt, command, output),
+    }
+}
+
+/// A command on files, that reads no standard input.
+fn operate<R: AllocGlobal + Files<File = File> + Net, O: Write>(
+    rt: &R,
+    command: Command,
+    output: &mut O,
+) -> Result<u8, Failure>
+    ensures status { IfOk result IsStatus }
+{
+    match command {
+        Command::Make { .. } | Command::Sim { .. } => {}
+        Command::Ship { log, listen } => ship(rt, log, listen, output)?,
+        Command::Standby(following) => standby(rt, following, output)?,
+        Command::Takeover { dir } => takeover(rt, dir, output)?,
+        Command::Dump { path, wanted } => dump(rt, path, wanted, output)?,
+        Command::Verify { path } => verify(rt, path, output)?,
+    }
+    Ok(0)
+}

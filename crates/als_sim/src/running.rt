@@ -1,0 +1,36 @@
+use crate::ending::Ending;
+use crate::failure::Failure;
+use crate::printing;
+use crate::simulation::Simulation;
+use als_script::{is_command, line_number, number_past};
+use std::alloc::Global;
+use std::io::Write;
+use std::str;
+
+/// Runs a script, writes what its lines answer, and says how it ended. A bad line ends it; what came before has been
+/// written. BadLine: a line is none of the language, or there is no first line. Memory: a growth was refused. Stream: the
+/// output fails.
+pub fn sim<W: Write>(alloc: Global, script: &[u8], output: &mut W) -> Result<Ending, Failure> {
+    let mut simulation: Option<Simulation> = None;
+    for (index, line) in script.split(|b| *b == b'\n').enumerate() {
+        if is_command(line) {
+            let number = line_number(index);
+            let line = str::from_utf8(line).map_err(|_| Failure::BadLine(number))?;
+            let next = match simulation {
+                Some(simulation) => simulation.take(number, line, output)?,
+                None => match Simulation::begin(alloc, number, line)? {
+                    Ok(simulation) => simulation,
+                    Err(fault) => {
+                        printing::refused(output, fault)?;
+                        return Ok(Ending::WorldRefused);
+                    }
+                },
+            };
+            simulation = Some(next);
+        }
+    }
+    match simulation {
+        Some(simulation) => Ok(Ending::Ran(simulation.left())),
+        None => Err(Failure::BadLine(number_past(script))),
+    }
+}

@@ -1,0 +1,81 @@
+use crate::disk::Disk;
+use als_engine::{Fault, FeedFault, Reply, Status, Step};
+use als_record::Lsn;
+use als_script::StepLine;
+use als_world::{World, WorldReply, WorldStep, run};
+use std::alloc::Global;
+
+/// The event of a line; None where it names bytes that the text has not.
+pub fn step_of(line: StepLine, text: &[u8]) -> Option<Step<'_>> {
+    Some(match line {
+        StepLine::Feed { from, to } => {
+            let from = usize::try_from(from).ok()?;
+            let to = usize::try_from(to).ok()?;
+            Step::Feed(text.get(from..to)?)
+        }
+        StepLine::Resync => Step::Resync,
+        StepLine::Apply { page } => Step::Apply(page),
+        StepLine::Flush { page } => Step::Flush(page),
+        StepLine::SyncPages => Step::SyncPages,
+        StepLine::LogWrite => Step::LogWrite,
+        StepLine::LogSync => Step::LogSync,
+        StepLine::MarkWrite => Step::MarkWrite,
+        StepLine::ControlSync => Step::ControlSync,
+        StepLine::CkptBegin => Step::CkptBegin,
+        StepLine::CkptBlock => Step::CkptBlock,
+        StepLine::CkptPublish => Step::CkptPublish,
+        StepLine::PublishView => Step::PublishView,
+        StepLine::Ready => Step::Ready,
+        StepLine::Seal => Step::Seal,
+        StepLine::UndoOne => Step::UndoOne,
+        StepLine::Finish => Step::Finish,
+    })
+}
+
+/// Runs one step. Where there is no memory for its reply nothing is run, and the step counts as refused.
+pub fn one_step(alloc: Global, world: World<Disk>, step: WorldStep) -> (World<Disk>, WorldReply) {
+    let steps = [step];
+    match run(alloc, world, &steps) {
+        Ok((world, mut replies)) => {
+            let reply = replies.pop();
+            (world, reply.unwrap_or(WorldReply::Refused(Fault::Memory)))
+        }
+        Err(world) => (world, WorldReply::Refused(Fault::Memory)),
+    }
+}
+
+/// Runs one event. A world that is down refuses it.
+pub fn one_event(alloc: Global, world: World<Disk>, event: Step) -> (World<Disk>, Reply) {
+    let (world, reply) = one_step(alloc, world, WorldStep::Event(event));
+    let reply = match reply {
+        WorldReply::Event(reply) => reply,
+        WorldReply::Refused(fault) => refused(&event, fault),
+        WorldReply::Restarted(_) | WorldReply::Answered(_) => Reply::Done, // No event is answered so.
+    };
+    (world, reply)
+}
+
+/// An event's reply where nothing of it was done.
+fn refused(event: &Step, fault: Fault) -> Reply {
+    match event {
+        Step::Feed(_) => Reply::FeedRefused(FeedFault {
+            taken: 0,
+            records: 0,
+            fault,
+        }),
+        _ => Reply::Refused(fault),
+    }
+}
+
+/// What the standby tells of itself; None while the world is down.
+pub fn status_of(world: &World<Disk>) -> Option<Status> {
+    Some(world.engine()?.status())
+}
+
+/// Where the held log ends; 0 while the world is down.
+pub fn end_of(world: &World<Disk>) -> Lsn {
+    match world.engine() {
+        Some(engine) => engine.status().end,
+        None => Lsn(0),
+    }
+}

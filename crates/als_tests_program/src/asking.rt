@@ -1,0 +1,86 @@
+use als_program::program;
+use std::fs::File;
+use std::net::Net;
+use std::process::Abort;
+use std::rt::Files;
+
+/// A request for help goes to standard output and ends with 0; it needs no input.
+#[test]
+fn help_is_written(rt: HostRuntime) {
+    asks(&rt, &["als", "--help"], "Usage: als <COMMAND>");
+    asks(&rt, &["als", "help"], "Exit statuses:");
+    asks(&rt, &["als", "help", "make"], "u T P S BEFORE AFTER");
+    asks(&rt, &["als", "make", "-h"], "--hex");
+    asks(
+        &rt,
+        &["als", "sim", "--help"],
+        "als sim < examples/first-path.als",
+    );
+    asks(&rt, &["als", "ship", "--help"], "--listen <ADDR>");
+    asks(&rt, &["als", "help", "ship"], "als ship --log primary.log")
+}
+
+/// A fault of the command line is told on standard error and ends with 2.
+#[test]
+fn faults_are_told(rt: HostRuntime) {
+    errs(&rt, &[], "requires a subcommand");
+    errs(&rt, &["als"], "requires a subcommand");
+    errs(
+        &rt,
+        &["als", "simulate"],
+        "unrecognized subcommand 'simulate'",
+    );
+    errs(
+        &rt,
+        &["als", "make", "--hexx"],
+        "unexpected argument '--hexx'",
+    );
+    errs(
+        &rt,
+        &["als", "make", "--hex", "--hex"],
+        "cannot be used multiple times",
+    );
+    errs(
+        &rt,
+        &["als", "sim", "first-path.als"],
+        "unexpected argument 'first-path.als'",
+    );
+    errs(
+        &rt,
+        &["als", "ship", "--log", "primary.log"],
+        "--listen <ADDR>",
+    )
+}
+
+fn asks<R: Abort + AllocGlobal + Files<File = File> + Net>(rt: &R, words: &[&str], part: &str) {
+    assert!(rt;
+        answers(rt, words, 0, part) || answers(rt, words, 0, part),
+        "{part}"
+    );
+}
+
+fn errs<R: Abort + AllocGlobal + Files<File = File> + Net>(rt: &R, words: &[&str], part: &str) {
+    assert!(rt;
+        answers(rt, words, 2, part) || answers(rt, words, 2, part),
+        "{part}"
+    );
+}
+
+/// Whether a run without input ends with this status and writes one text, with this part in it: to standard output where
+/// it ends well, else to standard error.
+fn answers<R: AllocGlobal + Files<File = File> + Net>(
+    rt: &R,
+    words: &[&str],
+    wanted: u8,
+    part: &str,
+) -> bool {
+    let mut output = Vec::new(rt.alloc());
+    let mut errors = Vec::new(rt.alloc());
+    let status = program(rt, words, std::io::empty(), &mut output, &mut errors);
+    let (text, other) = match wanted {
+        0 => (output.as_slice(), errors.as_slice()),
+        _ => (errors.as_slice(), output.as_slice()),
+    };
+    let text = std::str::from_utf8(text).unwrap_or("");
+    status == wanted && other.is_empty() && text.contains(part)
+}

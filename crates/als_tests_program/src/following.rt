@@ -1,0 +1,164 @@
+use als_program::program;
+use std::fs::File;
+use std::net::{Ipv4Addr, Net, SocketAddr, TcpListener, TcpStream};
+use std::rt::Files;
+use std::{fs, io, thread};
+
+/// A log of a database of four pages: its header, an update of 0/0 to `aa` at 16, its commit at 52 and its end at 80.
+const TEXT: [u8; 108] = [
+    65, 76, 83, 76, 79, 71, 48, 49, 0, 0, 0, 4, 0, 0, 0, 0, 0, 0, 0, 36, 1, 0, 0, 0, 0, 0, 0, 0, 0,
+    0, 0, 16, 0, 0, 0, 0, 0, 0, 0, 0, 0, 0, 0, 1, 0, 0, 0, 0, 0, 255, 1, 170, 0, 0, 0, 28, 3, 0, 0,
+    0, 0, 0, 0, 0, 0, 0, 0, 52, 0, 0, 0, 0, 0, 0, 0, 16, 0, 0, 0, 1, 0, 0, 0, 28, 5, 0, 0, 0, 0, 0,
+    0, 0, 0, 0, 0, 80, 0, 0, 0, 0, 0, 0, 0, 52, 0, 0, 0, 1,
+];
+
+/// Whether the program ends well, tells nothing and prints this.
+fn prints<R: AllocGlobal + Files<File = File> + Net>(rt: &R, words: &[&str], wanted: &str) -> bool {
+    let mut output = Vec::new(rt.alloc());
+    let mut errors = Vec::new(rt.alloc());
+    let status = program(rt, words, io::empty(), &mut output, &mut errors);
+    status == 0 && errors.is_empty() && output.as_slice() == wanted.as_bytes()
+}
+
+/// Whether the program is refused so, and prints this.
+fn refuses<R: AllocGlobal + Files<File = File> + Net>(
+    rt: &R,
+    words: &[&str],
+    printed: &str,
+    refusal: &str,
+) -> bool {
+    let mut output = Vec::new(rt.alloc());
+    let mut errors = Vec::new(rt.alloc());
+    let status = program(rt, words, io::empty(), &mut output, &mut errors);
+    status == 3
+        && output.as_slice() == printed.as_bytes()
+        && errors.as_slice() == refusal.as_bytes()
+}
+
+/// A port of this machine that nobody listens at, as text. `None`: memory was refused.
+fn free_port<N>(rt: &N) -> Option<String>
+where
+    N: AllocGlobal + Net<Listener = TcpListener, Stream = TcpStream>,
+{
+    let listener = TcpListener::bind(rt, SocketAddr::from((Ipv4Addr::LOCALHOST, 0))).ok()?;
+    let addr = listener.local_addr().ok()?;
+    format!(in rt.alloc(); "{addr}").ok()
+}
+
+/// Follows a session, and is called again while it is refused: nobody may listen yet, or a growth was refused.
+fn stands<R: AllocGlobal + Files<File = File> + Net>(rt: &R, addr: &str) -> bool {
+    let words = [
+        "als", "standby", "--dir", "followed", "--from", addr, "--pages", "4",
+    ];
+    for _ in 0..1000 {
+        if prints(rt, &words, "end=108 ack=108\n") {
+            return true;
+        }
+    }
+    false
+}
+
+/// Serves a session: whether the sending end prints this. A growth that was refused is met by a second try.
+fn ships<R: AllocGlobal + Files<File = File> + Net>(rt: &R, addr: &str, sent: &str) -> bool {
+    let words = ["als", "ship", "--log", "followed.log", "--listen", addr];
+    prints(rt, &words, sent) || prints(rt, &words, sent)
+}
+
+/// A log that is shipped, and a folder in which it is followed.
+fn lays_out<R: Files<File = File>>(rt: &R) -> bool {
+    fs::write(rt, "followed.log", TEXT).is_ok() && fs::create_dir(rt, "followed").is_ok()
+}
+
+/// What the folder then holds, and a takeover, twice.
+fn takes_over<R: AllocGlobal + Files<File = File> + Net>(rt: &R) -> bool {
+    let verify = ["als", "verify", "followed"];
+    let dump = ["als", "dump", "followed", "--trans", "1", "--from", "52"];
+    let takeover = ["als", "takeover", "--dir", "followed"];
+    prints(rt, &verify, "sound records=3 end=108\n")
+        && prints(
+            rt,
+            &dump,
+            "52 commit trans=1 prev=16\n80 end trans=1 prev=52\n",
+        )
+        && prints(rt, &takeover, "end=108\n0/0 aa\n")
+        && prints(rt, &takeover, "end=108\n0/0 aa\n")
+}
+
+/// Two sessions of both ends over the network, what is then held, and a takeover. Threads are begun here: a helper that is
+/// generic over its runtime may not send it to one.
+#[test]
+fn a_standby_follows_and_takes_over(rt: HostRuntime) {
+    assert!(rt; lays_out(&rt) || lays_out(&rt));
+    for sent in ["sent=92\n", "sent=0\n"] {
+        let addr = free_port(&rt)
+            .or_else(|| free_port(&rt))
+            .expect(&rt, "a port");
+        let (rt, addr) = (&rt, addr.as_str());
+        let (shipped, stood) = thread::join(
+            rt,
+            move || ships(rt, addr, sent),
+            move || stands(rt, addr),
+        );
+        assert!(rt; shipped && stood);
+    }
+    assert!(rt; takes_over(&rt) || takes_over(&rt));
+    assert!(rt; fs::remove_dir_all(&rt, "followed").is_ok());
+    assert!(rt; fs::remove_file(&rt, "followed.log").is_ok());
+}
+
+/// Numbers out of range are found before a file is touched; a folder that is missing is a device that failed.
+#[test]
+fn standbys_that_are_refused(rt: HostRuntime) {
+    let bad = "als: refused 37 BadConfig\n";
+    let rows = [
+        ("0", "2048"),
+        ("4097", "2048"),
+        ("18446744073709551615", "1"),
+        ("4", "0"),
+        ("4", "4194305"),
+    ];
+    for (pages, blocks) in rows {
+        let words = [
+            "als",
+            "standby",
+            "--dir",
+            "missing",
+            "--from",
+            "nowhere",
+            "--pages",
+            pages,
+            "--log-blocks",
+            blocks,
+        ];
+        assert!(rt; refuses(&rt, &words, "", bad) || refuses(&rt, &words, "", bad));
+    }
+    let failed = "als: refused 30 Device\n";
+    let words = [
+        "als", "standby", "--dir", "missing", "--from", "nowhere", "--pages", "4",
+    ];
+    assert!(rt; refuses(&rt, &words, "", failed) || refuses(&rt, &words, "", failed));
+    let words = ["als", "takeover", "--dir", "missing"];
+    assert!(rt; refuses(&rt, &words, "", failed) || refuses(&rt, &words, "", failed));
+}
+
+/// A log file that is altered is told from the record on that is refused; what stands before it is dumped.
+#[test]
+fn an_altered_log_is_told(rt: HostRuntime) {
+    let mut altered = TEXT;
+    altered[52 + 4] = 4;
+    assert!(rt; fs::write(&rt, "altered.log", altered).is_ok());
+    // The end that follows a rollback record, of an update that survives.
+    let verify = ["als", "verify", "altered.log"];
+    let (printed, told) = (
+        "unsound lsn=80 10 WrongState\n",
+        "als: refused 10 WrongState\n",
+    );
+    assert!(rt; refuses(&rt, &verify, printed, told) || refuses(&rt, &verify, printed, told));
+    let dump = ["als", "dump", "altered.log", "--page", "0"];
+    let printed = "16 update trans=1 0/0 - aa prev=0\n";
+    assert!(rt; refuses(&rt, &dump, printed, told) || refuses(&rt, &dump, printed, told));
+    assert!(rt; fs::write(&rt, "altered.log", &TEXT[..107]).is_ok());
+    let (printed, told) = ("unsound lsn=80 43 Cut\n", "als: refused 43 Cut\n");
+    assert!(rt; refuses(&rt, &verify, printed, told) || refuses(&rt, &verify, printed, told));
+    assert!(rt; fs::remove_file(&rt, "altered.log").is_ok());
+}

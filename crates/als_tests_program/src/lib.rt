@@ -1,0 +1,68 @@
+//! Tests of the program `als`: scripts and command lines, with what it prints. They use public names alone.
+#![tactic(auto)]
+
+// A growth is refused once at most: a test that meets one is run once more.
+
+// A row of a table, and how it is run.
+#[cfg(test)]
+mod row;
+// `als make`.
+#[cfg(test)]
+mod making;
+// The script language: its bad lines.
+#[cfg(test)]
+mod language;
+// What is fed.
+#[cfg(test)]
+mod feeding;
+// Redo of pages, and their blocks.
+#[cfg(test)]
+mod redoing;
+// What is acknowledged, and devices that fail.
+#[cfg(test)]
+mod acknowledging;
+// The command line.
+#[cfg(test)]
+mod asking;
+// Streams that fail or are too long.
+#[cfg(test)]
+mod streams;
+// What is said beside what a command answers.
+#[cfg(test)]
+mod explaining;
+// Records that may not follow, and the transaction table.
+#[cfg(test)]
+mod judging;
+// Takeovers.
+#[cfg(test)]
+mod taking_over;
+// What a takeover is refused by.
+#[cfg(test)]
+mod takeover_refusals;
+// Checkpoints.
+#[cfg(test)]
+mod checkpointing;
+// Crashes, and what a restart finds.
+#[cfg(test)]
+mod restarting;
+// A standby that recovers, or is down.
+#[cfg(test)]
+mod recovering;
+// Crashes under a checkpoint.
+#[cfg(test)]
+mod checkpoint_crashes;
+// Takeovers that crash.
+#[cfg(test)]
+mod crashing;
+// The scripts of the folder of examples.
+#[cfg(test)]
+mod examples;
+// `als ship`.
+#[cfg(test)]
+mod shipping;
+// `als standby`, `als takeover`, `als verify` and `als dump`.
+#[cfg(test)]
+mod following;
+// Requests that want memory.
+#[cfg(test)]
+mod memory;
