@@ -1,4 +1,4 @@
-use crate::primary::PAGES;
+use als_bench_logs::PAGES;
 use als_disk::{BlockDisk, FileDisk, MemDisk};
 use als_engine::{Config, Disks, Engine, Fault};
 use std::alloc::Global;
@@ -23,7 +23,7 @@ impl Size {
     pub const LARGEST: Size = Size {
         pages: PAGES,
         frames: PAGES,
-        name: "forced",
+        name: "followed",
     };
 }
 

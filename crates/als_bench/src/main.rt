@@ -1,28 +1,24 @@
 //! Measures what the standby does with a primary's log: decoding, judging, receiving, and whole feeds.
 #![tactic(auto)]
 
-// A primary that writes a valid log.
-mod primary;
-// One of its transactions at a time.
-mod writer;
-// A small value.
-mod small;
-// Random numbers that come again.
-mod dice;
 // Over the bytes alone: decoding, judging, receiving.
 mod reading;
 // The devices of a standby.
 mod devices;
 // Whole feeds.
 mod fed;
-// Feeds that are forced.
-mod forced;
+// What following costs, part by part.
+mod split;
+// What is done for a frame.
+mod turn;
+// A log that is followed.
+mod followed;
+// A log that is followed over the network.
+mod shipped;
 // Feeds that are redone, and whose pages are stored.
 mod redone;
 // Checkpoints.
 mod checkpointed;
-// Logs of transactions that do not end.
-mod losers;
 // Takeovers.
 mod taken_over;
 // Restarts.

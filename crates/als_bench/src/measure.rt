@@ -1,27 +1,30 @@
 use crate::checkpointed::checkpoint_all;
 use crate::devices::Size;
 use crate::fed::feed_all;
-use crate::forced::force_all;
-use crate::primary::{PAGES, Primary};
-use crate::reading::{decode_all, judge_all, judge_pieces, receive_all};
+use crate::followed::follow_all;
+use crate::reading::{decode_all, judge_all, judge_pieces, receive_all, view_all};
 use crate::redone::redo_all;
 use crate::restarted::restart_all;
+use crate::shipped::ship_all;
 use crate::taken_over::take_over_all;
+use als_bench_logs::{PAGES, Primary};
 use std::fs::File;
 use std::io;
+use std::net::{Net, TcpListener, TcpStream};
 use std::rt::{Clock, Files};
+use std::thread::Threads;
 use std::time::{Duration, Instant};
 
 /// The first record's offset.
 pub const FIRST: usize = 16;
 
-/// Measures each job over a log of so many MB with 16 open transactions, and with 1 and with 256. In the
-/// folder, if one is given, it makes the device files of a standby.
-pub fn measure_all<R: Print + Clock + AllocGlobal + Files<File = File>>(
-    rt: &R,
-    megabytes: usize,
-    folder: Option<&str>,
-) -> io::Result<()> {
+/// Measures each job over a log of so many MB with 16 open transactions, and with 1 and with 256.
+/// In the folder, if one is given, it makes the device files of a standby.
+pub fn measure_all<R>(rt: &R, megabytes: usize, folder: Option<&str>) -> io::Result<()>
+where
+    R: Print + Clock + AllocGlobal + Files<File = File>,
+    R: Net<Listener = TcpListener, Stream = TcpStream> + Threads + Sync,
+{
     let bytes = megabytes.saturating_mul(1 << 20);
     for open in [16, 1, 256] {
         let text = match Primary::new(rt.alloc(), open, bytes, PAGES).and_then(
@@ -33,7 +36,7 @@ pub fn measure_all<R: Print + Clock + AllocGlobal + Files<File = File>>(
         println!(rt; "{megabytes} MB, {open} open transactions")?;
         measure_log(rt, text.as_slice())?;
         if open == 16 {
-            force_all(rt, text.as_slice(), folder)?;
+            follow_log(rt, text.as_slice(), folder)?;
             restart_all(rt, text.as_slice())?;
         }
         if open == 256 {
@@ -42,6 +45,19 @@ pub fn measure_all<R: Print + Clock + AllocGlobal + Files<File = File>>(
     }
     take_over_all(rt)?;
     redo_sizes(rt, bytes, folder)
+}
+
+/// Measures following, over the network too where a folder is given.
+fn follow_log<R>(rt: &R, text: &[u8], folder: Option<&str>) -> io::Result<()>
+where
+    R: Print + Clock + AllocGlobal + Files<File = File>,
+    R: Net<Listener = TcpListener, Stream = TcpStream> + Threads + Sync,
+{
+    follow_all(rt, text, folder)?;
+    match folder {
+        Some(folder) => ship_all(rt, text, folder),
+        None => Ok(()),
+    }
 }
 
 /// Measures redo for few pages and for many, and with fewer frames than pages.
@@ -72,10 +88,11 @@ fn redo_sizes<R: Print + Clock + AllocGlobal + Files<File = File>>(
 
 /// Measures each job over a log.
 fn measure_log<R: Print + Clock + AllocGlobal>(rt: &R, text: &[u8]) -> io::Result<()> {
+    measure(rt, "view", None, text, || view_all(text))?;
     measure(rt, "decode", None, text, || decode_all(rt.alloc(), text))?;
     measure(
         rt,
-        "decode and judge",
+        "decode and judge, not looking ahead",
         None,
         text,
         || judge_all(rt.alloc(), text),

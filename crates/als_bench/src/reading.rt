@@ -1,5 +1,5 @@
 use crate::measure::FIRST;
-use crate::primary::PAGES;
+use als_bench_logs::PAGES;
 use als_receiver::Receiver;
 use als_record::{BodyView, Lsn, RecordView, decode, view_record};
 use als_validator::Validator;
@@ -17,6 +17,25 @@ fn last_byte(logged: &RecordView<'_>) -> usize {
         Some(bytes) => bytes.last().map_or(0, |byte| *byte as usize),
         None => 0,
     }
+}
+
+/// Views each record where it lies, and answers how many there are.
+pub fn view_all(text: &[u8]) -> u64 {
+    let mut at = FIRST;
+    let mut records = 0u64;
+    for _ in 0..u64::MAX {
+        let Some(rest) = text.get(at..) else {
+            break;
+        };
+        match view_record(rest, Lsn(at as u64), PAGES) {
+            Ok(Some((logged, len))) if last_byte(&logged) <= text.len() => {
+                at = at.saturating_add(len);
+            }
+            _ => break,
+        }
+        records = records.saturating_add(1);
+    }
+    records
 }
 
 /// Decodes each record, and answers how many there are.
@@ -38,7 +57,7 @@ pub fn decode_all(alloc: Global, text: &[u8]) -> u64 {
     records
 }
 
-/// Decodes each record and lets the validator judge and take it.
+/// Decodes each record and lets the validator judge and take it, and does not look ahead.
 pub fn judge_all(alloc: Global, text: &[u8]) -> u64 {
     let Ok(mut validator) = Validator::new(alloc, PAGES) else {
         return 0;
@@ -89,10 +108,14 @@ pub fn receive_all(alloc: Global, text: &[u8], piece: usize) -> u64 {
     records
 }
 
-/// Lets the validator judge and take each record that is whole, and answers how many there were.
+/// Lets the validator judge and take each record that is whole, and answers how many there were. It looks ahead.
 fn judge_whole(receiver: &mut Receiver, validator: &mut Validator) -> u64 {
     let mut records = 0u64;
+    let mut ahead = 0usize;
     for _ in 0..u64::MAX {
+        if ahead == 0 {
+            ahead = validator.look_ahead(receiver.front(receiver.partial()));
+        }
         let Ok(Some((logged, len))) = receiver.peek() else {
             break;
         };
@@ -104,6 +127,7 @@ fn judge_whole(receiver: &mut Receiver, validator: &mut Validator) -> u64 {
             Err(_) => break,
         }
         receiver.advance(len);
+        ahead = ahead.saturating_sub(len);
         records = records.saturating_add(1);
     }
     records

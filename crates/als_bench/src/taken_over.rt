@@ -1,7 +1,7 @@
 use crate::devices::{Size, in_memory, standby};
-use crate::losers::write_losers;
 use crate::measure::FIRST;
 use crate::redone::hold;
+use als_bench_logs::write_losers;
 use als_disk::{BlockDisk, MemDisk};
 use als_engine::{Engine, Fault};
 use std::io;

@@ -1,0 +1,17 @@
+//! Logs that a benchmark measures a standby with: what a primary would write, the same in each run.
+#![tactic(auto)]
+
+// Random numbers that come again.
+mod dice;
+// A small value.
+mod small;
+// One of a primary's transactions at a time.
+mod writer;
+// A primary that writes a valid log.
+mod primary;
+// Logs of transactions that do not end.
+mod losers;
+
+pub use dice::Dice;
+pub use losers::write_losers;
+pub use primary::{PAGES, Primary, SLOTS};
