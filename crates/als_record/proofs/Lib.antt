@@ -16,6 +16,7 @@ pub mod Unended
 pub mod TableSteps
 pub mod TableRows
 pub mod Images
+pub mod KeptImages
 pub mod Validity
 pub mod TailSteps
 pub mod HeaderLaws

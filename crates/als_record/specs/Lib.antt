@@ -10,6 +10,7 @@ pub mod Pages
 pub mod Transactions
 pub mod Table
 pub mod Images
+pub mod KeptImages
 pub mod Validity
 pub mod Tail
 pub mod Sweep

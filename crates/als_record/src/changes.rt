@@ -3,6 +3,7 @@ ghost use Rattle.als_record.specs.Pages.{change_of};
 ghost use Rattle.als_record.specs.Shown.{shown};
 
 use crate::change::Change;
+use crate::kept_image::KeptImage;
 use crate::record::Record;
 use crate::record_view::{BodyView, RecordView};
 
@@ -18,7 +19,7 @@ impl RecordView<'_> {
                 Some(Change {
                     lsn: self.lsn,
                     key: *key,
-                    after: after.to_image(),
+                    after: KeptImage::of(after),
                 })
             }
             BodyView::Commit

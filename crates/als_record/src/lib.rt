@@ -11,6 +11,8 @@ mod trans_id;
 mod key;
 // What a key has, before or after.
 mod image;
+// An image in 32 bytes.
+mod kept_image;
 // One write of redo.
 mod change;
 // The rows of a primary's checkpoint.
@@ -66,6 +68,7 @@ pub use fault::Fault;
 pub use header::LogHeader;
 pub use image::{Image, Value};
 pub use image_view::ImageView;
+pub use kept_image::KeptImage;
 pub use key::Key;
 pub use laws::{one_log, one_spelling};
 pub use lengths::encoded_len;

@@ -115,7 +115,7 @@ fn text_of_one_transaction(rt: HostRuntime) -> Result<(), Fail> {
     let change = update.change().ok_or("an update changes its key")?;
     assert_eq!(rt; change.lsn, Lsn(16));
     assert_eq!(rt; change.key, Key { page: 0, slot: 0 });
-    let value = change.after.ok_or("it writes a value")?;
+    let value = change.after.image().ok_or("it writes a value")?;
     assert_eq!(rt; value.as_slice(), [0xaa].as_slice());
     let commit = spelled(&rt, rt.alloc(), &COMMIT, 52)?;
     assert_eq!(rt; commit.prev, Lsn(16));

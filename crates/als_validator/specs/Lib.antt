@@ -1,6 +1,5 @@
 pub mod Causing
 pub mod FaultNames
-pub mod KeptImages
 pub mod Keys
 pub mod Seen
 pub mod Tests

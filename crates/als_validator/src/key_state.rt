@@ -1,8 +1,7 @@
 ghost use Rattle.std.specs.Prelude.{◌≡◌, ◌==◌, ◌+◌, ◌-◌, ◌^◌, min, None, if◌then◌else◌};
 ghost use Rattle.als_record.specs.Shown.{shown_image};
 
-use crate::kept_image::KeptImage;
-use als_record::{ImageView, TransId};
+use als_record::{ImageView, KeptImage, TransId};
 
 /// What is kept of a key: what it has, and how many surviving updates of it a transaction has. Once that transaction has
 /// committed or ended the count says nothing, and nobody clears it: the next update of the key does.
@@ -29,7 +28,7 @@ impl KeyState {
 
     /// A word that is made of the front of what is kept and of the image, and says nothing: who asks for it has both at hand.
     pub(crate) fn word(&self) -> u64 {
-        self.count ^ u64::from(self.image.first_byte())
+        self.count ^ u64::from(self.image.first())
     }
 
     /// A transaction that may write the key updates it.
@@ -44,7 +43,7 @@ impl KeyState {
             1
         };
         self.holder = trans;
-        self.image.set(after);
+        self.image = KeptImage::of(after);
     }
 
     /// A transaction undoes an update of the key.
@@ -56,6 +55,6 @@ impl KeyState {
         if self.holder.0 == trans.0 {
             self.count = self.count.saturating_sub(1);
         }
-        self.image.set(after);
+        self.image = KeptImage::of(after);
     }
 }

@@ -9,8 +9,6 @@ mod causes;
 mod committing;
 // Why a record is not admitted.
 mod fault;
-// An image in few bytes.
-mod kept_image;
 // What is kept of a key.
 mod key_state;
 // What is kept of all keys.

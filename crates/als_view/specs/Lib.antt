@@ -1,5 +1,4 @@
 pub mod Committing
 pub mod FaultNames
 pub mod Fronts
-pub mod KeptImages
 pub mod Showing

@@ -5,8 +5,7 @@ ghost use Rattle.als_view.specs.Fronts.{AreImagesAfter, place_of, written, writt
 
 use crate::commit::Commit;
 use crate::fault::Fault;
-use crate::kept_image::KeptImage;
-use als_record::{Image, ImageView, Key, Lsn, SLOT_COUNT};
+use als_record::{Image, ImageView, KeptImage, Key, Lsn, SLOT_COUNT};
 use std::alloc::Global;
 use std::collections::VecDeque;
 
@@ -36,7 +35,7 @@ pub(crate) fn write(images: &mut [KeptImage], key: Key, after: Image)
 {
     let at = place(key);
     if (key.slot as usize) < SLOT_COUNT && at < images.len() {
-        images[at].set(&ImageView::of(&after));
+        images[at] = KeptImage::of(&ImageView::of(&after));
     }
 }
 

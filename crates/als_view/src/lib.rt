@@ -9,8 +9,6 @@ mod committing;
 mod fault;
 // The keys' images.
 mod images;
-// An image in few bytes.
-mod kept_image;
 // What holds of every log and view.
 mod laws;
 // What a view shows of a log.
