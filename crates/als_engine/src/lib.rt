@@ -34,6 +34,3 @@ pub use fed::{Fed, FeedFault};
 pub use refused::Refused;
 pub use status::{State, Status};
 pub use step::{Reply, Step};
-
-#[cfg(test)]
-mod tests;

@@ -22,6 +22,3 @@ pub use dumping::dump;
 pub use fault::Fault;
 pub use verifying::verify;
 pub use wanted::Wanted;
-
-#[cfg(test)]
-mod tests;

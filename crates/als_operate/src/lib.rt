@@ -42,6 +42,3 @@ pub use takeover_command::takeover;
 pub use taking_over::take_over;
 pub use warm::Warm;
 pub use whole::read_whole;
-
-#[cfg(test)]
-mod tests;

@@ -36,6 +36,3 @@ pub use fault::Fault;
 pub use reopened::Reopened;
 pub use reopening::reopen;
 pub use unreopened::Unreopened;
-
-#[cfg(test)]
-mod tests;

@@ -12,10 +12,6 @@ mod unread;
 // The records one by one.
 mod scan;
 
-// Logs read back, and what a refused growth and a failed read leave.
-#[cfg(test)]
-mod tests;
-
 pub use fault::Fault;
 pub use scan::Scan;
 pub use unread::Unread;

@@ -56,6 +56,3 @@ pub use text::{LogText, RawBody, RawImage};
 pub use wanted::Wanted;
 pub use words::Words;
 pub use world_line::WorldLine;
-
-#[cfg(test)]
-mod tests;

@@ -36,6 +36,3 @@ pub use laws::{
 pub use shipper::Shipper;
 pub use source::{LogBytes, Source};
 pub use tag::Tag;
-
-#[cfg(test)]
-mod tests;

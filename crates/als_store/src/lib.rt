@@ -24,6 +24,3 @@ pub use opened::Opened;
 pub use store::Store;
 pub use store::crashing::crash_disks;
 pub use unformatted::Unformatted;
-
-#[cfg(test)]
-mod tests;

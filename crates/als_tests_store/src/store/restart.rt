@@ -2,7 +2,7 @@
 ghost use Rattle.std.specs.Prelude.{◌≤◌, IfSome};
 
 use super::*;
-use crate::OpenFault;
+use als_store::OpenFault;
 
 /// The devices of a store that was stopped after its record was acknowledged. None: memory was
 /// refused on the way.

@@ -1,45 +1,27 @@
-use super::*;
-use crate::shipping::serve_next;
+use crate::common::{TEXT, TOLD, listen, source};
+use als_operate::{Fault, serve, ship};
 use als_ship::LogBytes;
 use std::alloc::Global;
 use std::io::{Read, Write};
-use std::net::{Ipv4Addr, Net, SocketAddr, TcpListener, TcpStream};
+use std::net::{Net, SocketAddr, TcpListener, TcpStream};
 use std::rt::Files;
 use std::test::Fail;
 use std::{fs, io, thread};
 
-// A log of a database of four pages: its header, an update of 0/0 to `aa` at 16, its commit at 52 and its end at 80.
-const TEXT: [u8; 108] = [
-    65, 76, 83, 76, 79, 71, 48, 49, 0, 0, 0, 4, 0, 0, 0, 0, 0, 0, 0, 36, 1, 0, 0, 0, 0, 0, 0, 0, 0,
-    0, 0, 16, 0, 0, 0, 0, 0, 0, 0, 0, 0, 0, 0, 1, 0, 0, 0, 0, 0, 255, 1, 170, 0, 0, 0, 28, 3, 0, 0,
-    0, 0, 0, 0, 0, 0, 0, 0, 52, 0, 0, 0, 0, 0, 0, 0, 16, 0, 0, 0, 1, 0, 0, 0, 28, 5, 0, 0, 0, 0, 0,
-    0, 0, 0, 0, 0, 80, 0, 0, 0, 0, 0, 0, 0, 52, 0, 0, 0, 1,
-];
-
-// A Resume frame from 16 on, and two Acknowledged frames of 108.
-const TOLD: [u8; 43] = [
-    0x52, 0, 0, 0, 0, 0, 0, 0, 16, 65, 76, 83, 76, 79, 71, 48, 49, 0, 0, 0, 4, 0, 0, 0, 0, //
-    0x41, 0, 0, 0, 0, 0, 0, 0, 108, //
-    0x41, 0, 0, 0, 0, 0, 0, 0, 108,
-];
-
 // The session's bytes from the shipper: a Data frame of the 92 bytes from 16 on, and the last one, which has none.
 const SENT: usize = 118;
 
-// The log as a source. `None`: memory was refused.
-fn source(alloc: Global) -> Option<LogBytes> {
-    let bytes = Vec::from_slice(alloc, &TEXT).ok()?;
-    LogBytes::new(bytes).ok()
-}
-
-// A port of this machine.
-fn listen<N>(rt: &N) -> io::Result<(TcpListener, SocketAddr)>
-where
-    N: Net<Listener = TcpListener, Stream = TcpStream>,
-{
-    let listener = TcpListener::bind(rt, SocketAddr::from((Ipv4Addr::LOCALHOST, 0)))?;
-    let addr = listener.local_addr()?;
-    Ok((listener, addr))
+// Serves the next follower that comes, as `ship` does.
+fn serve_next(
+    alloc: Global,
+    source: &mut LogBytes,
+    listener: &TcpListener,
+    output: &mut Vec<u8>,
+) -> Result<(), Fault> {
+    let (mut writer, _) = listener.accept()?;
+    writer.set_nodelay(true)?;
+    let mut reader = writer.try_clone()?;
+    serve(alloc, source, &mut reader, &mut writer, output)
 }
 
 // A follower that holds nothing and acknowledges all: how many bytes it is sent.

@@ -4,12 +4,7 @@ use super::*;
 /// The devices of a standby that was stopped after its log was acknowledged. None: memory was
 /// refused.
 fn stopped(rt: &impl Abort, alloc: Global) -> Option<Disks<MemDisk>> {
-    let disks = Disks {
-        log: MemDisk::new(alloc, 8),
-        control: MemDisk::new(alloc, 321),
-        pages: MemDisk::new(alloc, 4),
-    };
-    let mut engine = Engine::format(alloc, disks, CONFIG).ok()?;
+    let mut engine = Engine::format(alloc, devices_in_memory(alloc), CONFIG).ok()?;
     engine.feed(&text()).ok()?;
     engine.log_write().ok()?;
     engine.log_sync().ok()?;

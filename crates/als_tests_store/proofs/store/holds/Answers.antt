@@ -1,4 +1,4 @@
-use Rattle.als_store.proofs.tests.holds.Goals as goal
+use Rattle.als_tests_store.proofs.store.holds.Goals as goal
 
 pub reserve-requires-clause-fits : goal.reserve-requires-clause-fits
 reserve-requires-clause-fits g c = c.commit_at-logged.ensures.fits c.in-Ok.store.stored.pages

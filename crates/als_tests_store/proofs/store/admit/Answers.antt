@@ -1,4 +1,4 @@
-use Rattle.als_store.proofs.tests.admit.Goals as goal
+use Rattle.als_tests_store.proofs.store.admit.Goals as goal
 
 pub admit-answer-requires-clause-fits : goal.admit-answer-requires-clause-fits
 admit-answer-requires-clause-fits g c =

@@ -1,4 +1,4 @@
-use super::*;
+use als_inspect::{Fault, Wanted, verify};
 use als_record::{Body, Image, Key, Lsn, Record, TransId};
 use std::fs;
 use std::fs::File;

@@ -6,9 +6,9 @@ mod refusals;
 // A store that was stopped is opened again.
 mod restart;
 
-use super::*;
 use als_disk::{BlockDisk, MemDisk};
 use als_record::{Body, Cause, Lsn, Record, TransId, encode};
+use als_store::{Disks, Fault, Phase, Store};
 use std::alloc::Global;
 use std::process::Abort;
 

@@ -1,4 +1,4 @@
-use crate::{
+use als_script::{
     CombinedLine, Explanation, FIRST_OF_MAKE, FIRST_OF_SIM, RECORD_FORMS, STEP_FORMS, StepLine,
     Wanted, explain,
 };

@@ -25,12 +25,7 @@ fn said(engine: &Engine<MemDisk>) -> Option<(Image, u64, u64)> {
 
 /// A commit is published once it is acknowledged, and not before. None: memory was refused.
 fn publishes(rt: &impl Abort, alloc: Global) -> Option<()> {
-    let disks = Disks {
-        log: MemDisk::new(alloc, 8),
-        control: MemDisk::new(alloc, 321),
-        pages: MemDisk::new(alloc, 4),
-    };
-    let mut engine = Engine::format(alloc, disks, CONFIG).ok()?;
+    let mut engine = Engine::format(alloc, devices_in_memory(alloc), CONFIG).ok()?;
     engine.feed(&text()).ok()?;
     assert_eq!(rt; engine.publish_view(), Err(Fault::NothingToDo));
     assert_eq!(rt; said(&engine), Some((None, 0, 0)));

@@ -5,20 +5,20 @@ mod reading;
 // A recovery, and its end.
 mod recovery;
 
-use super::*;
+use crate::common::{CONFIG, TEXT, devices_in_memory};
 use als_disk::{BlockDisk, FailingDisk, Fuse, MemDisk};
+use als_engine::{
+    Answer, Config, Disks, Engine, Fault, Fed, FeedFault, Reply, State, Status, Step,
+};
 use als_record::Lsn;
 use std::alloc::{AllocError, Global};
 use std::process::Abort;
 
 /// An update of 0/0 to `aa` at 16, its commit at 52 and its end at 80.
 fn text() -> [u8; 92] {
-    [
-        0, 0, 0, 36, 1, 0, 0, 0, 0, 0, 0, 0, 0, 0, 0, 16, 0, 0, 0, 0, 0, 0, 0, 0, 0, 0, 0, 1, 0, 0,
-        0, 0, 0, 255, 1, 170, 0, 0, 0, 28, 3, 0, 0, 0, 0, 0, 0, 0, 0, 0, 0, 52, 0, 0, 0, 0, 0, 0,
-        0, 16, 0, 0, 0, 1, 0, 0, 0, 28, 5, 0, 0, 0, 0, 0, 0, 0, 0, 0, 0, 80, 0, 0, 0, 0, 0, 0, 0,
-        52, 0, 0, 0, 1,
-    ]
+    let mut records = [0; 92];
+    records.copy_from_slice(&TEXT[16..]);
+    records
 }
 
 /// Updates of 0/0 to 0/5 by one transaction, from 16 on, each with a value of one byte.
@@ -48,13 +48,6 @@ fn six_long() -> [u8; 217] {
         0, 0, 0, 0, 160, 0, 0, 0, 1, 0, 0, 0, 0, 5, 255, 2, 165, 166,
     ]
 }
-
-const CONFIG: Config = Config {
-    pages: 4,
-    frames: 4,
-    pending: 1000,
-    readers: 1,
-};
 
 /// A call that no device comes to.
 const NEVER: u64 = 1_000_000;

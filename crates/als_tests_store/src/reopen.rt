@@ -1,23 +1,12 @@
 ghost use Rattle.std.specs.Prelude.{◌≡◌, ◌≤◌, IfSome};
 
-use crate::{Disks, Fault, reopen};
+use crate::logs::OPEN;
 use als_disk::{BlockDisk, MemDisk};
 use als_record::{Fault as ShapeFault, Key, Lsn};
+use als_reopen::{Disks, Fault, reopen};
 use als_view::{Answer, View};
 use std::alloc::Global;
 use std::process::Abort;
-
-// A log of a database of four pages: an update at 16 and a commit at 52 of one transaction, and updates at 80 and 116 of a second.
-const LOG: [u8; 153] = [
-    0x41, 0x4c, 0x53, 0x4c, 0x4f, 0x47, 0x30, 0x31, 0, 0, 0, 4, 0, 0, 0, 0, //
-    0, 0, 0, 0x24, 1, 0, 0, 0, 0, 0, 0, 0, 0, 0, 0, 0x10, 0, 0, 0, 0, 0, 0, 0, 0, 0, 0, 0, 1, 0, 0,
-    0, 0, 0, 0xff, 1, 0xaa, //
-    0, 0, 0, 0x1c, 3, 0, 0, 0, 0, 0, 0, 0, 0, 0, 0, 0x34, 0, 0, 0, 0, 0, 0, 0, 0x10, 0, 0, 0, 1, //
-    0, 0, 0, 0x24, 1, 0, 0, 0, 0, 0, 0, 0, 0, 0, 0, 0x50, 0, 0, 0, 0, 0, 0, 0, 0, 0, 0, 0, 2, 0, 0,
-    0, 0, 1, 0xff, 1, 0xbb, //
-    0, 0, 0, 0x25, 1, 0, 0, 0, 0, 0, 0, 0, 0, 0, 0, 0x74, 0, 0, 0, 0, 0, 0, 0, 0x50, 0, 0, 0, 2, 0,
-    0, 0, 0, 0, 1, 1, 0xaa, 0xcc,
-];
 
 // A log of a database of four pages with two commits, at 130 and 195. The first transaction writes slot 0 at 16 and slot 1 at 52, and
 // takes the write at 52 back; the second writes slot 0 at 158.
@@ -82,7 +71,7 @@ fn log_block(at: usize, byte: u8) -> [u8; 512]
     requires { at ≤ 511 }
 {
     let mut block = [0; 512];
-    block[..153].copy_from_slice(&LOG);
+    block[..153].copy_from_slice(&OPEN);
     block[at] = byte;
     block
 }

@@ -1,30 +1,16 @@
-use super::*;
+use crate::common::{CONFIG, TEXT, TOLD, devices_in_memory, listen, source};
 use als_disk::MemDisk;
-use als_engine::{Config, Disks, Engine, Events};
+use als_engine::{Engine, Events};
 use als_record::{LogHeader, Lsn};
+use als_ship::{Fault, Follower, Frame, LogBytes, Shipper};
 use bytes::Bytes;
 use std::alloc::Global;
-use std::net::{Ipv4Addr, Net, SocketAddr, TcpListener, TcpStream};
+use std::net::{Net, SocketAddr, TcpListener, TcpStream};
 use std::process::Abort;
 use std::test::Fail;
-use std::{io, thread};
-
-// A log of a database of four pages: its header, an update of 0/0 to `aa` at 16, its commit at 52 and its end at 80.
-const TEXT: [u8; 108] = [
-    65, 76, 83, 76, 79, 71, 48, 49, 0, 0, 0, 4, 0, 0, 0, 0, 0, 0, 0, 36, 1, 0, 0, 0, 0, 0, 0, 0, 0,
-    0, 0, 16, 0, 0, 0, 0, 0, 0, 0, 0, 0, 0, 0, 1, 0, 0, 0, 0, 0, 255, 1, 170, 0, 0, 0, 28, 3, 0, 0,
-    0, 0, 0, 0, 0, 0, 0, 0, 52, 0, 0, 0, 0, 0, 0, 0, 16, 0, 0, 0, 1, 0, 0, 0, 28, 5, 0, 0, 0, 0, 0,
-    0, 0, 0, 0, 0, 80, 0, 0, 0, 0, 0, 0, 0, 52, 0, 0, 0, 1,
-];
+use std::thread;
 
 const HEADER: LogHeader = LogHeader { pages: 4 };
-
-// A Resume frame from 16 on, and two Acknowledged frames of 108.
-const TOLD: [u8; 43] = [
-    0x52, 0, 0, 0, 0, 0, 0, 0, 16, 65, 76, 83, 76, 79, 71, 48, 49, 0, 0, 0, 4, 0, 0, 0, 0, //
-    0x41, 0, 0, 0, 0, 0, 0, 0, 108, //
-    0x41, 0, 0, 0, 0, 0, 0, 0, 108,
-];
 
 // The Data frame of the bytes from 16 to 108, and the last one, which has none.
 const SENT: [u8; 118] = [
@@ -36,24 +22,7 @@ const SENT: [u8; 118] = [
 
 // A standby of four pages with nothing in it. `None`: memory was refused.
 fn standby(alloc: Global) -> Option<Engine<MemDisk>> {
-    let disks = Disks {
-        log: MemDisk::new(alloc, 8),
-        control: MemDisk::new(alloc, 321),
-        pages: MemDisk::new(alloc, 4),
-    };
-    let config = Config {
-        pages: 4,
-        frames: 4,
-        pending: 1000,
-        readers: 1,
-    };
-    Engine::format(alloc, disks, config).ok()
-}
-
-// The log as a source. `None`: memory was refused.
-fn source(alloc: Global) -> Option<LogBytes> {
-    let bytes = Vec::from_slice(alloc, &TEXT).ok()?;
-    LogBytes::new(bytes).ok()
+    Engine::format(alloc, devices_in_memory(alloc), CONFIG).ok()
 }
 
 // The bytes of the log from one offset to another, as a frame. `None`: memory was refused.
@@ -229,15 +198,6 @@ fn faults_have_numbers_and_names(rt: HostRuntime) {
         Fault::Refused(als_engine::Fault::Backlog).name(),
         "Backlog"
     );
-}
-
-fn listen<N>(rt: &N) -> io::Result<(TcpListener, SocketAddr)>
-where
-    N: Net<Listener = TcpListener, Stream = TcpStream>,
-{
-    let listener = TcpListener::bind(rt, SocketAddr::from((Ipv4Addr::LOCALHOST, 0)))?;
-    let addr = listener.local_addr()?;
-    Ok((listener, addr))
 }
 
 // Serves the next follower that comes.

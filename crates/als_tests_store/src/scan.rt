@@ -1,35 +1,15 @@
 ghost use Rattle.std.specs.Prelude.{◌≡◌, ◌≤◌, ℕ, IfSome};
 ghost use Rattle.als_disk.specs.Slot.{IsSettled};
 
-use crate::{Fault, Scan, Unread};
+use crate::logs::{ENDED, OPEN};
 use als_disk::{BlockDisk, FailingDisk, Fuse, MemDisk};
 use als_log::{LocalLog, NewLog};
 use als_record::{Fault as ShapeFault, Lsn, TransId, TransactionRow, TransactionState, decode};
+use als_scan::{Fault, Scan, Unread};
 use als_validator::Validator;
 use std::alloc::Global;
 use std::process::Abort;
 use std::test::Fail;
-
-// A log of a database of four pages: an update at 16, a commit at 52 and an end at 80, of one transaction.
-const ENDED: [u8; 108] = [
-    0x41, 0x4c, 0x53, 0x4c, 0x4f, 0x47, 0x30, 0x31, 0, 0, 0, 4, 0, 0, 0, 0, //
-    0, 0, 0, 0x24, 1, 0, 0, 0, 0, 0, 0, 0, 0, 0, 0, 0x10, 0, 0, 0, 0, 0, 0, 0, 0, 0, 0, 0, 1, 0, 0,
-    0, 0, 0, 0xff, 1, 0xaa, //
-    0, 0, 0, 0x1c, 3, 0, 0, 0, 0, 0, 0, 0, 0, 0, 0, 0x34, 0, 0, 0, 0, 0, 0, 0, 0x10, 0, 0, 0, 1, //
-    0, 0, 0, 0x1c, 5, 0, 0, 0, 0, 0, 0, 0, 0, 0, 0, 0x50, 0, 0, 0, 0, 0, 0, 0, 0x34, 0, 0, 0, 1,
-];
-
-// Another: an update at 16 and a commit at 52 of one transaction, and updates at 80 and 116 of a second.
-const OPEN: [u8; 153] = [
-    0x41, 0x4c, 0x53, 0x4c, 0x4f, 0x47, 0x30, 0x31, 0, 0, 0, 4, 0, 0, 0, 0, //
-    0, 0, 0, 0x24, 1, 0, 0, 0, 0, 0, 0, 0, 0, 0, 0, 0x10, 0, 0, 0, 0, 0, 0, 0, 0, 0, 0, 0, 1, 0, 0,
-    0, 0, 0, 0xff, 1, 0xaa, //
-    0, 0, 0, 0x1c, 3, 0, 0, 0, 0, 0, 0, 0, 0, 0, 0, 0x34, 0, 0, 0, 0, 0, 0, 0, 0x10, 0, 0, 0, 1, //
-    0, 0, 0, 0x24, 1, 0, 0, 0, 0, 0, 0, 0, 0, 0, 0, 0x50, 0, 0, 0, 0, 0, 0, 0, 0, 0, 0, 0, 2, 0, 0,
-    0, 0, 1, 0xff, 1, 0xbb, //
-    0, 0, 0, 0x25, 1, 0, 0, 0, 0, 0, 0, 0, 0, 0, 0, 0x74, 0, 0, 0, 0, 0, 0, 0, 0x50, 0, 0, 0, 2, 0,
-    0, 0, 0, 0, 1, 1, 0xaa, 0xcc,
-];
 
 /// A device of two blocks to which a log appended the records of a text. `None`: a growth was refused.
 fn appended(alloc: Global, text: &[u8]) -> Option<MemDisk> {

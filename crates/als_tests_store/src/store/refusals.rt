@@ -2,9 +2,9 @@ ghost use Rattle.std.specs.Prelude.{◌≡◌, ◌<◌, ℕ, IfOk};
 ghost use Rattle.als_record.specs.Spelling.{IsRecord};
 
 use super::spelled;
-use crate::{Disks, Fault, Store};
 use als_disk::{BlockDisk, FailingDisk, Fuse, MemDisk};
 use als_record::{Body, Key, LoggedPage, Lsn, Record, TransId};
+use als_store::{Disks, Fault, Store};
 use std::alloc::{AllocError, Global};
 use std::process::Abort;
 

@@ -1,0 +1,21 @@
+//! Tests of the engine, of sessions, of scripts, and of what an operator asks for. They use public names alone.
+#![tactic(auto)]
+
+// What several of these tests use.
+#[cfg(test)]
+mod common;
+// als_engine.
+#[cfg(test)]
+mod engine;
+// als_inspect.
+#[cfg(test)]
+mod inspect;
+// als_operate.
+#[cfg(test)]
+mod operate;
+// als_script.
+#[cfg(test)]
+mod script;
+// als_ship.
+#[cfg(test)]
+mod ship;
