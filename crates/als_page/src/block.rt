@@ -4,7 +4,7 @@ ghost use Rattle.als_record.specs.Spelling.{Image as AnyImage, IsImage};
 ghost use Rattle.als_page.specs.Block.{slot_bytes, head_bytes};
 
 use crate::slot::{SLOT, read_slot, write_slot};
-use als_record::{BLOCK_LEN, Image, Lsn, SLOT_COUNT};
+use als_record::{BLOCK_LEN, KeptImage, Lsn, SLOT_COUNT};
 
 /// How many bytes of a block stand before its slots.
 pub const HEAD: usize = 32;
@@ -28,7 +28,7 @@ pub fn write_head(lsn: Lsn, id: u32, into: &mut [u8])
 }
 
 /// Writes the bytes of slots, one after another.
-pub fn write_slots(images: &[Image], into: &mut [u8])
+pub fn write_slots(images: &[KeptImage], into: &mut [u8])
     requires count { length images.now ≤ 15 }
     requires room { length into.old ≡ 32 * length images.now }
     ensures written { into.new ≡ flat_map slot_bytes images.now }
@@ -40,7 +40,7 @@ pub fn write_slots(images: &[Image], into: &mut [u8])
 }
 
 /// The images whose slots have these bytes, if there are such.
-pub fn read_slots(bytes: &[u8]) -> Option<[Image; SLOT_COUNT]>
+pub fn read_slots(bytes: &[u8]) -> Option<[KeptImage; SLOT_COUNT]>
     requires { length bytes.now ≡ 480 }
     ensures found { IfSome result (λ images. (bytes.now ≡ flat_map slot_bytes images) × (length images ≡ 15)
         × AllByRecursion IsImage images) }
@@ -55,12 +55,10 @@ pub fn read_slots(bytes: &[u8]) -> Option<[Image; SLOT_COUNT]>
 }
 
 /// Slots of which none has a value.
-pub fn no_images() -> [Image; SLOT_COUNT]
+pub fn no_images() -> [KeptImage; SLOT_COUNT]
     ensures { result ≡ replicate 15 None }
 {
-    [
-        None, None, None, None, None, None, None, None, None, None, None, None, None, None, None,
-    ]
+    [KeptImage::absent(); SLOT_COUNT]
 }
 
 /// Whether these bytes are the head of a page's block.

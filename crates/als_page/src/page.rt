@@ -3,16 +3,16 @@ ghost use Rattle.als_page.specs.Block.{is_page_lsn};
 
 use crate::block::{HEAD, is_head, is_zero, no_images, read_slots, write_head, write_slots};
 use crate::fault::Fault;
-use crate::slot::copy_of;
-use als_record::{BLOCK_LEN, Change, Image, Lsn, SLOT_COUNT};
+use als_record::{BLOCK_LEN, Change, Image, KeptImage, Lsn, SLOT_COUNT};
 use byteorder::{BigEndian, ByteOrder};
 
 /// A page of the database: 15 slots of images, and its page_LSN, the LSN of the last record that changed it.
-#[derive(Drop)]
+/// It has 496 bytes, and is copied as it stands.
+#[derive(Clone, Copy)]
 pub struct Page {
     id: u32,
     lsn: Lsn,
-    slots: [Image; SLOT_COUNT],
+    slots: [KeptImage; SLOT_COUNT],
     ghost count: { length slots ≡ 15 },
     ghost written: { IsTrue (is_page_lsn lsn.0 slots) },
 }
@@ -51,12 +51,12 @@ impl Page {
         self.lsn
     }
 
-    /// The image of a slot.
-    pub fn image(&self, slot: u8) -> &Image
+    /// The image of a slot, copied. It takes no memory.
+    pub fn image(&self, slot: u8) -> Image
         requires { slot ≤ 14 }
-        ensures { slice_get (state_of self.now).slots slot ≡ Some result.now }
+        ensures { slice_get (state_of self.now).slots slot ≡ Some result }
     {
-        &self.slots[slot as usize]
+        self.slots[slot as usize].image()
     }
 
     /// Redoes a change of this page: its slot gets the after image, and the page_LSN becomes the change's LSN. It takes
@@ -75,24 +75,8 @@ impl Page {
             → changes_above log (id_of self.old) (state_of self.old).lsn ≡ change.now ∷ rest
             → state_of self.new ≡ page_at log (id_of self.old) change.now.lsn.0 }
     {
-        self.slots[change.key.slot as usize] = copy_of(&change.after);
+        self.slots[change.key.slot as usize] = change.after;
         self.lsn = change.lsn;
-    }
-
-    /// The same page, which takes no memory.
-    pub fn copied(&self) -> Page
-        ensures number { id_of result ≡ id_of self.now }
-        ensures state { state_of result ≡ state_of self.now }
-    {
-        let mut slots = no_images();
-        for i in 0..SLOT_COUNT {
-            slots[i] = copy_of(&self.slots[i]);
-        }
-        Page {
-            id: self.id,
-            lsn: self.lsn,
-            slots,
-        }
     }
 
     /// Writes the page's block.

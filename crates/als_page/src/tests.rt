@@ -1,6 +1,6 @@
 use crate::{Fault, Page};
-use als_record::{BLOCK_LEN, Change, Image, Key, Lsn, Value};
-use std::test::Fail;
+use als_record::{BLOCK_LEN, Change, Image, ImageView, KeptImage, Key, Lsn, Value};
+use std::process::Abort;
 
 // A value of one byte.
 fn one_byte(byte: u8) -> Image {
@@ -21,36 +21,49 @@ fn block_of_first_update() -> [u8; BLOCK_LEN] {
     block
 }
 
+// The page that a block holds.
+fn page_of(rt: &impl Abort, id: u32, block: &[u8; BLOCK_LEN]) -> Page {
+    match Page::read_block(id, block) {
+        Ok(page) => page,
+        Err(_) => panic!(rt; "refused"),
+    }
+}
+
 #[test]
-fn writes_and_reads_a_block(rt: HostRuntime) -> Result<(), Fail> {
+fn writes_and_reads_a_block(rt: HostRuntime) {
     let mut page = Page::empty(0);
     page.redo(&Change {
         lsn: Lsn(16),
         key: Key { page: 0, slot: 0 },
-        after: one_byte(0xaa),
+        after: KeptImage::of(&ImageView::of(&one_byte(0xaa))),
     });
     let mut block = [7; BLOCK_LEN];
     page.write_block(&mut block);
     assert_eq!(rt; block.as_slice(), block_of_first_update().as_slice());
-    let read = Page::read_block(0, &block)?;
+    let read = page_of(&rt, 0, &block);
     assert_eq!(rt; read.id(), 0);
     assert_eq!(rt; read.lsn(), Lsn(16));
-    assert!(rt; *read.image(0) == one_byte(0xaa));
+    assert!(rt; read.image(0) == one_byte(0xaa));
     assert!(rt; read.image(14).is_none());
-    assert!(rt; *read.copied().image(0) == one_byte(0xaa));
-    Ok(())
+    let copy = page;
+    page.redo(&Change {
+        lsn: Lsn(17),
+        key: Key { page: 0, slot: 0 },
+        after: KeptImage::absent(),
+    });
+    assert!(rt; page.image(0).is_none());
+    assert!(rt; copy.image(0) == one_byte(0xaa));
 }
 
 #[test]
-fn an_untouched_page_is_zeros(rt: HostRuntime) -> Result<(), Fail> {
-    let read = Page::read_block(7, &[0; BLOCK_LEN])?;
+fn an_untouched_page_is_zeros(rt: HostRuntime) {
+    let read = page_of(&rt, 7, &[0; BLOCK_LEN]);
     assert_eq!(rt; read.id(), 7);
     assert_eq!(rt; read.lsn(), Lsn(0));
     assert!(rt; read.image(0).is_none());
     let mut block = [7; BLOCK_LEN];
     read.write_block(&mut block);
     assert_eq!(rt; block.as_slice(), [0; BLOCK_LEN].as_slice());
-    Ok(())
 }
 
 #[test]

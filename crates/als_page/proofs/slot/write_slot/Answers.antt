@@ -1,12 +1,21 @@
-use Rattle.std.proofs.Common.{ℕ, ◌∙◌, ap, replicate}
-use Rattle.als_page.proofs.SlotLaws.{IsImage-of_bytes, slot_bytes-of_bytes, slot_bytes-none}
+use Rattle.std.proofs.Common.{◌≡◌, ◌<◌, ℕ, suc, ◌++◌, ◌∷◌, [], List, length, get_or, ap, ap₂, subst, ◌∙◌, arith, Fits, w8}
+use Rattle.als_page.proofs.SlotLaws.{set-one, slot_bytes-kept, IsImage-kept}
 use Rattle.als_page.proofs.slot.write_slot.Goals as goal
 
-pub returns-in-None-clause-written : goal.returns-in-None-clause-written
-returns-in-None-clause-written c = c.fill.ensures.after (λ y same. same) ∙ ap (λ (n : ℕ). replicate n 0) c.requires ∙ slot_bytes-none c.args.image.now c.in-None.is
+pub returns-clause-written : goal.returns-clause-written
+returns-clause-written c =
+    let front : length c.split_at_mut-first.result.0.now ≡ 1 = c.split_at_mut-first.ensures.front_len in
+    let one : ℕ → List ℕ = λ b. b ∷ [] in
+    ap₂ (λ xs ys. xs ++ ys) (set-one c.split_at_mut-first.result.0.now c.first.result front ∙ ap one c.first.ensures) (c.copy_from_slice.ensures.after ∙ c.rest.ensures)
+    ∙ slot_bytes-kept c.args.image.now
 
-pub returns-in-Some-clause-written : goal.returns-in-Some-clause-written
-returns-in-Some-clause-written c = c.write_value.ensures.written ∙ slot_bytes-of_bytes c.args.image.now c.in-Some.value c.as_slice.result.now c.in-Some.is c.as_slice.ensures.value
-
-pub returns-in-Some-clause-fits : goal.returns-in-Some-clause-fits
-returns-in-Some-clause-fits c = IsImage-of_bytes c.args.image.now c.in-Some.value c.as_slice.result.now c.in-Some.is c.as_slice.ensures.value c.as_slice.ensures.fits c.write_value.ensures.bytes
+pub returns-clause-fits : goal.returns-clause-fits
+returns-clause-fits c =
+    let front : length c.split_at_mut-first.result.0.now ≡ 1 = c.split_at_mut-first.ensures.front_len in
+    let len : length c.rest.result.now ≡ 31 =
+    omega (arith, ap length c.copy_from_slice.ensures.after, c.copy_from_slice.ensures.len, c.split_at_mut-first.ensures.back_len, c.requires) in
+    let all : (i : ℕ) → Fits w8 (get_or (c.first.result ∷ c.rest.result.now) i 0) =
+    subst (λ (xs : List ℕ). (i : ℕ) → Fits w8 (get_or xs i 0))
+    (ap₂ (λ xs ys. xs ++ ys) (set-one c.split_at_mut-first.result.0.now c.first.result front) c.copy_from_slice.ensures.after) c.type_inv.into in
+    let bytes : (k : ℕ) → get_or c.rest.result.now k 0 < 256 = λ k. omega (arith, all (suc k)) in
+    IsImage-kept c.args.image.now c.rest.result.now c.rest.ensures len bytes
