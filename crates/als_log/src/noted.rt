@@ -4,11 +4,11 @@ ghost use Rattle.als_record.specs.declared.record.Record.{Record as AnyRecord};
 ghost use Rattle.als_record.specs.Shown.{shown};
 
 use als_record::RecordView;
-use std::marker::{Model, PhantomData};
+use std::marker::Model;
 
 /// The record that a view showed, for clauses alone, as `std::snapshot` has values: it takes no bytes and no time.
+#[derive(Drop)]
 pub struct Noted {
-    marker: PhantomData<()>,
     pub ghost value: { AnyRecord },
 }
 
@@ -19,23 +19,10 @@ impl Model for Noted {
 impl Noted {
     /// That of this view.
     // The ghost field has no bytes to make it from, so that this is proved by hand.
-    pub(crate) fn of(seen: &RecordView<'_>) -> Noted
-        ensures { result.value ≡ shown seen.now }
+    #[inline(always)]
+    pub(crate) fn of(_seen: &RecordView<'_>) -> Noted
+        ensures { result.value ≡ shown _seen.now }
     {
-        let _ = seen;
-        Noted {
-            marker: PhantomData,
-        }
-    }
-}
-
-// It owns nothing.
-unsafe impl Send for Noted {}
-
-unsafe impl Sync for Noted {}
-
-impl Drop for Noted {
-    fn drop(self) {
-        let Noted { marker: _ } = self;
+        Noted {}
     }
 }

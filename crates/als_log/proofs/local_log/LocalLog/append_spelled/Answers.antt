@@ -12,4 +12,4 @@ invariant_of-self g c =
     let placed = subst (λ (l : Local). (shown c.args.logged.now).lsn.0 ≡ end_of l.log) (sym c.self.view_is) c.requires.place in
     let room : HasRoomFor c.args.self.now c.spelled_len.result c.args.reserve_after = c.fits.ensures.0 c.if-not-fits.false in
     let here = subst (λ (l : Local). HasRoomFor l c.spelled_len.result c.args.reserve_after) (sym c.self.view_is) room in
-    rw (c.push.ensures, c.in-Ok.ensures.ok) (held-push c.self.invariant (shown c.args.logged.now) logged placed (omega (arith, here, c.spelled_len.ensures)))
+    rw (c.push_view.ensures, c.in-Ok.ensures.ok) (held-push c.self.invariant (shown c.args.logged.now) logged placed (omega (arith, here, c.spelled_len.ensures)))
