@@ -61,7 +61,8 @@ impl<D: BlockDisk> Model for LocalLog<D> {
     ghost invariant = { λ l. IsHeld l.pages (records_in l.history) l.base l.written l.synced l.cursor (D.block_count l.disk) l.tail.items (D.slot l.disk) };
 }
 
-/// The length of a record, of which these are the bytes. The record is there for the prover alone: the clause speaks of it.
+/// The length of a record, of which these are the bytes. The record is there for the prover alone:
+/// the clause speaks of it.
 #[inline(always)]
 fn spelled_len(_logged: &RecordView<'_>, bytes: &[u8]) -> usize
     requires { bytes.now ≡ spelling (shown _logged.now) }
@@ -70,17 +71,15 @@ fn spelled_len(_logged: &RecordView<'_>, bytes: &[u8]) -> usize
     bytes.len()
 }
 
-/// Appends a record by its bytes, as `encode` does without them. The record is there for the prover alone.
+/// Appends a record by its bytes, as `encode` does without them. The record is there for the prover
+/// alone.
 #[inline(always)]
-fn copy_in(
-    _logged: &RecordView<'_>,
-    bytes: &[u8],
-    out: &mut Vec<u8>,
-) -> Result<(), AllocError>
+fn copy_in(_logged: &RecordView<'_>, bytes: &[u8], out: &mut Vec<u8>) -> Result<(), AllocError>
     requires { bytes.now ≡ spelling (shown _logged.now) }
     ensures ok { OnOk result (out.new.items ≡ out.old.items ++ spelling (shown _logged.now)) }
     ensures err { OnErr result (out.new.items ≡ out.old.items) }
-    ensures full { OnErr result (vec_capacity out.old < vec_len out.old + record_len (shown _logged.now)) }
+    ensures full { OnErr result
+        (vec_capacity out.old < vec_len out.old + record_len (shown _logged.now)) }
 {
     match out.extend_from_slice(bytes) {
         Ok(()) => Ok(()),
@@ -252,7 +251,8 @@ impl<D: BlockDisk> LocalLog<D> {
         }
     }
 
-    /// The same of a record whose bytes are there already: they are copied, which is faster than to spell it.
+    /// The same of a record that is seen and whose bytes are there already: they are copied, which is
+    /// faster than to spell it. The view is there for the prover alone.
     #[inline(always)]
     pub fn append_spelled(
         &mut self,
@@ -263,12 +263,19 @@ impl<D: BlockDisk> LocalLog<D> {
         requires fits { IsRecord self.old.pages (shown logged.now) }
         requires place { (shown logged.now).lsn.0 ≡ end_of self.old.log }
         requires spelled { bytes.now ≡ spelling (shown logged.now) }
-        ensures ok { OnOk result (self.new ≡ record self.old { log = self.old.log ++ shown logged.now ∷ []; room = self.new.room }) }
-        ensures room { OnOk result (HasRoomFor self.old (record_len (shown logged.now)) reserve_after) }
+        ensures ok { OnOk result (self.new ≡ record self.old {
+          log = self.old.log ++ shown logged.now ∷ [];
+          room = self.new.room;
+        }) }
+        ensures room { OnOk result
+            (HasRoomFor self.old (record_len (shown logged.now)) reserve_after) }
         ensures err { OnErr result (self.new ≡ record self.old { room = self.new.room }) }
-        ensures cause { IfErr result (λ e. RefusesRecord e self.old (record_len (shown logged.now)) reserve_after) }
-        ensures full { 512 * self.old.blocks < end_of self.old.log + record_len (shown logged.now) + reserve_after → IsErrOf result LogFull }
-        ensures reserved { HasRoomFor self.old (record_len (shown logged.now)) reserve_after → record_len (shown logged.now) ≤ self.old.room → IsOk result }
+        ensures cause { IfErr result
+            (λ e. RefusesRecord e self.old (record_len (shown logged.now)) reserve_after) }
+        ensures full { 512 * self.old.blocks < end_of self.old.log + record_len (shown logged.now) + reserve_after
+            → IsErrOf result LogFull }
+        ensures reserved { HasRoomFor self.old (record_len (shown logged.now)) reserve_after
+            → record_len (shown logged.now) ≤ self.old.room → IsOk result }
     {
         if !self.fits(spelled_len(logged, bytes) as u64, reserve_after) {
             return Err(Fault::LogFull);

@@ -6,7 +6,8 @@ ghost use Rattle.als_record.specs.Shown.{shown};
 use als_record::RecordView;
 use std::marker::Model;
 
-/// The record that a view showed, for clauses alone, as `std::snapshot` has values: it takes no bytes and no time.
+/// The record that a view showed, for clauses alone, as `std::snapshot` keeps what a reference showed:
+/// it takes no bytes and no time.
 #[derive(Drop)]
 pub struct Noted {
     pub ghost value: { AnyRecord },
@@ -17,8 +18,8 @@ impl Model for Noted {
 }
 
 impl Noted {
-    /// That of this view.
-    // The ghost field has no bytes to make it from, so that this is proved by hand.
+    /// What this view shows.
+    // No code gives a ghost field its value, so that this is proved by hand.
     #[inline(always)]
     pub(crate) fn of(_seen: &RecordView<'_>) -> Noted
         ensures { result.value ≡ shown _seen.now }
