@@ -1,14 +1,16 @@
 ghost use Rattle.std.specs.Prelude.{◌≡◌, [], ◌∷◌, ◌++◌};
+ghost use Rattle.als_record.specs.Shown.{shown};
 ghost use Rattle.als_log.specs.History.{records_in};
 
-use als_record::Record;
+use crate::noted::Noted;
+use als_record::{Record, RecordView};
 use std::snapshot::Snapshot;
 
 /// The records of a log, for clauses alone: they take no bytes and no time.
 #[derive(Drop)]
 pub enum History {
     Start,
-    Then(Snapshot<History>, Snapshot<Record>),
+    Then(Snapshot<History>, Noted),
 }
 
 impl History {
@@ -23,8 +25,16 @@ impl History {
     pub fn push(&mut self, logged: &Record)
         ensures { records_in self.new ≡ records_in self.old ++ logged.now ∷ [] }
     {
+        self.push_view(&logged.view());
+    }
+
+    /// Notes one more, of which this is a view. Nothing is copied.
+    #[inline(always)]
+    pub fn push_view(&mut self, logged: &RecordView<'_>)
+        ensures { records_in self.new ≡ records_in self.old ++ shown logged.now ∷ [] }
+    {
         let before = Snapshot::of(self);
-        let last = Snapshot::of(logged);
+        let last = Noted::of(logged);
         *self = History::Then(before, last);
     }
 }

@@ -4,6 +4,8 @@
 
 // Why a call is refused.
 mod fault;
+// A record, for clauses alone.
+mod noted;
 // The records, for clauses alone.
 mod history;
 // The text's bytes in memory.
@@ -31,4 +33,5 @@ pub use fault::Fault;
 pub use history::History;
 pub use local_log::LocalLog;
 pub use new_log::NewLog;
+pub use noted::Noted;
 pub use unopened::Unopened;

@@ -2,6 +2,7 @@ ghost use Rattle.std.specs.Prelude.{◌≡◌, ◌<◌, ◌≤◌, ◌+◌, ◌*
 ghost use Rattle.std.specs.Result.{IsErrOf};
 ghost use Rattle.als_record.specs.Spelling.{spelling, record_len, IsRecord};
 ghost use Rattle.als_record.specs.LogText.{end_of, log_text, IsLog};
+ghost use Rattle.als_record.specs.Shown.{shown};
 ghost use Rattle.als_disk.specs.Slot.{SameBlocks};
 ghost use Rattle.als_log.specs.History.{records_in};
 ghost use Rattle.als_log.specs.Held.{IsStored};
@@ -19,7 +20,7 @@ use crate::source::Source;
 use crate::unopened::Unopened;
 use crate::{blocks, reading, reopening, tail};
 use als_disk::BlockDisk;
-use als_record::{Lsn, Record, encode, encoded_len};
+use als_record::{Lsn, Record, RecordView, encode, encoded_len};
 use std::alloc::{AllocError, Global};
 use std::marker::Model;
 
@@ -60,22 +61,25 @@ impl<D: BlockDisk> Model for LocalLog<D> {
     ghost invariant = { λ l. IsHeld l.pages (records_in l.history) l.base l.written l.synced l.cursor (D.block_count l.disk) l.tail.items (D.slot l.disk) };
 }
 
-/// The length of a record, of which these are the bytes. The record is there for the prover alone: the clause speaks of it.
+/// The length of a record, of which these are the bytes. The record is there for the prover alone:
+/// the clause speaks of it.
 #[inline(always)]
-fn spelled_len(_logged: &Record, bytes: &[u8]) -> usize
-    requires { bytes.now ≡ spelling _logged.now }
-    ensures { result ≡ record_len _logged.now }
+fn spelled_len(_logged: &RecordView<'_>, bytes: &[u8]) -> usize
+    requires { bytes.now ≡ spelling (shown _logged.now) }
+    ensures { result ≡ record_len (shown _logged.now) }
 {
     bytes.len()
 }
 
-/// Appends a record by its bytes, as `encode` does without them. The record is there for the prover alone.
+/// Appends a record by its bytes, as `encode` does without them. The record is there for the prover
+/// alone.
 #[inline(always)]
-fn copy_in(_logged: &Record, bytes: &[u8], out: &mut Vec<u8>) -> Result<(), AllocError>
-    requires { bytes.now ≡ spelling _logged.now }
-    ensures ok { OnOk result (out.new.items ≡ out.old.items ++ spelling _logged.now) }
+fn copy_in(_logged: &RecordView<'_>, bytes: &[u8], out: &mut Vec<u8>) -> Result<(), AllocError>
+    requires { bytes.now ≡ spelling (shown _logged.now) }
+    ensures ok { OnOk result (out.new.items ≡ out.old.items ++ spelling (shown _logged.now)) }
     ensures err { OnErr result (out.new.items ≡ out.old.items) }
-    ensures full { OnErr result (vec_capacity out.old < vec_len out.old + record_len _logged.now) }
+    ensures full { OnErr result
+        (vec_capacity out.old < vec_len out.old + record_len (shown _logged.now)) }
 {
     match out.extend_from_slice(bytes) {
         Ok(()) => Ok(()),
@@ -247,30 +251,38 @@ impl<D: BlockDisk> LocalLog<D> {
         }
     }
 
-    /// The same of a record whose bytes are there already: they are copied, which is faster than to spell it.
+    /// The same of a record that is seen and whose bytes are there already: they are copied, which is
+    /// faster than to spell it. The view is there for the prover alone.
     #[inline(always)]
     pub fn append_spelled(
         &mut self,
-        logged: &Record,
+        logged: &RecordView<'_>,
         bytes: &[u8],
         reserve_after: u64,
     ) -> Result<(), Fault>
-        requires fits { IsRecord self.old.pages logged.now }
-        requires place { logged.now.lsn.0 ≡ end_of self.old.log }
-        requires spelled { bytes.now ≡ spelling logged.now }
-        ensures ok { OnOk result (self.new ≡ record self.old { log = self.old.log ++ logged.now ∷ []; room = self.new.room }) }
-        ensures room { OnOk result (HasRoomFor self.old (record_len logged.now) reserve_after) }
+        requires fits { IsRecord self.old.pages (shown logged.now) }
+        requires place { (shown logged.now).lsn.0 ≡ end_of self.old.log }
+        requires spelled { bytes.now ≡ spelling (shown logged.now) }
+        ensures ok { OnOk result (self.new ≡ record self.old {
+          log = self.old.log ++ shown logged.now ∷ [];
+          room = self.new.room;
+        }) }
+        ensures room { OnOk result
+            (HasRoomFor self.old (record_len (shown logged.now)) reserve_after) }
         ensures err { OnErr result (self.new ≡ record self.old { room = self.new.room }) }
-        ensures cause { IfErr result (λ e. RefusesRecord e self.old (record_len logged.now) reserve_after) }
-        ensures full { 512 * self.old.blocks < end_of self.old.log + record_len logged.now + reserve_after → IsErrOf result LogFull }
-        ensures reserved { HasRoomFor self.old (record_len logged.now) reserve_after → record_len logged.now ≤ self.old.room → IsOk result }
+        ensures cause { IfErr result
+            (λ e. RefusesRecord e self.old (record_len (shown logged.now)) reserve_after) }
+        ensures full { 512 * self.old.blocks < end_of self.old.log + record_len (shown logged.now) + reserve_after
+            → IsErrOf result LogFull }
+        ensures reserved { HasRoomFor self.old (record_len (shown logged.now)) reserve_after
+            → record_len (shown logged.now) ≤ self.old.room → IsOk result }
     {
         if !self.fits(spelled_len(logged, bytes) as u64, reserve_after) {
             return Err(Fault::LogFull);
         }
         match copy_in(logged, bytes, &mut self.tail) {
             Ok(()) => {
-                self.history.push(logged);
+                self.history.push_view(logged);
                 Ok(())
             }
             Err(_) => Err(Fault::Memory),

@@ -4,8 +4,10 @@ use Rattle.std.specs.Prelude.{if◌then◌else◌}
 use Rattle.std.specs.List.{fold}
 use Rattle.std.proofs.lemmas.List.Elements.{filter-append}
 use Rattle.als_record.specs.declared.record.Record.{Record}
-use Rattle.als_record.specs.declared.record.Body.{Body}
-use Rattle.als_record.specs.declared.record.Body.TheVariants.{Update, Compensation, Commit, Rollback, End, BeginCheckpoint, EndCheckpoint}
+use Rattle.als_record.specs.declared.rows_view.RowsView.TheVariants.{Spelled, Kept}
+use Rattle.als_record.specs.declared.record_view.BodyView.{BodyView}
+use Rattle.als_record.specs.declared.record_view.BodyView.TheVariants as view
+use Rattle.als_record.specs.Shown.{shown_body}
 use Rattle.als_record.specs.Transactions.{is_commit}
 use Rattle.als_tables.specs.declared.tally.Tally.{Tally}
 use Rattle.als_tables.specs.Counting.{commit_count, last_commit, IsTallyOf}
@@ -54,11 +56,12 @@ counted old new log r b is records commits last h = record {
   last = last ∙ ap (λ (n : ℕ). if b then r.lsn.0 else n) h.last ∙ ap (λ (c : Bool). if c then r.lsn.0 else last_commit log) (sym is) ∙ sym (last_commit-push log r);
 }
 
-pub other_body : (b : Body) → (b ≡ Commit → ⊥) → is_commit b ≡ false
-other_body Commit n = absurd (n refl)
-other_body (Update key before after) n = refl
-other_body (Compensation undo_next key after) n = refl
-other_body Rollback n = refl
-other_body End n = refl
-other_body BeginCheckpoint n = refl
-other_body (EndCheckpoint transactions pages) n = refl
+pub other_view : (b : BodyView) → (b ≡ view.Commit → ⊥) → is_commit (shown_body b) ≡ false
+other_view view.Commit n = absurd (n refl)
+other_view (view.Update key before after) n = refl
+other_view (view.Compensation undo_next key after) n = refl
+other_view view.Rollback n = refl
+other_view view.End n = refl
+other_view view.BeginCheckpoint n = refl
+other_view (view.EndCheckpoint (Spelled rows)) n = refl
+other_view (view.EndCheckpoint (Kept transactions pages)) n = refl

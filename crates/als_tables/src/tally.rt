@@ -1,8 +1,9 @@
 ghost use Rattle.std.specs.Prelude.{◌≡◌, ◌<◌, ◌^◌, [], ◌∷◌, ◌++◌, List};
 ghost use Rattle.als_record.specs.declared.record.Record.{Record as AnyRecord};
+ghost use Rattle.als_record.specs.Shown.{shown};
 ghost use Rattle.als_tables.specs.Counting.{IsTallyOf};
 
-use als_record::{Body, Lsn, Record};
+use als_record::{BodyView, Lsn, RecordView};
 
 /// How many records a log has, how many of them are commits, and the LSN of the last commit, 0 for none.
 #[derive(Clone, Copy, Debug, PartialEq, Eq)]
@@ -26,13 +27,13 @@ impl Tally {
 
     /// Counts one more record. It takes no memory.
     #[inline(always)]
-    pub fn note(&mut self, logged: &Record)
+    pub fn note(&mut self, logged: &RecordView<'_>)
         requires records { self.old.records < 2 ^ 62 }
         requires commits { self.old.commits < 2 ^ 62 }
-        ensures { (log : List AnyRecord) → IsTallyOf self.old log → IsTallyOf self.new (log ++ logged.now ∷ []) }
+        ensures { (log : List AnyRecord) → IsTallyOf self.old log → IsTallyOf self.new (log ++ shown logged.now ∷ []) }
     {
         self.records += 1;
-        if let Body::Commit = &logged.body {
+        if let BodyView::Commit = logged.body {
             self.commits += 1;
             self.last_commit = logged.lsn;
         }

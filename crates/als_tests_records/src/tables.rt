@@ -5,12 +5,13 @@ use als_tables::Tally;
 #[test]
 fn a_commit_is_counted(rt: HostRuntime) {
     let mut tally = Tally::new();
-    tally.note(&Record {
+    let commit = Record {
         lsn: Lsn(16),
         prev: Lsn(0),
         trans: TransId(1),
         body: Body::Commit,
-    });
+    };
+    tally.note(&commit.view());
     assert_eq!(rt;
         (tally.records, tally.commits, tally.last_commit),
         (1, 1, Lsn(16))

@@ -1,5 +1,5 @@
-use Rattle.std.proofs.Common.{◌≡◌, ◌+◌, ◌*◌, ◌/◌, ◌%◌, length, sym, subst, ◌∙◌, arith}
-use Rattle.als_record.specs.LogText.{log_text, end_of}
+use Rattle.std.proofs.Common.{◌≡◌, ◌+◌, ◌*◌, ◌/◌, ◌%◌, sym, subst, ◌∙◌, arith}
+use Rattle.als_record.specs.LogText.{log_text}
 use Rattle.als_log.specs.History.{records_in}
 use Rattle.als_log.specs.Texts.{AllHaveText}
 use Rattle.als_log.proofs.Keeping.{held-reopened, length-text}
