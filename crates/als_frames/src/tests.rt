@@ -3,7 +3,7 @@ ghost use Rattle.std.specs.Prelude.{◌≡◌, ◌<◌};
 use crate::{Fault, Frames, mark_changes_no_page, record_changes_no_page, synced_lsn_is_spelled};
 use als_disk::{BlockDisk, FailingDisk, Fuse, MemDisk};
 use als_page::Page;
-use als_record::{Change, Image, Key, Lsn, Value};
+use als_record::{Change, Image, ImageView, KeptImage, Key, Lsn, Value};
 use std::alloc::Global;
 use std::process::Abort;
 use std::test::Fail;
@@ -114,7 +114,7 @@ fn redo<D: BlockDisk + Drop>(rt: &impl Abort, frames: &mut Frames<D>, page: u32,
             let change = Change {
                 lsn: Lsn(at),
                 key: Key { page, slot: 0 },
-                after: one_byte(0xaa),
+                after: KeptImage::of(&ImageView::of(&one_byte(0xaa))),
             };
             frames.redo(page, &[change]);
         }
@@ -153,6 +153,15 @@ fn stored<D: BlockDisk + Drop>(rt: &impl Abort, frames: &mut Frames<D>, page: u3
     panic!(rt; "the device fails each time");
 }
 
+// The block of a page is refused.
+fn expect_bad_page<D: BlockDisk + Drop>(rt: &impl Abort, frames: &mut Frames<D>, page: u32) {
+    assert!(rt; page < frames.pages());
+    match frames.stored(page) {
+        Ok(_) => panic!(rt; "page {page} is taken"),
+        Err(fault) => assert_eq!(rt; fault, Fault::BadPage { page }),
+    }
+}
+
 // Page 0 is changed, written and synced; with one frame it gives it to page 1, and gets it back.
 fn one_frame<D: BlockDisk + Drop>(rt: &impl Abort, mut frames: Frames<D>) {
     assert_eq!(rt; frames.write(0), Err(Fault::NothingToDo));
@@ -172,7 +181,7 @@ fn one_frame<D: BlockDisk + Drop>(rt: &impl Abort, mut frames: Frames<D>) {
     expect_lsns(rt, &frames, 1, 0, 0, 0);
     let found = stored(rt, &mut frames, 0);
     assert_eq!(rt; found.lsn(), Lsn(16));
-    assert!(rt; *found.image(0) == one_byte(0xaa));
+    assert!(rt; found.image(0) == one_byte(0xaa));
     assert!(rt; frames.frame(0).is_none());
     assert!(rt; load(rt, &mut frames, 0, 108).is_ok());
     expect_lsns(rt, &frames, 0, 16, 16, 16);
@@ -234,8 +243,7 @@ fn a_block_that_is_no_page_of_the_log_is_refused(rt: HostRuntime) {
         load(&rt, &mut frames, 1, 108),
         Err(Fault::BadPage { page: 1 })
     );
-    assert!(rt; 1 < frames.pages());
-    assert_eq!(rt; frames.stored(1).err(), Some(Fault::BadPage { page: 1 }));
+    expect_bad_page(&rt, &mut frames, 1);
     assert!(rt; load(&rt, &mut frames, 0, 16).is_ok());
     redo(&rt, &mut frames, 0, 16);
     write(&rt, &mut frames, 0);
