@@ -26,7 +26,7 @@ fn list_page(listing: &mut String, number: u32, page: &Page) -> Result<(), Alloc
     for slot in 0..SLOT_COUNT as u8 {
         let image = page.image(slot);
         if image.is_some() {
-            writeln!(listing, "{number}/{slot} {}", ShownImage(image))?;
+            writeln!(listing, "{number}/{slot} {}", ShownImage(&image))?;
         }
     }
     Ok(())

@@ -10,7 +10,8 @@ use crate::{
     rows_make_a_checkpoint, stopped_pages_hold_images, unread_rows_are_the_checkpoints,
 };
 use als_disk::{BlockDisk, FailingDisk, Fuse, MemDisk};
-use als_record::{Change, Image, Key, LoggedPage, Lsn, PageRows, Value};
+use als_page::Page;
+use als_record::{Change, Image, ImageView, KeptImage, Key, LoggedPage, Lsn, PageRows, Value};
 use std::alloc::{AllocError, Global};
 use std::process::Abort;
 use std::test::Fail;
@@ -66,7 +67,7 @@ fn route<D: BlockDisk>(rt: &impl Abort, pool: &mut Pool<D>, page: u32, at: u64)
     pool.route(Change {
         lsn: Lsn(at),
         key: Key { page, slot: 0 },
-        after: one_byte(0xaa),
+        after: KeptImage::of(&ImageView::of(&one_byte(0xaa))),
     });
 }
 
@@ -179,18 +180,25 @@ fn what_waits_is_redone_once(rt: HostRuntime) {
     assert_eq!(rt; pool.waiting(), 1);
 }
 
+// A page as it is now.
+fn page_of<D: BlockDisk>(rt: &impl Abort, pool: &mut Pool<D>, page: u32) -> Page {
+    assert!(rt; page < pool.pages());
+    match pool.page_now(page) {
+        Ok(found) => found,
+        Err(_) => panic!(rt; "page {page} is refused"),
+    }
+}
+
 #[test]
-fn a_page_is_shown_from_its_frame_or_its_block(rt: HostRuntime) -> Result<(), Fail> {
+fn a_page_is_shown_from_its_frame_or_its_block(rt: HostRuntime) {
     let mut pool = in_memory(&rt, rt.alloc(), 1);
     assert_eq!(rt; apply(&mut pool, 0), Ok(Lsn(16)));
-    assert!(rt; 1 < pool.pages());
-    let framed = pool.page_now(0)?;
+    let framed = page_of(&rt, &mut pool, 0);
     assert_eq!(rt; framed.lsn(), Lsn(16));
-    assert!(rt; *framed.image(0) == one_byte(0xaa));
-    let stored = pool.page_now(1)?;
+    assert!(rt; framed.image(0) == one_byte(0xaa));
+    let stored = page_of(&rt, &mut pool, 1);
     assert_eq!(rt; stored.lsn(), Lsn(0));
     assert_eq!(rt; stored.id(), 1);
-    Ok(())
 }
 
 // What stands in a block.

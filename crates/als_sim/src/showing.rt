@@ -1,6 +1,7 @@
 use crate::disk::Disk;
 use crate::stepping::end_of;
 use als_analysis::OpenTransaction;
+use als_disk::BlockDisk;
 use als_engine::{Engine, Fault, State, Status};
 use als_page::Page;
 use als_record::{FIRST_LSN, Lsn, SLOT_COUNT, TransactionState, encoded_len};
@@ -75,7 +76,12 @@ pub fn dirty<W: Write>(output: &mut W, engine: &Engine<Disk>) -> io::Result<()> 
 
 /// `show page`, of a page that there is. It is gathered, so that a refusal stands alone. Stopped: the world is down. Device: a read
 /// failed. Memory: a growth was refused.
-pub fn page(alloc: Global, world: &mut World<Disk>, number: u32) -> Result<String, Fault> {
+// Generic in the device: with the device named, the prover cannot carry a page across `?`.
+pub fn page<D: BlockDisk>(
+    alloc: Global,
+    world: &mut World<D>,
+    number: u32,
+) -> Result<String, Fault> {
     let mut listing = String::new(alloc);
     if let Some(page) = world.page_now(number)? {
         writeln!(listing, "page {number} lsn={}", page.lsn().0)?;
@@ -85,7 +91,7 @@ pub fn page(alloc: Global, world: &mut World<Disk>, number: u32) -> Result<Strin
 }
 
 /// `show db`, gathered in the same way.
-pub fn database(alloc: Global, world: &mut World<Disk>) -> Result<String, Fault> {
+pub fn database<D: BlockDisk>(alloc: Global, world: &mut World<D>) -> Result<String, Fault> {
     let mut listing = String::new(alloc);
     let mut number = 0;
     for _ in 0..world.config().pages {
@@ -106,7 +112,7 @@ fn present(listing: &mut String, number: u32, page: &Page) -> Result<(), AllocEr
     for slot in 0..SLOT_COUNT as u8 {
         let image = page.image(slot);
         if image.is_some() {
-            writeln!(listing, "{number}/{slot} {}", ShownImage(image))?;
+            writeln!(listing, "{number}/{slot} {}", ShownImage(&image))?;
         }
     }
     Ok(())

@@ -65,7 +65,7 @@ impl<D: BlockDisk> Pool<D> {
         ensures room { self.new.room ≡ self.old.room }
     {
         if let Some(framed) = self.frames.frame(page) {
-            return Ok(framed.copied());
+            return Ok(*framed);
         }
         let found = self.frames.stored(page)?;
         Ok(found)
