@@ -1,14 +1,17 @@
 -- Where there is room no memory is wanted.
-use Rattle.std.proofs.Common.{◌≡◌, ℕ, ◌+◌, ◌<◌, List, length, Some, None, Ok, sym, ap, subst}
+use Rattle.std.proofs.Common.{◌≡◌, ℕ, ◌+◌, ◌<◌, List, length, Option, Some, None, Result, Ok, Err}
+use Rattle.std.proofs.Common.{sym, ap, subst}
 use Rattle.std.proofs.Common.{length-append, lt-ltb, arith}
 use Rattle.std.specs.Prelude.{nat_lt}
 use Rattle.std.proofs.lemmas.Bool.{cond-true}
+use Rattle.als_record.specs.declared.record.Record.{Record}
+use Rattle.als_record.specs.declared.fault.Fault.{Fault as RecordFault}
 use Rattle.als_record.specs.Spelling.{record_len, spelling}
 use Rattle.als_record.specs.LogText.{end_of}
 use Rattle.als_record.specs.Reading.{read_record}
 use Rattle.als_record.proofs.RecordLaws.{length-spelling}
 use Rattle.als_receiver.specs.Reception.{Reception}
-use Rattle.als_store.specs.Spare.{Spare, Holding}
+use Rattle.als_store.specs.Spare.{Spare, HasSpare, Holding}
 use Rattle.als_store.specs.Stored.{Stored}
 use Rattle.als_engine.specs.declared.fault.Fault.{Fault}
 use Rattle.als_engine.specs.declared.fault.Fault.TheVariants as fault
@@ -43,7 +46,23 @@ room_behind old new before after one room =
       length-append (spelling one.logged) after.kept,
       length-spelling one.logged,
     ) in
-    room_short new.stored new.spare after.kept (omega (arith, (front.2 one.good one.fits).1, len))
+    room_short new.stored new.spare after.kept (omega (arith, (front.1 one.good one.fits).1, len))
+
+-- what can be held with no memory still can where the store has no less room
+room_still : (held : Stored) (old new : Spare) (bytes : List ℕ)
+    (reading : Result (Option (Record × ℕ)) RecordFault)
+    → ((r : Record) → HasSpare old r → HasSpare new r)
+    → TakesNoMemory held old bytes reading → TakesNoMemory held new bytes reading
+room_still held old new bytes (Err fault) keeps room = tt
+room_still held old new bytes (Ok None) keeps room = tt
+room_still held old new bytes (Ok (Some found)) keeps room =
+    (room.0, λ good fits. (keeps found.0 (room.1 good fits).0, (room.1 good fits).1))
+
+pub still_room : (held : Stored) (old new : Spare) (bytes : List ℕ)
+    → ((r : Record) → HasSpare old r → HasSpare new r)
+    → HasRoomForBytes held old bytes → HasRoomForBytes held new bytes
+still_room held old new bytes keeps room =
+    room_still held old new bytes (read_record held.pages (end_of held.log) bytes) keeps room
 
 -- want of memory is not kept
 pub kept_fault-want : (f : Fault) → kept_fault f ≡ Some fault.Memory → ⊥

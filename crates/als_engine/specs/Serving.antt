@@ -3,7 +3,7 @@ use Rattle.std.specs.Prelude.{◌≡◌, false, ℕ, ◌+◌, ◌<◌, ◌≤◌
 use Rattle.std.specs.Prelude.{Result, Ok, Err}
 use Rattle.als_record.specs.declared.record.Record.{Record}
 use Rattle.als_record.specs.declared.fault.Fault.{Fault as RecordFault}
-use Rattle.als_record.specs.Reading.{read_record, HasRows}
+use Rattle.als_record.specs.Reading.{read_record}
 use Rattle.als_record.specs.LogText.{end_of}
 use Rattle.als_record.specs.Transactions.{is_commit}
 use Rattle.als_record.specs.Validity.{first_bad}
@@ -20,14 +20,14 @@ pub record Serving : Type 0 where
   pub room : ℕ
 
 -- Bytes with this reading take no memory: they begin with no whole record, or with one that is
--- neither an end_chkpt nor a commit; and if that one can be held, the store has spare room for it,
--- and behind it stands less than the head of another one.
+-- no commit; and if that one can be held, the store has spare room for it, and behind it stands
+-- less than the head of another one.
 abbrev pub TakesNoMemory : Stored → Spare → List ℕ → Result (Option (Record × ℕ)) RecordFault
     → Type 0
 TakesNoMemory held spare bytes (Err fault) = Unit {0}
 TakesNoMemory held spare bytes (Ok None) = Unit {0}
 TakesNoMemory held spare bytes (Ok (Some found)) =
-    (HasRows found.0.body → ⊥) × (is_commit found.0.body ≡ false)
+    (is_commit found.0.body ≡ false)
     × (first_bad held.log found.0 ≡ None → (IsTooLong held found.0 → ⊥)
     → HasSpare spare found.0 × (length bytes < found.1 + 28))
 

@@ -1,5 +1,6 @@
 ghost use Rattle.std.specs.Prelude.{◌≡◌, true, false, None, ◌<◌, IsSome, OnOk, OnErr, IfErr};
 ghost use Rattle.std.specs.Result.{IsErrOf};
+ghost use Rattle.als_record.specs.Shown.{shown as seen, shown_body};
 ghost use Rattle.als_record.specs.Spelling.{IsRecord, spelling};
 ghost use Rattle.als_record.specs.LogText.{end_of};
 ghost use Rattle.als_record.specs.Transactions.{is_commit};
@@ -12,7 +13,7 @@ ghost use Rattle.als_engine.specs.Readers.{ViewGoesOn};
 ghost use Rattle.als_engine.specs.TakingIn.{HoldsRecord};
 
 use als_disk::BlockDisk;
-use als_record::{Body, Record};
+use als_record::{BodyView, RecordView};
 use als_store::{Fault, Store};
 use als_view::{Commit, View, a_view_goes_on};
 use std::alloc::Global;
@@ -23,26 +24,27 @@ pub(crate) fn hold<D: BlockDisk>(
     alloc: Global,
     held: &mut Store<D>,
     shown: &mut View,
-    logged: &Record,
+    logged: &RecordView<'_>,
     bytes: &[u8],
 ) -> Result<(), Fault>
-    requires fits { IsRecord held.old.stored.pages logged.now }
+    requires fits { IsRecord held.old.stored.pages (seen logged.now) }
     requires at { logged.now.lsn.0 ≡ end_of held.old.stored.log }
-    requires spelled { bytes.now ≡ spelling logged.now }
+    requires spelled { bytes.now ≡ spelling (seen logged.now) }
     requires following { is_following held.old.stored ≡ true }
-    ensures ok { OnOk result (HoldsRecord held.old.stored logged.now held.new.stored) }
+    ensures ok { OnOk result (HoldsRecord held.old.stored (seen logged.now) held.new.stored) }
     ensures err { OnErr result (held.new.stored ≡ held.old.stored) }
-    ensures cause { IfErr result (IsRefused held.old.stored logged.now) }
+    ensures cause { IfErr result (IsRefused held.old.stored (seen logged.now)) }
     ensures goes_on { ViewGoesOn held.old.stored.log shown.old held.new.stored.log shown.new }
     // Memory is wanted for a commit, or for a record that may follow and for which a part has no
     // room yet.
-    ensures reserved { is_commit logged.now.body ≡ false
-        → (first_bad held.old.stored.log logged.now ≡ None
-        → (IsTooLong held.old.stored logged.now → ⊥) → HasSpare held.old.spare logged.now)
+    ensures reserved { is_commit (shown_body logged.now.body) ≡ false
+        → (first_bad held.old.stored.log (seen logged.now) ≡ None
+        → (IsTooLong held.old.stored (seen logged.now) → ⊥)
+        → HasSpare held.old.spare (seen logged.now))
         → IsErrOf result fault.Memory → ⊥ }
 {
     match logged.body {
-        Body::Commit => {
+        BodyView::Commit => {
             hold_commit(alloc, held, shown, logged, bytes)?;
             Ok(())
         }
@@ -61,16 +63,16 @@ fn hold_commit<D: BlockDisk>(
     alloc: Global,
     held: &mut Store<D>,
     shown: &mut View,
-    logged: &Record,
+    logged: &RecordView<'_>,
     bytes: &[u8],
 ) -> Result<(), Fault>
-    requires fits { IsRecord held.old.stored.pages logged.now }
+    requires fits { IsRecord held.old.stored.pages (seen logged.now) }
     requires at { logged.now.lsn.0 ≡ end_of held.old.stored.log }
-    requires spelled { bytes.now ≡ spelling logged.now }
+    requires spelled { bytes.now ≡ spelling (seen logged.now) }
     requires following { is_following held.old.stored ≡ true }
-    ensures ok { OnOk result (HoldsRecord held.old.stored logged.now held.new.stored) }
+    ensures ok { OnOk result (HoldsRecord held.old.stored (seen logged.now) held.new.stored) }
     ensures err { OnErr result (held.new.stored ≡ held.old.stored) }
-    ensures cause { IfErr result (IsRefused held.old.stored logged.now) }
+    ensures cause { IfErr result (IsRefused held.old.stored (seen logged.now)) }
     ensures goes_on { ViewGoesOn held.old.stored.log shown.old held.new.stored.log shown.new }
 {
     let found = held.commit_of(alloc, logged)?;

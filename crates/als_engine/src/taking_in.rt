@@ -18,6 +18,12 @@ use std::alloc::Global;
 /// How many bytes of a piece go to the receiver at once.
 const CHUNK: usize = 65_536;
 
+/// How many records are looked ahead at, in one go.
+const AHEAD: u32 = 32;
+
+/// With fewer bytes there is little to look ahead at.
+const AHEAD_BYTES: usize = 512;
+
 /// Gives a piece to the receiver, and each record that is whole then to the store.
 pub(crate) fn take_piece<D: BlockDisk>(
     alloc: Global,
@@ -94,8 +100,52 @@ fn take_records<D: BlockDisk>(
     ensures reserved { HasRoomForBytes held.old.stored held.old.spare receiver.old.kept
         → IsErrOf result fault.Memory → ⊥ }
 {
-    while take_record(alloc, held, receiver, shown)? {}
+    let mut ahead = 0;
+    while take_next(alloc, held, receiver, shown, &mut ahead)? {}
     Ok(())
+}
+
+/// Gives the next record to the store, if it is whole; says whether it was. Where no more records
+/// were looked ahead at, the next ones are first.
+#[inline(always)]
+fn take_next<D: BlockDisk>(
+    alloc: Global,
+    held: &mut Store<D>,
+    receiver: &mut Receiver,
+    shown: &mut View,
+    ahead: &mut u32,
+) -> Result<bool, Fault>
+    requires meets { Meets held.old.stored receiver.old }
+    requires following { is_following held.old.stored ≡ true }
+    ensures ok { IfOk result (λ more. MatchBool more
+        (TakesOne held.old.stored receiver.old held.new.stored receiver.new)
+        ((held.new.stored ≡ held.old.stored) × (receiver.new ≡ receiver.old)
+        × Rests held.old.stored receiver.old)) }
+    ensures err { IfErr result (λ fault. (held.new.stored ≡ held.old.stored)
+        × IsCause held.old.stored receiver.old.kept fault) }
+    // The view of the log goes on with it.
+    ensures goes_on { ViewGoesOn held.old.stored.log shown.old held.new.stored.log shown.new }
+    ensures reserved { HasRoomForBytes held.old.stored held.old.spare receiver.old.kept
+        → IsErrOf result fault.Memory → ⊥ }
+{
+    if *ahead == 0 {
+        look_ahead(held, receiver);
+        *ahead = AHEAD;
+    }
+    *ahead -= 1;
+    take_record(alloc, held, receiver, shown)
+}
+
+/// Reads what is kept of the keys of the next records, so that it is at hand when they are judged.
+fn look_ahead<D: BlockDisk>(held: &mut Store<D>, receiver: &Receiver)
+    ensures same { held.new.stored ≡ held.old.stored }
+    ensures room { HasRoomForBytes held.old.stored held.old.spare receiver.now.kept
+        → HasRoomForBytes held.new.stored held.new.spare receiver.now.kept }
+{
+    let kept = receiver.partial();
+    if kept >= AHEAD_BYTES {
+        let _ = held.look_ahead(receiver.front(kept));
+    }
 }
 
 /// Gives the next record to the store, if it is whole; says whether it was.
@@ -120,8 +170,7 @@ fn take_record<D: BlockDisk>(
 {
     match receiver.peek() {
         Ok(Some((view, len))) => {
-            let logged = view.to_record(alloc)?;
-            hold(alloc, held, shown, &logged, receiver.front(len))?;
+            hold(alloc, held, shown, &view, receiver.front(len))?;
             receiver.advance(len);
             Ok(true)
         }

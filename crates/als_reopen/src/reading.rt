@@ -124,7 +124,7 @@ impl<D: BlockDisk> Reading<D> {
         let Some(logged) = self.scan.next()? else {
             return Ok(false);
         };
-        self.count.note(&logged);
+        self.count.note(&logged.view());
         take_commit(alloc, &mut self.view, self.scan.validator(), &logged)?;
         take_change(&mut self.pool, &logged)?;
         Ok(true)

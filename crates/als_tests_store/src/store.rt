@@ -50,13 +50,13 @@ fn admit(
     let logged = commit_at(before, prev);
     let bytes = spelled(rt, alloc, &logged);
     assert!(rt; store.is_following());
-    let answer = store.admit(&logged, bytes.as_slice());
+    let answer = store.admit(&logged.view(), bytes.as_slice());
     if answer != Err(Fault::Memory) {
         return answer;
     }
     assert_eq!(rt; store.end(), before);
     assert!(rt; store.is_following());
-    store.admit(&logged, bytes.as_slice())
+    store.admit(&logged.view(), bytes.as_slice())
 }
 
 /// Writes the log's block, and syncs it.
@@ -133,7 +133,7 @@ fn holds(rt: &impl Abort, alloc: Global) -> bool {
     assert_eq!(rt; store.len(), 0);
     let bytes = spelled(rt, alloc, &logged);
     assert!(rt; store.is_following());
-    assert_eq!(rt; store.admit(&logged, bytes.as_slice()), Ok(()));
+    assert_eq!(rt; store.admit(&logged.view(), bytes.as_slice()), Ok(()));
     assert_eq!(rt; store.len(), 1);
     true
 }

@@ -8,6 +8,7 @@ ghost use Rattle.als_pool.specs.Outcomes.{HasPlace, CanRoute};
 ghost use Rattle.als_record.specs.declared.record.Record.{Record as AnyRecord};
 ghost use Rattle.als_record.specs.LogText.{end_of, IsLog};
 ghost use Rattle.als_record.specs.Pages.{change_of};
+ghost use Rattle.als_record.specs.Shown.{shown};
 ghost use Rattle.als_record.specs.Spelling.{spelling, record_len, IsRecord};
 ghost use Rattle.als_record.specs.Tail.{reserve_of};
 ghost use Rattle.als_record.specs.Validity.{first_bad, IsValidLog};
@@ -23,43 +24,48 @@ use crate::fault::Fault;
 use als_disk::BlockDisk;
 use als_log::LocalLog;
 use als_pool::{Pool, change_can_follow, other_records_pass, pool_ends_below};
-use als_record::{Body, Record, encoded_len};
+use als_record::{BodyView, Record, RecordView, encoded_len};
 use als_validator::{Fault as Refusal, Validator};
 
 /// Room for what a record changes, if anything, behind what its page waits for. An `Err` changes
 /// nothing.
-fn reserve_change<D: BlockDisk>(pool: &mut Pool<D>, logged: &Record) -> Result<(), Fault>
-    requires { IfSome (change_of logged.now) (λ c. c.key.page < length pool.old.pool.waits) }
+fn reserve_change<D: BlockDisk>(pool: &mut Pool<D>, logged: &RecordView<'_>) -> Result<(), Fault>
+    requires { IfSome (change_of (shown logged.now))
+        (λ c. c.key.page < length pool.old.pool.waits) }
     ensures same { pool.new.pool ≡ pool.old.pool }
     ensures ok { OnOk result
-        (IfSome (change_of logged.now) (λ c. HasPlace pool.new.room c.key.page)) }
+        (IfSome (change_of (shown logged.now)) (λ c. HasPlace pool.new.room c.key.page)) }
     ensures err { IfErr result (λ f. f ≡ fault.Memory) }
-    ensures reserved { IfSome (change_of logged.now) (λ c. HasPlace pool.old.room c.key.page)
-        → IsOk result }
+    ensures reserved { IfSome (change_of (shown logged.now))
+        (λ c. HasPlace pool.old.room c.key.page) → IsOk result }
 {
     match &logged.body {
-        Body::Update { key, .. } | Body::Compensation { key, .. } => match pool.reserve(key.page) {
-            Ok(()) => Ok(()),
-            Err(_) => Err(Fault::Memory),
-        },
+        BodyView::Update { key, .. } | BodyView::Compensation { key, .. } => {
+            match pool.reserve(key.page) {
+                Ok(()) => Ok(()),
+                Err(_) => Err(Fault::Memory),
+            }
+        }
         _ => Ok(()),
     }
 }
 
 /// Adds what a record changes, if anything, behind what its page waits for. It takes no memory.
-pub(super) fn route_change<D: BlockDisk>(pool: &mut Pool<D>, logged: &Record)
-    requires can { IfSome (change_of logged.now) (CanRoute pool.old.pool) }
-    requires place { IfSome (change_of logged.now) (λ c. HasPlace pool.old.room c.key.page) }
-    ensures value { pool.new.pool ≡ routed pool.old.pool (change_of logged.now) }
+pub(super) fn route_change<D: BlockDisk>(pool: &mut Pool<D>, logged: &RecordView<'_>)
+    requires can { IfSome (change_of (shown logged.now)) (CanRoute pool.old.pool) }
+    requires place { IfSome (change_of (shown logged.now))
+        (λ c. HasPlace pool.old.room c.key.page) }
+    ensures value { pool.new.pool ≡ routed pool.old.pool (change_of (shown logged.now)) }
     // For every log that the pool is of, it is that of the log with the record.
     ensures keeps { (log : List AnyRecord) (below : ℕ) → IsPoolOf log below pool.old.pool
-        → IsLog pool.old.pool.frames.pages (log ++ logged.now ∷ [])
-        → logged.now.lsn.0 ≡ end_of log → IsPoolOf (log ++ logged.now ∷ []) below pool.new.pool }
+        → IsLog pool.old.pool.frames.pages (log ++ shown logged.now ∷ [])
+        → logged.now.lsn.0 ≡ end_of log
+        → IsPoolOf (log ++ shown logged.now ∷ []) below pool.new.pool }
     // For every log below the end of which the pool ends, it ends below that of the log with the
     // record.
     ensures ends { (log : List AnyRecord) → EndsBelow (end_of log) pool.old.pool
         → logged.now.lsn.0 ≡ end_of log
-        → EndsBelow (end_of (log ++ logged.now ∷ [])) pool.new.pool }
+        → EndsBelow (end_of (log ++ shown logged.now ∷ [])) pool.new.pool }
 {
     pool_ends_below();
     match logged.change() {
@@ -69,12 +75,13 @@ pub(super) fn route_change<D: BlockDisk>(pool: &mut Pool<D>, logged: &Record)
 }
 
 /// The first cause why a record may not follow the log, if there is one.
-fn judge(validator: &Validator, logged: &Record) -> Result<(), Fault>
+fn judge(validator: &Validator, logged: &RecordView<'_>) -> Result<(), Fault>
     ensures { (pages : ℕ) (log : List AnyRecord) → IsValidatorOf pages validator.now log
-        → IsValidLog pages log → IsRecord pages logged.now
-        → logged.now.lsn.0 ≡ end_of log → result ≡ judgement_of (first_bad log logged.now) }
+        → IsValidLog pages log → IsRecord pages (shown logged.now)
+        → logged.now.lsn.0 ≡ end_of log
+        → result ≡ judgement_of (first_bad log (shown logged.now)) }
 {
-    match validator.check(&logged.view()) {
+    match validator.check(logged) {
         Ok(()) => Ok(()),
         Err(Refusal::Invalid(cause)) => Err(Fault::Invalid(cause)),
         Err(Refusal::Memory) => Err(Fault::Memory),
@@ -82,22 +89,23 @@ fn judge(validator: &Validator, logged: &Record) -> Result<(), Fault>
 }
 
 /// The bytes that a takeover would append after a record that may follow the log.
-pub(super) fn reserve_after(validator: &Validator, logged: &Record) -> u64
+pub(super) fn reserve_after(validator: &Validator, logged: &RecordView<'_>) -> u64
     ensures { (pages : ℕ) (log : List AnyRecord) → IsValidatorOf pages validator.now log
-        → logged.now.lsn.0 ≡ end_of log → first_bad log logged.now ≡ None
-        → end_of (log ++ logged.now ∷ []) < 2 ^ 62 → result ≡ reserve_of (log ++ logged.now ∷ []) }
+        → logged.now.lsn.0 ≡ end_of log → first_bad log (shown logged.now) ≡ None
+        → end_of (log ++ shown logged.now ∷ []) < 2 ^ 62
+        → result ≡ reserve_of (log ++ shown logged.now ∷ []) }
 {
-    validator.reserve_after(&logged.view())
+    validator.reserve_after(logged)
 }
 
 /// Lets the validator take a record that may follow the log.
-pub(super) fn admit(validator: &mut Validator, logged: &Record)
+pub(super) fn admit(validator: &mut Validator, logged: &RecordView<'_>)
     requires { HasRoom validator.old }
     ensures { (pages : ℕ) (log : List AnyRecord) → IsValidatorOf pages validator.old log
-        → IsValidLog pages (log ++ logged.now ∷ [])
-        → IsValidatorOf pages validator.new (log ++ logged.now ∷ []) }
+        → IsValidLog pages (log ++ shown logged.now ∷ [])
+        → IsValidatorOf pages validator.new (log ++ shown logged.now ∷ []) }
 {
-    validator.admit(&logged.view())
+    validator.admit(logged)
 }
 
 /// Room for one more record in the validator.
@@ -133,18 +141,20 @@ pub(super) fn make_room<D: BlockDisk>(
     log: &mut LocalLog<D>,
     validator: &mut Validator,
     pool: &mut Pool<D>,
-    logged: &Record,
+    logged: &RecordView<'_>,
     len: usize,
 ) -> Result<(), Fault>
-    requires inside { IfSome (change_of logged.now) (λ c. c.key.page < length pool.old.pool.waits) }
-    requires len { len ≡ record_len logged.now }
+    requires inside { IfSome (change_of (shown logged.now))
+        (λ c. c.key.page < length pool.old.pool.waits) }
+    requires len { len ≡ record_len (shown logged.now) }
     ensures log { log.new ≡ record log.old { room = log.new.room } }
     ensures validator { (pages : ℕ) (log : List AnyRecord) → IsValidatorOf pages validator.old log
         → IsValidatorOf pages validator.new log }
     ensures pages { pool.new.pool ≡ pool.old.pool }
-    ensures ok { OnOk result (HasSpare (spare_of log.new validator.new pool.new.room) logged.now) }
+    ensures ok { OnOk result
+        (HasSpare (spare_of log.new validator.new pool.new.room) (shown logged.now)) }
     ensures err { IfErr result (λ f. f ≡ fault.Memory) }
-    ensures reserved { HasSpare (spare_of log.old validator.old pool.old.room) logged.now
+    ensures reserved { HasSpare (spare_of log.old validator.old pool.old.room) (shown logged.now)
         → IsOk result }
 {
     reserve_bytes(log, len)?;
@@ -155,23 +165,28 @@ pub(super) fn make_room<D: BlockDisk>(
 
 /// The length of a record, of which these are the bytes.
 #[inline(always)]
-fn len_of(_logged: &Record, bytes: &[u8]) -> usize
-    requires { bytes.now ≡ spelling _logged.now }
-    ensures { result ≡ record_len _logged.now }
+fn len_of(_logged: &RecordView<'_>, bytes: &[u8]) -> usize
+    requires { bytes.now ≡ spelling (shown _logged.now) }
+    ensures { result ≡ record_len (shown _logged.now) }
 {
     bytes.len()
 }
 
 /// Appends a record for which there is room on the device and in memory.
 #[inline(always)]
-fn append<D: BlockDisk>(log: &mut LocalLog<D>, logged: &Record, bytes: &[u8], reserve_after: u64)
-    requires fits { IsRecord log.old.pages logged.now }
+fn append<D: BlockDisk>(
+    log: &mut LocalLog<D>,
+    logged: &RecordView<'_>,
+    bytes: &[u8],
+    reserve_after: u64,
+)
+    requires fits { IsRecord log.old.pages (shown logged.now) }
     requires place { logged.now.lsn.0 ≡ end_of log.old.log }
-    requires spelled { bytes.now ≡ spelling logged.now }
-    requires device { HasRoomFor log.old (record_len logged.now) reserve_after }
-    requires memory { record_len logged.now ≤ log.old.room }
+    requires spelled { bytes.now ≡ spelling (shown logged.now) }
+    requires device { HasRoomFor log.old (record_len (shown logged.now)) reserve_after }
+    requires memory { record_len (shown logged.now) ≤ log.old.room }
     ensures { log.new ≡ record log.old {
-      log = log.old.log ++ logged.now ∷ [];
+      log = log.old.log ++ shown logged.now ∷ [];
       room = log.new.room;
     } }
 {
@@ -198,10 +213,20 @@ impl<D: BlockDisk> Store<D> {
             &mut self.log,
             &mut self.validator,
             &mut self.pool,
-            logged,
+            &logged.view(),
             len,
         )?;
         Ok(())
+    }
+
+    /// Reads what is kept of the keys that the next records seem to write, so that it is at hand
+    /// when they are held: 32 records at most. It answers how many bytes these seem to have, 0 where
+    /// there is none. The bytes may be any, and nothing is judged. It takes no memory.
+    pub fn look_ahead(&mut self, bytes: &[u8]) -> usize
+        ensures same { self.new.stored ≡ self.old.stored }
+        ensures spare { (r : AnyRecord) → HasSpare self.old.spare r → HasSpare self.new.spare r }
+    {
+        self.validator.look_ahead(bytes)
     }
 
     /// Holds a record that stands at the log's end, of which these are the bytes. It is refused for
@@ -209,22 +234,23 @@ impl<D: BlockDisk> Store<D> {
     /// room for it and for the tail that a takeover would then append, and by Memory where a growth
     /// is refused. An `Err` changes nothing. A log that was sealed takes no more records.
     #[inline(always)]
-    pub fn admit(&mut self, logged: &Record, bytes: &[u8]) -> Result<(), Fault>
-        requires fits { IsRecord self.old.stored.pages logged.now }
+    pub fn admit(&mut self, logged: &RecordView<'_>, bytes: &[u8]) -> Result<(), Fault>
+        requires fits { IsRecord self.old.stored.pages (shown logged.now) }
         requires at { logged.now.lsn.0 ≡ end_of self.old.stored.log }
-        requires spelled { bytes.now ≡ spelling logged.now }
+        requires spelled { bytes.now ≡ spelling (shown logged.now) }
         requires following { is_following self.old.stored ≡ true }
-        ensures ok { OnOk result ((first_bad self.old.stored.log logged.now ≡ None)
-            × (self.new.stored ≡ with_records self.old.stored (logged.now ∷ []))) }
+        ensures ok { OnOk result ((first_bad self.old.stored.log (shown logged.now) ≡ None)
+            × (self.new.stored ≡ with_records self.old.stored (shown logged.now ∷ []))) }
         ensures err { OnErr result (self.new.stored ≡ self.old.stored) }
-        ensures cause { IfErr result (IsRefused self.old.stored logged.now) }
-        ensures full { first_bad self.old.stored.log logged.now ≡ None
-            → IsTooLong self.old.stored logged.now → result ≡ Err fault.LogFull }
+        ensures cause { IfErr result (IsRefused self.old.stored (shown logged.now)) }
+        ensures full { first_bad self.old.stored.log (shown logged.now) ≡ None
+            → IsTooLong self.old.stored (shown logged.now) → result ≡ Err fault.LogFull }
         // Memory is wanted only for a record that may follow, and only where a part has no room for
         // it yet.
-        ensures reserved { HasSpare self.old.spare logged.now → IsErrOf result fault.Memory → ⊥ }
+        ensures reserved { HasSpare self.old.spare (shown logged.now)
+            → IsErrOf result fault.Memory → ⊥ }
         ensures wanted { IsErrOf result fault.Memory
-            → first_bad self.old.stored.log logged.now ≡ None }
+            → first_bad self.old.stored.log (shown logged.now) ≡ None }
     {
         judge(&self.validator, logged)?;
         // For the prover alone: what always holds of the log.

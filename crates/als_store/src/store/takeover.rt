@@ -3,6 +3,7 @@ ghost use Rattle.std.specs.Result.{IsErrOf};
 ghost use Rattle.als_record.specs.declared.record.Record.{Record as AnyRecord};
 ghost use Rattle.als_record.specs.Spelling.{record_len, IsRecord};
 ghost use Rattle.als_record.specs.LogText.{end_of};
+ghost use Rattle.als_record.specs.Shown.{shown};
 ghost use Rattle.als_record.specs.Tail.{tail_of};
 ghost use Rattle.als_record.specs.Transactions.{unended};
 ghost use Rattle.als_store.specs.Stored.{newest, with_records};
@@ -21,7 +22,7 @@ use als_ckpt::Phase;
 use als_disk::BlockDisk;
 use als_log::LocalLog;
 use als_pool::{change_can_follow, pool_ends_below};
-use als_record::{Lsn, Record, encoded_len};
+use als_record::{Lsn, Record, RecordView, encoded_len};
 use als_takeover::next_undo;
 use als_validator::Validator;
 
@@ -46,13 +47,30 @@ fn has_unended(validator: &Validator) -> bool
     !validator.rows().is_empty()
 }
 
-/// Appends a record for which there is room on the device and in memory.
-fn append_made<D: BlockDisk>(log: &mut LocalLog<D>, logged: &Record, reserve_after: u64)
-    requires fits { IsRecord log.old.pages logged.now }
-    requires place { logged.now.lsn.0 ≡ end_of log.old.log }
-    requires device { HasRoomFor log.old (record_len logged.now) reserve_after }
-    requires memory { record_len logged.now ≤ log.old.room }
-    ensures { log.new ≡ record log.old { log = log.old.log ++ logged.now ∷ []; room = log.new.room } }
+/// The length of a record that is seen too.
+fn len_made(logged: &Record, _seen: &RecordView<'_>) -> usize
+    requires { shown _seen.now ≡ logged.now }
+    ensures { result ≡ record_len (shown _seen.now) }
+{
+    encoded_len(logged)
+}
+
+/// Appends a record, seen too, for which there is room on the device and in memory.
+fn append_made<D: BlockDisk>(
+    log: &mut LocalLog<D>,
+    logged: &Record,
+    _seen: &RecordView<'_>,
+    reserve_after: u64,
+)
+    requires same { shown _seen.now ≡ logged.now }
+    requires fits { IsRecord log.old.pages (shown _seen.now) }
+    requires place { _seen.now.lsn.0 ≡ end_of log.old.log }
+    requires device { HasRoomFor log.old (record_len (shown _seen.now)) reserve_after }
+    requires memory { record_len (shown _seen.now) ≤ log.old.room }
+    ensures { log.new ≡ record log.old {
+      log = log.old.log ++ shown _seen.now ∷ [];
+      room = log.new.room;
+    } }
 {
     match log.append(logged, reserve_after) {
         Ok(()) => {}
@@ -160,7 +178,7 @@ impl<D: BlockDisk> Store<D> {
         match next_of_tail(&self.validator, &mut self.log) {
             Some(logged) => {
                 let lsn = logged.lsn;
-                let held = self.hold_next(&logged);
+                let held = self.hold_next(&logged, &logged.view());
                 let_go(logged);
                 match held {
                     Ok(()) => Ok(lsn),
@@ -171,33 +189,37 @@ impl<D: BlockDisk> Store<D> {
         }
     }
 
-    /// Holds the next record of the tail. Memory: a growth was refused, and nothing has changed.
-    fn hold_next(&mut self, logged: &Record) -> Result<(), Fault>
-        requires first { first_of (tail_of self.old.stored.log) ≡ Some logged.now }
-        requires fits { IsRecord self.old.stored.pages logged.now }
-        requires at { logged.now.lsn.0 ≡ end_of self.old.stored.log }
-        ensures ok { OnOk result (self.new.stored ≡ with_records self.old.stored (logged.now ∷ [])) }
-        ensures err { IfErr result (λ f. (f ≡ fault.Memory) × (self.new.stored ≡ self.old.stored)) }
-        ensures reserved { HasSpare self.old.spare logged.now → IsOk result }
+    /// Holds the next record of the tail, which is seen too. Memory: a growth was refused, and
+    /// nothing has changed.
+    fn hold_next(&mut self, logged: &Record, seen: &RecordView<'_>) -> Result<(), Fault>
+        requires same { shown seen.now ≡ logged.now }
+        requires first { first_of (tail_of self.old.stored.log) ≡ Some (shown seen.now) }
+        requires fits { IsRecord self.old.stored.pages (shown seen.now) }
+        requires at { seen.now.lsn.0 ≡ end_of self.old.stored.log }
+        ensures ok { OnOk result
+            (self.new.stored ≡ with_records self.old.stored (shown seen.now ∷ [])) }
+        ensures err { IfErr result (λ f. (f ≡ fault.Memory)
+            × (self.new.stored ≡ self.old.stored)) }
+        ensures reserved { HasSpare self.old.spare (shown seen.now) → IsOk result }
     {
         // For the prover alone: what always holds of the log and of the control block.
         let _ = self.log.end();
         let _ = self.control.newest();
-        let reserve_after = reserve_after(&self.validator, logged);
-        let len = encoded_len(logged);
+        let reserve_after = reserve_after(&self.validator, seen);
+        let len = len_made(logged, seen);
         make_room(
             &mut self.log,
             &mut self.validator,
             &mut self.pool,
-            logged,
+            seen,
             len,
         )?;
-        admit(&mut self.validator, logged);
+        admit(&mut self.validator, seen);
         change_can_follow();
         pool_ends_below();
-        route_change(&mut self.pool, logged);
-        append_made(&mut self.log, logged, reserve_after);
-        self.count.note(logged);
+        route_change(&mut self.pool, seen);
+        append_made(&mut self.log, logged, seen, reserve_after);
+        self.count.note(seen);
         Ok(())
     }
 

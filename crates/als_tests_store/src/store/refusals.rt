@@ -55,7 +55,7 @@ fn update(
     let logged = update_at(at, prev, page);
     let bytes = spelled(rt, alloc, &logged);
     assert!(rt; store.is_following());
-    match store.admit(&logged, bytes.as_slice()) {
+    match store.admit(&logged.view(), bytes.as_slice()) {
         Ok(()) => Some(at),
         Err(_) => None,
     }

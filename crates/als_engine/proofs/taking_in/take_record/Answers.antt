@@ -1,5 +1,4 @@
 use Rattle.std.proofs.Common.{sym, subst}
-use Rattle.als_record.specs.declared.record.Record.{Record}
 use Rattle.als_record.specs.Shown.{shown}
 use Rattle.als_receiver.specs.Reception.{Reception, HandsOut}
 use Rattle.als_engine.proofs.TakingLaws.{hands_one}
@@ -7,12 +6,9 @@ use Rattle.als_engine.proofs.taking_in.take_record.Goals as goal
 
 pub returns-in_ok-hold-in-Ok-Some-clause-ok : goal.returns-in_ok-hold-in-Ok-Some-clause-ok
 returns-in_ok-hold-in-Ok-Some-clause-ok g c =
-    let logged = c.in_ok-logged-in-Ok-Some.logged in
     let can = rw c.in-Ok-Some.field-0-is at c.in-Ok-Some.ensures.shows in
-    let taken = subst (λ (new : Reception). HandsOut c.args.receiver.now (shown c.in-Ok-Some.view)
+    let out = subst (λ (new : Reception). HandsOut c.args.receiver.now (shown c.in-Ok-Some.view)
     new) (sym c.advance.ensures) can.out in
-    let out = subst (λ (r : Record). HandsOut c.args.receiver.now r c.advance.new.self)
-    (sym c.in_ok-logged-in-Ok-Some.ensures.ok) taken in
     let held = c.in_ok-hold-in-Ok-Some.ensures.ok in
     hands_one c.args.held.now.stored c.hold.new.held.stored c.args.receiver.now c.advance.new.self
-    logged c.requires.meets held.0 held.1 out held.2
+    (shown c.in-Ok-Some.view) c.requires.meets held.0 held.1 out held.2

@@ -21,25 +21,26 @@ use Rattle.als_pool.specs.Queues.{total_waiting}
 use Rattle.als_store.specs.Takeover.{is_following}
 use Rattle.als_store.proofs.JudgingLaws.{good_from}
 use Rattle.als_tables.proofs.Counts.{commit_count-few}
+use Rattle.als_record.specs.Shown.{shown}
 use Rattle.als_store.proofs.store.Store.admit.Goals as goal
 
 pub returns-then-not-fits-clause-cause : goal.returns-then-not-fits-clause-cause
 returns-then-not-fits-clause-cause g c =
     let s = c.self.inside in
-    let fits = subst (λ (h : Holding). IsRecord h.stored.pages c.args.logged.now)
+    let fits = subst (λ (h : Holding). IsRecord h.stored.pages (shown c.args.logged.now))
     (sym c.self.view_is) c.requires.fits in
-    let at = subst (λ (h : Holding). c.args.logged.now.lsn.0 ≡ end_of h.stored.log)
+    let at = subst (λ (h : Holding). (shown c.args.logged.now).lsn.0 ≡ end_of h.stored.log)
     (sym c.self.view_is) c.requires.at in
-    let good = good_from (first_bad s.log.log c.args.logged.now) c.judge.result c.in_ok-judge.was
+    let good = good_from (first_bad s.log.log (shown c.args.logged.now)) c.judge.result c.in_ok-judge.was
     (c.judge.ensures s.pages s.log.log c.self.invariant.judged c.self.invariant.is_log fits
     at) in
-    let short = short_push s.pages s.log.blocks s.log.log c.args.logged.now fits
+    let short = short_push s.pages s.log.blocks s.log.log (shown c.args.logged.now) fits
     c.end.ensures.facts.fits c.end.ensures.facts.few in
     let seen = stored_of s.pages s.log s.control s.pool.pool s.broken s.origin s.recovering in
     rw (← c.self.view_is)
     (inr (inl (
       good,
-      too_long seen c.args.logged.now c.len_of-len.result c.reserve_after-reserve_after.result
+      too_long seen (shown c.args.logged.now) c.len_of-len.result c.reserve_after-reserve_after.result
           c.len_of-len.ensures (c.reserve_after-reserve_after.ensures s.pages s.log.log
           c.self.invariant.judged at good short) c.if-not-fits.ensures.1,
       refl,
@@ -57,7 +58,7 @@ invariant_of-self g c =
 pub route_change-requires-clause-can : goal.route_change-requires-clause-can
 route_change-requires-clause-can g c =
     let s = c.self.inside in
-    let r = c.args.logged.now in
+    let r = shown c.args.logged.now in
     let fits = subst (λ (h : Holding). IsRecord h.stored.pages r) (sym c.self.view_is)
     c.requires.fits in
     let at = subst (λ (h : Holding). r.lsn.0 ≡ end_of h.stored.log) (sym c.self.view_is)
@@ -94,7 +95,7 @@ note-requires-clause-commits g c =
 pub invariant_of-self-2 : goal.invariant_of-self-2
 invariant_of-self-2 g c =
     let s = c.self.inside in
-    let r = c.args.logged.now in
+    let r = shown c.args.logged.now in
     let fits = subst (λ (h : Holding). IsRecord h.stored.pages r) (sym c.self.view_is)
     c.requires.fits in
     let at = subst (λ (h : Holding). r.lsn.0 ≡ end_of h.stored.log) (sym c.self.view_is)
@@ -145,7 +146,7 @@ invariant_of-self-2 g c =
 pub returns-clause-ok : goal.returns-clause-ok
 returns-clause-ok g c =
     let s = c.self.inside in
-    let r = c.args.logged.now in
+    let r = shown c.args.logged.now in
     let fits = subst (λ (h : Holding). IsRecord h.stored.pages r) (sym c.self.view_is)
     c.requires.fits in
     let at = subst (λ (h : Holding). r.lsn.0 ≡ end_of h.stored.log) (sym c.self.view_is)
@@ -168,7 +169,7 @@ returns-clause-ok g c =
 pub returns-in_err-make_room-clause-full : goal.returns-in_err-make_room-clause-full
 returns-in_err-make_room-clause-full g c =
     let s = c.self.inside in
-    let r = c.args.logged.now in
+    let r = shown c.args.logged.now in
     let seen = stored_of s.pages s.log s.control s.pool.pool s.broken s.origin s.recovering in
     let fits = subst (λ (h : Holding). IsRecord h.stored.pages r) (sym c.self.view_is)
     c.requires.fits in
@@ -188,7 +189,7 @@ returns-in_err-make_room-clause-full g c =
 pub returns-clause-full : goal.returns-clause-full
 returns-clause-full g c =
     let s = c.self.inside in
-    let r = c.args.logged.now in
+    let r = shown c.args.logged.now in
     let seen = stored_of s.pages s.log s.control s.pool.pool s.broken s.origin s.recovering in
     let fits = subst (λ (h : Holding). IsRecord h.stored.pages r) (sym c.self.view_is)
     c.requires.fits in
@@ -208,7 +209,7 @@ returns-clause-full g c =
 pub returns-in_err-make_room-clause-wanted : goal.returns-in_err-make_room-clause-wanted
 returns-in_err-make_room-clause-wanted g c =
     let s = c.self.inside in
-    let r = c.args.logged.now in
+    let r = shown c.args.logged.now in
     let fits = subst (λ (h : Holding). IsRecord h.stored.pages r) (sym c.self.view_is)
     c.requires.fits in
     let at = subst (λ (h : Holding). r.lsn.0 ≡ end_of h.stored.log) (sym c.self.view_is)

@@ -11,31 +11,27 @@ use Rattle.als_store.proofs.store.Store.commit_of.Goals as goal
 pub returns-in-Ok-clause-ok : goal.returns-in-Ok-clause-ok
 returns-in-Ok-clause-ok g c =
     let s = c.self.inside in
-    let r = c.args.logged.now in
+    let r = shown c.args.logged.now in
     let fits = subst (λ (h : Holding). IsRecord h.stored.pages r) (sym c.self.view_is)
     c.requires.fits in
     let at = subst (λ (h : Holding). r.lsn.0 ≡ end_of h.stored.log) (sym c.self.view_is)
     c.requires.at in
-    let e : shown c.view.result ≡ r = c.view.ensures in
-    rw (← c.self.view_is, ← e)
+    rw (← c.self.view_is)
     (c.in-Ok.ensures.ok s.pages s.log.log c.self.invariant.judged c.self.invariant.is_log
-    (subst (IsRecord s.pages) (sym e) fits) (ap (λ (x : Record). x.lsn.0) e ∙ at))
+    fits at)
 
 pub returns-in-Err-clause-err : goal.returns-in-Err-clause-err
 returns-in-Err-clause-err g c =
     let s = c.self.inside in
-    let r = c.args.logged.now in
+    let r = shown c.args.logged.now in
     let fits = subst (λ (h : Holding). IsRecord h.stored.pages r) (sym c.self.view_is)
     c.requires.fits in
-    let e : shown c.view.result ≡ r = c.view.ensures in
-    rw (← c.self.view_is, ← e) (
+    rw (← c.self.view_is) (
       refl,
       c.in-Err.ensures.wanted s.pages s.log.log c.self.invariant.judged
-          c.self.invariant.is_log (subst (IsRecord s.pages) (sym e) fits),
+          c.self.invariant.is_log fits,
     )
 
 pub returns-in-Err-clause-reserved : goal.returns-in-Err-clause-reserved
 returns-in-Err-clause-reserved g c none =
-    absurd (true≢false (sym
-    (c.in-Err.ensures.reserved (ap (λ (x : Record). is_commit x.body) c.view.ensures
-    ∙ none))))
+    absurd (true≢false (sym (c.in-Err.ensures.reserved none)))

@@ -16,6 +16,7 @@ use Rattle.als_store.proofs.StoredParts.{can_route_change, valid_push, stored-ag
 use Rattle.als_store.proofs.TakeoverLaws.{taken_undone}
 use Rattle.als_store.proofs.SealLaws.{next_of}
 use Rattle.als_tables.proofs.Counts.{commit_count-few}
+use Rattle.als_record.specs.Shown.{shown}
 use Rattle.als_store.proofs.store.Store.hold_next.Goals as goal
 
 pub invariant_of-self : goal.invariant_of-self
@@ -28,7 +29,7 @@ invariant_of-self g c =
 pub route_change-requires-clause-can : goal.route_change-requires-clause-can
 route_change-requires-clause-can g c =
     let s = c.self.inside in
-    let r = c.args.logged.now in
+    let r = shown c.args.seen.now in
     let fits = subst (λ (h : Holding). IsRecord h.stored.pages r) (sym c.self.view_is) c.requires.fits in
     let at = subst (λ (h : Holding). r.lsn.0 ≡ end_of h.stored.log) (sym c.self.view_is) c.requires.at in
     let can = can_route_change s.pages s.count s.log s.control s.pool.pool s.validator s.broken s.origin s.recovering c.self.invariant r (change_of r) refl fits at (omega (arith, c.end.ensures.facts.fits, c.end.ensures.facts.few)) c.change_can_follow.ensures in
@@ -37,7 +38,7 @@ route_change-requires-clause-can g c =
 pub append_made-requires-clause-device : goal.append_made-requires-clause-device
 append_made-requires-clause-device g c =
     let s = c.self.inside in
-    let r = c.args.logged.now in
+    let r = shown c.args.seen.now in
     let first = subst (λ (h : Holding). first_of (tail_of h.stored.log) ≡ Some r) (sym c.self.view_is) c.requires.first in
     let n = next_of s.pages s.count s.log s.control s.pool.pool s.validator s.broken s.origin s.recovering c.self.invariant c.end.ensures.facts c.newest.ensures.facts r first in
     let short = short_push s.pages s.log.blocks s.log.log r n.fits c.end.ensures.facts.fits c.end.ensures.facts.few in
@@ -56,7 +57,7 @@ note-requires-clause-commits g c =
 pub invariant_of-self-2 : goal.invariant_of-self-2
 invariant_of-self-2 g c =
     let s = c.self.inside in
-    let r = c.args.logged.now in
+    let r = shown c.args.seen.now in
     let first = subst (λ (h : Holding). first_of (tail_of h.stored.log) ≡ Some r) (sym c.self.view_is) c.requires.first in
     let n = next_of s.pages s.count s.log s.control s.pool.pool s.validator s.broken s.origin s.recovering c.self.invariant c.end.ensures.facts c.newest.ensures.facts r first in
     let judged-room = c.in_ok-make_room.ensures.validator s.pages s.log.log c.self.invariant.judged in

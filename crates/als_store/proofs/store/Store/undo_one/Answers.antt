@@ -1,23 +1,45 @@
-use Rattle.std.proofs.Common.{[], ◌∷◌, refl, sym, ap, ◌∙◌}
+use Rattle.std.proofs.Common.{◌≡◌, [], ◌∷◌, refl, sym, subst, ap, ◌∙◌}
+use Rattle.std.specs.Prelude.{Some}
+use Rattle.als_record.specs.declared.record.Record.{Record}
+use Rattle.als_record.specs.LogText.{end_of}
+use Rattle.als_record.specs.Shown.{shown}
+use Rattle.als_record.specs.Spelling.{IsRecord}
+use Rattle.als_record.specs.Tail.{tail_of}
+use Rattle.als_store.specs.Spare.{HasSpare}
+use Rattle.als_takeover.specs.Next.{first_of}
 use Rattle.std.proofs.lemmas.Bool.{false≢true}
 use Rattle.als_log.specs.Local.{Local}
 use Rattle.als_store.specs.Stored.{with_records}
-use Rattle.als_store.specs.Parts.{stored_of}
+use Rattle.als_store.specs.Parts.{stored_of, spare_of}
 use Rattle.als_store.proofs.SealLaws.{next_of, none_first, some_unended}
 use Rattle.als_store.proofs.store.Store.undo_one.Goals as goal
 
 pub hold_next-held-requires-clause-first : goal.hold_next-held-requires-clause-first
-hold_next-held-requires-clause-first g c = rw c.in-Some.ensures.same (sym (c.in-Some.ensures.next c.self.inside.pages c.self.invariant.is_log.valid c.self.invariant.judged))
+hold_next-held-requires-clause-first g c =
+    let s = c.self.inside in
+    let e : c.in-Some.logged ≡ shown c.view.result = sym c.view.ensures in
+    let first : first_of (tail_of s.log.log) ≡ Some c.in-Some.logged =
+    sym (c.in-Some.ensures.next s.pages c.self.invariant.is_log.valid c.self.invariant.judged) in
+    rw c.in-Some.ensures.same
+    (subst (λ (r : Record). first_of (tail_of s.log.log) ≡ Some r) e first)
 
 pub hold_next-held-requires-clause-fits : goal.hold_next-held-requires-clause-fits
 hold_next-held-requires-clause-fits g c =
     let s = c.self.inside in
-    (next_of s.pages s.count s.log s.control s.pool.pool s.validator s.broken s.origin s.recovering c.self.invariant c.end.ensures.facts c.newest.ensures.facts c.in-Some.logged (sym (c.in-Some.ensures.next s.pages c.self.invariant.is_log.valid c.self.invariant.judged))).fits
+    let e : c.in-Some.logged ≡ shown c.view.result = sym c.view.ensures in
+    let n = next_of s.pages s.count s.log s.control s.pool.pool s.validator s.broken s.origin
+    s.recovering c.self.invariant c.end.ensures.facts c.newest.ensures.facts c.in-Some.logged
+    (sym (c.in-Some.ensures.next s.pages c.self.invariant.is_log.valid c.self.invariant.judged)) in
+    subst (λ (r : Record). IsRecord s.pages r) e n.fits
 
 pub hold_next-held-requires-clause-at : goal.hold_next-held-requires-clause-at
 hold_next-held-requires-clause-at g c =
     let s = c.self.inside in
-    rw c.in-Some.ensures.same (next_of s.pages s.count s.log s.control s.pool.pool s.validator s.broken s.origin s.recovering c.self.invariant c.end.ensures.facts c.newest.ensures.facts c.in-Some.logged (sym (c.in-Some.ensures.next s.pages c.self.invariant.is_log.valid c.self.invariant.judged))).at
+    let e : c.in-Some.logged ≡ shown c.view.result = sym c.view.ensures in
+    let n = next_of s.pages s.count s.log s.control s.pool.pool s.validator s.broken s.origin
+    s.recovering c.self.invariant c.end.ensures.facts c.newest.ensures.facts c.in-Some.logged
+    (sym (c.in-Some.ensures.next s.pages c.self.invariant.is_log.valid c.self.invariant.judged)) in
+    rw c.in-Some.ensures.same (subst (λ (r : Record). r.lsn.0 ≡ end_of s.log.log) e n.at)
 
 pub returns-in-None-clause-err : goal.returns-in-None-clause-err
 returns-in-None-clause-err g c =
@@ -35,7 +57,8 @@ returns-in-Ok-clause-ok g c =
       rest = n.rest;
       first = n.first;
       place = refl;
-      after = c.in-Ok.ensures.ok ∙ ap (λ (x : Local). with_records (stored_of s.pages x s.control s.pool.pool s.broken s.origin s.recovering) (c.in-Some.logged ∷ [])) c.in-Some.ensures.same;
+      after = c.in-Ok.ensures.ok ∙ ap (λ (r : Record). with_records (stored_of s.pages c.next_of_tail.new.log s.control s.pool.pool s.broken s.origin s.recovering) (r ∷ [])) c.view.ensures
+          ∙ ap (λ (x : Local). with_records (stored_of s.pages x s.control s.pool.pool s.broken s.origin s.recovering) (c.in-Some.logged ∷ [])) c.in-Some.ensures.same;
     })
 
 pub returns-in-Err-clause-err : goal.returns-in-Err-clause-err
@@ -51,4 +74,5 @@ returns-in-Err-clause-reserved g c =
     let s = c.self.inside in
     let n = next_of s.pages s.count s.log s.control s.pool.pool s.validator s.broken s.origin s.recovering c.self.invariant c.end.ensures.facts c.newest.ensures.facts c.in-Some.logged (sym (c.in-Some.ensures.next s.pages c.self.invariant.is_log.valid c.self.invariant.judged)) in
     rw (← c.self.view_is)
-    (λ room is. false≢true (c.in-Err.ensures.reserved (rw c.in-Some.ensures.same (room c.in-Some.logged n.rest n.first))))
+    (λ room is. false≢true (c.in-Err.ensures.reserved (rw c.in-Some.ensures.same
+    (subst (λ (r : Record). HasSpare (spare_of s.log s.validator s.pool.room) r) (sym c.view.ensures) (room c.in-Some.logged n.rest n.first)))))
