@@ -42,6 +42,3 @@ pub use phase::Phase;
 pub use reading::read_said;
 pub use refused::Refused;
 pub use region::Region;
-
-#[cfg(test)]
-mod tests;

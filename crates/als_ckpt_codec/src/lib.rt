@@ -16,6 +16,3 @@ pub use checkpoint::Checkpoint;
 pub use checkpoint_codec::{checkpoint_len, decode_checkpoint, encode_checkpoint};
 pub use fault::Fault;
 pub use numbers::Numbers;
-
-#[cfg(test)]
-mod tests;

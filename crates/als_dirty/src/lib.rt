@@ -12,6 +12,3 @@ mod laws;
 pub use dirty_page::DirtyPage;
 pub use dirty_table::DirtyTable;
 pub use laws::{other_records_pass, rec_lsn_covers_each_image};
-
-#[cfg(test)]
-mod tests;

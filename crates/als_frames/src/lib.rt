@@ -19,8 +19,6 @@ mod unformatted;
 mod frames;
 // What stays so as the log grows.
 mod laws;
-#[cfg(test)]
-mod tests;
 
 pub use fault::Fault;
 pub use frames::Frames;

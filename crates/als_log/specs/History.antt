@@ -7,4 +7,4 @@ use Rattle.als_log.specs.declared.history.History.TheVariants.{Start, Then'}
 -- them, oldest first
 abbrev pub records_in : History → List Record
 records_in Start = []
-records_in (Then' mark before last) = records_in before ++ last.value ∷ []
+records_in (Then' mark before last) = records_in before ++ last.value.value ∷ []

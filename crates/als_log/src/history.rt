@@ -10,7 +10,7 @@ use std::snapshot::Snapshot;
 #[derive(Drop)]
 pub enum History {
     Start,
-    Then(Snapshot<History>, Noted),
+    Then(Snapshot<History>, Snapshot<Noted>),
 }
 
 impl History {
@@ -34,7 +34,8 @@ impl History {
         ensures { records_in self.new ≡ records_in self.old ++ shown logged.now ∷ [] }
     {
         let before = Snapshot::of(self);
-        let last = Noted::of(logged);
+        let noted = Noted::of(logged);
+        let last = Snapshot::of(&noted);
         *self = History::Then(before, last);
     }
 }

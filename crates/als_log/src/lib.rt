@@ -26,8 +26,6 @@ mod reopening;
 mod unopened;
 // The log.
 mod local_log;
-#[cfg(test)]
-mod tests;
 
 pub use fault::Fault;
 pub use history::History;

@@ -17,9 +17,6 @@ impl Model for Noted {
     ghost also_owns = { λ _. ftrue };
 }
 
-// It owns nothing.
-unsafe impl Send for Noted {}
-
 impl Noted {
     /// What this view shows.
     // No code gives a ghost field its value, so that this is proved by hand.

@@ -29,6 +29,3 @@ pub use laws::{
 pub use new_pool::NewPool;
 pub use pool::Pool;
 pub use unformatted::Unformatted;
-
-#[cfg(test)]
-mod tests;

@@ -1,4 +1,4 @@
-use crate::{Fault, LocalLog, NewLog};
+use als_log::{Fault, LocalLog, NewLog};
 use als_disk::{BlockDisk, FailingDisk, Fuse, MemDisk};
 use als_record::{Lsn, Record, decode, encode};
 use std::alloc::Global;

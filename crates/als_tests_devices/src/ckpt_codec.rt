@@ -1,4 +1,4 @@
-use crate::{Checkpoint, Fault, Numbers, decode_checkpoint, encode_checkpoint};
+use als_ckpt_codec::{Checkpoint, Fault, Numbers, decode_checkpoint, encode_checkpoint};
 use als_record::{LoggedPage, LoggedTransaction, Lsn, PageRows, TransId, TransactionRows};
 use std::alloc::Global;
 

@@ -3,7 +3,7 @@ ghost use Rattle.als_disk.specs.Slot.{IsSettled};
 
 use super::checkpoints::{checkpoint_bytes, marked, published};
 use super::{crashed, fault_of, sealed_block};
-use crate::{Control, Fault};
+use als_ckpt::{Control, Fault};
 use als_ckpt_codec::encode_checkpoint;
 use als_disk::{BlockDisk, DeviceError, FailingDisk, Fuse, MemDisk, Restart};
 use als_record::Lsn;

@@ -1,4 +1,4 @@
-use Rattle.als_ckpt.proofs.tests.crashed.Goals as goal
+use Rattle.als_tests_devices.proofs.ckpt.crashed.Goals as goal
 
 pub returns-clause-settled : goal.returns-clause-settled
 returns-clause-settled g c = let keeps = c.crash.ensures.candidate 0 in (keeps.content, keeps.left)

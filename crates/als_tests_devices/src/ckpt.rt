@@ -2,7 +2,7 @@ ghost use Rattle.std.specs.Prelude.{◌≡◌, ◌<◌, ◌≤◌, ◌+◌, ℕ,
 ghost use Rattle.als_disk.specs.Slot.{IsSettled};
 ghost use Rattle.als_ckpt.specs.Control.{first_state, new_control};
 
-use crate::{Control, ControlState, Fault, Phase, Refused, Region, clear, read_state};
+use als_ckpt::{Control, ControlState, Fault, Phase, Refused, Region, clear, read_state};
 use als_disk::{BlockDisk, DeviceError, FailingDisk, Fuse, MemDisk, Restart};
 use als_record::Lsn;
 use std::alloc::Global;

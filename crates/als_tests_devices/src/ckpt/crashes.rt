@@ -1,7 +1,7 @@
 use super::checkpoints::{marked, published, written};
 use super::crashed;
 use super::publishing::stands_at;
-use crate::{Control, Region, read_state};
+use als_ckpt::{Control, Region, read_state};
 use als_disk::{MemDisk, Restart};
 use std::alloc::Global;
 use std::process::Abort;

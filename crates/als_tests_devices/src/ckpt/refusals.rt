@@ -1,7 +1,7 @@
 ghost use Rattle.std.specs.Prelude.{◌≡◌, IfSome};
 
 use super::checkpoints::{checkpoint, marked, published, written};
-use crate::{Control, Fault};
+use als_ckpt::{Control, Fault};
 use als_disk::{BlockDisk, MemDisk};
 use als_record::Lsn;
 use std::alloc::Global;

@@ -1,6 +1,6 @@
 ghost use Rattle.std.specs.Prelude.{◌≡◌, ◌<◌};
 
-use crate::{Fault, Frames, mark_changes_no_page, record_changes_no_page, synced_lsn_is_spelled};
+use als_frames::{Fault, Frames, mark_changes_no_page, record_changes_no_page, synced_lsn_is_spelled};
 use als_disk::{BlockDisk, FailingDisk, Fuse, MemDisk};
 use als_page::Page;
 use als_record::{Change, Image, ImageView, KeptImage, Key, Lsn, Value};

@@ -1,7 +1,7 @@
 ghost use Rattle.std.specs.Prelude.{◌≡◌, ◌≤◌, true, IfSome};
 ghost use Rattle.als_ckpt.specs.Control.{IsBeginning};
 
-use crate::Control;
+use als_ckpt::Control;
 use als_ckpt_codec::{Checkpoint, decode_checkpoint, encode_checkpoint};
 use als_disk::BlockDisk;
 use als_record::Lsn;

@@ -1,7 +1,7 @@
 ghost use Rattle.std.specs.Prelude.{◌<◌};
 
 use super::checkpoints::{checkpoint_bytes, marked, published};
-use crate::{Control, Region};
+use als_ckpt::{Control, Region};
 use als_disk::{BlockDisk, FailingDisk, Fuse, MemDisk};
 use als_record::Lsn;
 use std::alloc::Global;

@@ -1,6 +1,6 @@
 ghost use Rattle.std.specs.Prelude.{◌≡◌, ◌≤◌, length, IfOk};
 
-use crate::{DirtyTable, other_records_pass, rec_lsn_covers_each_image};
+use als_dirty::{DirtyTable, other_records_pass, rec_lsn_covers_each_image};
 use als_record::{LoggedPage, Lsn, PageRows};
 use std::alloc::{AllocError, Global};
 use std::test::Fail;
