@@ -1,19 +1,42 @@
--- Which of the faults of all crates each fault of this one is.
-use Rattle.std.specs.Prelude.{◌≡◌, ◌⊎◌}
+-- Which of the faults of all crates each fault of this one is, and of what it tells.
+use Rattle.std.specs.Prelude.{◌≡◌, ◌⊎◌, Option, Some, None}
 use Rattle.als_fault.specs.declared.fault_kind.FaultKind.{FaultKind}
 use Rattle.als_fault.specs.declared.fault_kind.FaultKind.TheVariants as kind
 use Rattle.als_folder.specs.declared.fault.Fault.{Fault}
 use Rattle.als_folder.specs.declared.fault.Fault.TheVariants as fault
+use Rattle.als_folder.specs.declared.part.Part.{Part}
+use Rattle.als_folder.specs.declared.part.Part.TheVariants as part
+use Rattle.als_folder.specs.declared.trouble.Trouble.{Trouble}
+use Rattle.als_folder.specs.declared.trouble.Wrong.{Wrong}
+use Rattle.als_folder.specs.declared.trouble.Wrong.TheVariants as wrong
 
 abbrev pub kind_of : Fault → FaultKind
-kind_of fault.Device = kind.Device
+kind_of (fault.Device trouble) = kind.Device
 kind_of fault.Busy = kind.Device
 kind_of fault.Memory = kind.Memory
 
--- a file failed, or a growth was refused
-abbrev pub IsOfFile : Fault → Type 0
-IsOfFile f = (f ≡ fault.Device) ⊎ (f ≡ fault.Memory)
+-- what of the folder is wrong, if anything is
+abbrev pub trouble_of : Fault → Option Trouble
+trouble_of (fault.Device trouble) = Some trouble
+trouble_of fault.Busy = Some (record { part = part.Itself; wrong = wrong.Locked })
+trouble_of fault.Memory = None
+
+-- this part failed, or a growth was refused
+abbrev pub IsOf : Part → Fault → Type 0
+IsOf p f = (f ≡ fault.Memory) ⊎ ((w : Wrong) × (f ≡ fault.Device (record { part = p; wrong = w })))
+
+-- the file of a device failed, or a growth was refused
+abbrev pub IsOfDevice : Fault → Type 0
+IsOfDevice f = IsOf part.Log f ⊎ IsOf part.Control f ⊎ IsOf part.Pages f
+
+-- the file of a device of a new database failed, or a growth was refused
+abbrev pub IsOfNewDevice : Fault → Type 0
+IsOfNewDevice f = IsOf part.Log f ⊎ IsOf part.NewControl f ⊎ IsOf part.Pages f
+
+-- so did the folder, or one of these
+abbrev pub IsOfLayout : Fault → Type 0
+IsOfLayout f = IsOf part.Itself f ⊎ IsOfNewDevice f
 
 -- another program has the lock, or it failed
 abbrev pub IsOfLock : Fault → Type 0
-IsOfLock f = (f ≡ fault.Device) ⊎ (f ≡ fault.Busy)
+IsOfLock f = (f ≡ fault.Busy) ⊎ (f ≡ fault.Device (record { part = part.Itself; wrong = wrong.Failed }))

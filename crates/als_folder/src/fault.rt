@@ -1,8 +1,10 @@
 ghost use Rattle.std.specs.Prelude.{◌≡◌, Some};
 ghost use Rattle.als_fault.specs.Kinds.{number_of, name_of, text_of};
 ghost use Rattle.als_folder.specs.declared.fault.Fault.TheVariants.{Memory as OutOfMemory};
-ghost use Rattle.als_folder.specs.FaultNames.{kind_of, IsOfFile, IsOfLock};
+ghost use Rattle.als_folder.specs.FaultNames.{kind_of, trouble_of, IsOf, IsOfLock};
 
+use crate::part::Part;
+use crate::trouble::{Trouble, Wrong, wrong_of};
 use als_fault::FaultKind;
 use std::alloc::AllocError;
 use std::fs::TryLockError;
@@ -13,7 +15,7 @@ use std::{fmt, io};
 #[derive(Clone, Copy, Debug, PartialEq, Eq)]
 pub enum Fault {
     /// The folder or one of its files failed.
-    Device,
+    Device(Trouble),
     /// Another program has the folder. To callers it is a device that failed.
     Busy,
     /// A growth was refused.
@@ -26,8 +28,35 @@ impl Fault {
         ensures { result ≡ kind_of self }
     {
         match self {
-            Fault::Device | Fault::Busy => FaultKind::Device,
+            Fault::Device(_) | Fault::Busy => FaultKind::Device,
             Fault::Memory => FaultKind::Memory,
+        }
+    }
+
+    /// What of the folder is wrong. None: nothing is, a growth was refused.
+    pub fn trouble(self) -> Option<Trouble>
+        ensures { result ≡ trouble_of self }
+    {
+        match self {
+            Fault::Device(trouble) => Some(trouble),
+            Fault::Busy => Some(Trouble {
+                part: Part::Itself,
+                wrong: Wrong::Locked,
+            }),
+            Fault::Memory => None,
+        }
+    }
+
+    /// What the failure of a call on a part of the folder is.
+    pub fn of(part: Part, e: io::Error) -> Fault
+        ensures { IsOf part result }
+    {
+        match e.kind() {
+            ErrorKind::OutOfMemory => Fault::Memory,
+            kind => {
+                let wrong = wrong_of(kind);
+                Fault::Device(Trouble { part, wrong })
+            }
         }
     }
 
@@ -65,24 +94,16 @@ impl From<AllocError> for Fault {
     }
 }
 
-impl From<io::Error> for Fault {
-    ghost from_gives = { λ _ fault. IsOfFile fault };
-
-    fn from(e: io::Error) -> Fault {
-        match e.kind() {
-            ErrorKind::OutOfMemory => Fault::Memory,
-            _ => Fault::Device,
-        }
-    }
-}
-
 impl From<TryLockError> for Fault {
     ghost from_gives = { λ _ fault. IsOfLock fault };
 
     fn from(e: TryLockError) -> Fault {
         match e {
             TryLockError::WouldBlock => Fault::Busy,
-            TryLockError::Error(_) => Fault::Device,
+            TryLockError::Error(_) => Fault::Device(Trouble {
+                part: Part::Itself,
+                wrong: Wrong::Failed,
+            }),
         }
     }
 }

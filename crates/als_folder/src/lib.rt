@@ -1,6 +1,10 @@
 //! The folder of a standby: the files of its three devices, held for one program.
 #![tactic(auto)]
 
+// The files of a folder, and the folder itself.
+mod part;
+// What is wrong with one of them.
+mod trouble;
 // Why a folder is refused.
 mod fault;
 // The devices of a folder, and how large they are.
@@ -11,6 +15,8 @@ mod folder;
 pub use devices::{DeviceFiles, Devices, Sizes};
 pub use fault::Fault;
 pub use folder::Folder;
+pub use part::Part;
+pub use trouble::{Trouble, Wrong};
 
 #[cfg(test)]
 mod tests;

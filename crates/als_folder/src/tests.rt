@@ -11,6 +11,14 @@ const SIZES: Sizes = Sizes {
     pages: 1,
 };
 
+/// A file that is missing.
+fn missing(part: Part) -> Fault {
+    Fault::Device(Trouble {
+        part,
+        wrong: Wrong::Missing,
+    })
+}
+
 /// Fills the first block of a device, if it has one, and syncs it.
 fn fill<D: BlockDisk>(disk: &mut D, byte: u8) -> Result<(), DeviceError> {
     if 0 < disk.blocks() {
@@ -26,6 +34,11 @@ fn sees<D: BlockDisk>(disk: &mut D) -> Option<(u64, u8)> {
         disk.read(0, &mut block).ok()?;
     }
     Some((disk.blocks(), block[0]))
+}
+
+/// Whether a call is refused so, or for want of memory.
+fn tells(refused: Option<Fault>, wanted: Fault) -> bool {
+    refused == Some(wanted) || refused == Some(Fault::Memory)
 }
 
 /// Lays out a database whose blocks begin with these bytes. `None`: memory was refused.
@@ -52,7 +65,7 @@ fn goes_its_way<R: Abort + AllocGlobal + Files<File = File>>(rt: &R) -> Option<(
     // A stop before `keep` leaves no database.
     lay_out(rt, &folder, [1, 2, 3])?;
     assert_eq!(rt; folder.is_kept(rt).ok()?, false);
-    assert!(rt; folder.open(rt).is_err());
+    assert!(rt; tells(folder.open(rt).err(), missing(Part::Control)));
     lay_out(rt, &folder, [4, 5, 6])?;
     folder.keep(rt).ok()?;
     assert_eq!(rt; folder.is_kept(rt).ok()?, true);
@@ -81,13 +94,32 @@ fn a_folder_is_laid_out_and_opened(rt: HostRuntime) {
 
 #[test]
 fn a_folder_that_is_missing(rt: HostRuntime) {
-    assert!(rt;
-        matches!(
-            Folder::hold(&rt, "no folder"),
-            Err(Fault::Device | Fault::Memory)
-        )
-    );
-    assert_eq!(rt; Fault::Device.number(), 30);
+    let held = Folder::hold(&rt, "no folder").err();
+    assert!(rt; tells(held, missing(Part::Itself)));
+    assert_eq!(rt; missing(Part::Log).number(), 30);
     assert_eq!(rt; Fault::Busy.name(), "Device");
     assert_eq!(rt; Fault::Memory.number(), 32);
+}
+
+/// A file is no folder. `None`: memory was refused.
+fn is_no_folder<R: Abort + AllocGlobal + Files<File = File>>(rt: &R) -> Option<()> {
+    fs::write(rt, "a file", "").ok()?;
+    let folder = Folder::hold(rt, "a file").ok()?;
+    let none = Fault::Device(Trouble {
+        part: Part::Itself,
+        wrong: Wrong::NoFolder,
+    });
+    assert!(rt; tells(folder.is_kept(rt).err(), none));
+    drop(folder);
+    fs::remove_file(rt, "a file").ok()
+}
+
+#[test]
+fn a_file_is_no_folder(rt: HostRuntime) {
+    assert!(rt; is_no_folder(&rt).is_some() || is_no_folder(&rt).is_some());
+    assert_eq!(rt;
+        Fault::Busy.trouble().map(|trouble| trouble.wrong),
+        Some(Wrong::Locked)
+    );
+    assert_eq!(rt; Part::Pages.file_name(), "pages.blk");
 }

@@ -6,7 +6,7 @@ use crate::copying::copy;
 use crate::fault::Fault;
 use als_ckpt::{Fault as ControlFault, read_state};
 use als_disk::MemDisk;
-use als_folder::{Fault as FolderFault, Folder};
+use als_folder::{Fault as FolderFault, Folder, Part, Trouble, Wrong};
 use als_operate::LOG_LIMIT;
 use als_record::LogHeader;
 use als_scan::Scan;
@@ -78,12 +78,12 @@ pub fn text_of_folder<R: AllocGlobal + Files<File = File>>(
     folder: &Folder,
 ) -> Result<LogText, Fault> {
     let files = folder.open_to_read(rt)?;
-    let pages = pages_of(first_bytes(&files.log).map_err(FolderFault::from)?)?;
-    let blocks = files.log.metadata().map_err(FolderFault::from)?.len() / 512;
+    let pages = pages_of(first_bytes(&files.log).map_err(of_log)?)?;
+    let blocks = files.log.metadata().map_err(of_log)?.len() / 512;
     let end = mark(rt.alloc(), &files.control, pages, blocks)?;
     match copy(rt.alloc(), &files.log, end) {
         Ok(disk) => text_in(rt.alloc(), disk, pages, end),
-        Err(e) => Err(Fault::Folder(FolderFault::from(e))),
+        Err(e) => Err(Fault::Folder(of_log(e))),
     }
 }
 
@@ -93,7 +93,7 @@ fn mark(alloc: Global, control: &File, pages: u32, blocks: u64) -> Result<u64, F
 {
     let mut disk = match copy(alloc, control, 512) {
         Ok(disk) => disk,
-        Err(e) => return Err(Fault::Folder(FolderFault::from(e))),
+        Err(e) => return Err(Fault::Folder(FolderFault::of(Part::Control, e))),
     };
     let bytes = blocks.saturating_mul(512);
     match read_state(&mut disk, pages, bytes) {
@@ -103,9 +103,17 @@ fn mark(alloc: Global, control: &File, pages: u32, blocks: u64) -> Result<u64, F
             }
             Ok(state.mark.0)
         }
-        Err(ControlFault::Device) => Err(Fault::Folder(FolderFault::Device)),
+        Err(ControlFault::Device) => Err(Fault::Folder(FolderFault::Device(Trouble {
+            part: Part::Control,
+            wrong: Wrong::Failed,
+        }))),
         Err(_) => Err(Fault::BadControl),
     }
+}
+
+/// What the failure of a call on the folder's log is.
+fn of_log(e: io::Error) -> FolderFault {
+    FolderFault::of(Part::Log, e)
 }
 
 /// The first bytes of a file, as many as a header has.

@@ -6,7 +6,7 @@ use crate::unsound::Unsound;
 use als_disk::MemDisk;
 use als_engine::{Config, Disks, Engine};
 use als_fault::FaultKind;
-use als_folder::{Fault as FolderFault, Folder};
+use als_folder::{Fault as FolderFault, Folder, Part};
 use als_operate::{listing, recover};
 use std::alloc::Global;
 use std::fs::File;
@@ -112,10 +112,18 @@ fn copies<R: AllocGlobal + Files<File = File>>(
     let files = folder.open_to_read(rt)?;
     let alloc = rt.alloc();
     Ok(Disks {
-        log: copy_whole(alloc, &files.log).map_err(FolderFault::from)?,
-        control: copy_whole(alloc, &files.control).map_err(FolderFault::from)?,
-        pages: copy_whole(alloc, &files.pages).map_err(FolderFault::from)?,
+        log: copy_part(alloc, Part::Log, &files.log)?,
+        control: copy_part(alloc, Part::Control, &files.control)?,
+        pages: copy_part(alloc, Part::Pages, &files.pages)?,
     })
+}
+
+/// The whole blocks of a part of the folder.
+fn copy_part(alloc: Global, part: Part, file: &File) -> Result<MemDisk, FolderFault> {
+    match copy_whole(alloc, file) {
+        Ok(disk) => Ok(disk),
+        Err(e) => Err(FolderFault::of(part, e)),
+    }
 }
 
 /// The whole blocks of a file.
