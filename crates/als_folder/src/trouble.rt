@@ -27,8 +27,6 @@ pub enum Wrong {
     NoRoom,
     /// It is shorter than what has to stand in it.
     Short,
-    /// It has so many blocks, which are too few or too many.
-    Length { blocks: u64 },
     /// It could not be opened, locked, read, written or synced.
     Failed,
     /// The log does not begin with the header of its database.
@@ -37,10 +35,8 @@ pub enum Wrong {
     BadRecord,
     /// The log has no room for more.
     Full,
-    /// The control block or a checkpoint is damaged.
+    /// The control block or a checkpoint is damaged, or not that of this database.
     BadControl,
-    /// The database has so many pages, and not as many as were asked for.
-    OtherPages { pages: u32 },
     /// The block of this page is damaged.
     BadPage { page: u32 },
 }
