@@ -1,3 +1,4 @@
 pub mod Driving
 pub mod FaultNames
 pub mod Lines
+pub mod Troubles

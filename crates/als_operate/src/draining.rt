@@ -1,15 +1,29 @@
 ghost use Rattle.std.specs.Prelude.{OnOk};
 ghost use Rattle.als_operate.specs.Driving.{IsDrained};
 
+use crate::progress::{Progress, Silent};
 use als_engine::{Events, Fault};
+
+/// After so many redos it is told again how many changes wait.
+const TOLD_EACH: u64 = 64;
 
 /// Redoes each page that waits for changes, in rising order, and again until none does. The first refusal ends it.
 pub fn drain<E: Events>(events: &mut E) -> Result<(), Fault>
     // Then no page waits.
     ensures done { OnOk result (E.alone → IsDrained (E.machine events.new)) }
 {
+    drain_telling(events, &mut Silent)
+}
+
+/// The same, and tells every now and then how many changes wait: at the beginning, and last that none does.
+pub fn drain_telling<E: Events, P: Progress>(events: &mut E, progress: &mut P) -> Result<(), Fault>
+    ensures done { OnOk result (E.alone → IsDrained (E.machine events.new)) }
+{
     let mut from = 0;
-    for _ in 0..u64::MAX {
+    for redone in 0..u64::MAX {
+        if redone % TOLD_EACH == 0 {
+            progress.waits(events.status().pending as u64);
+        }
         match events.next_pending(from) {
             Some(page) => {
                 redo(events, page)?;
@@ -17,6 +31,7 @@ pub fn drain<E: Events>(events: &mut E) -> Result<(), Fault>
             }
             None => {
                 if from == 0 {
+                    progress.waits(0);
                     return Ok(());
                 }
                 from = 0;

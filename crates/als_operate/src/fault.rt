@@ -1,11 +1,12 @@
 ghost use Rattle.std.specs.Prelude.{◌≡◌, ◌⊎◌, Some};
 ghost use Rattle.als_fault.specs.Kinds.{number_of, name_of, text_of};
 ghost use Rattle.als_operate.specs.declared.fault.Fault.TheVariants.{Memory as OutOfMemory, Stream as StreamFailed, Folder as OfFolder, Session as OfSession, Refused as OfStandby};
-ghost use Rattle.als_operate.specs.FaultNames.{kind_of};
+ghost use Rattle.als_operate.specs.FaultNames.{kind_of, trouble_of};
 
+use crate::trouble::trouble_of;
 use als_engine::Fault as EngineFault;
 use als_fault::FaultKind;
-use als_folder::Fault as FolderFault;
+use als_folder::{Fault as FolderFault, Trouble};
 use als_ship::Fault as SessionFault;
 use std::alloc::AllocError;
 use std::io::ErrorKind;
@@ -37,6 +38,17 @@ impl Fault {
             Fault::Folder(fault) => fault.kind(),
             Fault::Session(fault) => fault.kind(),
             Fault::Refused(fault) => fault.kind(),
+        }
+    }
+
+    /// What of the folder is wrong. None: nothing of it is known to be.
+    pub fn trouble(self) -> Option<Trouble>
+        ensures { result ≡ trouble_of self }
+    {
+        match self {
+            Fault::Folder(fault) => fault.trouble(),
+            Fault::Refused(fault) => trouble_of(fault.kind()),
+            Fault::Memory | Fault::Stream | Fault::Session(_) => None,
         }
     }
 

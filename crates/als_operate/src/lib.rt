@@ -1,6 +1,8 @@
 //! What the program does on files and over the network: it ships a log, follows one as a standby, and makes a primary of a standby.
 #![tactic(auto)]
 
+// Which file of a folder is wrong, where its standby is refused.
+mod trouble;
 // Why a command is refused.
 mod fault;
 // A reader, whole.
@@ -9,6 +11,8 @@ mod whole;
 mod shipping;
 // The answer of an event that may have nothing to do.
 mod passing;
+// Who is told how a long redo goes on.
+mod progress;
 // All that waits for redo.
 mod draining;
 // A standby back to where it was left.
@@ -32,13 +36,15 @@ mod takeover_command;
 
 pub use checkpointing::checkpoint;
 pub use database::listing;
-pub use draining::drain;
+pub use draining::{drain, drain_telling};
 pub use fault::Fault;
-pub use recovering::recover;
+pub use progress::{Progress, Silent};
+pub use recovering::{recover, recover_telling};
 pub use settling::settle;
 pub use shipping::{LOG_LIMIT, serve, ship};
 pub use standby_command::{Following, follow, standby};
 pub use takeover_command::takeover;
-pub use taking_over::take_over;
+pub use taking_over::{take_over, take_over_telling};
+pub use trouble::trouble_of;
 pub use warm::Warm;
 pub use whole::read_whole;

@@ -5,7 +5,8 @@ ghost use Rattle.als_operate.specs.declared.fault.Fault.TheVariants.{Refused};
 
 use crate::fault::Fault;
 use crate::opening::start;
-use crate::recovering::recover;
+use crate::progress::Progress;
+use crate::recovering::recover_telling;
 use crate::settling::settle;
 use crate::warm::Warm;
 use als_engine::{Config, Events, Fault as EngineFault, LOG_BLOCK_LIMIT};
@@ -35,19 +36,21 @@ pub struct Following<'a> {
 }
 
 /// Follows one session as the standby of a folder, and then prints `end=E ack=A`. Where the folder has no database, a new one is laid out.
+/// It is told how the redo of what the folder holds goes on.
 ///
 /// BadConfig: a number is out of its range; no file was touched. Device: the folder or one of its files failed, or another program has the
 /// folder. Stream: nobody serves at the address, the network failed, or so did the output. Else as `Engine::open` and `Follower::follow` say.
 /// However the session ends, what is held is put on the devices.
-pub fn standby<R: AllocGlobal + Files<File = File> + Net, O: Write>(
+pub fn standby<R: AllocGlobal + Files<File = File> + Net, P: Progress, O: Write>(
     rt: &R,
     following: Following<'_>,
+    progress: &mut P,
     output: &mut O,
 ) -> Result<(), Fault> {
     let config = config_of(following.pages, following.log_blocks)?;
     let folder = Folder::hold(rt, following.dir)?;
     let mut engine = start(rt, &folder, config, following.log_blocks)?;
-    recover(&mut engine)?;
+    recover_telling(&mut engine, progress)?;
     let mut writer = TcpStream::connect(rt, following.from)?;
     writer.set_nodelay(true)?;
     let mut reader = writer.try_clone()?;

@@ -1,8 +1,9 @@
 use crate::database::listing;
 use crate::fault::Fault;
 use crate::opening::open;
+use crate::progress::Progress;
 use crate::standby_command::PENDING;
-use crate::taking_over::take_over;
+use crate::taking_over::take_over_telling;
 use als_disk::BlockDisk;
 use als_engine::Config;
 use als_folder::Folder;
@@ -11,13 +12,14 @@ use std::io::Write;
 use std::rt::Files;
 
 /// Makes a primary of the standby of a folder, and then prints `end=E` and each record of its database. It may be called again after a
-/// stop: the takeover then goes on.
+/// stop: the takeover then goes on. It is told how its redo goes on.
 ///
 /// Device: the folder or one of its files failed, it has no database, or another program has it. Stream: the output failed. Else as
 /// `Engine::open` says, or the first refusal of an event.
-pub fn takeover<R: AllocGlobal + Files<File = File>, O: Write>(
+pub fn takeover<R: AllocGlobal + Files<File = File>, P: Progress, O: Write>(
     rt: &R,
     dir: &str,
+    progress: &mut P,
     output: &mut O,
 ) -> Result<(), Fault> {
     let folder = Folder::hold(rt, dir)?;
@@ -30,7 +32,7 @@ pub fn takeover<R: AllocGlobal + Files<File = File>, O: Write>(
         readers: 1,
     };
     let mut engine = open(rt.alloc(), devices, config)?;
-    take_over(&mut engine)?;
+    take_over_telling(&mut engine, progress)?;
     let records = listing(rt.alloc(), &mut engine)?;
     writeln!(output, "end={}", engine.status().end.0)?;
     output.write_all(records.as_bytes())?;

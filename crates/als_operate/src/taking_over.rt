@@ -4,7 +4,8 @@ ghost use Rattle.als_engine.specs.Machine.{state_of};
 
 use crate::draining::drain;
 use crate::fault::Fault;
-use crate::recovering::recover;
+use crate::progress::{Progress, Silent};
+use crate::recovering::recover_telling;
 use als_engine::{Events, Fault as EngineFault, State};
 use als_ship::force;
 
@@ -14,7 +15,17 @@ pub fn take_over<E: Events>(events: &mut E) -> Result<(), Fault>
     // Only a primary is answered.
     ensures done { OnOk result (E.alone → state_of (E.machine events.new) ≡ Primary) }
 {
-    recover(events)?;
+    take_over_telling(events, &mut Silent)
+}
+
+/// The same, and tells how the redo of what it was opened with goes on.
+pub fn take_over_telling<E: Events, P: Progress>(
+    events: &mut E,
+    progress: &mut P,
+) -> Result<(), Fault>
+    ensures done { OnOk result (E.alone → state_of (E.machine events.new) ≡ Primary) }
+{
+    recover_telling(events, progress)?;
     force(events)?;
     seal(events)?;
     undo_all(events)?;
