@@ -1,11 +1,12 @@
 ghost use Rattle.std.specs.Prelude.{◌≡◌, ◌⊎◌, Some};
 ghost use Rattle.als_fault.specs.Kinds.{number_of, name_of, text_of};
 ghost use Rattle.als_inspect.specs.declared.fault.Fault.TheVariants.{Memory as OutOfMemory, Stream as StreamFailed, Folder as OfFolder, Standby as OfStandby};
-ghost use Rattle.als_inspect.specs.FaultNames.{kind_of};
+ghost use Rattle.als_inspect.specs.FaultNames.{kind_of, trouble_of};
 
 use als_engine::Fault as EngineFault;
 use als_fault::FaultKind;
-use als_folder::Fault as FolderFault;
+use als_folder::{Fault as FolderFault, Part, Trouble, Wrong};
+use als_operate::trouble_of;
 use als_scan::Fault as ScanFault;
 use std::alloc::AllocError;
 use std::io::ErrorKind;
@@ -46,6 +47,20 @@ impl Fault {
             Fault::Folder(fault) => fault.kind(),
             Fault::Log(fault) => fault.kind(),
             Fault::Standby(fault) => fault.kind(),
+        }
+    }
+
+    /// What of the folder is wrong; of a log file it tells as of the folder's log. None: nothing is known to be.
+    pub fn trouble(self) -> Option<Trouble>
+        ensures { result ≡ trouble_of self }
+    {
+        match self {
+            Fault::Folder(fault) => fault.trouble(),
+            Fault::Cut => Some(Trouble {
+                part: Part::Log,
+                wrong: Wrong::Short,
+            }),
+            _ => trouble_of(self.kind()),
         }
     }
 
