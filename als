@@ -49,6 +49,11 @@ option_row() {
     printf '      --%-*s  %s\n' "$2" "$3 <$4>" "$(option_help "$1" "$3")"
 }
 
+# The row of the word that asks for remarks, so wide.
+explain_row() {
+    printf '      --%-*s  %s\n' "$1" explain "$(word_help explain)"
+}
+
 # The last row of the options of a page, so wide.
 help_row() {
     printf '  %-*s  Print help\n\n' "$(($1 + 6))" '-h, --help'
@@ -101,13 +106,15 @@ help_page() {
             option_row standby 14 from ADDR
             option_row standby 14 pages N
             option_row standby 14 log-blocks B
+            explain_row 14
             help_row 14
             text STANDBY_HELP
             ;;
         takeover)
             text TAKEOVER_ABOUT
-            printf '\nUsage: als takeover --dir <DIR>\n\nOptions:\n'
+            printf '\nUsage: als takeover [OPTIONS] --dir <DIR>\n\nOptions:\n'
             option_row takeover 9 dir DIR
+            explain_row 9
             help_row 9
             text TAKEOVER_HELP
             ;;
@@ -117,12 +124,15 @@ help_page() {
             option_row dump 10 from LSN
             option_row dump 10 trans T
             option_row dump 10 page P
+            explain_row 10
             help_row 10
             text DUMP_HELP
             ;;
         verify)
             text VERIFY_ABOUT
-            printf '\nUsage: als verify <PATH>\n\nArguments:\n  <PATH>  %s\n\nOptions:\n  -h, --help  Print help\n\n' "$(word_help path)"
+            printf '\nUsage: als verify [OPTIONS] <PATH>\n\nArguments:\n  <PATH>  %s\n\nOptions:\n' "$(word_help path)"
+            explain_row 7
+            help_row 7
             text VERIFY_HELP
             ;;
     esac

@@ -10,19 +10,40 @@ use std::convert::AsStr;
 #[derive(Clone, Copy)]
 pub enum Command<'a> {
     /// Record lines to a log text: its bytes, or lines of hexadecimal digits.
-    Make { hex: bool, explain: bool },
+    Make {
+        hex: bool,
+        explain: bool,
+    },
     /// A script to what its lines print.
-    Sim { explain: bool },
+    Sim {
+        explain: bool,
+    },
     /// A log file to one follower.
-    Ship { log: &'a str, listen: &'a str },
+    Ship {
+        log: &'a str,
+        listen: &'a str,
+    },
     /// One session as the standby of a folder.
-    Standby(Following<'a>),
+    Standby {
+        following: Following<'a>,
+        explain: bool,
+    },
     /// A standby to a primary.
-    Takeover { dir: &'a str },
+    Takeover {
+        dir: &'a str,
+        explain: bool,
+    },
     /// The records of a log file or of a standby's log.
-    Dump { path: &'a str, wanted: Wanted },
+    Dump {
+        path: &'a str,
+        wanted: Wanted,
+        explain: bool,
+    },
     /// Whether a log file or a standby is sound.
-    Verify { path: &'a str },
+    Verify {
+        path: &'a str,
+        explain: bool,
+    },
 }
 
 const ABOUT: &str =
@@ -220,14 +241,18 @@ fn operation<'a>(name: &str, matches: &ArgMatches<'a>) -> Option<Command<'a>> {
             log: matches.get_str("log")?,
             listen: matches.get_str("listen")?,
         }),
-        "standby" => Some(Command::Standby(Following {
-            dir: matches.get_str("dir")?,
-            from: matches.get_str("from")?,
-            pages: matches.get_one("pages")?,
-            log_blocks: matches.get_one("log-blocks").unwrap_or(LOG_BLOCKS),
-        })),
+        "standby" => Some(Command::Standby {
+            following: Following {
+                dir: matches.get_str("dir")?,
+                from: matches.get_str("from")?,
+                pages: matches.get_one("pages")?,
+                log_blocks: matches.get_one("log-blocks").unwrap_or(LOG_BLOCKS),
+            },
+            explain: matches.get_flag("explain"),
+        }),
         "takeover" => Some(Command::Takeover {
             dir: matches.get_str("dir")?,
+            explain: matches.get_flag("explain"),
         }),
         "dump" => Some(Command::Dump {
             path: matches.get_str("path")?,
@@ -236,9 +261,11 @@ fn operation<'a>(name: &str, matches: &ArgMatches<'a>) -> Option<Command<'a>> {
                 trans: matches.get_one("trans").map(TransId),
                 page: matches.get_one("page"),
             },
+            explain: matches.get_flag("explain"),
         }),
         "verify" => Some(Command::Verify {
             path: matches.get_str("path")?,
+            explain: matches.get_flag("explain"),
         }),
         _ => None,
     }
@@ -294,7 +321,8 @@ fn standby<'a>(alloc: Global) -> Result<clap::Command<'a>, AllocError> {
             "B",
             "Blocks of the log of a new database [default: 2048]",
         )
-        .value_parser(value_parser!(u64)))
+        .value_parser(value_parser!(u64)))?
+        .arg(explain(alloc))
 }
 
 /// The command line of `als takeover`.
@@ -302,7 +330,8 @@ fn takeover<'a>(alloc: Global) -> Result<clap::Command<'a>, AllocError> {
     clap::Command::new(alloc, "takeover")
         .about(TAKEOVER_ABOUT)
         .after_help(TAKEOVER_HELP)
-        .arg(wanted(alloc, "dir", "DIR", "The folder of the database"))
+        .arg(wanted(alloc, "dir", "DIR", "The folder of the database"))?
+        .arg(explain(alloc))
 }
 
 /// The command line of `als dump`.
@@ -319,7 +348,8 @@ fn dump<'a>(alloc: Global) -> Result<clap::Command<'a>, AllocError> {
         ))?
         .arg(allowed(alloc, "page", "P", "Only records that change this page").value_parser(
             value_parser!(u32),
-        ))
+        ))?
+        .arg(explain(alloc))
 }
 
 /// The command line of `als verify`.
@@ -327,7 +357,8 @@ fn verify<'a>(alloc: Global) -> Result<clap::Command<'a>, AllocError> {
     clap::Command::new(alloc, "verify")
         .about(VERIFY_ABOUT)
         .after_help(VERIFY_HELP)
-        .arg(path(alloc))
+        .arg(path(alloc))?
+        .arg(explain(alloc))
 }
 
 /// The file or the folder that is read.

@@ -3,9 +3,8 @@ ghost use Rattle.als_program.specs.Status.{status_of};
 ghost use Rattle.als_program.specs.declared.failure.Failure.TheVariants.{Memory};
 
 use crate::input_fault::InputFault;
+use crate::refusal::Refusal;
 use als_fault::FaultKind;
-use als_inspect::Fault as InspectFault;
-use als_operate::Fault as OperateFault;
 use als_sim::Failure as SimFailure;
 use std::alloc::{AllocError, AllocFailed};
 use std::io;
@@ -94,15 +93,9 @@ impl From<io::Error> for Failure {
     }
 }
 
-impl From<OperateFault> for Failure {
-    fn from(fault: OperateFault) -> Failure {
-        Failure::Refused(fault.kind())
-    }
-}
-
-impl From<InspectFault> for Failure {
-    fn from(fault: InspectFault) -> Failure {
-        Failure::Refused(fault.kind())
+impl From<Refusal> for Failure {
+    fn from(refusal: Refusal) -> Failure {
+        Failure::Refused(refusal.kind)
     }
 }
 

@@ -7,6 +7,12 @@ mod terminals;
 mod remarks;
 // What the command line asks for.
 mod command;
+// Why a command on files is refused.
+mod refusal;
+// Which file is wrong, in plain words.
+mod troubles;
+// How a long redo goes on.
+mod redo_lines;
 // Why the program ends without having done what it was asked.
 mod failure;
 // `als make`.
@@ -17,6 +23,8 @@ mod input_fault;
 mod input;
 // The commands that read standard input.
 mod lines;
+// The commands on files.
+mod files;
 // What the command line asks for is done.
 mod running;
 

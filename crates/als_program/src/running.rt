@@ -3,11 +3,10 @@ ghost use Rattle.als_program.specs.Status.{IsStatus};
 
 use crate::command::{Command, args};
 use crate::failure::Failure;
+use crate::files::operate;
 use crate::lines::{Telling, make_lines, run_script};
 use crate::remarks::Language;
 use crate::terminals::Terminals;
-use als_inspect::{dump, verify};
-use als_operate::{ship, standby, takeover};
 use std::convert::AsStr;
 use std::fs::File;
 use std::io::{BufWriter, Read, Write};
@@ -104,25 +103,6 @@ fn obey<R: AllocGlobal + Files<File = File> + Net, S: AsStr, I: Read + Drop, O: 
             let telling = Telling::new(Language::Script, terminals, explain);
             run_script(alloc, telling, input, output, errors)
         }
-        command => operate(rt, command, output),
+        command => operate(rt, terminals, command, output, errors),
     }
-}
-
-/// A command on files, that reads no standard input.
-fn operate<R: AllocGlobal + Files<File = File> + Net, O: Write>(
-    rt: &R,
-    command: Command,
-    output: &mut O,
-) -> Result<u8, Failure>
-    ensures status { IfOk result IsStatus }
-{
-    match command {
-        Command::Make { .. } | Command::Sim { .. } => {}
-        Command::Ship { log, listen } => ship(rt, log, listen, output)?,
-        Command::Standby(following) => standby(rt, following, output)?,
-        Command::Takeover { dir } => takeover(rt, dir, output)?,
-        Command::Dump { path, wanted } => dump(rt, path, wanted, output)?,
-        Command::Verify { path } => verify(rt, path, output)?,
-    }
-    Ok(0)
 }

@@ -17,7 +17,10 @@ fn help_is_written(rt: HostRuntime) {
         "als sim < examples/first-path.als",
     );
     asks(&rt, &["als", "ship", "--help"], "--listen <ADDR>");
-    asks(&rt, &["als", "help", "ship"], "als ship --log primary.log")
+    asks(&rt, &["als", "help", "ship"], "als ship --log primary.log");
+    for command in ["make", "sim", "standby", "takeover", "dump", "verify"] {
+        asks(&rt, &["als", command, "--help"], "      --explain");
+    }
 }
 
 /// A fault of the command line is told on standard error and ends with 2.

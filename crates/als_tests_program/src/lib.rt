@@ -63,6 +63,15 @@ mod shipping;
 // `als standby`, `als takeover`, `als verify` and `als dump`.
 #[cfg(test)]
 mod following;
+// The files of a standby's folder.
+#[cfg(test)]
+mod folder;
+// A folder of which a file is damaged: which one that is.
+#[cfg(test)]
+mod damaging;
+// A redo that takes long.
+#[cfg(test)]
+mod progressing;
 // Requests that want memory.
 #[cfg(test)]
 mod memory;

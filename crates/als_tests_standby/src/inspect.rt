@@ -1,3 +1,4 @@
+use als_folder::{Part, Trouble, Wrong};
 use als_inspect::{Fault, Wanted, verify};
 use als_record::{Body, Image, Key, Lsn, Record, TransId};
 use std::fs;
@@ -128,6 +129,12 @@ fn a_file_that_is_no_log(rt: HostRuntime) {
         "unsound lsn=16 43 Cut\n",
         Fault::Cut,
     );
+    let short = Trouble {
+        part: Part::Log,
+        wrong: Wrong::Short,
+    };
+    assert_eq!(rt; Fault::Cut.trouble(), Some(short));
+    assert_eq!(rt; Fault::Stream.trouble(), None);
     assert_eq!(rt; Fault::Cut.number(), 43);
     assert_eq!(rt; Fault::BadControl.name(), "BadControl");
     assert_eq!(rt; Fault::Stream.number(), 44);

@@ -1,9 +1,12 @@
-use crate::common::{TEXT, TOLD, listen, source};
-use als_operate::{Fault, serve, ship};
+use crate::common::{CONFIG, TEXT, TOLD, devices_in_memory, listen, source};
+use als_engine::{Engine, Fault as EngineFault};
+use als_folder::{Part, Trouble, Wrong};
+use als_operate::{Fault, Progress, drain_telling, serve, ship};
 use als_ship::LogBytes;
 use std::alloc::Global;
 use std::io::{Read, Write};
 use std::net::{Net, SocketAddr, TcpListener, TcpStream};
+use std::process::Abort;
 use std::rt::Files;
 use std::test::Fail;
 use std::{fs, io, thread};
@@ -89,4 +92,54 @@ fn what_is_not_served(rt: HostRuntime) {
     assert_eq!(rt; bad.number(), 1);
     assert_eq!(rt; Fault::Stream.number(), 44);
     assert_eq!(rt; Fault::Memory.name(), "Memory");
+}
+
+// How many changes waited at first, and at last.
+#[derive(Clone, Copy)]
+struct Heard {
+    first: Option<u64>,
+    last: Option<u64>,
+}
+
+impl Progress for Heard {
+    fn waits(&mut self, changes: u64) {
+        if self.first.is_none() {
+            self.first = Some(changes);
+        }
+        self.last = Some(changes);
+    }
+}
+
+// A redo of one change is told. `None`: memory was refused.
+fn tells_of_redo(rt: &impl Abort, alloc: Global) -> Option<()> {
+    let mut engine = Engine::format(alloc, devices_in_memory(alloc), CONFIG).ok()?;
+    engine.feed(&TEXT[16..]).ok()?;
+    let mut heard = Heard {
+        first: None,
+        last: None,
+    };
+    drain_telling(&mut engine, &mut heard).ok()?;
+    assert_eq!(rt; heard.first, Some(1));
+    assert_eq!(rt; heard.last, Some(0));
+    Some(())
+}
+
+#[test]
+fn a_redo_is_told(rt: HostRuntime) {
+    let alloc = rt.alloc();
+    assert!(rt; tells_of_redo(&rt, alloc).is_some() || tells_of_redo(&rt, alloc).is_some());
+}
+
+#[test]
+fn a_refusal_tells_of_a_file(rt: HostRuntime) {
+    let refused = EngineFault::BadPage { page: 3 };
+    let trouble = Trouble {
+        part: Part::Pages,
+        wrong: Wrong::BadPage { page: 3 },
+    };
+    assert_eq!(rt; Fault::Refused(refused).trouble(), Some(trouble));
+    // It is the primary's log that a session refuses.
+    let of_session = Fault::Session(als_ship::Fault::Refused(EngineFault::BadType));
+    assert_eq!(rt; of_session.trouble(), None);
+    assert_eq!(rt; Fault::Stream.trouble(), None);
 }

@@ -1,0 +1,95 @@
+ghost use Rattle.std.specs.Prelude.{IfOk};
+ghost use Rattle.als_program.specs.Status.{IsStatus};
+
+use crate::command::Command;
+use crate::failure::Failure;
+use crate::redo_lines::RedoLines;
+use crate::refusal::Refusal;
+use crate::terminals::Terminals;
+use crate::troubles;
+use als_folder::Trouble;
+use als_inspect::{dump, verify};
+use als_operate::{ship, standby, takeover};
+use std::fs;
+use std::fs::File;
+use std::io::Write;
+use std::net::Net;
+use std::rt::Files;
+
+/// A command on files, that reads no standard input. More is said of a refusal where that was asked
+/// for, or a person sees it.
+pub fn operate<R: AllocGlobal + Files<File = File> + Net, O: Write, E: Write>(
+    rt: &R,
+    terminals: Terminals,
+    command: Command,
+    output: &mut O,
+    errors: &mut E,
+) -> Result<u8, Failure>
+    ensures status { IfOk result IsStatus }
+{
+    match attempt(rt, terminals.errors, command, output, errors) {
+        Ok(()) => Ok(0),
+        Err(refusal) => {
+            let failure = Failure::from(refusal);
+            match told_of(command, terminals.errors) {
+                None => Err(failure),
+                Some(path) => {
+                    // What was printed stands before what is said of it.
+                    output.flush()?;
+                    let status = failure.report(errors);
+                    if let Some(trouble) = refusal.trouble {
+                        explain(rt, path, trouble, errors);
+                    }
+                    Ok(status)
+                }
+            }
+        }
+    }
+}
+
+/// Does what is asked for. A person who sees standard error is told how a long redo goes on.
+fn attempt<R: AllocGlobal + Files<File = File> + Net, O: Write, E: Write>(
+    rt: &R,
+    seen: bool,
+    command: Command,
+    output: &mut O,
+    errors: &mut E,
+) -> Result<(), Refusal> {
+    let mut lines = RedoLines::new(errors, seen);
+    match command {
+        Command::Make { .. } | Command::Sim { .. } => {}
+        Command::Ship { log, listen } => ship(rt, log, listen, output)?,
+        Command::Standby { following, .. } => standby(rt, following, &mut lines, output)?,
+        Command::Takeover { dir, .. } => takeover(rt, dir, &mut lines, output)?,
+        Command::Dump { path, wanted, .. } => dump(rt, path, wanted, output)?,
+        Command::Verify { path, .. } => verify(rt, path, output)?,
+    }
+    Ok(())
+}
+
+/// The path that more is told of where the command is refused, if anything is.
+fn told_of(command: Command<'_>, seen: bool) -> Option<&str> {
+    let (path, explain) = match command {
+        Command::Make { .. } | Command::Sim { .. } | Command::Ship { .. } => return None,
+        Command::Standby { following, explain } => (following.dir, explain),
+        Command::Takeover { dir, explain } => (dir, explain),
+        Command::Dump { path, explain, .. } => (path, explain),
+        Command::Verify { path, explain } => (path, explain),
+    };
+    if explain || seen { Some(path) } else { None }
+}
+
+/// Says which file at the path is wrong.
+fn explain<R: AllocGlobal + Files<File = File>, E: Write>(
+    rt: &R,
+    path: &str,
+    trouble: Trouble,
+    errors: &mut E,
+) {
+    let is_file = match fs::metadata(rt, path) {
+        Ok(found) => !found.is_dir(),
+        Err(_) => false,
+    };
+    // Where it can't be said, the status has to do.
+    let _ = troubles::tell(errors, path, is_file, trouble);
+}

@@ -1,0 +1,64 @@
+use als_operate::Progress;
+use std::io::Write;
+
+/// Nothing is said of a redo of fewer changes.
+const LONG: u64 = 100_000;
+
+/// Into so many parts a long redo is divided.
+const PARTS: u64 = 20;
+
+/// Says how a long redo goes on: a line at its beginning, and one after each part of it at most.
+#[derive(Drop)]
+pub struct RedoLines<W: Write> {
+    errors: W,
+    pace: Pace,
+}
+
+/// When a line is due.
+#[derive(Clone, Copy)]
+enum Pace {
+    /// Where the redo turns out to be a long one.
+    First,
+    /// Never.
+    Never,
+    /// Where no more changes wait than this.
+    Below { due: u64, part: u64 },
+}
+
+impl<W: Write> RedoLines<W> {
+    /// Lines for a person, if one sees them.
+    pub fn new(errors: W, seen: bool) -> RedoLines<W> {
+        let pace = if seen { Pace::First } else { Pace::Never };
+        RedoLines { errors, pace }
+    }
+}
+
+impl Pace {
+    /// The pace from now on, and whether a line is due, where so many changes wait.
+    fn after(self, changes: u64) -> (Pace, bool) {
+        match self {
+            Pace::First if changes >= LONG => {
+                let part = changes / PARTS;
+                let due = changes.saturating_sub(part);
+                (Pace::Below { due, part }, true)
+            }
+            Pace::Below { due, part } if changes <= due => {
+                let due = changes.saturating_sub(part);
+                (Pace::Below { due, part }, true)
+            }
+            Pace::Below { due, part } => (Pace::Below { due, part }, false),
+            Pace::First | Pace::Never => (Pace::Never, false),
+        }
+    }
+}
+
+impl<W: Write> Progress for RedoLines<W> {
+    fn waits(&mut self, changes: u64) {
+        let (pace, is_due) = self.pace.after(changes);
+        self.pace = pace;
+        if is_due {
+            // Where it can't be said, the redo goes on.
+            let _ = writeln!(self.errors, "als: redo: {changes} changes wait");
+        }
+    }
+}

@@ -1,0 +1,31 @@
+use als_fault::FaultKind;
+use als_folder::Trouble;
+use als_inspect::Fault as InspectFault;
+use als_operate::Fault as OperateFault;
+
+/// Why a command on files is refused.
+#[derive(Clone, Copy, Debug)]
+pub struct Refusal {
+    /// Which of the faults of all crates it is.
+    pub kind: FaultKind,
+    /// What is wrong with the files, where that is known.
+    pub trouble: Option<Trouble>,
+}
+
+impl From<OperateFault> for Refusal {
+    fn from(fault: OperateFault) -> Refusal {
+        Refusal {
+            kind: fault.kind(),
+            trouble: fault.trouble(),
+        }
+    }
+}
+
+impl From<InspectFault> for Refusal {
+    fn from(fault: InspectFault) -> Refusal {
+        Refusal {
+            kind: fault.kind(),
+            trouble: fault.trouble(),
+        }
+    }
+}

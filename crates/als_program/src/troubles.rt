@@ -1,0 +1,46 @@
+use als_folder::{Part, Trouble, Wrong};
+use std::io;
+use std::io::Write;
+
+/// Says which file at a path is wrong, and what with it. A folder stands there, or a log file.
+pub fn tell<W: Write>(
+    errors: &mut W,
+    path: &str,
+    is_file: bool,
+    trouble: Trouble,
+) -> io::Result<()> {
+    let name = trouble.part.file_name();
+    if is_file || name.is_empty() {
+        write!(errors, "als: {path}: ")?;
+    } else {
+        write!(errors, "als: {path}/{name}: ")?;
+    }
+    say(errors, trouble)
+}
+
+/// Says what is wrong in plain words.
+fn say<W: Write>(errors: &mut W, trouble: Trouble) -> io::Result<()> {
+    let of_folder = trouble.part == Part::Itself;
+    let words = match trouble.wrong {
+        Wrong::Missing if of_folder => "the folder is missing",
+        Wrong::Missing => "the file is missing",
+        Wrong::NoFolder => "this is no folder",
+        Wrong::Denied => "it may not be opened or written",
+        Wrong::Locked => "another program has the folder",
+        Wrong::Kept => "there is a database already",
+        Wrong::NoRoom => "its disk has no room",
+        Wrong::Short => "the file ends too early",
+        Wrong::Failed if of_folder => "a file or the folder could not be read, written or synced",
+        Wrong::Failed => "the file could not be opened, read, written or synced",
+        Wrong::NoHeader => "the log's header is damaged, or that of another database",
+        Wrong::BadRecord => "a record is damaged, or may not follow those in front of it",
+        Wrong::Full => "the log has no room for more",
+        Wrong::BadControl => {
+            "the control block or the checkpoint is damaged, or that of another log or page count"
+        }
+        Wrong::BadPage { page } => {
+            return writeln!(errors, "the block of page {page} is damaged");
+        }
+    };
+    writeln!(errors, "{words}")
+}

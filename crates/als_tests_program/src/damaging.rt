@@ -1,0 +1,217 @@
+use crate::folder::Folder;
+use crate::following::TEXT;
+use als_program::program;
+use std::fs::File;
+use std::net::Net;
+use std::process::Abort;
+use std::rt::Files;
+use std::{fs, io};
+
+/// The files of the folder that is damaged.
+const FILES: [&str; 3] = [
+    "damaged/log.blk",
+    "damaged/control.blk",
+    "damaged/pages.blk",
+];
+
+const TAKEOVER: [&str; 4] = ["als", "takeover", "--dir", "damaged"];
+
+const VERIFY: [&str; 3] = ["als", "verify", "damaged"];
+
+const DUMP: [&str; 3] = ["als", "dump", "damaged"];
+
+const STANDBY: [&str; 8] = [
+    "als", "standby", "--dir", "damaged", "--from", "nowhere", "--pages", "4",
+];
+
+/// What a damaged folder is refused by: what is printed, the refusal, and what `--explain` adds.
+#[derive(Clone, Copy)]
+struct Refusal<'a> {
+    printed: &'a str,
+    refusal: &'a str,
+    explained: &'a str,
+}
+
+/// Whether the program prints this, is refused so, and says no more.
+fn is_told<R: AllocGlobal + Files<File = File> + Net>(
+    rt: &R,
+    words: &[&str],
+    wanted: Refusal,
+) -> bool {
+    let mut output = Vec::new(rt.alloc());
+    let mut errors = Vec::new(rt.alloc());
+    let status = program(rt, words, io::empty(), &mut output, &mut errors);
+    let told = errors.as_slice().strip_prefix(wanted.refusal.as_bytes());
+    status == 3
+        && output.as_slice() == wanted.printed.as_bytes()
+        && told == Some(wanted.explained.as_bytes())
+}
+
+/// A command is refused so, and with `--explain` more is said. `None`: memory was refused.
+fn refuses<R: AllocGlobal + Files<File = File> + Net>(
+    rt: &R,
+    words: &[&str],
+    wanted: Refusal,
+) -> bool {
+    let Ok(mut explained) = Vec::from_slice(rt.alloc(), words) else {
+        return false;
+    };
+    if explained.push("--explain").is_err() {
+        return false;
+    }
+    let short = Refusal {
+        explained: "",
+        ..wanted
+    };
+    is_told(rt, words, short) && is_told(rt, explained.as_slice(), wanted)
+}
+
+/// The same, twice at most.
+fn is_refused<R: Abort + AllocGlobal + Files<File = File> + Net>(
+    rt: &R,
+    words: &[&str],
+    wanted: Refusal,
+) {
+    let explained = wanted.explained;
+    assert!(rt;
+        refuses(rt, words, wanted) || refuses(rt, words, wanted),
+        "{explained}"
+    );
+}
+
+/// Lays a folder out, with one byte of each file altered that has a place here. `None`: memory was
+/// refused.
+fn lays_out<R: AllocGlobal + Files<File = File>>(
+    rt: &R,
+    altered: [Option<usize>; 3],
+) -> Option<()> {
+    let Folder {
+        mut log,
+        mut control,
+        mut pages,
+    } = Folder::of(rt.alloc(), &TEXT)?;
+    alter(&mut log, altered[0]);
+    alter(&mut control, altered[1]);
+    alter(&mut pages, altered[2]);
+    let folder = Folder {
+        log,
+        control,
+        pages,
+    };
+    folder.write(rt, FILES)
+}
+
+/// Alters the byte at a place, if there is one.
+fn alter(bytes: &mut Vec<u8>, place: Option<usize>) {
+    if let Some(place) = place {
+        if let Some(byte) = bytes.get_mut(place) {
+            *byte ^= 64;
+        }
+    }
+}
+
+/// A folder with one damaged byte, or a sound one.
+fn laid_out<R: Abort + AllocGlobal + Files<File = File>>(rt: &R, altered: [Option<usize>; 3]) {
+    assert!(rt; lays_out(rt, altered).is_some() || lays_out(rt, altered).is_some());
+}
+
+/// Each file of a folder, damaged.
+fn files_are_told<R: Abort + AllocGlobal + Files<File = File> + Net>(rt: &R) {
+    laid_out(rt, [Some(0), None, None]);
+    let header = Refusal {
+        printed: "",
+        refusal: "als: refused 1 BadHeader\n",
+        explained: "als: damaged/log.blk: the log's header is damaged, or that of another database\n",
+    };
+    is_refused(rt, &TAKEOVER, header);
+    is_refused(rt, &STANDBY, header);
+    is_refused(rt, &DUMP, header);
+    let printed = "unsound lsn=0 1 BadHeader\n";
+    is_refused(rt, &VERIFY, Refusal { printed, ..header });
+    laid_out(rt, [None, Some(9), None]);
+    let control = Refusal {
+        printed: "",
+        refusal: "als: refused 34 BadControl\n",
+        explained: "als: damaged/control.blk: the control block or the checkpoint is damaged, or that of another log or page count\n",
+    };
+    is_refused(rt, &TAKEOVER, control);
+    is_refused(rt, &STANDBY, control);
+    is_refused(rt, &DUMP, control);
+    let printed = "unsound lsn=0 34 BadControl\n";
+    is_refused(rt, &VERIFY, Refusal { printed, ..control });
+    laid_out(rt, [None, None, Some(3 * 512)]);
+    let page = Refusal {
+        printed: "unsound lsn=0 33 BadPage 3\n",
+        refusal: "als: refused 33 BadPage 3\n",
+        explained: "als: damaged/pages.blk: the block of page 3 is damaged\n",
+    };
+    is_refused(rt, &VERIFY, page);
+    is_refused(
+        rt,
+        &TAKEOVER,
+        Refusal {
+            printed: "",
+            ..page
+        },
+    );
+    laid_out(rt, [Some(16 + 4), None, None]);
+    let record = Refusal {
+        printed: "unsound lsn=16 3 BadType\n",
+        refusal: "als: refused 3 BadType\n",
+        explained: "als: damaged/log.blk: a record is damaged, or may not follow those in front of it\n",
+    };
+    is_refused(rt, &VERIFY, record);
+    is_refused(
+        rt,
+        &STANDBY,
+        Refusal {
+            printed: "",
+            ..record
+        },
+    );
+}
+
+/// A folder without its control block.
+fn a_missing_file_is_told<R: Abort + AllocGlobal + Files<File = File> + Net>(rt: &R) {
+    laid_out(rt, [None, None, None]);
+    assert!(rt; fs::remove_file(rt, FILES[1]).is_ok());
+    let missing = Refusal {
+        printed: "",
+        refusal: "als: refused 30 Device\n",
+        explained: "als: damaged/control.blk: the file is missing\n",
+    };
+    is_refused(rt, &TAKEOVER, missing);
+    is_refused(rt, &VERIFY, missing);
+    is_refused(rt, &DUMP, missing);
+}
+
+#[test]
+fn a_damaged_file_is_told(rt: HostRuntime) {
+    assert!(rt; fs::create_dir(&rt, "damaged").is_ok());
+    files_are_told(&rt);
+    a_missing_file_is_told(&rt);
+    assert!(rt; fs::remove_dir_all(&rt, "damaged").is_ok());
+    let missing = Refusal {
+        printed: "",
+        refusal: "als: refused 30 Device\n",
+        explained: "als: damaged: the folder is missing\n",
+    };
+    is_refused(&rt, &TAKEOVER, missing);
+    is_refused(&rt, &STANDBY, missing);
+}
+
+/// A log file has no name but its path.
+#[test]
+fn a_damaged_log_file_is_told(rt: HostRuntime) {
+    assert!(rt; fs::write(&rt, "short.log", &TEXT[..107]).is_ok());
+    let short = Refusal {
+        printed: "unsound lsn=80 43 Cut\n",
+        refusal: "als: refused 43 Cut\n",
+        explained: "als: short.log: the file ends too early\n",
+    };
+    is_refused(&rt, &["als", "verify", "short.log"], short);
+    let printed = "52 commit trans=1 prev=16\n";
+    let words = ["als", "dump", "short.log", "--from", "17"];
+    is_refused(&rt, &words, Refusal { printed, ..short });
+    assert!(rt; fs::remove_file(&rt, "short.log").is_ok());
+}

@@ -1,0 +1,81 @@
+use crate::folder::Folder;
+use als_program::{Terminals, program, program_on};
+use std::fs::File;
+use std::net::Net;
+use std::rt::Files;
+use std::{fs, io};
+
+/// The files of the folder that is taken over.
+const FILES: [&str; 3] = [
+    "waiting/log.blk",
+    "waiting/control.blk",
+    "waiting/pages.blk",
+];
+
+/// A log of so many updates of one record. `None`: memory was refused.
+fn log_of<R: AllocGlobal + Files<File = File> + Net>(rt: &R, updates: u32) -> Option<Vec<u8>> {
+    let mut script = String::new(rt.alloc());
+    script.push_str("pages 4\nu 1 0 0 - aa\n").ok()?;
+    for _ in 1..updates {
+        script.push_str("u 1 0 0 aa aa\n").ok()?;
+    }
+    script.push_str("commit 1\nend 1\n").ok()?;
+    let mut log = Vec::new(rt.alloc());
+    let status = program(
+        rt,
+        &["als", "make"],
+        script.as_bytes(),
+        &mut log,
+        io::sink(),
+    );
+    if status == 0 { Some(log) } else { None }
+}
+
+/// What a takeover that has to redo so many updates says on standard error. `None`: memory was
+/// refused.
+fn said<R: AllocGlobal + Files<File = File> + Net>(
+    rt: &R,
+    updates: u32,
+    errors: bool,
+) -> Option<Vec<u8>> {
+    let log = log_of(rt, updates)?;
+    Folder::of(rt.alloc(), log.as_slice())?.write(rt, FILES)?;
+    let terminals = Terminals {
+        input: false,
+        output: false,
+        errors,
+    };
+    let words = ["als", "takeover", "--dir", "waiting"];
+    let mut said = Vec::new(rt.alloc());
+    let status = program_on(rt, terminals, &words, io::empty(), io::sink(), &mut said);
+    if status == 0 { Some(said) } else { None }
+}
+
+/// The same, twice at most.
+fn says<R: AllocGlobal + Files<File = File> + Net>(
+    rt: &R,
+    updates: u32,
+    errors: bool,
+) -> Option<Vec<u8>> {
+    match said(rt, updates, errors) {
+        Some(said) => Some(said),
+        None => said(rt, updates, errors),
+    }
+}
+
+/// A person is told how a long redo goes on, and nobody else is told of any.
+#[test]
+fn a_long_redo_is_told(rt: HostRuntime) {
+    assert!(rt; fs::create_dir(&rt, "waiting").is_ok());
+    let said = says(&rt, 100_000, true).expect(&rt, "a takeover");
+    let said = said.as_slice();
+    assert!(rt; said.starts_with(b"als: redo: 100000 changes wait\nals: redo: 9"));
+    assert!(rt; said.ends_with(b"\nals: redo: 0 changes wait\n"));
+    let lines = said.iter().filter(|b| **b == b'\n').count();
+    assert!(rt; (5..=22).contains(&lines), "{lines} lines");
+    for (updates, errors) in [(1_000, true)] {
+        let said = says(&rt, updates, errors).expect(&rt, "a takeover");
+        assert!(rt; said.is_empty());
+    }
+    assert!(rt; fs::remove_dir_all(&rt, "waiting").is_ok());
+}
