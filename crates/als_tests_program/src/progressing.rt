@@ -63,7 +63,7 @@ fn says<R: AllocGlobal + Files<File = File> + Net>(
     }
 }
 
-/// A person is told how a long redo goes on, and nobody else is told of any.
+/// A person is told how a long redo goes on, and nothing of a short one.
 #[test]
 fn a_long_redo_is_told(rt: HostRuntime) {
     assert!(rt; fs::create_dir(&rt, "waiting").is_ok());
