@@ -1,5 +1,5 @@
-use als_log::{Fault, LocalLog, NewLog};
 use als_disk::{BlockDisk, FailingDisk, Fuse, MemDisk};
+use als_log::{Fault, LocalLog, NewLog};
 use als_record::{Lsn, Record, decode, encode};
 use std::alloc::Global;
 use std::process::Abort;

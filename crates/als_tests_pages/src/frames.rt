@@ -1,7 +1,9 @@
 ghost use Rattle.std.specs.Prelude.{◌≡◌, ◌<◌};
 
-use als_frames::{Fault, Frames, mark_changes_no_page, record_changes_no_page, synced_lsn_is_spelled};
 use als_disk::{BlockDisk, FailingDisk, Fuse, MemDisk};
+use als_frames::{
+    Fault, Frames, mark_changes_no_page, record_changes_no_page, synced_lsn_is_spelled,
+};
 use als_page::Page;
 use als_record::{Change, Image, ImageView, KeptImage, Key, Lsn, Value};
 use std::alloc::Global;

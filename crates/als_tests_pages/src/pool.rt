@@ -3,14 +3,14 @@ ghost use Rattle.als_pool.specs.Queues.{pending_of};
 ghost use Rattle.als_frames.specs.Frames.{frame_of};
 ghost use Rattle.als_pool.specs.Outcomes.{HasPlace};
 
+use als_disk::{BlockDisk, FailingDisk, Fuse, MemDisk};
+use als_page::Page;
 use als_pool::{
     Fault, Pool, a_log_is_taken_in, change_can_be_read, change_can_be_routed, change_can_follow,
     each_row_is_exact, each_row_is_sound, mark_changes_nothing, opened_pages_are_covered,
     other_records_pass, other_records_wait_nowhere, pool_ends_below, queues_join_images,
     rows_make_a_checkpoint, stopped_pages_hold_images, unread_rows_are_the_checkpoints,
 };
-use als_disk::{BlockDisk, FailingDisk, Fuse, MemDisk};
-use als_page::Page;
 use als_record::{Change, Image, ImageView, KeptImage, Key, LoggedPage, Lsn, PageRows, Value};
 use std::alloc::{AllocError, Global};
 use std::process::Abort;

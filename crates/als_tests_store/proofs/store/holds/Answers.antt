@@ -8,4 +8,5 @@ reserve-requires-then-is_err-clause-fits g c =
     c.commit_at-logged.ensures.fits c.reserve.new.self.stored.pages
 
 pub admit-requires-clause-fits : goal.admit-requires-clause-fits
-admit-requires-clause-fits g c = c.commit_at-logged.ensures.fits c.if-is_err.store.stored.pages
+admit-requires-clause-fits g c =
+    rw c.view.ensures (c.commit_at-logged.ensures.fits c.if-is_err.store.stored.pages)
