@@ -31,15 +31,21 @@ fn log_of<R: AllocGlobal + Files<File = File> + Net>(rt: &R, updates: u32) -> Op
     if status == 0 { Some(log) } else { None }
 }
 
-/// What a takeover that has to redo so many updates says on standard error. `None`: memory was
-/// refused.
+/// The same, twice at most.
+fn made<R: AllocGlobal + Files<File = File> + Net>(rt: &R, updates: u32) -> Option<Vec<u8>> {
+    match log_of(rt, updates) {
+        Some(log) => Some(log),
+        None => log_of(rt, updates),
+    }
+}
+
+/// What a takeover that has to redo this log says on standard error. `None`: memory was refused.
 fn said<R: AllocGlobal + Files<File = File> + Net>(
     rt: &R,
-    updates: u32,
+    log: &[u8],
     errors: bool,
 ) -> Option<Vec<u8>> {
-    let log = log_of(rt, updates)?;
-    Folder::of(rt.alloc(), log.as_slice())?.write(rt, FILES)?;
+    Folder::of(rt.alloc(), log)?.write(rt, FILES)?;
     let terminals = Terminals {
         input: false,
         output: false,
@@ -54,28 +60,30 @@ fn said<R: AllocGlobal + Files<File = File> + Net>(
 /// The same, twice at most.
 fn says<R: AllocGlobal + Files<File = File> + Net>(
     rt: &R,
-    updates: u32,
+    log: &[u8],
     errors: bool,
 ) -> Option<Vec<u8>> {
-    match said(rt, updates, errors) {
+    match said(rt, log, errors) {
         Some(said) => Some(said),
-        None => said(rt, updates, errors),
+        None => said(rt, log, errors),
     }
 }
 
-/// A person is told how a long redo goes on, and nothing of a short one.
+/// A person is told how a long redo goes on, and nothing of a short one. Nobody else is.
 #[test]
 fn a_long_redo_is_told(rt: HostRuntime) {
     assert!(rt; fs::create_dir(&rt, "waiting").is_ok());
-    let said = says(&rt, 100_000, true).expect(&rt, "a takeover");
-    let said = said.as_slice();
-    assert!(rt; said.starts_with(b"als: redo: 100000 changes wait\nals: redo: 9"));
-    assert!(rt; said.ends_with(b"\nals: redo: 0 changes wait\n"));
-    let lines = said.iter().filter(|b| **b == b'\n').count();
+    let long = made(&rt, 100_000).expect(&rt, "a log");
+    let told = says(&rt, long.as_slice(), true).expect(&rt, "a takeover");
+    let told = told.as_slice();
+    assert!(rt; told.starts_with(b"als: redo: 100000 changes wait\nals: redo: 9"));
+    assert!(rt; told.ends_with(b"\nals: redo: 0 changes wait\n"));
+    let lines = told.iter().filter(|b| **b == b'\n').count();
     assert!(rt; (5..=22).contains(&lines), "{lines} lines");
-    for (updates, errors) in [(1_000, true)] {
-        let said = says(&rt, updates, errors).expect(&rt, "a takeover");
-        assert!(rt; said.is_empty());
-    }
+    let silent = says(&rt, long.as_slice(), false).expect(&rt, "a takeover");
+    assert!(rt; silent.is_empty());
+    let short = made(&rt, 1_000).expect(&rt, "a log");
+    let silent = says(&rt, short.as_slice(), true).expect(&rt, "a takeover");
+    assert!(rt; silent.is_empty());
     assert!(rt; fs::remove_dir_all(&rt, "waiting").is_ok());
 }
