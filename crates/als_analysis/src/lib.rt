@@ -1,5 +1,5 @@
-//! The analysis pass of ARIES as a kept table: which transactions of a log are unended, what they are doing, what of
-//! them survives to be undone, and how many bytes a takeover would append.
+//! The analysis pass of ARIES as a kept table: which transactions of a log are unended, what they
+//! are doing, what of them survives to be undone, and how many bytes a takeover would append.
 #![tactic(auto)]
 
 // Why a record could not be noted.

@@ -1,10 +1,12 @@
-ghost use Rattle.std.specs.Prelude.{◌≡◌, ◌↔◌, IsTrue, ◌<◌, ◌≤◌, ◌+◌, ◌%◌, ◌^◌, [], IfOk, OnOk, OnErr};
+ghost use Rattle.std.specs.Prelude.{◌≡◌, ◌↔◌, IsTrue, ◌<◌, ◌≤◌, ◌+◌, ◌%◌, ◌^◌, [], IfOk, OnOk};
+ghost use Rattle.std.specs.Prelude.{OnErr};
 ghost use Rattle.als_record.specs.declared.transaction_state.TransactionState.TheVariants.{Active};
 ghost use Rattle.als_record.specs.Spelling.{image_len};
 ghost use Rattle.als_record.specs.Shown.{shown, shown_body, shown_image};
 ghost use Rattle.als_record.specs.Table.{row_after, state_after, state_after_rollback, fresh_row};
 ghost use Rattle.als_record.specs.Transactions.{undo_next_after};
-ghost use Rattle.als_analysis.specs.Open.{left_after, bytes_after, undo_owed, owed, owed_after, undo_from, undo_at};
+ghost use Rattle.als_analysis.specs.Open.{left_after, bytes_after, undo_owed, owed, owed_after};
+ghost use Rattle.als_analysis.specs.Open.{undo_from, undo_at};
 
 use crate::fault::Fault;
 use als_record::{
@@ -14,9 +16,9 @@ use als_record::{
 use std::alloc::Global;
 use std::marker::Model;
 
-/// One transaction that has not ended: its row of the transaction table, and its surviving updates in order. The bytes of
-/// its compensations to come are counted from record to record, modulo 2^64, so that any record may be noted: of a valid log
-/// they are those of the surviving updates.
+/// One transaction that has not ended: its row of the transaction table, and its surviving updates
+/// in order. The bytes of its compensations to come are counted from record to record, modulo 2^64,
+/// so that any record may be noted: of a valid log they are those of the surviving updates.
 #[derive(Drop)]
 pub struct OpenTransaction {
     row: TransactionRow,
@@ -32,7 +34,12 @@ impl Model for OpenTransaction {
 
     ghost Value = { Open };
 
-    ghost view = { λ o. record { row = o.row; left = o.left.items; bytes = o.undo_bytes; room = vec_capacity o.left - vec_len o.left } };
+    ghost view = { λ o. record {
+      row = o.row;
+      left = o.left.items;
+      bytes = o.undo_bytes;
+      room = vec_capacity o.left - vec_len o.left;
+    } };
 
     ghost invariant = { λ o. o.undo_at.0 ≡ undo_from o.row.state o.left.items };
 }
@@ -66,7 +73,8 @@ fn owed_in(state: TransactionState, undo_bytes: u64) -> u64
     }
 }
 
-/// The bytes that a takeover appends for a transaction of which this is the first record, and not its end, modulo 2^64.
+/// The bytes that a takeover appends for a transaction of which this is the first record, and not
+/// its end, modulo 2^64.
 pub(crate) fn owed_anew(body: &BodyView<'_>) -> u64
     ensures { result ≡ owed_after Active 0 (shown_body body.now) % 2 ^ 64 }
 {
@@ -149,8 +157,8 @@ impl OpenTransaction {
         self.left.as_slice()
     }
 
-    /// Where its undo goes on: the LSN of its newest surviving update; 0 without one, and once it has committed. It is kept, so
-    /// that no update need be looked at.
+    /// Where its undo goes on: the LSN of its newest surviving update; 0 without one, and once it
+    /// has committed. It is kept, so that no update need be looked at.
     pub fn undo_at(&self) -> Lsn
         ensures { result.0 ≡ undo_at self.now }
     {
@@ -164,9 +172,11 @@ impl OpenTransaction {
         owed_in(self.row.state, self.undo_bytes)
     }
 
-    /// The bytes that a takeover appends for it after one more record of the transaction, which is not its end, modulo 2^64.
+    /// The bytes that a takeover appends for it after one more record of the transaction, which is
+    /// not its end, modulo 2^64.
     pub(crate) fn owed_after(&self, body: &BodyView<'_>) -> u64
-        ensures { result ≡ owed_after self.now.row.state self.now.bytes (shown_body body.now) % 2 ^ 64 }
+        ensures { result ≡ owed_after self.now.row.state self.now.bytes
+            (shown_body body.now) % 2 ^ 64 }
     {
         owed_in(
             next_state(self.row.state, body),
@@ -211,7 +221,8 @@ impl OpenTransaction {
     pub(crate) fn extend(&mut self, logged: &RecordView<'_>)
         requires room { 0 < self.old.room }
         ensures row { self.new.row ≡ row_after self.old.row (shown logged.now) }
-        ensures left { self.new.left ≡ left_after self.old.left (shown logged.now) (shown_body logged.now.body) }
+        ensures left { self.new.left ≡ left_after self.old.left (shown logged.now)
+            (shown_body logged.now.body) }
         ensures bytes { self.new.bytes ≡ bytes_after self.old.bytes (shown_body logged.now.body) }
     {
         self.row = TransactionRow {
@@ -242,7 +253,8 @@ fn copy_of_update(
     before: &ImageView<'_>,
     after: &ImageView<'_>,
 ) -> Record
-    requires { shown_body logged.now.body ≡ Body.Update key.now (shown_image before.now) (shown_image after.now) }
+    requires { shown_body logged.now.body
+        ≡ Body.Update key.now (shown_image before.now) (shown_image after.now) }
     ensures { result ≡ shown logged.now }
 {
     Record {

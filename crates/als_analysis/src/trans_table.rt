@@ -1,5 +1,7 @@
-ghost use Rattle.std.specs.Prelude.{◌≡◌, ℕ, ◌<◌, ◌+◌, ◌%◌, ◌^◌, true, false, IsTrue, List, [], ◌∷◌, ◌++◌, length, vec_len, vec_capacity};
-ghost use Rattle.std.specs.Prelude.{slice_index_or, slice_set, IfSome, IfNone, OnOk, OnErr, IsOk, ◌↔◌, MatchOption};
+ghost use Rattle.std.specs.Prelude.{◌≡◌, ℕ, ◌<◌, ◌+◌, ◌%◌, ◌^◌, true, false, IsTrue, List, [], ◌∷◌};
+ghost use Rattle.std.specs.Prelude.{◌++◌, length, vec_len, vec_capacity};
+ghost use Rattle.std.specs.Prelude.{slice_index_or, slice_set, IfSome, IfNone, OnOk, OnErr, IsOk};
+ghost use Rattle.std.specs.Prelude.{◌↔◌, MatchOption};
 ghost use Rattle.std.specs.List.{remove, All};
 ghost use Rattle.als_record.specs.declared.record.Record.{Record};
 ghost use Rattle.als_record.specs.declared.transaction_row.TransactionRow.{TransactionRow};
@@ -10,7 +12,8 @@ ghost use Rattle.als_record.specs.LogText.{end_of};
 ghost use Rattle.als_record.specs.Tail.{reserve_of};
 ghost use Rattle.als_analysis.specs.Open.{left_with, bytes_after, rows_of, left_of};
 ghost use Rattle.als_analysis.specs.Kept.{IsRising, IsPlace, MakesRoom, numbers};
-ghost use Rattle.als_analysis.specs.Noted.{IsTableOf, IsOpenOf, WithRecord, GoesOn, undo_next_in, survivors_in};
+ghost use Rattle.als_analysis.specs.Noted.{IsTableOf, IsOpenOf, WithRecord, GoesOn, undo_next_in};
+ghost use Rattle.als_analysis.specs.Noted.{survivors_in};
 
 use crate::fault::Fault;
 use crate::open_transaction::{OpenTransaction, owed_anew};
@@ -21,11 +24,12 @@ use std::marker::Model;
 /// How many places are remembered, by the low bits of TransIDs.
 const PLACE_COUNT: usize = 1024;
 
-/// Up to so many transactions it is shorter to remember each of them anew than to go over all places.
+/// Up to so many transactions it is shorter to remember each of them anew than to go over all
+/// places.
 const FEW: usize = 64;
 
-/// The transaction table of ARIES, kept as its log grows: the unended transactions in rising TransID, with the updates
-/// that survive of each, and the length of what a takeover would append.
+/// The transaction table of ARIES, kept as its log grows: the unended transactions in rising
+/// TransID, with the updates that survive of each, and the length of what a takeover would append.
 #[derive(Drop)]
 pub struct TransTable {
     alloc: Global,
@@ -36,7 +40,8 @@ pub struct TransTable {
     // The one transaction that may be without room.
     tight: usize,
     has_room: bool,
-    // Where a transaction stands, by the low bits of its TransID: asked first and not relied on, since two may share a place.
+    // Where a transaction stands, by the low bits of its TransID: asked first and not relied on,
+    // since two may share a place.
     places: [u8; PLACE_COUNT],
 }
 
@@ -48,9 +53,15 @@ impl Model for TransTable {
 
     ghost Value = { Table };
 
-    ghost view = { λ t. record { rows = rows_of t.entries.items; left = left_of t.entries.items; bytes = bytes_of t.entries.items; has_room = t.has_room } };
+    ghost view = { λ t. record {
+      rows = rows_of t.entries.items;
+      left = left_of t.entries.items;
+      bytes = bytes_of t.entries.items;
+      has_room = t.has_room;
+    } };
 
-    ghost invariant = { λ t. IsKept t.entries.items t.spares.items t.reserve t.tight t.has_room (vec_capacity t.entries) };
+    ghost invariant = { λ t. IsKept t.entries.items t.spares.items t.reserve t.tight t.has_room
+        (vec_capacity t.entries) };
 }
 
 /// Whether a record ends its transaction.
@@ -101,7 +112,8 @@ fn search(entries: &[OpenTransaction], trans: TransId) -> usize
     entries.partition_point(|o| o.row().trans.0 < trans.0)
 }
 
-/// The first place whose transaction is not below this one. Most often that of an old or a new transaction is asked for.
+/// The first place whose transaction is not below this one. Most often that of an old or a new
+/// transaction is asked for.
 fn place_of(entries: &[OpenTransaction], trans: TransId) -> usize
     requires { IsRising entries.now }
     ensures { IsPlace entries.now trans.0 result }
@@ -202,8 +214,8 @@ impl TransTable {
         }
     }
 
-    /// Makes room for one more record, whatever it is: after an `Ok` the next `note` takes no memory. An `Err` changes
-    /// nothing.
+    /// Makes room for one more record, whatever it is: after an `Ok` the next `note` takes no
+    /// memory. An `Err` changes nothing.
     #[inline(always)]
     pub fn reserve(&mut self) -> Result<(), Fault>
         ensures ok { OnOk result (self.new ≡ record self.old { has_room = true }) }
@@ -224,9 +236,15 @@ impl TransTable {
     fn extend(&mut self, at: usize, logged: &RecordView<'_>)
         requires room { self.old.has_room ≡ true }
         requires within { at < length self.old.rows }
-        ensures rows { (d : TransactionRow) → self.new.rows ≡ slice_set self.old.rows at (row_after (slice_index_or self.old.rows at d) (shown logged.now)) }
-        ensures left { (d : List Record) → self.new.left ≡ slice_set self.old.left at (left_with (slice_index_or self.old.left at d) (shown logged.now)) }
-        ensures bytes { (d : ℕ) → self.new.bytes ≡ slice_set self.old.bytes at (bytes_after (slice_index_or self.old.bytes at d) (shown_body logged.now.body)) }
+        ensures rows { (d : TransactionRow)
+            → self.new.rows ≡ slice_set self.old.rows at
+            (row_after (slice_index_or self.old.rows at d) (shown logged.now)) }
+        ensures left { (d : List Record)
+            → self.new.left ≡ slice_set self.old.left at
+            (left_with (slice_index_or self.old.left at d) (shown logged.now)) }
+        ensures bytes { (d : ℕ) → self.new.bytes
+            ≡ slice_set self.old.bytes at
+            (bytes_after (slice_index_or self.old.bytes at d) (shown_body logged.now.body)) }
     {
         let entry = &mut self.entries[at];
         let before = entry.owed();
@@ -257,9 +275,11 @@ impl TransTable {
         requires room { self.old.has_room ≡ true }
         requires few { length self.old.rows < 256 }
         requires rising { All (λ row. row.trans.0 < logged.now.trans.0) self.old.rows }
-        ensures rows { self.new.rows ≡ self.old.rows ++ row_after (fresh_row logged.now.trans.0) (shown logged.now) ∷ [] }
+        ensures rows { self.new.rows ≡ self.old.rows
+            ++ row_after (fresh_row logged.now.trans.0) (shown logged.now) ∷ [] }
         ensures left { self.new.left ≡ self.old.left ++ left_with [] (shown logged.now) ∷ [] }
-        ensures bytes { self.new.bytes ≡ self.old.bytes ++ bytes_after 0 (shown_body logged.now.body) ∷ [] }
+        ensures bytes { self.new.bytes ≡ self.old.bytes
+            ++ bytes_after 0 (shown_body logged.now.body) ∷ [] }
     {
         match self.spares.pop() {
             Some(mut fresh) => {
@@ -279,7 +299,8 @@ impl TransTable {
     /// The place of a transaction's row, searched for.
     fn find_by_search(&self, trans: TransId) -> Option<usize>
         ensures within { IfSome result (λ i. i < length self.now.rows) }
-        ensures here { IfSome result (λ i. (d : TransactionRow) → (slice_index_or self.now.rows i d).trans.0 ≡ trans.0) }
+        ensures here { IfSome result (λ i. (d : TransactionRow)
+            → (slice_index_or self.now.rows i d).trans.0 ≡ trans.0) }
         ensures none { IfNone result (is_among (numbers self.now.rows) trans.0 ≡ false) }
     {
         let entries = self.entries.as_slice();
@@ -297,7 +318,8 @@ impl TransTable {
     /// The place of a transaction's row: that which is remembered, if it is there.
     fn find(&self, trans: TransId) -> Option<usize>
         ensures within { IfSome result (λ i. i < length self.now.rows) }
-        ensures here { IfSome result (λ i. (d : TransactionRow) → (slice_index_or self.now.rows i d).trans.0 ≡ trans.0) }
+        ensures here { IfSome result (λ i. (d : TransactionRow)
+            → (slice_index_or self.now.rows i d).trans.0 ≡ trans.0) }
         ensures none { IfNone result (is_among (numbers self.now.rows) trans.0 ≡ false) }
     {
         let at = self.places[bucket_of(trans)] as usize;
@@ -309,7 +331,9 @@ impl TransTable {
 
     /// What is kept of an unended transaction. `None`: it has no row.
     pub fn open_of(&self, trans: TransId) -> Option<&OpenTransaction>
-        ensures { (log : List Record) → IsTableOf self.now log → MatchOption result (is_unended log trans.0 ≡ false) (λ kept. IsOpenOf kept.now log trans.0) }
+        ensures { (log : List Record) → IsTableOf self.now log
+            → MatchOption result (is_unended log trans.0
+            ≡ false) (λ kept. IsOpenOf kept.now log trans.0) }
     {
         match self.find(trans) {
             Some(at) => Some(&self.entries[at]),
@@ -319,7 +343,8 @@ impl TransTable {
 
     /// Whether there is place for a transaction above all others.
     fn can_begin(&self, trans: TransId) -> bool
-        ensures { IsTrue result ↔ ((length self.now.rows < 256) × All (λ row. row.trans.0 < trans.0) self.now.rows) }
+        ensures { IsTrue result ↔ ((length self.now.rows < 256)
+            × All (λ row. row.trans.0 < trans.0) self.now.rows) }
     {
         self.entries.len() < TRANSACTION_LIMIT
             && place_of(self.entries.as_slice(), trans) == self.entries.len()
@@ -329,7 +354,8 @@ impl TransTable {
     fn note_known(&mut self, at: usize, logged: &RecordView<'_>)
         requires room { self.old.has_room ≡ true }
         requires within { at < length self.old.rows }
-        requires here { (d : TransactionRow) → (slice_index_or self.old.rows at d).trans.0 ≡ logged.now.trans.0 }
+        requires here { (d : TransactionRow)
+            → (slice_index_or self.old.rows at d).trans.0 ≡ logged.now.trans.0 }
         requires kind { is_transactional (shown_body logged.now.body) ≡ true }
         ensures { GoesOn self.old (shown logged.now) self.new }
     {
@@ -340,7 +366,8 @@ impl TransTable {
         self.extend(at, logged);
     }
 
-    /// A record of a transaction without a row. One that can't follow a valid log may be passed over.
+    /// A record of a transaction without a row. One that can't follow a valid log may be passed
+    /// over.
     fn note_new(&mut self, logged: &RecordView<'_>)
         requires room { self.old.has_room ≡ true }
         requires absent { is_among (numbers self.old.rows) logged.now.trans.0 ≡ false }
@@ -370,9 +397,10 @@ impl TransTable {
         }
     }
 
-    /// Notes a record: of the table of a log it makes the table of the log with that record, where the record may follow.
-    /// Of any other record it is only said that nothing breaks. An `Err` (Memory) changes nothing, and does not come right
-    /// after `reserve`. The cost does not depend on how long the log is, nor on how many updates of a transaction survive.
+    /// Notes a record: of the table of a log it makes the table of the log with that record, where
+    /// the record may follow. Of any other record it is only said that nothing breaks. An `Err`
+    /// (Memory) changes nothing, and does not come right after `reserve`. The cost does not depend
+    /// on how long the log is, nor on how many updates of a transaction survive.
     pub fn note(&mut self, logged: &RecordView<'_>) -> Result<(), Fault>
         ensures ok { OnOk result (GoesOn self.old (shown logged.now) self.new) }
         ensures err { OnErr result (self.new ≡ self.old) }
@@ -383,9 +411,11 @@ impl TransTable {
         Ok(())
     }
 
-    /// The rows of the transaction table in rising TransID, each with the updates that survive of its transaction.
+    /// The rows of the transaction table in rising TransID, each with the updates that survive of
+    /// its transaction.
     pub fn rows(&self) -> &[OpenTransaction]
-        ensures table { (log : List Record) → IsTableOf self.now log → rows_of result.now ≡ table_of log }
+        ensures table { (log : List Record) → IsTableOf self.now log
+            → rows_of result.now ≡ table_of log }
         ensures rows { rows_of result.now ≡ self.now.rows }
         ensures left { left_of result.now ≡ self.now.left }
         ensures rising { IsRising result.now }
@@ -393,7 +423,8 @@ impl TransTable {
         self.entries.as_slice()
     }
 
-    /// UndoNxtLSN of a transaction's row: where its undo goes on, 0 where there is nothing to undo. `None`: it has no row.
+    /// UndoNxtLSN of a transaction's row: where its undo goes on, 0 where there is nothing to undo.
+    /// `None`: it has no row.
     pub fn undo_next_of(&self, trans: TransId) -> Option<Lsn>
         ensures { (log : List Record) → IsTableOf self.now log → result ≡ undo_next_in log trans.0 }
     {
@@ -403,9 +434,11 @@ impl TransTable {
         }
     }
 
-    /// The updates of an unended transaction that no compensation has undone, in order; none for any other.
+    /// The updates of an unended transaction that no compensation has undone, in order; none for
+    /// any other.
     pub fn survivors_of(&self, trans: TransId) -> &[Record]
-        ensures { (log : List Record) → IsTableOf self.now log → result.now ≡ survivors_in log trans.0 }
+        ensures { (log : List Record) → IsTableOf self.now log
+            → result.now ≡ survivors_in log trans.0 }
     {
         match self.find(trans) {
             Some(at) => self.entries[at].survivors(),
@@ -415,15 +448,18 @@ impl TransTable {
 
     /// The bytes that a takeover would append: a kept sum, exact for a log of less than 2^62 bytes.
     pub fn reserve_bytes(&self) -> u64
-        ensures { (log : List Record) → IsTableOf self.now log → end_of log < 2 ^ 62 → result ≡ reserve_of log }
+        ensures { (log : List Record) → IsTableOf self.now log → end_of log < 2 ^ 62
+            → result ≡ reserve_of log }
     {
         self.reserve
     }
 
-    /// What a takeover would append after another record of the transaction at this place, modulo 2^64.
+    /// What a takeover would append after another record of the transaction at this place, modulo
+    /// 2^64.
     fn reserve_after_known(&self, at: usize, logged: &RecordView<'_>) -> u64
         requires within { at < length self.now.rows }
-        requires here { (d : TransactionRow) → (slice_index_or self.now.rows at d).trans.0 ≡ logged.now.trans.0 }
+        requires here { (d : TransactionRow)
+            → (slice_index_or self.now.rows at d).trans.0 ≡ logged.now.trans.0 }
         requires kind { is_transactional (shown_body logged.now.body) ≡ true }
         ensures { WithRecord self.now (shown logged.now) (λ log. result ≡ reserve_of log % 2 ^ 64) }
     {
@@ -447,10 +483,12 @@ impl TransTable {
         self.reserve.wrapping_add(owed_anew(&logged.body))
     }
 
-    /// The bytes that a takeover would append after one more record, before that is noted, exact for a log of less than 2^62
-    /// bytes. It takes no memory, and the cost does not depend on how long the log is.
+    /// The bytes that a takeover would append after one more record, before that is noted, exact
+    /// for a log of less than 2^62 bytes. It takes no memory, and the cost does not depend on how
+    /// long the log is.
     pub fn reserve_after(&self, logged: &RecordView<'_>) -> u64
-        ensures { WithRecord self.now (shown logged.now) (λ log. end_of log < 2 ^ 62 → result ≡ reserve_of log) }
+        ensures { WithRecord self.now (shown logged.now) (λ log. end_of log < 2 ^ 62
+            → result ≡ reserve_of log) }
     {
         if !is_transaction_record(&logged.body) {
             return self.reserve;

@@ -6,7 +6,8 @@ use std::io;
 use std::rt::Clock;
 use std::time::{Duration, Instant};
 
-/// How many bytes wait in memory before they are written and synced, and what waits for redo is redone.
+/// How many bytes wait in memory before they are written and synced, and what waits for redo is
+/// redone.
 const WAITING: usize = 1 << 20;
 
 /// What a job took: its records and its time.
@@ -16,8 +17,8 @@ struct Took {
     time: Duration,
 }
 
-/// Feeds a log in pieces of so many bytes. The log's writing and redo have their turns in between, and their time is not
-/// counted.
+/// Feeds a log in pieces of so many bytes. The log's writing and redo have their turns in between,
+/// and their time is not counted.
 pub fn feed_all<R: Print + Clock + AllocGlobal>(
     rt: &R,
     text: &[u8],

@@ -1,4 +1,5 @@
-//! Measures what the standby does with a primary's log: decoding, judging, receiving, and whole feeds.
+//! Measures what the standby does with a primary's log: decoding, judging, receiving, and whole
+//! feeds.
 #![tactic(auto)]
 
 // Over the bytes alone: decoding, judging, receiving.
@@ -29,8 +30,9 @@ mod measure;
 use measure::measure_all;
 use std::{env, io};
 
-/// Tells the figures for a log of so many MB, the first word of the command line; in the folder that the second one names, if
-/// there is one, it makes the device files of a standby. With no word, how to ask.
+/// Tells the figures for a log of so many MB, the first word of the command line; in the folder
+/// that the second one names, if there is one, it makes the device files of a standby. With no
+/// word, how to ask.
 fn main(rt: HostRuntime) -> io::Result<()> {
     let mut words = env::args(&rt)?.skip(1);
     let megabytes = words.next().and_then(|word| word.parse::<usize>().ok());

@@ -5,8 +5,8 @@ use als_record::{BodyView, Lsn, RecordView, decode, view_record};
 use als_validator::Validator;
 use std::alloc::Global;
 
-/// The last byte of what a record writes, 0 for none. The jobs below ask for it, since a record that nobody reads is not even
-/// made.
+/// The last byte of what a record writes, 0 for none. The jobs below ask for it, since a record
+/// that nobody reads is not even made.
 #[inline(never)]
 fn last_byte(logged: &RecordView<'_>) -> usize {
     let (BodyView::Update { after, .. } | BodyView::Compensation { after, .. }) = &logged.body
@@ -108,7 +108,8 @@ pub fn receive_all(alloc: Global, text: &[u8], piece: usize) -> u64 {
     records
 }
 
-/// Lets the validator judge and take each record that is whole, and answers how many there were. It looks ahead.
+/// Lets the validator judge and take each record that is whole, and answers how many there were. It
+/// looks ahead.
 fn judge_whole(receiver: &mut Receiver, validator: &mut Validator) -> u64 {
     let mut records = 0u64;
     let mut ahead = 0usize;

@@ -33,8 +33,8 @@ impl Split {
     };
 }
 
-/// Feeds a log in frames, redoes what waits after each, and writes and syncs the pages every so many frames: over devices in memory, and
-/// over files where a folder is given.
+/// Feeds a log in frames, redoes what waits after each, and writes and syncs the pages every so
+/// many frames: over devices in memory, and over files where a folder is given.
 pub fn redo_all<R: Print + Clock + AllocGlobal + Files<File = File>>(
     rt: &R,
     text: &[u8],

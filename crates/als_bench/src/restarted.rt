@@ -20,8 +20,8 @@ struct Cost {
     redone: Duration,
 }
 
-/// Stops a standby that holds a log, and begins it again over devices in memory: without a checkpoint, so that all is redone, and with one near
-/// the end.
+/// Stops a standby that holds a log, and begins it again over devices in memory: without a
+/// checkpoint, so that all is redone, and with one near the end.
 pub fn restart_all<R: Print + Clock + AllocGlobal>(rt: &R, text: &[u8]) -> io::Result<()> {
     restart_from(rt, text, text.len())?;
     restart_from(rt, text, text.len().saturating_sub(BEHIND))

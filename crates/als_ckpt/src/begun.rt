@@ -1,6 +1,7 @@
 ghost use Rattle.std.specs.Prelude.{◌≡◌, ◌↔◌, ◌+◌, ◌<◌, ◌≤◌, IsTrue, length, IfOk, IfErr};
 ghost use Rattle.als_ckpt_codec.specs.Checkpoint.{checkpoint_bytes};
-ghost use Rattle.als_ckpt.specs.Regions.{blocks_for, blocks_of, first_block, part_of, with_block, with_sync, position_of, HasBlockLeft, IsWhole, IsBegun};
+ghost use Rattle.als_ckpt.specs.Regions.{blocks_for, blocks_of, first_block, part_of, with_block};
+ghost use Rattle.als_ckpt.specs.Regions.{with_sync, position_of, HasBlockLeft, IsWhole, IsBegun};
 
 use crate::fault::Fault;
 use crate::region::Region;
@@ -10,7 +11,8 @@ use std::alloc::Global;
 use std::marker::Model;
 use std::snapshot::Snapshot;
 
-/// A checkpoint that is being written: its bytes, and how many of their blocks are written and synced.
+/// A checkpoint that is being written: its bytes, and how many of their blocks are written and
+/// synced.
 #[derive(Drop)]
 pub(crate) struct Begun {
     pub(crate) region: Region,
@@ -27,9 +29,15 @@ impl Model for Begun {
 
     ghost Value = { Progress };
 
-    ghost view = { λ b. record { region = b.region; checkpoint = b.checkpoint.value; written = b.written; synced = b.synced } };
+    ghost view = { λ b. record {
+      region = b.region;
+      checkpoint = b.checkpoint.value;
+      written = b.written;
+      synced = b.synced;
+    } };
 
-    ghost invariant = { λ b. IsSpelled b.checkpoint.value b.position b.bytes.items b.written b.synced };
+    ghost invariant = { λ b. IsSpelled b.checkpoint.value b.position b.bytes.items b.written
+        b.synced };
 }
 
 /// How many blocks so many bytes take.
@@ -59,7 +67,8 @@ impl Begun {
     ///
     /// `Memory`: its bytes found no room.
     pub(crate) fn new(alloc: Global, region: Region, checkpoint: Checkpoint) -> Result<Begun, Fault>
-        ensures ok { IfOk result (λ b. b ≡ record { region = region; checkpoint = checkpoint; written = 0; synced = 0 }) }
+        ensures ok { IfOk result (λ b. b
+            ≡ record { region = region; checkpoint = checkpoint; written = 0; synced = 0 }) }
         ensures few { IfOk result (λ b. blocks_of b.checkpoint ≤ 160) }
         ensures memory { IfErr result (λ f. f ≡ Fault.Memory) }
     {
@@ -96,7 +105,8 @@ impl Begun {
     pub(crate) fn next_block(&self) -> (u64, [u8; BLOCK_LEN])
         requires { HasBlockLeft self.now }
         ensures place { result.0 ≡ first_block self.now.region + self.now.written }
-        ensures content { result.1 ≡ part_of (checkpoint_bytes self.now.checkpoint) self.now.written }
+        ensures content { result.1 ≡ part_of
+            (checkpoint_bytes self.now.checkpoint) self.now.written }
         ensures facts { IsBegun self.now }
     {
         let place = self.region.first_block() + self.written;

@@ -1,6 +1,7 @@
 ghost use Rattle.std.specs.Prelude.{◌≡◌, ◌↔◌, ◌<◌, ◌≤◌, ◌^◌, IsTrue, IfSome, Some, Option, ℕ, drop};
 ghost use Rattle.byteorder.specs.Endian.{big_number};
-ghost use Rattle.als_ckpt.specs.Control.{phase_byte, region_byte, control_block, IsPosition, IsSeal, IsControlState};
+ghost use Rattle.als_ckpt.specs.Control.{phase_byte, region_byte, control_block, IsPosition};
+ghost use Rattle.als_ckpt.specs.Control.{IsSeal, IsControlState};
 ghost use Rattle.als_ckpt.specs.declared.phase.Phase.{Phase as AnyPhase};
 ghost use Rattle.als_ckpt.specs.declared.region.Region.{Region as AnyRegion};
 ghost use Rattle.als_ckpt.specs.declared.control_state.ControlState.{ControlState as AnyState};
@@ -135,10 +136,13 @@ fn read_fields(block: &[u8; BLOCK_LEN]) -> Option<ControlState>
     })
 }
 
-/// The control state that a block holds, of a database with so many pages over a log device of so many bytes.
+/// The control state that a block holds, of a database with so many pages over a log device of so
+/// many bytes.
 pub(crate) fn decode(block: &[u8; BLOCK_LEN], pages: u32, log_bytes: u64) -> Option<ControlState>
-    ensures found { IfSome result (λ s. (block.now ≡ control_block pages s) × IsControlState log_bytes s) }
-    ensures only { (s : AnyState) → IsControlState log_bytes s → block.now ≡ control_block pages s → result ≡ Some s }
+    ensures found { IfSome result (λ s. (block.now ≡ control_block pages s)
+        × IsControlState log_bytes s) }
+    ensures only { (s : AnyState) → IsControlState log_bytes s → block.now ≡ control_block pages s
+        → result ≡ Some s }
 {
     let state = read_fields(block)?;
     if !is_control_state(&state, log_bytes) || encode(pages, &state) != *block {

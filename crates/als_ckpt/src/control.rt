@@ -1,11 +1,16 @@
-ghost use Rattle.std.specs.Prelude.{◌≡◌, ◌≢◌, ◌≤◌, ◌<◌, ◌+◌, ◌⊎◌, ℕ, ◌∷◌, List, Contains, true, false, OnOk, OnErr, IfOk, IfErr, IsSomeAnd};
+ghost use Rattle.std.specs.Prelude.{◌≡◌, ◌≢◌, ◌≤◌, ◌<◌, ◌+◌, ◌⊎◌, ℕ, ◌∷◌, List, Contains, true};
+ghost use Rattle.std.specs.Prelude.{false, OnOk, OnErr, IfOk, IfErr, IsSomeAnd};
 ghost use Rattle.als_disk.specs.Failures.{CountsFailure};
 ghost use Rattle.als_disk.specs.Slot.{only, IsSettled, SameBlocks};
-ghost use Rattle.als_ckpt.specs.Control.{control_block, first_state, newest, with_state, settled, new_control, IsControlState, IsControlled, IsBlockOf, MayName, IsBeginning, IsBusy, with_begun, with_next, with_whole};
+ghost use Rattle.als_ckpt.specs.Control.{control_block, first_state, newest, with_state, settled};
+ghost use Rattle.als_ckpt.specs.Control.{new_control, IsControlState, IsControlled, IsBlockOf};
+ghost use Rattle.als_ckpt.specs.Control.{MayName, IsBeginning, IsBusy, with_begun, with_next};
+ghost use Rattle.als_ckpt.specs.Control.{with_whole};
 ghost use Rattle.als_ckpt.specs.Regions.{Said, IsPublished, held_at, IsWhole};
 ghost use Rattle.als_ckpt.specs.Holding.{LeavesOneOf, HoldsControl};
 ghost use Rattle.als_ckpt.specs.Reading.{taken_up, TakesUp, FailsToRead, RefusesToRead};
-ghost use Rattle.als_ckpt.specs.Outcomes.{RefusesBegin, RefusesNext, RefusesPublish, HasNext, Publishes};
+ghost use Rattle.als_ckpt.specs.Outcomes.{RefusesBegin, RefusesNext, RefusesPublish, HasNext};
+ghost use Rattle.als_ckpt.specs.Outcomes.{Publishes};
 ghost use Rattle.als_ckpt.specs.declared.control_state.ControlState.{ControlState as AnyState};
 
 use crate::begun::Begun;
@@ -28,8 +33,8 @@ use std::snapshot::Snapshot;
 
 /// The control block of a database, on a disk of its own.
 ///
-/// A crash leaves the state of the last sync or one that was written since. The mark of the synced state is the
-/// acknowledged LSN: the log up to it survives each crash.
+/// A crash leaves the state of the last sync or one that was written since. The mark of the synced
+/// state is the acknowledged LSN: the log up to it survives each crash.
 pub struct Control<D: BlockDisk> {
     disk: D,
     pages: u32,
@@ -61,11 +66,13 @@ impl<D: BlockDisk> Model for Control<D> {
       begun = c.begun;
     } };
 
-    ghost invariant = { λ c. IsKeeping (D.slot c.disk) c.pages c.log_bytes (D.block_count c.disk) c.synced c.last
+    ghost invariant = { λ c. IsKeeping (D.slot c.disk) c.pages c.log_bytes
+        (D.block_count c.disk) c.synced c.last
         (states_of c.writes) (is_sure c.writes) c.regions c.begun };
 }
 
-// Written out: a derived drop is proved part by part wherever a control is let go of, this one only here.
+// Written out: a derived drop is proved part by part wherever a control is let go of, this one only
+// here.
 impl<D: BlockDisk + Drop> Drop for Control<D> {
     fn drop(self) {
         let Control {
@@ -93,11 +100,16 @@ impl<D: BlockDisk> Control<D> {
         requires room { 321 ≤ D.block_count disk }
         requires pages { (1 ≤ pages) × (pages ≤ 4096) }
         requires log_bytes { 16 ≤ log_bytes }
-        ensures ok { IfOk result (λ c. c ≡ new_control pages log_bytes first_state (D.block_count disk) (D.failures disk) (D.attempts disk + 2)) }
-        ensures err { IfErr result (λ r. (r.fault ≡ Fault.Device) × (D.failures disk < D.failures r.disk)
+        ensures ok { IfOk result (λ c. c
+            ≡ new_control pages log_bytes first_state (D.block_count disk) (D.failures disk)
+            (D.attempts disk + 2)) }
+        ensures err { IfErr result (λ r. (r.fault ≡ Fault.Device)
+            × (D.failures disk < D.failures r.disk)
             × (D.block_count r.disk ≡ D.block_count disk)) }
-        ensures err_candidates { IfErr result (λ r. (content : List ℕ) → Contains (D.slot r.disk 0).candidates content
-            → Contains (D.slot disk 0).candidates content ⊎ (control_block pages first_state ≡ content)) }
+        ensures err_candidates { IfErr result (λ r. (content : List ℕ)
+            → Contains (D.slot r.disk 0).candidates content
+            → Contains (D.slot disk 0).candidates content
+            ⊎ (control_block pages first_state ≡ content)) }
     {
         match store_first(&mut disk, pages) {
             Ok(state) => Ok(Control {
@@ -114,11 +126,12 @@ impl<D: BlockDisk> Control<D> {
         }
     }
 
-    /// Reads the control block of a database of so many pages, whose log device has so many bytes, and the checkpoint that it
-    /// publishes, from a disk that was synced. The disk comes back with a fault, as it was.
+    /// Reads the control block of a database of so many pages, whose log device has so many bytes,
+    /// and the checkpoint that it publishes, from a disk that was synced. The disk comes back with
+    /// a fault, as it was.
     ///
-    /// `Device`: the disk failed. `BadControl`: the block is no such control block, or there is no checkpoint at its position in the
-    /// region that it names. `Memory`: a growth was refused.
+    /// `Device`: the disk failed. `BadControl`: the block is no such control block, or there is no
+    /// checkpoint at its position in the region that it names. `Memory`: a growth was refused.
     pub fn read(
         alloc: Global,
         disk: D,
@@ -127,15 +140,20 @@ impl<D: BlockDisk> Control<D> {
     ) -> Result<(Control<D>, Option<Checkpoint>), Refused<D>>
         requires settled { (k : ℕ) → IsSettled (D.slot disk k) }
         requires room { 321 ≤ D.block_count disk }
-        ensures ok { IfOk result (λ r. TakesUp pages log_bytes (D.slot disk) (D.block_count disk) (D.failures disk) (D.attempts disk) r.0 r.1) }
-        ensures err { IfErr result (λ r. RefusesToRead r.fault pages log_bytes (D.slot disk) (D.failures disk) (D.failures r.disk)) }
+        ensures ok { IfOk result (λ r. TakesUp pages log_bytes (D.slot disk) (D.block_count disk)
+            (D.failures disk) (D.attempts disk) r.0 r.1) }
+        ensures err { IfErr result (λ r. RefusesToRead r.fault pages log_bytes (D.slot disk)
+            (D.failures disk) (D.failures r.disk)) }
         // A device that says something is read so.
-        ensures only { (said : Said) → HoldsControl pages log_bytes (D.slot disk) said → IfOk result (λ r.
-            (r.0 ≡ taken_up pages log_bytes said (D.block_count disk) (D.failures disk) (D.attempts disk)) × (r.1 ≡ said.checkpoint)) }
+        ensures only { (said : Said) → HoldsControl pages log_bytes (D.slot disk) said
+            → IfOk result (λ r.
+            (r.0 ≡ taken_up pages log_bytes said (D.block_count disk) (D.failures disk)
+            (D.attempts disk)) × (r.1 ≡ said.checkpoint)) }
         ensures bare { (said : Said) → HoldsControl pages log_bytes (D.slot disk) said
             → IfErr result (λ r. FailsToRead r.fault (D.failures disk) (D.failures r.disk)) }
         ensures same { IfErr result (λ r. SameBlocks (D.slot disk) (D.slot r.disk)) }
-        ensures counts { IfErr result (λ r. (D.block_count r.disk ≡ D.block_count disk) × (D.attempts r.disk ≡ D.attempts disk)) }
+        ensures counts { IfErr result (λ r. (D.block_count r.disk ≡ D.block_count disk)
+            × (D.attempts r.disk ≡ D.attempts disk)) }
     {
         let mut disk = disk;
         match read_said(alloc, &mut disk, pages, log_bytes) {
@@ -147,7 +165,8 @@ impl<D: BlockDisk> Control<D> {
         }
     }
 
-    /// The control block of a disk that was synced and read: it says this state and this checkpoint. The disk is not called.
+    /// The control block of a disk that was synced and read: it says this state and this
+    /// checkpoint. The disk is not called.
     pub fn reopen(
         disk: D,
         pages: u32,
@@ -156,8 +175,14 @@ impl<D: BlockDisk> Control<D> {
         checkpoint: &Option<Checkpoint>,
     ) -> Control<D>
         requires room { 321 ≤ D.block_count disk }
-        requires says { HoldsControl pages log_bytes (D.slot disk) (record { state = state; checkpoint = checkpoint.now }) }
-        ensures { result ≡ taken_up pages log_bytes (record { state = state; checkpoint = checkpoint.now })
+        requires says { HoldsControl pages log_bytes (D.slot disk) (record {
+          state = state;
+          checkpoint = checkpoint.now;
+        }) }
+        ensures { result ≡ taken_up pages log_bytes (record {
+          state = state;
+          checkpoint = checkpoint.now;
+        })
             (D.block_count disk) (D.failures disk) (D.attempts disk) }
     {
         let regions = Regions::of(state.published, checkpoint);
@@ -193,10 +218,12 @@ impl<D: BlockDisk> Control<D> {
     fn write(&mut self, state: ControlState) -> Result<(), Fault>
         requires fits { IsControlState self.old.log_bytes state }
         requires rises { (newest self.old).mark.0 ≤ state.mark.0 }
-        requires named { IsPublished self.old.pages state.published state.position.0 (held_at self.old.held state.published) }
+        requires named { IsPublished self.old.pages state.published state.position.0
+            (held_at self.old.held state.published) }
         requires place { MayName self.old state }
         ensures ok { OnOk result (self.new ≡ with_state self.old state) }
-        ensures err { OnErr result (self.new ≡ record (with_state self.old state) { sure = false; failures = self.new.failures }) }
+        ensures err { OnErr result (self.new
+            ≡ record (with_state self.old state) { sure = false; failures = self.new.failures }) }
         ensures fault { IfErr result (λ fault. fault ≡ Fault.Device) }
         ensures failures { CountsFailure result self.old.failures self.new.failures }
     {
@@ -209,14 +236,17 @@ impl<D: BlockDisk> Control<D> {
         answer
     }
 
-    /// Writes the newest state with another mark, by one write of the disk: the log is stable up to it.
+    /// Writes the newest state with another mark, by one write of the disk: the log is stable up to
+    /// it.
     ///
     /// `Device`: the disk failed, and the state may have been written or not.
     pub fn write_mark(&mut self, mark: Lsn) -> Result<(), Fault>
         requires rises { (newest self.old).mark.0 ≤ mark.0 }
         requires in_log { mark.0 ≤ self.old.log_bytes }
-        ensures ok { OnOk result (self.new ≡ with_state self.old (record (newest self.old) { mark = mark })) }
-        ensures err { OnErr result (self.new ≡ record (with_state self.old (record (newest self.old) { mark = mark }))
+        ensures ok { OnOk result (self.new
+            ≡ with_state self.old (record (newest self.old) { mark = mark })) }
+        ensures err { OnErr result (self.new
+            ≡ record (with_state self.old (record (newest self.old) { mark = mark }))
             { sure = false; failures = self.new.failures }) }
         ensures fault { IfErr result (λ fault. fault ≡ Fault.Device) }
         ensures failures { CountsFailure result self.old.failures self.new.failures }
@@ -229,10 +259,24 @@ impl<D: BlockDisk> Control<D> {
     ///
     /// `Device`: the disk failed, and the state may have been written or not.
     pub fn write_phase(&mut self, phase: Phase, mark: Lsn, seal: Lsn) -> Result<(), Fault>
-        requires fits { IsControlState self.old.log_bytes (record (newest self.old) { phase = phase; mark = mark; seal = seal }) }
+        requires fits { IsControlState self.old.log_bytes (record (newest self.old) {
+          phase = phase;
+          mark = mark;
+          seal = seal;
+        }) }
         requires rises { (newest self.old).mark.0 ≤ mark.0 }
-        ensures ok { OnOk result (self.new ≡ with_state self.old (record (newest self.old) { phase = phase; mark = mark; seal = seal })) }
-        ensures err { OnErr result (self.new ≡ record (with_state self.old (record (newest self.old) { phase = phase; mark = mark; seal = seal }))
+        ensures ok { OnOk result (self.new
+            ≡ with_state self.old (record (newest self.old) {
+              phase = phase;
+              mark = mark;
+              seal = seal;
+            })) }
+        ensures err { OnErr result (self.new
+            ≡ record (with_state self.old (record (newest self.old) {
+              phase = phase;
+              mark = mark;
+              seal = seal;
+            }))
             { sure = false; failures = self.new.failures }) }
         ensures fault { IfErr result (λ fault. fault ≡ Fault.Device) }
         ensures failures { CountsFailure result self.old.failures self.new.failures }
@@ -254,7 +298,8 @@ impl<D: BlockDisk> Control<D> {
         ensures ok { OnOk result (self.new ≡ settled self.old) }
         // What is acknowledged never falls.
         ensures rises { OnOk result (self.old.synced.mark.0 ≤ (newest self.old).mark.0) }
-        ensures err { OnErr result (self.new ≡ record self.old { failures = self.new.failures; attempts = self.old.attempts + 1 }) }
+        ensures err { OnErr result (self.new
+            ≡ record self.old { failures = self.new.failures; attempts = self.old.attempts + 1 }) }
         ensures fault { IfErr result (λ fault. fault ≡ Fault.Device) }
         ensures failures { CountsFailure result self.old.failures self.new.failures }
     {
@@ -273,12 +318,14 @@ impl<D: BlockDisk> Control<D> {
         is_busy(&self.begun, self.last.published, self.synced.published)
     }
 
-    /// Begins a checkpoint: its bytes are made, and none is written. It goes to the region that is not published.
+    /// Begins a checkpoint: its bytes are made, and none is written. It goes to the region that is
+    /// not published.
     ///
     /// `CkptBusy`: one is begun, or the last publish is not synced. `Memory`: a growth was refused.
     pub fn begin(&mut self, alloc: Global, checkpoint: Checkpoint) -> Result<(), Fault>
         requires { IsBeginning self.old.pages checkpoint }
-        ensures ok { OnOk result ((IsBusy self.old → ⊥) × (self.new ≡ with_begun self.old checkpoint)) }
+        ensures ok { OnOk result ((IsBusy self.old → ⊥)
+            × (self.new ≡ with_begun self.old checkpoint)) }
         ensures err { IfErr result (λ f. RefusesBegin f self.old self.new) }
     {
         if is_busy(&self.begun, self.last.published, self.synced.published) {
@@ -293,7 +340,8 @@ impl<D: BlockDisk> Control<D> {
 
     /// Writes the next block of the checkpoint, by one write of the disk. It takes no memory.
     ///
-    /// `NothingToDo`: none is begun, or each block is written. `Device`: the disk failed, and the block counts as unwritten.
+    /// `NothingToDo`: none is begun, or each block is written. `Device`: the disk failed, and the
+    /// block counts as unwritten.
     pub fn write_next(&mut self) -> Result<(), Fault>
         ensures ok { OnOk result (HasNext self.old × (self.new ≡ with_next self.old)) }
         ensures err { IfErr result (λ f. RefusesNext f self.old self.new) }
@@ -318,11 +366,12 @@ impl<D: BlockDisk> Control<D> {
         }
     }
 
-    /// Publishes the checkpoint: writes the control block with its region and position, by one write of the disk. It takes no
-    /// memory.
+    /// Publishes the checkpoint: writes the control block with its region and position, by one
+    /// write of the disk. It takes no memory.
     ///
-    /// `NothingToDo`: none is begun. `CkptBusy`: a block of it is not written and synced. `LogBehind`: its position is above the
-    /// acknowledged LSN. `Device`: the disk failed, and the state may have been written or not.
+    /// `NothingToDo`: none is begun. `CkptBusy`: a block of it is not written and synced.
+    /// `LogBehind`: its position is above the acknowledged LSN. `Device`: the disk failed, and the
+    /// state may have been written or not.
     pub fn publish(&mut self) -> Result<(), Fault>
         ensures ok { OnOk result (IsSomeAnd self.old.begun (λ b. Publishes self.old b self.new)) }
         ensures err { IfErr result (λ f. RefusesPublish f self.old self.new) }
@@ -337,8 +386,8 @@ impl<D: BlockDisk> Control<D> {
         self.write(state)
     }
 
-    /// The disk. A crash leaves on it the control block of the synced state, or of one that was written since, with the whole
-    /// checkpoint that this state publishes.
+    /// The disk. A crash leaves on it the control block of the synced state, or of one that was
+    /// written since, with the whole checkpoint that this state publishes.
     pub fn into_disk(self) -> D
         ensures candidates { (content : List ℕ) → Contains (D.slot result 0).candidates content
             → IsBlockOf self.pages (self.synced ∷ self.since) content }

@@ -1,7 +1,9 @@
 // Control blocks on a disk.
-ghost use Rattle.std.specs.Prelude.{◌≡◌, ◌≢◌, ◌≤◌, ◌<◌, ◌+◌, ◌⊎◌, ℕ, IsErrOf, List, Contains, OnOk, OnErr, IfOk, IfErr};
+ghost use Rattle.std.specs.Prelude.{◌≡◌, ◌≢◌, ◌≤◌, ◌<◌, ◌+◌, ◌⊎◌, ℕ, IsErrOf, List, Contains, OnOk};
+ghost use Rattle.std.specs.Prelude.{OnErr, IfOk, IfErr};
 ghost use Rattle.als_disk.specs.Failures.{CountsFailure};
-ghost use Rattle.als_disk.specs.Slot.{only, written, FailsToWrite, IsSettled, SameBlocks, SameBlocksBut};
+ghost use Rattle.als_disk.specs.Slot.{only, written, FailsToWrite, IsSettled, SameBlocks};
+ghost use Rattle.als_disk.specs.Slot.{SameBlocksBut};
 ghost use Rattle.als_disk.specs.Store.{zeros};
 ghost use Rattle.als_ckpt.specs.Control.{control_block, first_state, IsControlState};
 ghost use Rattle.als_ckpt.specs.declared.control_state.ControlState.{ControlState as AnyState};
@@ -37,8 +39,10 @@ pub(crate) fn write_state<D: BlockDisk>(
     state: &ControlState,
 ) -> Result<(), Fault>
     requires { 1 ≤ D.block_count disk.old }
-    ensures ok { OnOk result (D.slot disk.new 0 ≡ written (D.slot disk.old 0) (control_block pages state.now)) }
-    ensures err { OnErr result (FailsToWrite (D.slot disk.old 0) (D.slot disk.new 0) (control_block pages state.now)) }
+    ensures ok { OnOk result (D.slot disk.new 0
+        ≡ written (D.slot disk.old 0) (control_block pages state.now)) }
+    ensures err { OnErr result (FailsToWrite (D.slot disk.old 0) (D.slot disk.new 0)
+        (control_block pages state.now)) }
     ensures others { SameBlocksBut 0 (D.slot disk.old) (D.slot disk.new) }
     ensures fault { IfErr result (λ fault. fault ≡ Fault.Device) }
     ensures count { D.block_count disk.new ≡ D.block_count disk.old }
@@ -56,7 +60,8 @@ pub(crate) fn store_first<D: BlockDisk>(disk: &mut D, pages: u32) -> Result<Cont
     ensures state { IfOk result (λ s. s ≡ first_state) }
     ensures ok { OnOk result (D.slot disk.new 0 ≡ only (control_block pages first_state)) }
     ensures err { OnErr result ((content : List ℕ) → Contains (D.slot disk.new 0).candidates content
-        → Contains (D.slot disk.old 0).candidates content ⊎ (control_block pages first_state ≡ content)) }
+        → Contains (D.slot disk.old 0).candidates content
+        ⊎ (control_block pages first_state ≡ content)) }
     ensures fault { IfErr result (λ fault. fault ≡ Fault.Device) }
     ensures count { D.block_count disk.new ≡ D.block_count disk.old }
     ensures failures { CountsFailure result (D.failures disk.old) (D.failures disk.new) }
@@ -68,7 +73,8 @@ pub(crate) fn store_first<D: BlockDisk>(disk: &mut D, pages: u32) -> Result<Cont
     Ok(state)
 }
 
-/// The control state that block 0 holds, of a database of so many pages, whose log device has so many bytes.
+/// The control state that block 0 holds, of a database of so many pages, whose log device has so
+/// many bytes.
 ///
 /// `Device`: the disk failed. `BadControl`: the block is not such a control block.
 pub fn read_state<D: BlockDisk>(
@@ -78,11 +84,15 @@ pub fn read_state<D: BlockDisk>(
 ) -> Result<ControlState, Fault>
     requires room { 1 ≤ D.block_count disk.old }
     requires settled { IsSettled (D.slot disk.old 0) }
-    ensures found { IfOk result (λ s. (D.slot disk.old 0 ≡ only (control_block pages s)) × IsControlState log_bytes s) }
-    ensures only { (s : AnyState) → IsControlState log_bytes s → D.slot disk.old 0 ≡ only (control_block pages s)
+    ensures found { IfOk result (λ s. (D.slot disk.old 0 ≡ only (control_block pages s))
+        × IsControlState log_bytes s) }
+    ensures only { (s : AnyState) → IsControlState log_bytes s
+        → D.slot disk.old 0 ≡ only (control_block pages s)
         → IfOk result (λ t. t ≡ s) }
-    ensures bad_control { IsErrOf result Fault.BadControl → (D.failures disk.new ≡ D.failures disk.old)
-        × ((s : AnyState) → IsControlState log_bytes s → D.slot disk.old 0 ≢ only (control_block pages s)) }
+    ensures bad_control { IsErrOf result Fault.BadControl
+        → (D.failures disk.new ≡ D.failures disk.old)
+        × ((s : AnyState) → IsControlState log_bytes s
+        → D.slot disk.old 0 ≢ only (control_block pages s)) }
     ensures device { IsErrOf result Fault.Device → D.failures disk.old < D.failures disk.new }
     ensures fault { IfErr result (λ fault. (fault ≡ Fault.Device) ⊎ (fault ≡ Fault.BadControl)) }
     ensures ok { OnOk result (D.failures disk.new ≡ D.failures disk.old) }

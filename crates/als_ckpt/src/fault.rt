@@ -14,8 +14,8 @@ use std::fmt;
 pub enum Fault {
     /// The device failed.
     Device,
-    /// The block is no control block of a database with this many pages over a log device of this size, or the bytes are no
-    /// checkpoint of it at this position.
+    /// The block is no control block of a database with this many pages over a log device of this
+    /// size, or the bytes are no checkpoint of it at this position.
     BadControl,
     /// A growth was refused.
     Memory,

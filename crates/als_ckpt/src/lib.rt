@@ -1,5 +1,6 @@
-//! The control device of a database: the control block, with the stable mark of its log and its phase, and two regions for
-//! checkpoints, of which the control block names the one that is published.
+//! The control device of a database: the control block, with the stable mark of its log and its
+//! phase, and two regions for checkpoints, of which the control block names the one that is
+//! published.
 #![tactic(auto)]
 
 // Whether the log follows its source, is sealed, or was taken over.

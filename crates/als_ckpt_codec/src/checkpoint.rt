@@ -5,7 +5,8 @@ use als_record::{PageRows, TransactionRows};
 #[derive(Drop)]
 pub struct Checkpoint {
     pub numbers: Numbers,
-    /// The transactions that had not ended, in rising TransID. The states are 1 active, 2 committed, 3 rolling back.
+    /// The transactions that had not ended, in rising TransID. The states are 1 active, 2
+    /// committed, 3 rolling back.
     pub transactions: TransactionRows,
     /// The dirty pages, in rising page.
     pub pages: PageRows,

@@ -1,10 +1,13 @@
-ghost use Rattle.std.specs.Prelude.{◌≡◌, ◌≤◌, ◌+◌, ◌++◌, ℕ, List, length, drop, take, replicate, ◌⊎◌, IfOk, IfErr, true, Ok as Found};
+ghost use Rattle.std.specs.Prelude.{◌≡◌, ◌≤◌, ◌+◌, ◌++◌, ℕ, List, length, drop, take, replicate};
+ghost use Rattle.std.specs.Prelude.{◌⊎◌, IfOk, IfErr, true, Ok as Found};
 ghost use Rattle.byteorder.specs.Endian.{big_number};
 ghost use Rattle.als_record.specs.Spelling.{head, spelling, record_len, IsRecord};
 ghost use Rattle.als_record.specs.declared.record.Record.{Record as AnyRecord};
 ghost use Rattle.als_record.specs.declared.rows.LoggedTransaction.{LoggedTransaction};
 ghost use Rattle.als_record.specs.declared.rows.LoggedPage.{LoggedPage};
-ghost use Rattle.als_ckpt_codec.specs.Checkpoint.{numbers_bytes, checkpoint_bytes, AreNumbers, IsCheckpoint, BeginsWith, BeginsWithTables, Finds, tables_of};
+ghost use Rattle.als_ckpt_codec.specs.Checkpoint.{numbers_bytes, checkpoint_bytes, AreNumbers};
+ghost use Rattle.als_ckpt_codec.specs.Checkpoint.{IsCheckpoint, BeginsWith, BeginsWithTables};
+ghost use Rattle.als_ckpt_codec.specs.Checkpoint.{Finds, tables_of};
 ghost use Rattle.als_ckpt_codec.specs.declared.numbers.Numbers.{Numbers as AnyNumbers};
 ghost use Rattle.als_ckpt_codec.specs.declared.checkpoint.Checkpoint.{Checkpoint as AnyCheckpoint};
 
@@ -35,7 +38,8 @@ fn numbers_bytes(numbers: &Numbers) -> [u8; FRONT]
     bytes
 }
 
-/// The head of an end_chkpt of so many bytes at 0, behind 8 zeros: as long as a checkpoint's numbers.
+/// The head of an end_chkpt of so many bytes at 0, behind 8 zeros: as long as a checkpoint's
+/// numbers.
 #[tactic(auto, unfolding(als_record::specs::Spelling::head))]
 fn head_bytes(size: u32) -> [u8; FRONT]
     ensures { result ≡ replicate 8 0 ++ head size 7 0 0 0 }
@@ -55,7 +59,8 @@ fn replace_front(bytes: &mut [u8], front: &[u8; FRONT])
     place.copy_from_slice(front);
 }
 
-/// The bytes of a checkpoint. The tables are spelled by an end_chkpt, whose head then makes room for the numbers.
+/// The bytes of a checkpoint. The tables are spelled by an end_chkpt, whose head then makes room
+/// for the numbers.
 pub fn encode_checkpoint(alloc: Global, checkpoint: Checkpoint) -> Result<Vec<u8>, Fault>
     ensures ok { IfOk result (λ bytes. bytes.items ≡ checkpoint_bytes checkpoint) }
     ensures len { IfOk result (λ bytes. length bytes.items ≤ 54568) }
@@ -107,7 +112,8 @@ fn is_same(a: &[u8], b: &[u8]) -> bool
 fn read_numbers(bytes: &[u8]) -> Numbers
     requires { 36 ≤ length bytes.now }
     ensures fits { AreNumbers result }
-    ensures only { (n : AnyNumbers) (rest : List ℕ) → AreNumbers n → bytes.now ≡ numbers_bytes n ++ rest → result ≡ n }
+    ensures only { (n : AnyNumbers) (rest : List ℕ) → AreNumbers n
+        → bytes.now ≡ numbers_bytes n ++ rest → result ≡ n }
 {
     let (_, at_greatest) = bytes.split_at(8);
     Numbers {
@@ -123,7 +129,8 @@ fn read_numbers(bytes: &[u8]) -> Numbers
 fn decode_numbers(bytes: &[u8]) -> Result<Numbers, Fault>
     requires { 36 ≤ length bytes.now }
     ensures found { IfOk result (λ n. (take 36 bytes.now ≡ numbers_bytes n) × AreNumbers n) }
-    ensures only { (n : AnyNumbers) (rest : List ℕ) → AreNumbers n → bytes.now ≡ numbers_bytes n ++ rest → Finds n result }
+    ensures only { (n : AnyNumbers) (rest : List ℕ) → AreNumbers n
+        → bytes.now ≡ numbers_bytes n ++ rest → Finds n result }
     ensures fault { IfErr result (λ fault. fault ≡ Fault.BadControl) }
 {
     let numbers = read_numbers(bytes);
@@ -148,8 +155,10 @@ fn half(bytes: &[u8], at: usize) -> u16
 /// `BadControl`: there is none, for one has no so many rows.
 pub fn checkpoint_len(front: &[u8]) -> Result<usize, Fault>
     requires { 40 ≤ length front.now }
-    ensures only { (pages position : ℕ) (c : AnyCheckpoint) (rest : List ℕ) → IsCheckpoint pages position c
-        → front.now ≡ take 40 (checkpoint_bytes c) ++ rest → result ≡ Found (length (checkpoint_bytes c)) }
+    ensures only { (pages position : ℕ) (c : AnyCheckpoint) (rest : List ℕ)
+        → IsCheckpoint pages position c
+        → front.now ≡ take 40 (checkpoint_bytes c) ++ rest
+        → result ≡ Found (length (checkpoint_bytes c)) }
     ensures few { IfOk result (λ len. (40 ≤ len) × (len ≤ 54568)) }
     ensures fault { IfErr result (λ fault. fault ≡ Fault.BadControl) }
 {
@@ -163,8 +172,10 @@ pub fn checkpoint_len(front: &[u8]) -> Result<usize, Fault>
 
 /// The record at the front of bytes, as a log would have it at 0.
 fn decode_record(alloc: Global, bytes: &[u8], pages: u32) -> Result<Record, Fault>
-    ensures found { IfOk result (λ r. (take (record_len r) bytes.now ≡ spelling r) × IsRecord pages r) }
-    ensures only { (r : AnyRecord) (rest : List ℕ) → IsRecord pages r → r.lsn.0 ≡ 0 → bytes.now ≡ spelling r ++ rest → Finds r result }
+    ensures found { IfOk result (λ r. (take (record_len r) bytes.now ≡ spelling r)
+        × IsRecord pages r) }
+    ensures only { (r : AnyRecord) (rest : List ℕ) → IsRecord pages r → r.lsn.0 ≡ 0
+        → bytes.now ≡ spelling r ++ rest → Finds r result }
     ensures fault { IfErr result (λ fault. (fault ≡ Fault.BadControl) ⊎ (fault ≡ Fault.Memory)) }
 {
     match decode(alloc, bytes, Lsn(0), pages) {
@@ -174,7 +185,8 @@ fn decode_record(alloc: Global, bytes: &[u8], pages: u32) -> Result<Record, Faul
     }
 }
 
-/// The tables that stand behind the numbers. The numbers make room for the head of an end_chkpt, which then reads them.
+/// The tables that stand behind the numbers. The numbers make room for the head of an end_chkpt,
+/// which then reads them.
 fn decode_tables(
     alloc: Global,
     bytes: &mut [u8],
@@ -182,7 +194,8 @@ fn decode_tables(
 ) -> Result<(TransactionRows, PageRows), Fault>
     requires { 40 ≤ length bytes.old }
     ensures found { IfOk result (λ t. BeginsWithTables pages (drop 36 bytes.old) t.0 t.1) }
-    ensures only { (ts : List LoggedTransaction) (ps : List LoggedPage) → BeginsWithTables pages (drop 36 bytes.old) ts ps
+    ensures only { (ts : List LoggedTransaction) (ps : List LoggedPage)
+        → BeginsWithTables pages (drop 36 bytes.old) ts ps
         → Finds (ts, ps) result }
     ensures fault { IfErr result (λ fault. (fault ≡ Fault.BadControl) ⊎ (fault ≡ Fault.Memory)) }
 {
@@ -208,7 +221,8 @@ fn tables_of(body: Body) -> Result<(TransactionRows, PageRows), Fault>
 
 /// The checkpoint at the front of bytes, of which the front is used up.
 ///
-/// `BadControl`: there is no checkpoint at this position of a database with so many pages. `Memory`: its rows found no room.
+/// `BadControl`: there is no checkpoint at this position of a database with so many pages.
+/// `Memory`: its rows found no room.
 pub fn decode_checkpoint(
     alloc: Global,
     bytes: &mut [u8],
@@ -217,7 +231,8 @@ pub fn decode_checkpoint(
 ) -> Result<Checkpoint, Fault>
     requires { 40 ≤ length bytes.old }
     ensures found { IfOk result (λ c. IsCheckpoint pages position.0 c × BeginsWith bytes.old c) }
-    ensures only { (c : AnyCheckpoint) → IsCheckpoint pages position.0 c → BeginsWith bytes.old c → Finds c result }
+    ensures only { (c : AnyCheckpoint) → IsCheckpoint pages position.0 c → BeginsWith bytes.old c
+        → Finds c result }
     ensures fault { IfErr result (λ fault. (fault ≡ Fault.BadControl) ⊎ (fault ≡ Fault.Memory)) }
 {
     let numbers = decode_numbers(bytes)?;

@@ -1,4 +1,5 @@
-//! The program `als`: it makes log texts, runs scripts on a standby, and ships, follows and reads logs.
+//! The program `als`: it makes log texts, runs scripts on a standby, and ships, follows and reads
+//! logs.
 #![tactic(auto)]
 
 use als_program::{Failure, Terminals, program_on};

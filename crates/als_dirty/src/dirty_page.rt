@@ -2,8 +2,8 @@ ghost use Rattle.std.specs.Prelude.{◌≡◌};
 
 use als_record::Lsn;
 
-/// What the table keeps of a page. A crash may leave the image of the last sync or that of the last write, or one written
-/// between them. `None`: the image lacks no record of the log.
+/// What the table keeps of a page. A crash may leave the image of the last sync or that of the last
+/// write, or one written between them. `None`: the image lacks no record of the log.
 #[derive(Clone, Copy, Debug, PartialEq, Eq)]
 pub struct DirtyPage {
     /// The first record of the log that the image last synced lacks: the RecLSN of the page's row.

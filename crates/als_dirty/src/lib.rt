@@ -1,5 +1,5 @@
-//! The dirty page table of ARIES: of each page the first record of the log that its image last synced lacks, and the first that
-//! its image last written lacks.
+//! The dirty page table of ARIES: of each page the first record of the log that its image last
+//! synced lacks, and the first that its image last written lacks.
 #![tactic(auto)]
 
 // What the table keeps of a page.

@@ -1,6 +1,7 @@
 ghost use Rattle.std.specs.Prelude.{◌≡◌, ◌<◌, ◌+◌, ℕ, Contains, OnOk, OnErr};
 ghost use Rattle.als_disk.specs.Failures.{CountsFailure};
-ghost use Rattle.als_disk.specs.Slot.{Slot, written, FailsToWrite, KeepsReadable, SameBlocks, SameBlocksBut, HoldsBlocks, GivesCandidates};
+ghost use Rattle.als_disk.specs.Slot.{Slot, written, FailsToWrite, KeepsReadable, SameBlocks};
+ghost use Rattle.als_disk.specs.Slot.{SameBlocksBut, HoldsBlocks, GivesCandidates};
 
 use crate::DeviceError;
 

@@ -97,7 +97,8 @@ impl FileDisk {
         blocks: u64,
     ) -> io::Result<FileDisk>
         ensures count { IfOk result (λ disk. ⟦<FileDisk as BlockDisk>⟧.block_count disk ≡ blocks) }
-        ensures zeros { IfOk result (λ disk. (k : ℕ) → ⟦<FileDisk as BlockDisk>⟧.slot disk k ≡ only zeros) }
+        ensures zeros { IfOk result (λ disk. (k : ℕ)
+            → ⟦<FileDisk as BlockDisk>⟧.slot disk k ≡ only zeros) }
     {
         let path = Path::new(path.path_text());
         let Some(len) = blocks.checked_mul(512) else {
@@ -129,7 +130,8 @@ impl FileDisk {
         rt: &R,
         path: P,
     ) -> io::Result<FileDisk>
-        ensures settled { IfOk result (λ disk. (k : ℕ) → IsSettled (⟦<FileDisk as BlockDisk>⟧.slot disk k)) }
+        ensures settled { IfOk result (λ disk. (k : ℕ)
+            → IsSettled (⟦<FileDisk as BlockDisk>⟧.slot disk k)) }
     {
         let file = OpenOptions::new().read(true).write(true).open(rt, path)?;
         let blocks = file.metadata()?.len() / 512;
@@ -158,7 +160,8 @@ impl BlockDisk for FileDisk {
 
     ghost attempts = { file_attempts };
 
-    ghost gives_candidates = { λ disk. slot_of-gives_candidates disk.mirror.synced disk.mirror.unsynced };
+    ghost gives_candidates = { λ disk. slot_of-gives_candidates disk.mirror.synced
+        disk.mirror.unsynced };
 
     ghost holds_blocks = { λ disk. disk.mirror.contents };
 

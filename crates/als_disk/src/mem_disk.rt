@@ -1,7 +1,8 @@
 ghost use Rattle.std.specs.Prelude.{◌≡◌, ◌<◌, ◌+◌, ℕ, Contains, IsOk, OnOk, OnErr};
 ghost use Rattle.als_disk.specs.Failures.{CountsFailure};
 ghost use Rattle.als_disk.specs.Slot.{only, written, HoldsBlocks, SameBlocks, SameBlocksBut};
-ghost use Rattle.als_disk.specs.Store.{zeros, slot_of, HasRoom, IsInRange, slot_of-gives_candidates};
+ghost use Rattle.als_disk.specs.Store.{zeros, slot_of, HasRoom, IsInRange};
+ghost use Rattle.als_disk.specs.Store.{slot_of-gives_candidates};
 
 use crate::count::Count;
 use crate::store::{self, Synced, Writes};
@@ -44,7 +45,8 @@ impl MemDisk {
 }
 
 impl BlockDisk for MemDisk {
-    ghost use Rattle.als_disk.specs.MemDisk.{mem_blocks, mem_slot, mem_newest, mem_failures, mem_attempts};
+    ghost use Rattle.als_disk.specs.MemDisk.{mem_blocks, mem_slot, mem_newest, mem_failures};
+    ghost use Rattle.als_disk.specs.MemDisk.{mem_attempts};
 
     ghost block_count = { mem_blocks };
 

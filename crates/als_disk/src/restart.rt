@@ -13,7 +13,8 @@ pub trait Restart: BlockDisk {
     /// Missing picks are 0. The answer tells how many picks were used.
     fn crash(self, picks: &[u8]) -> (Self, usize)
         ensures picked { LeavesPicked (Self.slot self) picks.now (Self.slot result.0) }
-        ensures used { result.1 ≡ min (length picks.now) (choices_below (Self.slot self) (Self.block_count self)) }
+        ensures used { result.1 ≡ min (length picks.now)
+            (choices_below (Self.slot self) (Self.block_count self)) }
         ensures candidate { (k : ℕ) → KeepsCandidate (Self.slot self k) (Self.slot result.0 k) }
         ensures count { Self.block_count result.0 ≡ Self.block_count self }
         ensures failures { Self.failures result.0 ≡ Self.failures self }

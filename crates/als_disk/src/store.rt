@@ -1,10 +1,12 @@
 // The contents that a device in memory keeps, as two maps: of the last sync, and since.
-ghost use Rattle.std.specs.Prelude.{◌≡◌, ◌≢◌, ◌<◌, ◌==◌, ◌∷◌, ℕ, List, Some, length, drop, min, slice_index, if◌then◌else◌, OnOk, OnErr};
+ghost use Rattle.std.specs.Prelude.{◌≡◌, ◌≢◌, ◌<◌, ◌==◌, ◌∷◌, ℕ, List, Some, length, drop, min};
+ghost use Rattle.std.specs.Prelude.{slice_index, if◌then◌else◌, OnOk, OnErr};
 ghost use Rattle.std.specs.Ordering.{nat_cmp};
 ghost use Rattle.std.specs.BTreeMap.{get, ContainsKey, IsEmpty};
 ghost use Rattle.als_disk.specs.Crash.{LeavesPicked, choices_below, picked};
 ghost use Rattle.als_disk.specs.Slot.{written, KeepsReadable, SameBlocks, SameBlocksBut};
-ghost use Rattle.als_disk.specs.Store.{synced_content, slot_with, slot_of, newest_of, HasRoom, IsInRange};
+ghost use Rattle.als_disk.specs.Store.{synced_content, slot_with, slot_of, newest_of, HasRoom};
+ghost use Rattle.als_disk.specs.Store.{IsInRange};
 ghost use Rattle.als_disk.specs.Unsynced.{contents};
 
 use crate::unsynced::Unsynced;
@@ -30,7 +32,8 @@ fn keep(synced: &mut Synced, i: u64) -> Result<(), AllocError>
 /// Puts another content in the place of one that is kept.
 fn replace(synced: &mut Synced, i: u64, content: [u8; 512])
     requires { ContainsKey nat_cmp synced.old i }
-    ensures { (k : ℕ) → get nat_cmp synced.new k ≡ (if k == i then Some content else get nat_cmp synced.old k) }
+    ensures { (k : ℕ) → get nat_cmp synced.new k
+        ≡ (if k == i then Some content else get nat_cmp synced.old k) }
 {
     if let Some(block) = synced.get_mut(&i) {
         *block = content;
@@ -39,10 +42,15 @@ fn replace(synced: &mut Synced, i: u64, content: [u8; 512])
 
 /// Adds a content to what was written to a block.
 fn note(alloc: Global, unsynced: &mut Writes, i: u64, block: &[u8; 512]) -> Result<(), AllocError>
-    ensures ok { OnOk result ((content : List ℕ) → slot_with content (get nat_cmp unsynced.new i) ≡ written (slot_with content (get nat_cmp unsynced.old i)) block.now) }
-    ensures err { OnErr result ((content : List ℕ) (k : ℕ) → slot_with content (get nat_cmp unsynced.new k) ≡ slot_with content (get nat_cmp unsynced.old k)) }
+    ensures ok { OnOk result ((content : List ℕ)
+        → slot_with content (get nat_cmp unsynced.new i)
+        ≡ written (slot_with content (get nat_cmp unsynced.old i)) block.now) }
+    ensures err { OnErr result ((content : List ℕ) (k : ℕ)
+        → slot_with content (get nat_cmp unsynced.new k)
+        ≡ slot_with content (get nat_cmp unsynced.old k)) }
     ensures others { (k : ℕ) → k ≢ i → get nat_cmp unsynced.new k ≡ get nat_cmp unsynced.old k }
-    ensures err_keys { OnErr result ((k : ℕ) → ContainsKey nat_cmp unsynced.new k → ContainsKey nat_cmp unsynced.old k) }
+    ensures err_keys { OnErr result ((k : ℕ) → ContainsKey nat_cmp unsynced.new k
+        → ContainsKey nat_cmp unsynced.old k) }
 {
     match unsynced.get_mut(&i) {
         Some(writes) => writes.push(block),
@@ -62,11 +70,15 @@ pub(crate) fn put(
     block: &[u8; 512],
 ) -> Result<(), AllocError>
     requires { HasRoom synced.old unsynced.old }
-    ensures ok { OnOk result (slot_of synced.new unsynced.new i ≡ written (slot_of synced.old unsynced.old i) block.now) }
-    ensures err { OnErr result (SameBlocks (slot_of synced.old unsynced.old) (slot_of synced.new unsynced.new)) }
-    ensures others { SameBlocksBut i (slot_of synced.old unsynced.old) (slot_of synced.new unsynced.new) }
+    ensures ok { OnOk result (slot_of synced.new unsynced.new i
+        ≡ written (slot_of synced.old unsynced.old i) block.now) }
+    ensures err { OnErr result (SameBlocks (slot_of synced.old unsynced.old)
+        (slot_of synced.new unsynced.new)) }
+    ensures others { SameBlocksBut i (slot_of synced.old unsynced.old)
+        (slot_of synced.new unsynced.new) }
     ensures room { HasRoom synced.new unsynced.new }
-    ensures in_range { (blocks : ℕ) → i < blocks → IsInRange unsynced.old blocks → IsInRange unsynced.new blocks }
+    ensures in_range { (blocks : ℕ) → i < blocks → IsInRange unsynced.old blocks
+        → IsInRange unsynced.new blocks }
 {
     keep(synced, i)?;
     note(alloc, unsynced, i, block)
@@ -86,7 +98,8 @@ pub(crate) fn newest(synced: &Synced, unsynced: &Writes, i: u64) -> [u8; 512]
 /// Makes the newest content of each block the synced one.
 pub(crate) fn settle(synced: &mut Synced, unsynced: &mut Writes)
     requires { HasRoom synced.old unsynced.old }
-    ensures readable { (k : ℕ) → KeepsReadable (slot_of synced.old unsynced.old k) (slot_of synced.new unsynced.new k) }
+    ensures readable { (k : ℕ) → KeepsReadable (slot_of synced.old unsynced.old k)
+        (slot_of synced.new unsynced.new k) }
     ensures empty { IsEmpty unsynced.new }
 {
     while let Some((i, writes)) = unsynced.pop_first() {
@@ -108,7 +121,8 @@ fn first_pick(picks: &[u8]) -> (u8, &[u8])
 /// Makes one candidate of a block the synced one.
 fn settle_one(synced: &mut Synced, i: u64, writes: &Unsynced, pick: u8)
     requires { ContainsKey nat_cmp synced.old i }
-    ensures picked { synced_content synced.new i ≡ picked (synced_content synced.old i ∷ contents writes.now) pick }
+    ensures picked { synced_content synced.new i
+        ≡ picked (synced_content synced.old i ∷ contents writes.now) pick }
     ensures others { (k : ℕ) → k ≢ i → synced_content synced.new k ≡ synced_content synced.old k }
     ensures kept { (k : ℕ) → ContainsKey nat_cmp synced.old k → ContainsKey nat_cmp synced.new k }
 {
@@ -120,8 +134,10 @@ fn settle_one(synced: &mut Synced, i: u64, writes: &Unsynced, pick: u8)
 /// Makes the candidate that each block picks the synced one, and tells how many picks were used.
 pub(crate) fn settle_by(synced: &mut Synced, unsynced: &mut Writes, picks: &[u8]) -> usize
     requires { HasRoom synced.old unsynced.old }
-    ensures picked { LeavesPicked (slot_of synced.old unsynced.old) picks.now (slot_of synced.new unsynced.new) }
-    ensures used { (blocks : ℕ) → IsInRange unsynced.old blocks → result ≡ min (length picks.now) (choices_below (slot_of synced.old unsynced.old) blocks) }
+    ensures picked { LeavesPicked (slot_of synced.old unsynced.old) picks.now
+        (slot_of synced.new unsynced.new) }
+    ensures used { (blocks : ℕ) → IsInRange unsynced.old blocks
+        → result ≡ min (length picks.now) (choices_below (slot_of synced.old unsynced.old) blocks) }
     ensures empty { IsEmpty unsynced.new }
 {
     let mut left = picks;

@@ -11,7 +11,8 @@ use std::test::Fail;
 fn store<D: BlockDisk>(disk: &mut D, i: u64, block: &[u8; 512]) -> Result<(), DeviceError>
     requires { i < D.block_count disk.old }
     ensures count { D.block_count disk.new ≡ D.block_count disk.old }
-    ensures stored { OnOk result ((content : List ℕ) → Contains (D.slot disk.new i).candidates content → content ≡ block.now) }
+    ensures stored { OnOk result ((content : List ℕ)
+        → Contains (D.slot disk.new i).candidates content → content ≡ block.now) }
 {
     disk.write(i, block)?;
     disk.sync()?;
@@ -23,8 +24,10 @@ fn store<D: BlockDisk>(disk: &mut D, i: u64, block: &[u8; 512]) -> Result<(), De
 fn overwrite<D: BlockDisk>(disk: &mut D, i: u64, block: &[u8; 512])
     requires { i < D.block_count disk.old }
     ensures count { D.block_count disk.new ≡ D.block_count disk.old }
-    ensures candidates { (content : List ℕ) → Contains (D.slot disk.new i).candidates content → Contains (D.slot disk.old i).candidates content ⊎ (block.now ≡ content) }
-    ensures readable { (content : List ℕ) → Contains (D.slot disk.new i).readable content → Contains (D.slot disk.old i).readable content ⊎ (block.now ≡ content) }
+    ensures candidates { (content : List ℕ) → Contains (D.slot disk.new i).candidates content
+        → Contains (D.slot disk.old i).candidates content ⊎ (block.now ≡ content) }
+    ensures readable { (content : List ℕ) → Contains (D.slot disk.new i).readable content
+        → Contains (D.slot disk.old i).readable content ⊎ (block.now ≡ content) }
 {
     match disk.write(i, block) {
         Ok(()) => {}
@@ -62,7 +65,8 @@ fn three(alloc: Global) -> Result<MemDisk, DeviceError>
     Ok(disk)
 }
 
-/// A crash with these picks leaves these bytes, uses so many picks, and leaves no choice. `None`: memory was refused.
+/// A crash with these picks leaves these bytes, uses so many picks, and leaves no choice. `None`:
+/// memory was refused.
 fn crashes_so(
     rt: &impl Abort,
     alloc: Global,
@@ -196,7 +200,8 @@ fn a_failed_write_reaches_the_device(rt: HostRuntime) {
     );
 }
 
-/// The last block of a large device is written, and a block of zeros is read. `None`: memory was refused.
+/// The last block of a large device is written, and a block of zeros is read. `None`: memory was
+/// refused.
 fn holds_zeros(rt: &impl Abort, alloc: Global) -> Option<()> {
     let mut disk = MemDisk::new(alloc, 4_194_304);
     assert_eq!(rt; disk.blocks(), 4_194_304);
@@ -234,7 +239,8 @@ fn a_write_without_memory(rt: HostRuntime) -> Result<(), Fail> {
     Ok(())
 }
 
-/// A file keeps what was written, synced or not, until it is opened again. `None`: memory was refused.
+/// A file keeps what was written, synced or not, until it is opened again. `None`: memory was
+/// refused.
 fn keeps_in_a_file<R: Abort + AllocGlobal + Files<File = File>>(rt: &R) -> Option<()> {
     let path = "device.blk";
     let mut disk = FileDisk::create(rt, path, 3).ok()?;

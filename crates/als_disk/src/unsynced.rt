@@ -1,4 +1,5 @@
-ghost use Rattle.std.specs.Prelude.{◌≡◌, ℕ, List, [], ◌∷◌, ◌++◌, unwrap_or, OnOk, OnErr, option_map};
+ghost use Rattle.std.specs.Prelude.{◌≡◌, ℕ, List, [], ◌∷◌, ◌++◌, unwrap_or, OnOk, OnErr};
+ghost use Rattle.std.specs.Prelude.{option_map};
 ghost use Rattle.als_disk.specs.Crash.{picked};
 
 use std::alloc::{AllocError, Global};
@@ -36,7 +37,8 @@ impl Unsynced {
 
     /// The content that a crash leaves by this pick, or `None` for the one from before them.
     pub(crate) fn pick(&self, pick: u8) -> Option<[u8; 512]>
-        ensures { (synced : List ℕ) → unwrap_or result synced ≡ picked (synced ∷ contents self.now) pick }
+        ensures { (synced : List ℕ) → unwrap_or result synced
+            ≡ picked (synced ∷ contents self.now) pick }
     {
         let at = usize::from(pick).checked_sub(1)?;
         Some(*self.earlier.get(at).unwrap_or(&self.last))

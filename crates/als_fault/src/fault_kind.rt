@@ -3,8 +3,8 @@ ghost use Rattle.als_fault.specs.Kinds.{number_of, name_of, carried_of, text_of}
 
 use std::fmt;
 
-/// Each way in which a call is refused: the one list of the numbers and names that all crates and programs share. The fault
-/// of a crate says which of them it is.
+/// Each way in which a call is refused: the one list of the numbers and names that all crates and
+/// programs share. The fault of a crate says which of them it is.
 #[derive(Clone, Copy, Debug, PartialEq, Eq)]
 pub enum FaultKind {
     /// The header of a log or of a session is damaged, or it is of another database.

@@ -19,8 +19,9 @@ use std::rt::Files;
 
 /// The folder of a standby, held for this program alone until the value is dropped.
 ///
-/// A new database is laid out without its control.blk: the caller formats it, and then `keep` gives the
-/// file its name. So a stop in between leaves a folder with no control.blk, which is laid out again.
+/// A new database is laid out without its control.blk: the caller formats it, and then `keep` gives
+/// the file its name. So a stop in between leaves a folder with no control.blk, which is laid out
+/// again.
 #[derive(Drop)]
 pub struct Folder {
     path: PathBuf,
@@ -31,7 +32,8 @@ pub struct Folder {
 impl Folder {
     /// Takes a folder, which is there, for this program alone.
     ///
-    /// Busy: another program has it. Device: it can't be opened. Memory: there was none for its name.
+    /// Busy: another program has it. Device: it can't be opened. Memory: there was none for its
+    /// name.
     pub fn hold<R: Files<File = File> + AllocGlobal, P: AsPath>(
         rt: &R,
         path: P,
@@ -94,9 +96,11 @@ impl Folder {
         })
     }
 
-    /// Makes devices of zeros for a new database, which there is not before `keep`. A database that is there stays.
+    /// Makes devices of zeros for a new database, which there is not before `keep`. A database that
+    /// is there stays.
     ///
-    /// Device: there is a database, a file failed, or it would be too long. Memory: there was none for a name.
+    /// Device: there is a database, a file failed, or it would be too long. Memory: there was none
+    /// for a name.
     pub fn lay_out<R: Files<File = File> + AllocGlobal>(
         &self,
         rt: &R,
@@ -116,9 +120,11 @@ impl Folder {
         Ok(devices)
     }
 
-    /// Makes what was laid out, and then formatted and synced, the database of this folder, and makes that last.
+    /// Makes what was laid out, and then formatted and synced, the database of this folder, and
+    /// makes that last.
     ///
-    /// Device: the folder failed, and there may or may not be a database. Memory: there was none for a name.
+    /// Device: the folder failed, and there may or may not be a database. Memory: there was none
+    /// for a name.
     pub fn keep<R: Files<File = File> + AllocGlobal>(&self, rt: &R) -> Result<(), Fault>
         ensures fails { IfErr result IsOfLayout }
     {

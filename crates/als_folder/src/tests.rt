@@ -53,7 +53,8 @@ fn lay_out<R: Files<File = File> + AllocGlobal>(
     fill(&mut devices.pages, bytes[2]).ok()
 }
 
-/// A folder is held once, laid out twice, kept, and opened by the next program. `None`: memory was refused.
+/// A folder is held once, laid out twice, kept, and opened by the next program. `None`: memory was
+/// refused.
 fn goes_its_way<R: Abort + AllocGlobal + Files<File = File>>(rt: &R) -> Option<()> {
     let folder = Folder::hold(rt, "standby").ok()?;
     assert!(rt;

@@ -10,7 +10,8 @@ pub struct Trouble {
     pub wrong: Wrong,
 }
 
-/// What can be wrong with a part of a folder. The folder tells of its files; those who read them tell of what they hold.
+/// What can be wrong with a part of a folder. The folder tells of its files; those who read them
+/// tell of what they hold.
 #[derive(Clone, Copy, Debug, PartialEq, Eq)]
 pub enum Wrong {
     /// It is not there.

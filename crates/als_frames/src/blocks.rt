@@ -32,7 +32,8 @@ pub(crate) fn read_page<D: BlockDisk>(disk: &mut D, page: u32) -> Result<Page, F
     ensures number { IfOk result (λ found. id_of found ≡ page) }
     ensures ok { IfOk result (λ found. IsFound (D.slot disk.old page) page (state_of found)) }
     ensures done { OnOk result (D.failures disk.new ≡ D.failures disk.old) }
-    ensures err { IfErr result (λ e. FailsToRead e (D.slot disk.old page) page (D.failures disk.old) (D.failures disk.new)) }
+    ensures err { IfErr result (λ e. FailsToRead e (D.slot disk.old page) page (D.failures disk.old)
+        (D.failures disk.new)) }
     ensures same { SameBlocks (D.slot disk.old) (D.slot disk.new) }
     ensures count { D.block_count disk.new ≡ D.block_count disk.old }
     ensures attempts { D.attempts disk.new ≡ D.attempts disk.old }
@@ -48,8 +49,11 @@ pub(crate) fn read_page<D: BlockDisk>(disk: &mut D, page: u32) -> Result<Page, F
 /// Writes a page to the block of its number.
 pub(crate) fn write_page<D: BlockDisk>(disk: &mut D, page: &Page) -> Result<(), DeviceError>
     requires { id_of page.now < D.block_count disk.old }
-    ensures ok { OnOk result (D.slot disk.new (id_of page.now) ≡ written (D.slot disk.old (id_of page.now)) (block_of (id_of page.now) (state_of page.now))) }
-    ensures err { OnErr result (FailsToWrite (D.slot disk.old (id_of page.now)) (D.slot disk.new (id_of page.now)) (block_of (id_of page.now) (state_of page.now))) }
+    ensures ok { OnOk result (D.slot disk.new (id_of page.now)
+        ≡ written (D.slot disk.old (id_of page.now))
+        (block_of (id_of page.now) (state_of page.now))) }
+    ensures err { OnErr result (FailsToWrite (D.slot disk.old (id_of page.now))
+        (D.slot disk.new (id_of page.now)) (block_of (id_of page.now) (state_of page.now))) }
     ensures others { SameBlocksBut (id_of page.now) (D.slot disk.old) (D.slot disk.new) }
     ensures count { D.block_count disk.new ≡ D.block_count disk.old }
     ensures failures { CountsFailure result (D.failures disk.old) (D.failures disk.new) }

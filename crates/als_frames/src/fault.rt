@@ -1,6 +1,8 @@
 ghost use Rattle.std.specs.Prelude.{◌≡◌, Some};
 ghost use Rattle.als_fault.specs.Kinds.{number_of, name_of, text_of};
-ghost use Rattle.als_frames.specs.declared.fault.Fault.TheVariants.{Device as DeviceFailed, Memory as OutOfMemory, BadPage as IsBadPage};
+ghost use Rattle.als_frames.specs.declared.fault.Fault.TheVariants.{Device as DeviceFailed};
+ghost use Rattle.als_frames.specs.declared.fault.Fault.TheVariants.{Memory as OutOfMemory};
+ghost use Rattle.als_frames.specs.declared.fault.Fault.TheVariants.{BadPage as IsBadPage};
 ghost use Rattle.als_frames.specs.FaultNames.{kind_of};
 
 use als_disk::DeviceError;

@@ -23,7 +23,12 @@ impl Model for Frame {
 
     ghost Value = { Framed };
 
-    ghost view = { λ f. record { id = id_of f.page; content = state_of f.page; written = f.written.0; synced = f.synced.0 } };
+    ghost view = { λ f. record {
+      id = id_of f.page;
+      content = state_of f.page;
+      written = f.written.0;
+      synced = f.synced.0;
+    } };
 }
 
 impl Frame {

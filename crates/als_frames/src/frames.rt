@@ -1,17 +1,22 @@
-ghost use Rattle.std.specs.Prelude.{List, ◌++◌, Contains, IsTrue, ◌≡◌, ◌<◌, ◌≤◌, ◌+◌, ℕ, [], IsSome, IsOk, IfSome, IfOk, IfErr, OnOk, OnErr, Some, None, option_map, ◌↔◌};
+ghost use Rattle.std.specs.Prelude.{List, ◌++◌, Contains, IsTrue, ◌≡◌, ◌<◌, ◌≤◌, ◌+◌, ℕ, []};
+ghost use Rattle.std.specs.Prelude.{IsSome, IsOk, IfSome, IfOk, IfErr, OnOk, OnErr, Some, None};
+ghost use Rattle.std.specs.Prelude.{option_map, ◌↔◌};
 ghost use Rattle.std.specs.Result.{IsErrOf};
 ghost use Rattle.als_disk.specs.Slot.{only};
 ghost use Rattle.als_disk.specs.Store.{zeros};
 ghost use Rattle.als_page.specs.Page.{id_of, state_of};
-ghost use Rattle.als_frames.specs.declared.fault.Fault.TheVariants.{PoolFull as IsPoolFull, Memory as OutOfMemory};
-ghost use Rattle.als_frames.specs.Frames.{Framed, Paged, IsPaged, frame_of, slot_of, without_frames};
+ghost use Rattle.als_frames.specs.declared.fault.Fault.TheVariants.{PoolFull as IsPoolFull};
+ghost use Rattle.als_frames.specs.declared.fault.Fault.TheVariants.{Memory as OutOfMemory};
+ghost use Rattle.als_frames.specs.Frames.{Framed, Paged, IsPaged, frame_of, slot_of};
+ghost use Rattle.als_frames.specs.Frames.{without_frames};
 ghost use Rattle.als_frames.specs.Batch.{CanRedo, Redoes};
 ghost use Rattle.als_record.specs.declared.change.Change.{Change as AnyChange};
 ghost use Rattle.als_record.specs.declared.record.Record.{Record as AnyRecord};
 ghost use Rattle.als_record.specs.LogText.{end_of, IsLog};
 ghost use Rattle.als_record.specs.Pages.{page_at, changes_above};
 ghost use Rattle.als_frames.specs.Images.{AreFramesOf, IsStoredAt, IsImageOf, written_or};
-ghost use Rattle.als_frames.specs.Outcomes.{IsFull, IsFetched, RefusesFetch, PutsIn, IsFound, RefusesReading, Writes, RefusesWrite, Syncs, SyncFails};
+ghost use Rattle.als_frames.specs.Outcomes.{IsFull, IsFetched, RefusesFetch, PutsIn, IsFound};
+ghost use Rattle.als_frames.specs.Outcomes.{RefusesReading, Writes, RefusesWrite, Syncs, SyncFails};
 
 use crate::fault::Fault;
 use crate::frame::Frame;
@@ -26,17 +31,20 @@ use indexmap::IndexMap;
 use std::alloc::Global;
 use std::marker::Model;
 
-/// The pages of a database on a block device, page p in block p, and some of them in memory in frames.
+/// The pages of a database on a block device, page p in block p, and some of them in memory in
+/// frames.
 ///
-/// A page that is changed has a frame. Its image reaches the device by a write, and is certain to survive a crash from the
-/// next sync on. A frame is free where its page is the image last synced; free frames alone are taken from their pages.
+/// A page that is changed has a frame. Its image reaches the device by a write, and is certain to
+/// survive a crash from the next sync on. A frame is free where its page is the image last synced;
+/// free frames alone are taken from their pages.
 #[derive(Drop)]
 pub struct Frames<D: BlockDisk> {
     disk: D,
     pages: u32,
     most: usize,
     frames: IndexMap<u32, Frame>,
-    // How many of them, in their order, were written since the last sync, and how many are not free.
+    // How many of them, in their order, were written since the last sync, and how many are not
+    // free.
     zones: Zones,
     // For how many more frames there is room with no memory, at least.
     room: usize,
@@ -67,12 +75,14 @@ impl<D: BlockDisk> Model for Frames<D> {
       spare = f.room;
     } };
 
-    ghost invariant = { λ f. IsHeld f.pages f.most (D.block_count f.disk) f.frames.entries f.zones f.room (spare f.frames) };
+    ghost invariant = { λ f. IsHeld f.pages f.most
+        (D.block_count f.disk) f.frames.entries f.zones f.room (spare f.frames) };
 }
 
 impl<D: BlockDisk> Frames<D> {
-    /// Lays out a device as a database of so many empty pages, of which at most `most` can be in memory: writes the block of
-    /// the empty page to the block of each page, and syncs. It takes no memory. The device comes back with a fault.
+    /// Lays out a device as a database of so many empty pages, of which at most `most` can be in
+    /// memory: writes the block of the empty page to the block of each page, and syncs. It takes no
+    /// memory. The device comes back with a fault.
     ///
     /// `Device`: the device failed.
     pub fn format(
@@ -82,9 +92,12 @@ impl<D: BlockDisk> Frames<D> {
         most: usize,
     ) -> Result<Frames<D>, Unformatted<D>>
         requires { pages ≤ D.block_count disk }
-        ensures ok { IfOk result (λ f. f.paged ≡ without_frames pages most (λ _. only zeros) (D.block_count disk) (D.failures disk) (D.attempts disk + pages + 1)) }
+        ensures ok { IfOk result (λ f. f.paged
+            ≡ without_frames pages most (λ _. only zeros) (D.block_count disk) (D.failures disk)
+            (D.attempts disk + pages + 1)) }
         ensures keeps { IfOk result (λ f. (below : ℕ) → AreFramesOf [] (λ _. 0) below f.paged) }
-        ensures err { IfErr result (λ u. (u.fault ≡ Fault.Device) × (D.failures disk < D.failures u.disk) × (D.block_count u.disk ≡ D.block_count disk)) }
+        ensures err { IfErr result (λ u. (u.fault ≡ Fault.Device)
+            × (D.failures disk < D.failures u.disk) × (D.block_count u.disk ≡ D.block_count disk)) }
     {
         let mut disk = disk;
         match blocks::lay_out(&mut disk, pages) {
@@ -96,13 +109,16 @@ impl<D: BlockDisk> Frames<D> {
         }
     }
 
-    /// The pages of a database that was laid out before, none of them resident. It neither reads nor takes memory.
+    /// The pages of a database that was laid out before, none of them resident. It neither reads
+    /// nor takes memory.
     pub fn open(alloc: Global, disk: D, pages: u32, most: usize) -> Frames<D>
         requires { pages ≤ D.block_count disk }
-        ensures shows { result.paged ≡ without_frames pages most (D.slot disk) (D.block_count disk) (D.failures disk) (D.attempts disk) }
+        ensures shows { result.paged ≡ without_frames pages most (D.slot disk) (D.block_count disk)
+            (D.failures disk) (D.attempts disk) }
         // For every log of whose pages each block has one stable image, the pages are that log's.
         ensures keeps { (log : List AnyRecord) (synced : ℕ → ℕ) (below : ℕ) → IsLog pages log
-            → ((page : ℕ) → page < pages → IsStoredAt log page below (synced page) (D.slot disk page))
+            → ((page : ℕ) → page < pages
+            → IsStoredAt log page below (synced page) (D.slot disk page))
             → AreFramesOf log synced below result.paged }
     {
         Frames {
@@ -122,10 +138,12 @@ impl<D: BlockDisk> Frames<D> {
 
     /// The page, if it is resident.
     pub fn frame(&self, page: u32) -> Option<&Page>
-        ensures content { option_map (λ p. state_of p.now) result ≡ option_map (λ f. f.content) (frame_of self.now.paged page) }
+        ensures content { option_map (λ p. state_of p.now) result
+            ≡ option_map (λ f. f.content) (frame_of self.now.paged page) }
         ensures number { IfSome result (λ p. id_of p.now ≡ page) }
         // For every log that the pages are of, it is history repeated up to its page_LSN.
-        ensures history { IfSome result (λ p. (log : List AnyRecord) (synced : ℕ → ℕ) (below : ℕ) → AreFramesOf log synced below self.now.paged
+        ensures history { IfSome result (λ p. (log : List AnyRecord) (synced : ℕ → ℕ) (below : ℕ)
+            → AreFramesOf log synced below self.now.paged
             → state_of p.now ≡ page_at log page (state_of p.now).lsn) }
     {
         let frame = self.frames.get(&page)?;
@@ -134,9 +152,12 @@ impl<D: BlockDisk> Frames<D> {
 
     /// The page_LSNs of the page, if it is resident.
     pub fn lsns(&self, page: u32) -> Option<Lsns>
-        ensures now { option_map (λ l. l.now.0) result ≡ option_map (λ f. f.content.lsn) (frame_of self.now.paged page) }
-        ensures written { option_map (λ l. l.written.0) result ≡ option_map (λ f. f.written) (frame_of self.now.paged page) }
-        ensures synced { option_map (λ l. l.synced.0) result ≡ option_map (λ f. f.synced) (frame_of self.now.paged page) }
+        ensures now { option_map (λ l. l.now.0) result
+            ≡ option_map (λ f. f.content.lsn) (frame_of self.now.paged page) }
+        ensures written { option_map (λ l. l.written.0) result
+            ≡ option_map (λ f. f.written) (frame_of self.now.paged page) }
+        ensures synced { option_map (λ l. l.synced.0) result
+            ≡ option_map (λ f. f.synced) (frame_of self.now.paged page) }
     {
         let frame = self.frames.get(&page)?;
         Some(frame.lsns())
@@ -157,10 +178,11 @@ impl<D: BlockDisk> Frames<D> {
         self.frames.contains_key(&page)
     }
 
-    /// Reads a page that has no frame, for `put`, and changes no frame. `end` is the end of the log.
+    /// Reads a page that has no frame, for `put`, and changes no frame. `end` is the end of the
+    /// log.
     ///
-    /// `PoolFull`: all frames are used, and none is free. `Device`: the device failed. `BadPage`: the block is not that of
-    /// this page with a page_LSN below `end`. They come in this order.
+    /// `PoolFull`: all frames are used, and none is free. `Device`: the device failed. `BadPage`:
+    /// the block is not that of this page with a page_LSN below `end`. They come in this order.
     pub fn fetch(&mut self, page: u32, end: Lsn) -> Result<Page, Fault>
         requires in_range { page < self.old.paged.pages }
         requires absent { frame_of self.old.paged page ≡ None }
@@ -170,18 +192,23 @@ impl<D: BlockDisk> Frames<D> {
         ensures spare { self.new.spare ≡ self.old.spare }
         ensures err { IfErr result (λ e. RefusesFetch e self.old.paged self.new.paged page end.0) }
         ensures full { IsFull self.old.paged page → IsErrOf result IsPoolFull }
-        // For every log that the pages are of, they stay so, and the page that is found is the log's.
-        ensures keeps { (log : List AnyRecord) (synced : ℕ → ℕ) (below : ℕ) → AreFramesOf log synced below self.old.paged
+        // For every log that the pages are of, they stay so, and the page that is found is the
+        // log's.
+        ensures keeps { (log : List AnyRecord) (synced : ℕ → ℕ) (below : ℕ)
+            → AreFramesOf log synced below self.old.paged
             → AreFramesOf log synced below self.new.paged }
-        ensures history { IfOk result (λ found. (log : List AnyRecord) (synced : ℕ → ℕ) (below : ℕ) → AreFramesOf log synced below self.old.paged
+        ensures history { IfOk result (λ found. (log : List AnyRecord) (synced : ℕ → ℕ) (below : ℕ)
+            → AreFramesOf log synced below self.old.paged
             → state_of found ≡ page_at log page (synced page)) }
-        ensures sound { (log : List AnyRecord) (synced : ℕ → ℕ) (below : ℕ) → AreFramesOf log synced below self.old.paged
+        ensures sound { (log : List AnyRecord) (synced : ℕ → ℕ) (below : ℕ)
+            → AreFramesOf log synced below self.old.paged
             → end_of log ≤ end.0 → IsErrOf result (Fault.BadPage page) → ⊥ }
     {
         self.fetch_in(page, end)
     }
 
-    /// Makes room for one more frame: the next `put` takes no memory. An `Err` (Memory) changes nothing but the room.
+    /// Makes room for one more frame: the next `put` takes no memory. An `Err` (Memory) changes
+    /// nothing but the room.
     pub fn reserve(&mut self) -> Result<(), Fault>
         ensures same { self.new.paged ≡ self.old.paged }
         ensures ok { OnOk result (0 < self.new.spare) }
@@ -193,8 +220,8 @@ impl<D: BlockDisk> Frames<D> {
         Ok(())
     }
 
-    /// Makes a page resident that has no frame, as its block has it: in a new frame, or else in a free one, which its page loses.
-    /// It takes no memory and always succeeds.
+    /// Makes a page resident that has no frame, as its block has it: in a new frame, or else in a
+    /// free one, which its page loses. It takes no memory and always succeeds.
     pub fn put(&mut self, found: Page)
         requires in_range { id_of found < self.old.paged.pages }
         requires absent { frame_of self.old.paged (id_of found) ≡ None }
@@ -202,42 +229,52 @@ impl<D: BlockDisk> Frames<D> {
         requires room { 0 < self.old.spare }
         ensures puts { PutsIn self.old.paged self.new.paged (id_of found) (state_of found) }
         // For every log that the pages are of, they stay so, where the page is the log's.
-        ensures keeps { (log : List AnyRecord) (synced : ℕ → ℕ) (below : ℕ) → state_of found ≡ page_at log (id_of found) (synced (id_of found))
-            → AreFramesOf log synced below self.old.paged → AreFramesOf log synced below self.new.paged }
+        ensures keeps { (log : List AnyRecord) (synced : ℕ → ℕ) (below : ℕ)
+            → state_of found ≡ page_at log (id_of found) (synced (id_of found))
+            → AreFramesOf log synced below self.old.paged
+            → AreFramesOf log synced below self.new.paged }
     {
         self.put_in(found);
     }
 
-    /// Redoes changes of a resident page, one after another. It takes no memory and always succeeds.
+    /// Redoes changes of a resident page, one after another. It takes no memory and always
+    /// succeeds.
     pub fn redo(&mut self, page: u32, changes: &[Change])
         requires { CanRedo self.old.paged page changes.now }
         ensures redoes { Redoes self.old.paged self.new.paged page changes.now }
         ensures spare { self.new.spare ≡ self.old.spare }
-        // For every log that the pages are of, they stay so, where the changes are the page's next ones in the log.
+        // For every log that the pages are of, they stay so, where the changes are the page's next
+        // ones in the log.
         ensures keeps { (log : List AnyRecord) (synced : ℕ → ℕ) (below : ℕ) (rest : List AnyChange)
-            → ((f : Framed) → frame_of self.old.paged page ≡ Some f → changes_above log page f.content.lsn ≡ changes.now ++ rest)
-            → AreFramesOf log synced below self.old.paged → AreFramesOf log synced below self.new.paged }
+            → ((f : Framed) → frame_of self.old.paged page ≡ Some f
+            → changes_above log page f.content.lsn ≡ changes.now ++ rest)
+            → AreFramesOf log synced below self.old.paged
+            → AreFramesOf log synced below self.new.paged }
     {
         self.redo_in(page, changes);
     }
 
     /// Writes a resident page to its block, by one write of the device. It takes no memory.
     ///
-    /// `NothingToDo`: the page is not resident, or its image last written is the page as it is now; the device is not called.
-    /// `Device`: the device failed, and the image may have been written or not.
+    /// `NothingToDo`: the page is not resident, or its image last written is the page as it is now;
+    /// the device is not called. `Device`: the device failed, and the image may have been written
+    /// or not.
     pub fn write(&mut self, page: u32) -> Result<(), Fault>
         ensures ok { OnOk result (Writes self.old.paged self.new.paged page) }
         ensures spare { self.new.spare ≡ self.old.spare }
         ensures err { IfErr result (λ e. RefusesWrite e self.old.paged self.new.paged page) }
-        // For every log that the pages are of, they stay so, where the log up to the page's page_LSN survives each crash.
+        // For every log that the pages are of, they stay so, where the log up to the page's
+        // page_LSN survives each crash.
         ensures keeps { (log : List AnyRecord) (synced : ℕ → ℕ) (below : ℕ)
             → ((f : Framed) → frame_of self.old.paged page ≡ Some f → f.content.lsn < below)
-            → AreFramesOf log synced below self.old.paged → AreFramesOf log synced below self.new.paged }
+            → AreFramesOf log synced below self.old.paged
+            → AreFramesOf log synced below self.new.paged }
     {
         self.write_out(page)
     }
 
-    /// Makes the images that were written certain to survive a crash, by one sync of the device. It takes no memory.
+    /// Makes the images that were written certain to survive a crash, by one sync of the device. It
+    /// takes no memory.
     ///
     /// `Device`: the device failed, and no page has changed.
     pub fn sync(&mut self) -> Result<(), Fault>
@@ -245,32 +282,43 @@ impl<D: BlockDisk> Frames<D> {
         ensures spare { self.old.spare ≤ self.new.spare }
         ensures fault { IfErr result (λ e. e ≡ Fault.Device) }
         ensures err { OnErr result (SyncFails self.old.paged self.new.paged) }
-        // For every log that the pages are of, they stay so: with the images last written as those last synced, unless a
-        // write has failed.
-        ensures keeps { OnOk result ((log : List AnyRecord) (synced : ℕ → ℕ) (below : ℕ) → IsTrue self.old.paged.sure
-            → AreFramesOf log synced below self.old.paged → AreFramesOf log (λ page. written_or (frame_of self.old.paged page) (synced page)) below self.new.paged) }
+        // For every log that the pages are of, they stay so: with the images last written as those
+        // last synced, unless a write has failed.
+        ensures keeps { OnOk result ((log : List AnyRecord) (synced : ℕ → ℕ) (below : ℕ)
+            → IsTrue self.old.paged.sure
+            → AreFramesOf log synced below self.old.paged
+            → AreFramesOf log (λ page. written_or (frame_of self.old.paged page) (synced page))
+            below self.new.paged) }
         ensures keeps_err { OnErr result ((log : List AnyRecord) (synced : ℕ → ℕ) (below : ℕ)
-            → AreFramesOf log synced below self.old.paged → AreFramesOf log synced below self.new.paged) }
+            → AreFramesOf log synced below self.old.paged
+            → AreFramesOf log synced below self.new.paged) }
     {
         self.sync_all()
     }
 
-    /// The page that a page with no frame has in its block. It takes no memory, and the page does not become resident.
+    /// The page that a page with no frame has in its block. It takes no memory, and the page does
+    /// not become resident.
     ///
     /// `Device`: the device failed. `BadPage`: the block is not that of this page.
     pub fn stored(&mut self, page: u32) -> Result<Page, Fault>
         requires { page < self.old.paged.pages }
         ensures number { IfOk result (λ found. id_of found ≡ page) }
-        ensures ok { IfOk result (λ found. IsFound (slot_of self.old.paged page) page (state_of found)) }
+        ensures ok { IfOk result (λ found. IsFound (slot_of self.old.paged page) page
+            (state_of found)) }
         ensures same { OnOk result (self.new ≡ self.old) }
         ensures spare { self.new.spare ≡ self.old.spare }
         ensures err { IfErr result (λ e. RefusesReading e self.old.paged self.new.paged page) }
-        // For every log that the pages are of, they stay so, and the page that is found is the log's.
-        ensures keeps { (log : List AnyRecord) (synced : ℕ → ℕ) (below : ℕ) → AreFramesOf log synced below self.old.paged
+        // For every log that the pages are of, they stay so, and the page that is found is the
+        // log's.
+        ensures keeps { (log : List AnyRecord) (synced : ℕ → ℕ) (below : ℕ)
+            → AreFramesOf log synced below self.old.paged
             → AreFramesOf log synced below self.new.paged }
-        ensures history { IfOk result (λ found. (log : List AnyRecord) (synced : ℕ → ℕ) (below : ℕ) → AreFramesOf log synced below self.old.paged
-            → frame_of self.old.paged page ≡ None → state_of found ≡ page_at log page (synced page)) }
-        ensures sound { (log : List AnyRecord) (synced : ℕ → ℕ) (below : ℕ) → AreFramesOf log synced below self.old.paged
+        ensures history { IfOk result (λ found. (log : List AnyRecord) (synced : ℕ → ℕ) (below : ℕ)
+            → AreFramesOf log synced below self.old.paged
+            → frame_of self.old.paged page ≡ None
+            → state_of found ≡ page_at log page (synced page)) }
+        ensures sound { (log : List AnyRecord) (synced : ℕ → ℕ) (below : ℕ)
+            → AreFramesOf log synced below self.old.paged
             → frame_of self.old.paged page ≡ None → IsErrOf result (Fault.BadPage page) → ⊥ }
     {
         self.read_stored(page)
@@ -278,21 +326,26 @@ impl<D: BlockDisk> Frames<D> {
 
     /// The device, with what stands in the block of each page.
     pub fn into_disk(self) -> D
-        ensures slots { (page : ℕ) → page < self.paged.pages → D.slot result page ≡ slot_of self.paged page }
+        ensures slots { (page : ℕ) → page < self.paged.pages
+            → D.slot result page ≡ slot_of self.paged page }
         ensures count { D.block_count result ≡ self.paged.blocks }
         ensures failures { D.failures result ≡ self.paged.failures }
         ensures attempts { D.attempts result ≡ self.paged.attempts }
         ensures facts { IsPaged self.paged }
-        // For every log that the pages are of: whatever a crash leaves in a page's block is a stable image of it.
-        ensures images { (log : List AnyRecord) (synced : ℕ → ℕ) (below : ℕ) → AreFramesOf log synced below self.paged
-            → (page : ℕ) (content : List ℕ) → page < self.paged.pages → Contains (D.slot result page).candidates content
+        // For every log that the pages are of: whatever a crash leaves in a page's block is a
+        // stable image of it.
+        ensures images { (log : List AnyRecord) (synced : ℕ → ℕ) (below : ℕ)
+            → AreFramesOf log synced below self.paged
+            → (page : ℕ) (content : List ℕ) → page < self.paged.pages
+            → Contains (D.slot result page).candidates content
             → IsImageOf log page below (synced page) content }
     {
         let Frames { disk, .. } = self;
         disk
     }
 
-    // The private twins below carry what a call does; what it keeps for every log follows from that at the public call.
+    // The private twins below carry what a call does; what it keeps for every log follows from that
+    // at the public call.
     fn fetch_in(&mut self, page: u32, end: Lsn) -> Result<Page, Fault>
         requires in_range { page < self.old.paged.pages }
         requires absent { frame_of self.old.paged page ≡ None }
@@ -375,7 +428,8 @@ impl<D: BlockDisk> Frames<D> {
     fn read_stored(&mut self, page: u32) -> Result<Page, Fault>
         requires { page < self.old.paged.pages }
         ensures number { IfOk result (λ found. id_of found ≡ page) }
-        ensures ok { IfOk result (λ found. IsFound (slot_of self.old.paged page) page (state_of found)) }
+        ensures ok { IfOk result (λ found. IsFound (slot_of self.old.paged page) page
+            (state_of found)) }
         ensures same { OnOk result (self.new ≡ self.old) }
         ensures spare { self.new.spare ≡ self.old.spare }
         ensures err { IfErr result (λ e. RefusesReading e self.old.paged self.new.paged page) }

@@ -1,12 +1,15 @@
 // The frames, by the numbers of their pages.
-ghost use Rattle.std.specs.Prelude.{◌≡◌, ◌<◌, ◌≤◌, ◌+◌, ◌++◌, ◌∷◌, ℕ, min, [], length, slice_get, nat_eq, Some, None, IfSome, IfNone, IfOk, IfErr, IsSomeAnd, IsTrue, ◌↔◌, true};
+ghost use Rattle.std.specs.Prelude.{◌≡◌, ◌<◌, ◌≤◌, ◌+◌, ◌++◌, ◌∷◌, ℕ, min, [], length, slice_get};
+ghost use Rattle.std.specs.Prelude.{nat_eq, Some, None, IfSome, IfNone, IfOk, IfErr, IsSomeAnd};
+ghost use Rattle.std.specs.Prelude.{IsTrue, ◌↔◌, true};
 ghost use Rattle.std.specs.Map.{lookup};
 ghost use Rattle.std.specs.Option.{option_map};
 ghost use Rattle.indexmap.specs.IndexMap.{index_map_len, spare, get};
 ghost use Rattle.als_frames.specs.Frames.{Framed};
 ghost use Rattle.als_frames.specs.Outcomes.{synced_frame};
 ghost use Rattle.als_frames.specs.Batch.{AreNext, redone_frame};
-ghost use Rattle.als_frames.specs.Table.{IsFreeAt, NoneIsFree, IsPlace, Puts, Replaces, written_frame, IsFresh};
+ghost use Rattle.als_frames.specs.Table.{IsFreeAt, NoneIsFree, IsPlace, Puts, Replaces};
+ghost use Rattle.als_frames.specs.Table.{written_frame, IsFresh};
 ghost use Rattle.als_frames.specs.Zones.{AreZoned, IsFrameAt, SetsAt, Swaps};
 
 use crate::fault::Fault;
@@ -28,8 +31,8 @@ fn is_free_at(frames: &Table, i: usize) -> bool
     }
 }
 
-/// Where one more frame can go: `None` beside the others, or else in the place of a free one, that at `hand` if it is free. It looks at
-/// no frame.
+/// Where one more frame can go: `None` beside the others, or else in the place of a free one, that
+/// at `hand` if it is free. It looks at no frame.
 ///
 /// `PoolFull`: as many frames as there may be are used, and none is free.
 pub(crate) fn place(
@@ -40,7 +43,8 @@ pub(crate) fn place(
 ) -> Result<Option<usize>, Fault>
     requires { AreZoned zones frames.now.entries }
     ensures ok { IfOk result (λ place. IsPlace frames.now.entries most place) }
-    ensures err { IfErr result (λ e. (e ≡ Fault.PoolFull) × (most ≤ index_map_len frames.now) × NoneIsFree frames.now.entries) }
+    ensures err { IfErr result (λ e. (e ≡ Fault.PoolFull) × (most ≤ index_map_len frames.now)
+        × NoneIsFree frames.now.entries) }
 {
     let len = frames.len();
     if len < most {
@@ -102,7 +106,8 @@ pub(crate) fn put(
     requires few { index_map_len frames.old ≤ most }
     requires fresh { IsFresh frame }
     ensures replaces { Replaces frames.old.entries frames.new.entries page frame }
-    ensures free { index_map_len frames.old < most → Puts frames.old.entries frames.new.entries page frame }
+    ensures free { index_map_len frames.old < most
+        → Puts frames.old.entries frames.new.entries page frame }
     ensures len { index_map_len frames.new ≡ min (index_map_len frames.old + 1) most }
     ensures room { spare frames.old ≤ spare frames.new + 1 }
     ensures zoned { AreZoned zones frames.new.entries }
@@ -134,8 +139,10 @@ fn swap(frames: &mut Table, a: usize, b: usize)
 
 // Redoes changes of the page at a place.
 fn redo_at(frames: &mut Table, i: usize, changes: &[Change])
-    requires next { IsSomeAnd (slice_get frames.old.entries i) (λ e. AreNext e.1.id e.1.content.lsn changes.now) }
-    ensures sets { (page : ℕ) (f : Framed) → slice_get frames.old.entries i ≡ Some (page, f) → SetsAt frames.old.entries frames.new.entries i page (redone_frame f changes.now) }
+    requires next { IsSomeAnd (slice_get frames.old.entries i)
+        (λ e. AreNext e.1.id e.1.content.lsn changes.now) }
+    ensures sets { (page : ℕ) (f : Framed) → slice_get frames.old.entries i ≡ Some (page, f)
+        → SetsAt frames.old.entries frames.new.entries i page (redone_frame f changes.now) }
     ensures room { spare frames.new ≡ spare frames.old }
 {
     match frames.get_index_mut(i) {
@@ -146,7 +153,8 @@ fn redo_at(frames: &mut Table, i: usize, changes: &[Change])
 
 // Notes that the page at a place was written as it is now.
 fn note_written_at(frames: &mut Table, i: usize)
-    ensures sets { (page : ℕ) (f : Framed) → slice_get frames.old.entries i ≡ Some (page, f) → SetsAt frames.old.entries frames.new.entries i page (written_frame f) }
+    ensures sets { (page : ℕ) (f : Framed) → slice_get frames.old.entries i ≡ Some (page, f)
+        → SetsAt frames.old.entries frames.new.entries i page (written_frame f) }
     ensures room { spare frames.new ≡ spare frames.old }
 {
     match frames.get_index_mut(i) {
@@ -157,7 +165,8 @@ fn note_written_at(frames: &mut Table, i: usize)
 
 // Notes that the image last written of the page at a place was synced.
 fn note_synced_at(frames: &mut Table, i: usize)
-    ensures sets { (page : ℕ) (f : Framed) → slice_get frames.old.entries i ≡ Some (page, f) → SetsAt frames.old.entries frames.new.entries i page (synced_frame f) }
+    ensures sets { (page : ℕ) (f : Framed) → slice_get frames.old.entries i ≡ Some (page, f)
+        → SetsAt frames.old.entries frames.new.entries i page (synced_frame f) }
     ensures room { spare frames.new ≡ spare frames.old }
 {
     match frames.get_index_mut(i) {
@@ -169,8 +178,10 @@ fn note_synced_at(frames: &mut Table, i: usize)
 /// Redoes changes of a page that has a frame. It moves at most one other frame.
 pub(crate) fn redo(frames: &mut Table, zones: &mut Zones, page: u32, changes: &[Change])
     requires zoned { AreZoned zones.old frames.old.entries }
-    requires resident { IsSomeAnd (get nat_eq frames.old page) (λ f. (f.id ≡ page) × AreNext page f.content.lsn changes.now) }
-    ensures puts { (f : Framed) → get nat_eq frames.old page ≡ Some f → Puts frames.old.entries frames.new.entries page (redone_frame f changes.now) }
+    requires resident { IsSomeAnd (get nat_eq frames.old page) (λ f. (f.id ≡ page)
+        × AreNext page f.content.lsn changes.now) }
+    ensures puts { (f : Framed) → get nat_eq frames.old page ≡ Some f
+        → Puts frames.old.entries frames.new.entries page (redone_frame f changes.now) }
     ensures len { index_map_len frames.new ≡ index_map_len frames.old }
     ensures room { spare frames.old ≤ spare frames.new }
     ensures zoned { AreZoned zones.new frames.new.entries }
@@ -191,7 +202,8 @@ pub(crate) fn redo(frames: &mut Table, zones: &mut Zones, page: u32, changes: &[
 /// Notes that a page was written as it is now. It moves at most one other frame.
 pub(crate) fn note_written(frames: &mut Table, zones: &mut Zones, page: u32)
     requires zoned { AreZoned zones.old frames.old.entries }
-    ensures puts { (f : Framed) → get nat_eq frames.old page ≡ Some f → Puts frames.old.entries frames.new.entries page (written_frame f) }
+    ensures puts { (f : Framed) → get nat_eq frames.old page ≡ Some f
+        → Puts frames.old.entries frames.new.entries page (written_frame f) }
     ensures len { index_map_len frames.new ≡ index_map_len frames.old }
     ensures room { spare frames.old ≤ spare frames.new }
     ensures zoned { AreZoned zones.new frames.new.entries }
@@ -212,7 +224,8 @@ fn settle_last(frames: &mut Table, zones: &mut Zones)
     requires zoned { AreZoned zones.old frames.old.entries }
     requires some { 0 < zones.old.written }
     ensures less { zones.new.written + 1 ≡ zones.old.written }
-    ensures frames { (page : ℕ) → option_map synced_frame (get nat_eq frames.new page) ≡ option_map synced_frame (get nat_eq frames.old page) }
+    ensures frames { (page : ℕ) → option_map synced_frame (get nat_eq frames.new page)
+        ≡ option_map synced_frame (get nat_eq frames.old page) }
     ensures len { index_map_len frames.new ≡ index_map_len frames.old }
     ensures room { spare frames.old ≤ spare frames.new }
     ensures zoned { AreZoned zones.new frames.new.entries }
@@ -227,10 +240,12 @@ fn settle_last(frames: &mut Table, zones: &mut Zones)
     }
 }
 
-/// Notes that the image of each page that was written last was synced. It looks at no frame but those written since the last sync.
+/// Notes that the image of each page that was written last was synced. It looks at no frame but
+/// those written since the last sync.
 pub(crate) fn note_synced(frames: &mut Table, zones: &mut Zones)
     requires zoned { AreZoned zones.old frames.old.entries }
-    ensures frames { (page : ℕ) → get nat_eq frames.new page ≡ option_map synced_frame (get nat_eq frames.old page) }
+    ensures frames { (page : ℕ) → get nat_eq frames.new page
+        ≡ option_map synced_frame (get nat_eq frames.old page) }
     ensures len { index_map_len frames.new ≡ index_map_len frames.old }
     ensures room { spare frames.old ≤ spare frames.new }
     ensures zoned { AreZoned zones.new frames.new.entries }

@@ -1,5 +1,5 @@
-/// How the frames stand in their order: first those that were written since the last sync, then the others that are not free,
-/// then the free ones.
+/// How the frames stand in their order: first those that were written since the last sync, then the
+/// others that are not free, then the free ones.
 #[derive(Clone, Copy, Drop)]
 pub(crate) struct Zones {
     /// How many frames were written since the last sync.

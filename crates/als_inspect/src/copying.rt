@@ -8,8 +8,8 @@ use std::fs::File;
 use std::io;
 use std::os::unix::fs::FileExt;
 
-/// A device in memory with so many bytes of a file, and zeros behind them up to its last block's end. It fails where the file does or is
-/// shorter, or where there is no memory.
+/// A device in memory with so many bytes of a file, and zeros behind them up to its last block's
+/// end. It fails where the file does or is shorter, or where there is no memory.
 pub fn copy(alloc: Global, file: &File, len: u64) -> io::Result<MemDisk>
     // No block is left without a byte.
     ensures holds { IfOk result (λ disk. len ≤ 512 * mem_blocks disk) }

@@ -11,10 +11,12 @@ use std::fs::File;
 use std::io::Write;
 use std::rt::Files;
 
-/// Prints the records that are wanted of a log file, or of a standby's folder, of which the log is read as far as it is acknowledged.
+/// Prints the records that are wanted of a log file, or of a standby's folder, of which the log is
+/// read as far as it is acknowledged.
 ///
-/// Where a record is not sound, those before it are printed, and then it is refused. Stream: the file or the output failed. Folder: the folder
-/// or a file of it failed, or another program has it. Memory: there was none for the text.
+/// Where a record is not sound, those before it are printed, and then it is refused. Stream: the
+/// file or the output failed. Folder: the folder or a file of it failed, or another program has it.
+/// Memory: there was none for the text.
 pub fn dump<R: AllocGlobal + Files<File = File>, O: Write>(
     rt: &R,
     path: &str,

@@ -1,6 +1,9 @@
 ghost use Rattle.std.specs.Prelude.{◌≡◌, ◌⊎◌, Some};
 ghost use Rattle.als_fault.specs.Kinds.{number_of, name_of, text_of};
-ghost use Rattle.als_inspect.specs.declared.fault.Fault.TheVariants.{Memory as OutOfMemory, Stream as StreamFailed, Folder as OfFolder, Standby as OfStandby};
+ghost use Rattle.als_inspect.specs.declared.fault.Fault.TheVariants.{Memory as OutOfMemory};
+ghost use Rattle.als_inspect.specs.declared.fault.Fault.TheVariants.{Stream as StreamFailed};
+ghost use Rattle.als_inspect.specs.declared.fault.Fault.TheVariants.{Folder as OfFolder};
+ghost use Rattle.als_inspect.specs.declared.fault.Fault.TheVariants.{Standby as OfStandby};
 ghost use Rattle.als_inspect.specs.FaultNames.{kind_of, trouble_of};
 
 use als_engine::Fault as EngineFault;
@@ -50,7 +53,8 @@ impl Fault {
         }
     }
 
-    /// What of the folder is wrong; of a log file it tells as of the folder's log. None: nothing is known to be.
+    /// What of the folder is wrong; of a log file it tells as of the folder's log. None: nothing is
+    /// known to be.
     pub fn trouble(self) -> Option<Trouble>
         ensures { result ≡ trouble_of self }
     {

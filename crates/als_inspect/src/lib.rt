@@ -1,4 +1,5 @@
-//! What an operator asks of files that nobody writes: the records of a log, and whether a log or a standby is sound. It changes nothing.
+//! What an operator asks of files that nobody writes: the records of a log, and whether a log or a
+//! standby is sound. It changes nothing.
 #![tactic(auto)]
 
 // Why there is no answer.

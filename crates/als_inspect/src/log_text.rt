@@ -51,7 +51,8 @@ fn text_in(alloc: Global, disk: MemDisk, pages: u32, end: u64) -> Result<LogText
 
 /// The text of a log file.
 ///
-/// BadHeader: it begins with none. Stream: the file failed, or is longer than the largest log. Memory: there was none for it.
+/// BadHeader: it begins with none. Stream: the file failed, or is longer than the largest log.
+/// Memory: there was none for it.
 pub fn text_of_file<R: AllocGlobal + Files<File = File>>(
     rt: &R,
     path: &str,
@@ -71,8 +72,8 @@ pub fn text_of_file<R: AllocGlobal + Files<File = File>>(
 
 /// The text of a folder's log, as far as it is acknowledged.
 ///
-/// BadHeader: it begins with none. BadControl: nothing says how far it is acknowledged. Folder: the folder or a file of it failed, or another
-/// program has it. Memory: there was none for the text.
+/// BadHeader: it begins with none. BadControl: nothing says how far it is acknowledged. Folder: the
+/// folder or a file of it failed, or another program has it. Memory: there was none for the text.
 pub fn text_of_folder<R: AllocGlobal + Files<File = File>>(
     rt: &R,
     folder: &Folder,

@@ -5,8 +5,8 @@ use crate::fault::Fault;
 use als_disk::BlockDisk;
 use als_scan::{Fault as ScanFault, Scan};
 
-/// Reads all records, and answers how many there are. Else the first one that is none, or may not follow those before it, begins where those
-/// read end.
+/// Reads all records, and answers how many there are. Else the first one that is none, or may not
+/// follow those before it, begins where those read end.
 pub fn read_all<D: BlockDisk>(scan: &mut Scan<D>) -> Result<u64, ScanFault>
     // The whole text is that of a valid log.
     ensures whole { OnOk result (IsWhole scan.new) }

@@ -25,11 +25,12 @@ struct Found {
     pages: u32,
 }
 
-/// Tells whether a log file, or the folder of a standby, is sound. It prints `sound records=R end=E`, or `unsound lsn=L N Name`: where
-/// what is refused begins, 0 where it is no record, and why.
+/// Tells whether a log file, or the folder of a standby, is sound. It prints `sound records=R
+/// end=E`, or `unsound lsn=L N Name`: where what is refused begins, 0 where it is no record, and
+/// why.
 ///
-/// What is unsound is answered too. Stream: the file or the output failed. Folder: the folder or a file of it failed, or another program has
-/// it. Memory: there was none for a copy of it.
+/// What is unsound is answered too. Stream: the file or the output failed. Folder: the folder or a
+/// file of it failed, or another program has it. Memory: there was none for a copy of it.
 pub fn verify<R: AllocGlobal + Files<File = File>, O: Write>(
     rt: &R,
     path: &str,
@@ -72,7 +73,8 @@ fn is_folder<R: Files<File = File>>(rt: &R, path: &str) -> Result<bool, Fault> {
     Ok(fs::metadata(rt, path)?.is_dir())
 }
 
-/// Reads the log of a folder's standby, and then opens a copy of it as a restart does, with each of its pages.
+/// Reads the log of a folder's standby, and then opens a copy of it as a restart does, with each of
+/// its pages.
 fn judge_folder<R: AllocGlobal + Files<File = File>>(rt: &R, path: &str) -> Result<Found, Unsound> {
     let folder = hold(rt, path)?;
     let found = judge_text(text_of_folder(rt, &folder)?, false)?;

@@ -1,5 +1,5 @@
-//! The laws over what logs mean: each is the contract of a function that does nothing. They say in another way what the
-//! definitions of als_record say, so that a wrong definition would break one.
+//! The laws over what logs mean: each is the contract of a function that does nothing. They say in
+//! another way what the definitions of als_record say, so that a wrong definition would break one.
 #![tactic(auto)]
 
 // What a takeover leaves.

@@ -1,5 +1,6 @@
 // What is done to the device, and which bytes of a text it has then.
-ghost use Rattle.std.specs.Prelude.{◌≡◌, ℕ, ◌<◌, ◌≤◌, ◌+◌, ◌*◌, List, length, min, slice_index, OnOk, OnErr};
+ghost use Rattle.std.specs.Prelude.{◌≡◌, ℕ, ◌<◌, ◌≤◌, ◌+◌, ◌*◌, List, length, min, slice_index};
+ghost use Rattle.std.specs.Prelude.{OnOk, OnErr};
 ghost use Rattle.als_disk.specs.Failures.{CountsFailure};
 ghost use Rattle.als_log.specs.Texts.{HasText};
 ghost use Rattle.als_log.specs.Held.{IsStored};
@@ -33,8 +34,12 @@ pub(crate) fn write<D: BlockDisk>(
     block: &[u8; 512],
 ) -> Result<(), DeviceError>
     requires { i < D.block_count disk.old }
-    ensures ok { OnOk result ((text : List ℕ) (end front synced : ℕ) → 512 * i ≤ front → HasText text end i block.now → IsStored (D.slot disk.old) text front synced → synced ≤ end → IsStored (D.slot disk.new) text (min end (512 * i + 512)) synced) }
-    ensures err { OnErr result ((text : List ℕ) (end front synced : ℕ) → HasText text end i block.now → IsStored (D.slot disk.old) text front synced → front ≤ end → synced ≤ end → IsStored (D.slot disk.new) text front synced) }
+    ensures ok { OnOk result ((text : List ℕ) (end front synced : ℕ) → 512 * i ≤ front
+        → HasText text end i block.now → IsStored (D.slot disk.old) text front synced → synced ≤ end
+        → IsStored (D.slot disk.new) text (min end (512 * i + 512)) synced) }
+    ensures err { OnErr result ((text : List ℕ) (end front synced : ℕ)
+        → HasText text end i block.now → IsStored (D.slot disk.old) text front synced → front ≤ end
+        → synced ≤ end → IsStored (D.slot disk.new) text front synced) }
     ensures count { D.block_count disk.new ≡ D.block_count disk.old }
     ensures failures { CountsFailure result (D.failures disk.old) (D.failures disk.new) }
     ensures attempts { D.attempts disk.new ≡ D.attempts disk.old + 1 }
@@ -45,8 +50,12 @@ pub(crate) fn write<D: BlockDisk>(
 
 /// Makes what is written of a text certain to survive a crash.
 pub(crate) fn sync<D: BlockDisk>(disk: &mut D) -> Result<(), DeviceError>
-    ensures ok { OnOk result ((text : List ℕ) (front synced whole : ℕ) → whole ≤ front → IsStored (D.slot disk.old) text front synced → IsStored (D.slot disk.new) text front whole) }
-    ensures err { OnErr result ((text : List ℕ) (front synced : ℕ) → synced ≤ front → IsStored (D.slot disk.old) text front synced → IsStored (D.slot disk.new) text front synced) }
+    ensures ok { OnOk result ((text : List ℕ) (front synced whole : ℕ) → whole ≤ front
+        → IsStored (D.slot disk.old) text front synced
+        → IsStored (D.slot disk.new) text front whole) }
+    ensures err { OnErr result ((text : List ℕ) (front synced : ℕ) → synced ≤ front
+        → IsStored (D.slot disk.old) text front synced
+        → IsStored (D.slot disk.new) text front synced) }
     ensures count { D.block_count disk.new ≡ D.block_count disk.old }
     ensures failures { CountsFailure result (D.failures disk.old) (D.failures disk.new) }
     ensures attempts { D.attempts disk.new ≡ D.attempts disk.old + 1 }

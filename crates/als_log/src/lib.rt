@@ -1,5 +1,5 @@
-//! The local log: records as one text on a block device, of which the front that is synced stands in whatever a crash
-//! leaves.
+//! The local log: records as one text on a block device, of which the front that is synced stands
+//! in whatever a crash leaves.
 #![tactic(auto)]
 
 // Why a call is refused.

@@ -1,4 +1,5 @@
-ghost use Rattle.std.specs.Prelude.{◌≡◌, ◌<◌, ◌≤◌, ◌+◌, ◌*◌, [], ◌∷◌, ◌++◌, IsTrue, ◌↔◌, Some, IsOk, IfOk, IfErr, OnOk, OnErr, vec_len, vec_capacity};
+ghost use Rattle.std.specs.Prelude.{◌≡◌, ◌<◌, ◌≤◌, ◌+◌, ◌*◌, [], ◌∷◌, ◌++◌, IsTrue, ◌↔◌, Some};
+ghost use Rattle.std.specs.Prelude.{IsOk, IfOk, IfErr, OnOk, OnErr, vec_len, vec_capacity};
 ghost use Rattle.std.specs.Result.{IsErrOf};
 ghost use Rattle.als_record.specs.Spelling.{spelling, record_len, IsRecord};
 ghost use Rattle.als_record.specs.LogText.{end_of, log_text, IsLog};
@@ -8,7 +9,8 @@ ghost use Rattle.als_log.specs.History.{records_in};
 ghost use Rattle.als_log.specs.Held.{IsStored};
 ghost use Rattle.als_log.specs.declared.fault.Fault.TheVariants.{LogFull, Memory as OutOfMemory};
 ghost use Rattle.als_log.specs.Local.{Local, IsLocal, HasRoomFor, next_written, whole_end};
-ghost use Rattle.als_log.specs.Outcomes.{RefusesRecord, RefusesBlock, RefusesSync, RefusesReading, FailsToOpen};
+ghost use Rattle.als_log.specs.Outcomes.{RefusesRecord, RefusesBlock, RefusesSync, RefusesReading};
+ghost use Rattle.als_log.specs.Outcomes.{FailsToOpen};
 ghost use Rattle.als_log.specs.Reading.{record_at, HasRecord};
 ghost use Rattle.als_log.specs.Texts.{AllHaveText};
 
@@ -24,11 +26,12 @@ use als_record::{Lsn, Record, RecordView, encode, encoded_len};
 use std::alloc::{AllocError, Global};
 use std::marker::Model;
 
-/// A log on a block device: a header of 16 bytes and the records behind it, as one text whose byte o is byte o mod 512
-/// of block o / 512. An LSN is a record's offset in the text.
+/// A log on a block device: a header of 16 bytes and the records behind it, as one text whose byte
+/// o is byte o mod 512 of block o / 512. An LSN is a record's offset in the text.
 ///
-/// A record is appended in memory; its bytes reach the device with the blocks that are written, and are certain to
-/// survive a crash from the next sync on. Memory holds the bytes from the block of the synced end on.
+/// A record is appended in memory; its bytes reach the device with the blocks that are written, and
+/// are certain to survive a crash from the next sync on. Memory holds the bytes from the block of
+/// the synced end on.
 #[derive(Drop)]
 pub struct LocalLog<D: BlockDisk> {
     alloc: Global,
@@ -56,9 +59,20 @@ impl<D: BlockDisk> Model for LocalLog<D> {
 
     ghost Value = { Local };
 
-    ghost view = { λ l. record { pages = l.pages; log = records_in l.history; written = l.written; synced = l.synced; blocks = D.block_count l.disk; failures = D.failures l.disk; attempts = D.attempts l.disk; room = vec_capacity l.tail - vec_len l.tail } };
+    ghost view = { λ l. record {
+      pages = l.pages;
+      log = records_in l.history;
+      written = l.written;
+      synced = l.synced;
+      blocks = D.block_count l.disk;
+      failures = D.failures l.disk;
+      attempts = D.attempts l.disk;
+      room = vec_capacity l.tail - vec_len l.tail;
+    } };
 
-    ghost invariant = { λ l. IsHeld l.pages (records_in l.history) l.base l.written l.synced l.cursor (D.block_count l.disk) l.tail.items (D.slot l.disk) };
+    ghost invariant = { λ l. IsHeld l.pages
+        (records_in l.history) l.base l.written l.synced l.cursor
+        (D.block_count l.disk) l.tail.items (D.slot l.disk) };
 }
 
 /// The length of a record, of which these are the bytes. The record is there for the prover alone:
@@ -88,13 +102,25 @@ fn copy_in(_logged: &RecordView<'_>, bytes: &[u8], out: &mut Vec<u8>) -> Result<
 }
 
 impl<D: BlockDisk> LocalLog<D> {
-    /// Lays out a device as an empty log: writes the header and syncs. It takes no memory but that of `new`.
+    /// Lays out a device as an empty log: writes the header and syncs. It takes no memory but that
+    /// of `new`.
     ///
     /// The device comes back where it failed.
     pub fn lay_out(disk: D, new: NewLog) -> Result<LocalLog<D>, D>
         requires blocks { (1 ≤ D.block_count disk) × (D.block_count disk ≤ 4194304) }
-        ensures ok { IfOk result (λ l. l ≡ record { pages = new; log = []; written = 16; synced = 16; blocks = D.block_count disk; failures = D.failures disk; attempts = D.attempts disk + 2; room = l.room }) }
-        ensures err { IfErr result (λ d. (D.failures disk < D.failures d) × (D.block_count d ≡ D.block_count disk)) }
+        ensures ok { IfOk result (λ l. l
+            ≡ record {
+              pages = new;
+              log = [];
+              written = 16;
+              synced = 16;
+              blocks = D.block_count disk;
+              failures = D.failures disk;
+              attempts = D.attempts disk + 2;
+              room = l.room;
+            }) }
+        ensures err { IfErr result (λ d. (D.failures disk < D.failures d)
+            × (D.block_count d ≡ D.block_count disk)) }
     {
         let mut disk = disk;
         let NewLog {
@@ -121,10 +147,12 @@ impl<D: BlockDisk> LocalLog<D> {
         })
     }
 
-    /// Takes up again the log of which the text stands on a device up to `end`, all of it certain to survive a crash. Memory then
-    /// holds the bytes of its last block, which is read if it has any. The records are named for clauses alone.
+    /// Takes up again the log of which the text stands on a device up to `end`, all of it certain
+    /// to survive a crash. Memory then holds the bytes of its last block, which is read if it has
+    /// any. The records are named for clauses alone.
     ///
-    /// `Device`: the device failed. `Memory`: a growth was refused. Both hand the device back as it was.
+    /// `Device`: the device failed. `Memory`: a growth was refused. Both hand the device back as it
+    /// was.
     pub fn reopen(
         alloc: Global,
         disk: D,
@@ -137,10 +165,22 @@ impl<D: BlockDisk> LocalLog<D> {
         requires fits { end ≤ 512 * D.block_count disk }
         requires few { D.block_count disk ≤ 4194304 }
         requires stored { IsStored (D.slot disk) (log_text pages (records_in history)) end end }
-        ensures ok { IfOk result (λ l. l ≡ record { pages = pages; log = records_in history; written = end; synced = end; blocks = D.block_count disk; failures = D.failures disk; attempts = D.attempts disk; room = l.room }) }
-        ensures err { IfErr result (λ u. FailsToOpen u.fault (D.failures disk) (D.failures u.disk)) }
+        ensures ok { IfOk result (λ l. l
+            ≡ record {
+              pages = pages;
+              log = records_in history;
+              written = end;
+              synced = end;
+              blocks = D.block_count disk;
+              failures = D.failures disk;
+              attempts = D.attempts disk;
+              room = l.room;
+            }) }
+        ensures err { IfErr result (λ u. FailsToOpen u.fault (D.failures disk)
+            (D.failures u.disk)) }
         ensures same { IfErr result (λ u. SameBlocks (D.slot disk) (D.slot u.disk)) }
-        ensures counts { IfErr result (λ u. (D.block_count u.disk ≡ D.block_count disk) × (D.attempts u.disk ≡ D.attempts disk)) }
+        ensures counts { IfErr result (λ u. (D.block_count u.disk ≡ D.block_count disk)
+            × (D.attempts u.disk ≡ D.attempts disk)) }
     {
         let mut disk = disk;
         let part = match Part::new(alloc) {
@@ -176,8 +216,8 @@ impl<D: BlockDisk> LocalLog<D> {
         Lsn(self.base + self.tail.len() as u64)
     }
 
-    /// The end of the last record that was wholly written at the last sync, 16 if there is none: whatever a crash leaves
-    /// has the log's text below it.
+    /// The end of the last record that was wholly written at the last sync, 16 if there is none:
+    /// whatever a crash leaves has the log's text below it.
     pub fn synced(&self) -> Lsn
         ensures { result.0 ≡ self.now.synced }
     {
@@ -205,10 +245,11 @@ impl<D: BlockDisk> LocalLog<D> {
         self.disk.blocks()
     }
 
-    /// Makes room for so many more bytes: records of that length together are then appended without memory. An `Err`
-    /// (Memory) changes nothing.
+    /// Makes room for so many more bytes: records of that length together are then appended without
+    /// memory. An `Err` (Memory) changes nothing.
     pub fn reserve(&mut self, len: usize) -> Result<(), Fault>
-        ensures ok { OnOk result ((self.new ≡ record self.old { room = self.new.room }) × (len ≤ self.new.room)) }
+        ensures ok { OnOk result ((self.new ≡ record self.old { room = self.new.room })
+            × (len ≤ self.new.room)) }
         ensures err { OnErr result (self.new ≡ self.old) }
         ensures memory { IfErr result (λ e. e ≡ OutOfMemory) }
         ensures reserved { len ≤ self.old.room → IsOk result }
@@ -227,17 +268,21 @@ impl<D: BlockDisk> LocalLog<D> {
 
     /// Appends a record, in memory. `reserve_after` bytes of the device must be left behind it.
     ///
-    /// `LogFull`: the device has no room for that. `Memory`: a growth was refused, which does not come where `reserve`
-    /// has made the room. Both leave the log as it was.
+    /// `LogFull`: the device has no room for that. `Memory`: a growth was refused, which does not
+    /// come where `reserve` has made the room. Both leave the log as it was.
     pub fn append(&mut self, logged: &Record, reserve_after: u64) -> Result<(), Fault>
         requires fits { IsRecord self.old.pages logged.now }
         requires place { logged.now.lsn.0 ≡ end_of self.old.log }
-        ensures ok { OnOk result (self.new ≡ record self.old { log = self.old.log ++ logged.now ∷ []; room = self.new.room }) }
+        ensures ok { OnOk result (self.new
+            ≡ record self.old { log = self.old.log ++ logged.now ∷ []; room = self.new.room }) }
         ensures room { OnOk result (HasRoomFor self.old (record_len logged.now) reserve_after) }
         ensures err { OnErr result (self.new ≡ record self.old { room = self.new.room }) }
-        ensures cause { IfErr result (λ e. RefusesRecord e self.old (record_len logged.now) reserve_after) }
-        ensures full { 512 * self.old.blocks < end_of self.old.log + record_len logged.now + reserve_after → IsErrOf result LogFull }
-        ensures reserved { HasRoomFor self.old (record_len logged.now) reserve_after → record_len logged.now ≤ self.old.room → IsOk result }
+        ensures cause { IfErr result (λ e. RefusesRecord e self.old
+            (record_len logged.now) reserve_after) }
+        ensures full { 512 * self.old.blocks
+            < end_of self.old.log + record_len logged.now + reserve_after → IsErrOf result LogFull }
+        ensures reserved { HasRoomFor self.old (record_len logged.now) reserve_after
+            → record_len logged.now ≤ self.old.room → IsOk result }
     {
         if !self.fits(encoded_len(logged) as u64, reserve_after) {
             return Err(Fault::LogFull);
@@ -251,8 +296,8 @@ impl<D: BlockDisk> LocalLog<D> {
         }
     }
 
-    /// The same of a record that is seen and whose bytes are there already: they are copied, which is
-    /// faster than to spell it. The view is there for the prover alone.
+    /// The same of a record that is seen and whose bytes are there already: they are copied, which
+    /// is faster than to spell it. The view is there for the prover alone.
     #[inline(always)]
     pub fn append_spelled(
         &mut self,
@@ -272,7 +317,8 @@ impl<D: BlockDisk> LocalLog<D> {
         ensures err { OnErr result (self.new ≡ record self.old { room = self.new.room }) }
         ensures cause { IfErr result
             (λ e. RefusesRecord e self.old (record_len (shown logged.now)) reserve_after) }
-        ensures full { 512 * self.old.blocks < end_of self.old.log + record_len (shown logged.now) + reserve_after
+        ensures full { 512 * self.old.blocks
+            < end_of self.old.log + record_len (shown logged.now) + reserve_after
             → IsErrOf result LogFull }
         ensures reserved { HasRoomFor self.old (record_len (shown logged.now)) reserve_after
             → record_len (shown logged.now) ≤ self.old.room → IsOk result }
@@ -289,12 +335,17 @@ impl<D: BlockDisk> LocalLog<D> {
         }
     }
 
-    /// Writes the first block with unwritten bytes, with zeros behind the log's end: one write of the device. It takes no
-    /// memory.
+    /// Writes the first block with unwritten bytes, with zeros behind the log's end: one write of
+    /// the device. It takes no memory.
     ///
-    /// `NothingToDo`: no byte is unwritten, and the device is not called. `Device`: the device failed, and the block counts as unwritten.
+    /// `NothingToDo`: no byte is unwritten, and the device is not called. `Device`: the device
+    /// failed, and the block counts as unwritten.
     pub fn write_block(&mut self) -> Result<(), Fault>
-        ensures ok { OnOk result ((self.old.written < end_of self.old.log) × (self.new ≡ record self.old { written = next_written self.old.log self.old.written; attempts = self.old.attempts + 1 })) }
+        ensures ok { OnOk result ((self.old.written < end_of self.old.log)
+            × (self.new ≡ record self.old {
+              written = next_written self.old.log self.old.written;
+              attempts = self.old.attempts + 1;
+            })) }
         ensures err { IfErr result (λ e. RefusesBlock e self.old self.new) }
     {
         let end = self.base + self.tail.len() as u64;
@@ -308,12 +359,17 @@ impl<D: BlockDisk> LocalLog<D> {
         Ok(())
     }
 
-    /// Makes the records that are wholly written certain to survive a crash, and forgets the bytes in front of the block
-    /// of their end: one sync of the device. It takes no memory.
+    /// Makes the records that are wholly written certain to survive a crash, and forgets the bytes
+    /// in front of the block of their end: one sync of the device. It takes no memory.
     ///
     /// `Device`: the device failed, and nothing else has changed.
     pub fn sync(&mut self) -> Result<(), Fault>
-        ensures ok { OnOk result (self.new ≡ record self.old { synced = whole_end self.old.log self.old.written; attempts = self.old.attempts + 1; room = self.new.room }) }
+        ensures ok { OnOk result (self.new
+            ≡ record self.old {
+              synced = whole_end self.old.log self.old.written;
+              attempts = self.old.attempts + 1;
+              room = self.new.room;
+            }) }
         ensures room { OnOk result (self.old.room ≤ self.new.room) }
         ensures err { IfErr result (λ e. RefusesSync e self.old self.new) }
     {
@@ -332,11 +388,11 @@ impl<D: BlockDisk> LocalLog<D> {
         Ok(())
     }
 
-    /// The record that stands at an LSN, or `None` where none does. Records that are read in rising order are found by
-    /// one step each; any other is searched for from the first record on.
+    /// The record that stands at an LSN, or `None` where none does. Records that are read in rising
+    /// order are found by one step each; any other is searched for from the first record on.
     ///
-    /// `Device`: the device failed. `Memory`: there was none for the rows of the end_chkpt that stands there; no other record
-    /// takes any.
+    /// `Device`: the device failed. `Memory`: there was none for the rows of the end_chkpt that
+    /// stands there; no other record takes any.
     pub fn read_at(&mut self, lsn: Lsn) -> Result<Option<Record>, Fault>
         ensures ok { IfOk result (λ found. found ≡ record_at self.old.log lsn.0) }
         ensures same { OnOk result (self.new ≡ self.old) }
@@ -362,10 +418,11 @@ impl<D: BlockDisk> LocalLog<D> {
         Ok(found)
     }
 
-    /// The record that stands at an LSN, where its caller knows that one does: it is read with no walk.
+    /// The record that stands at an LSN, where its caller knows that one does: it is read with no
+    /// walk.
     ///
-    /// `Device`: the device failed. `Memory`: there was none for the rows of the end_chkpt that stands there; no other record
-    /// takes any.
+    /// `Device`: the device failed. `Memory`: there was none for the rows of the end_chkpt that
+    /// stands there; no other record takes any.
     pub fn record(&mut self, lsn: Lsn) -> Result<Record, Fault>
         requires { HasRecord self.old.log lsn.0 }
         ensures ok { IfOk result (λ found. record_at self.old.log lsn.0 ≡ Some found) }
@@ -381,11 +438,13 @@ impl<D: BlockDisk> LocalLog<D> {
         reading::read_record(source, self.alloc, &mut self.disk, lsn.0, &mut self.part)
     }
 
-    /// The device. Whatever a crash leaves of it has the log's text below the synced end, and whatever a read gives has it
-    /// up to where the blocks have been written.
+    /// The device. Whatever a crash leaves of it has the log's text below the synced end, and
+    /// whatever a read gives has it up to where the blocks have been written.
     pub fn into_disk(self) -> D
-        ensures kept { AllHaveText (λ b. (D.slot result b).candidates) (log_text self.pages self.log) self.synced }
-        ensures stored { AllHaveText (λ b. (D.slot result b).readable) (log_text self.pages self.log) self.written }
+        ensures kept { AllHaveText (λ b. (D.slot result b).candidates)
+            (log_text self.pages self.log) self.synced }
+        ensures stored { AllHaveText (λ b. (D.slot result b).readable)
+            (log_text self.pages self.log) self.written }
         ensures count { D.block_count result ≡ self.blocks }
         ensures failures { D.failures result ≡ self.failures }
         ensures attempts { D.attempts result ≡ self.attempts }

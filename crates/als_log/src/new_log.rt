@@ -7,8 +7,8 @@ use als_record::LogHeader;
 use std::alloc::Global;
 use std::marker::Model;
 
-/// What a new log has in memory: its header, and the room for a record that is read back. It is made before a device is
-/// touched.
+/// What a new log has in memory: its header, and the room for a record that is read back. It is
+/// made before a device is touched.
 #[derive(Drop)]
 pub struct NewLog {
     pub(crate) alloc: Global,
@@ -26,7 +26,8 @@ impl Model for NewLog {
 
     ghost view = { λ new. new.pages };
 
-    ghost invariant = { λ new. (1 ≤ new.pages) × (new.pages ≤ 4096) × (new.text.items ≡ header_bytes new.pages) };
+    ghost invariant = { λ new. (1 ≤ new.pages) × (new.pages ≤ 4096)
+        × (new.text.items ≡ header_bytes new.pages) };
 }
 
 impl NewLog {

@@ -6,8 +6,8 @@ ghost use Rattle.als_record.specs.Shown.{shown};
 use als_record::RecordView;
 use std::marker::Model;
 
-/// The record that a view showed, for clauses alone, as `std::snapshot` keeps what a reference showed:
-/// it takes no bytes and no time.
+/// The record that a view showed, for clauses alone, as `std::snapshot` keeps what a reference
+/// showed: it takes no bytes and no time.
 #[derive(Drop)]
 pub struct Noted {
     pub ghost value: { AnyRecord },

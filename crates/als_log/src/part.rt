@@ -4,7 +4,8 @@ use als_record::RECORD_LIMIT;
 use std::alloc::{AllocError, Global};
 use std::marker::Model;
 
-/// Bytes that were read back. Their room is made once, for the longest record, so that a reading takes no memory.
+/// Bytes that were read back. Their room is made once, for the longest record, so that a reading
+/// takes no memory.
 #[derive(Drop)]
 pub(crate) struct Part {
     bytes: Vec<u8>,

@@ -1,5 +1,6 @@
 // A text read back: its front from the device, and the rest from memory.
-ghost use Rattle.std.specs.Prelude.{◌≡◌, ◌⊎◌, ℕ, ◌<◌, ◌≤◌, ◌+◌, ◌-◌, ◌*◌, ◌/◌, List, length, take, drop, slice_index, Some, None, IfOk, IfErr, IsOk, OnOk};
+ghost use Rattle.std.specs.Prelude.{◌≡◌, ◌⊎◌, ℕ, ◌<◌, ◌≤◌, ◌+◌, ◌-◌, ◌*◌, ◌/◌, List, length, take};
+ghost use Rattle.std.specs.Prelude.{drop, slice_index, Some, None, IfOk, IfErr, IsOk, OnOk};
 ghost use Rattle.als_record.specs.LogText.{end_of};
 ghost use Rattle.als_disk.specs.Failures.{CountsFailure};
 ghost use Rattle.als_disk.specs.Slot.{SameBlocks};
@@ -28,7 +29,9 @@ fn read_block<D: BlockDisk>(
     requires few { D.block_count disk.old ≤ 4194304 }
     requires whole { 512 * (source.base / 512) ≡ source.base }
     requires within { 512 * i ≤ source.base + length source.bytes.now }
-    ensures ok { OnOk result ((text : List ℕ) → IsSource (D.slot disk.old) source.entry.bytes.now text source.entry.base → (o : ℕ) → o < 512 → slice_index into.new o ≡ slice_index text (512 * i + o)) }
+    ensures ok { OnOk result ((text : List ℕ)
+        → IsSource (D.slot disk.old) source.entry.bytes.now text source.entry.base → (o : ℕ)
+        → o < 512 → slice_index into.new o ≡ slice_index text (512 * i + o)) }
     ensures same { SameBlocks (D.slot disk.old) (D.slot disk.new) }
     ensures count { D.block_count disk.new ≡ D.block_count disk.old }
     ensures attempts { D.attempts disk.new ≡ D.attempts disk.old }
@@ -50,7 +53,8 @@ fn push_part(out: &mut Part, block: &[u8; 512], low: usize, most: usize)
     ensures more { (length out.old < length out.new) × (length out.new ≤ most) }
     ensures within { low + (length out.new - length out.old) ≤ 512 }
     ensures kept { (k : ℕ) → k < length out.old → slice_index out.new k ≡ slice_index out.old k }
-    ensures part { (k : ℕ) → k < length out.new - length out.old → slice_index out.new (length out.old + k) ≡ slice_index block.now (low + k) }
+    ensures part { (k : ℕ) → k < length out.new - length out.old
+        → slice_index out.new (length out.old + k) ≡ slice_index block.now (low + k) }
 {
     let size = (512 - low).min(most - out.len());
     let (_, rest) = block.as_slice().split_at(low);
@@ -71,7 +75,9 @@ fn read_text<D: BlockDisk>(
     requires within { at + count ≤ source.base + length source.bytes.now }
     requires fits { source.base + length source.bytes.now ≤ 512 * D.block_count disk.old }
     requires room { count ≤ 54560 }
-    ensures ok { OnOk result ((text : List ℕ) → IsSource (D.slot disk.old) source.entry.bytes.now text source.entry.base → out.new ≡ take count (drop at text)) }
+    ensures ok { OnOk result ((text : List ℕ)
+        → IsSource (D.slot disk.old) source.entry.bytes.now text source.entry.base
+        → out.new ≡ take count (drop at text)) }
     ensures len { OnOk result (length out.new ≡ count) }
     ensures same { SameBlocks (D.slot disk.old) (D.slot disk.new) }
     ensures count { D.block_count disk.new ≡ D.block_count disk.old }
@@ -88,8 +94,8 @@ fn read_text<D: BlockDisk>(
     Ok(())
 }
 
-/// Goes from one record to the next by their length fields, from the end of some records to the first end that is not
-/// below `to`.
+/// Goes from one record to the next by their length fields, from the end of some records to the
+/// first end that is not below `to`.
 fn walk<D: BlockDisk>(
     source: Source<'_>,
     disk: &mut D,
@@ -97,12 +103,14 @@ fn walk<D: BlockDisk>(
     to: u64,
     part: &mut Part,
 ) -> Result<u64, DeviceError>
-    requires readable { IsReadable source.pages (records_in source.history.now) (D.slot disk.old) (D.block_count disk.old) source.bytes.now source.base }
+    requires readable { IsReadable source.pages (records_in source.history.now) (D.slot disk.old)
+        (D.block_count disk.old) source.bytes.now source.base }
     requires from { IsFrontEnd (records_in source.history.now) from }
     requires order { from ≤ to }
     requires within { to < end_of (records_in source.history.now) }
     ensures front { IfOk result (λ at. IsFrontEnd (records_in source.entry.history.now) at) }
-    ensures past { IfOk result (λ at. (at ≡ to) ⊎ (record_at (records_in source.entry.history.now) to ≡ None)) }
+    ensures past { IfOk result (λ at. (at ≡ to)
+        ⊎ (record_at (records_in source.entry.history.now) to ≡ None)) }
     ensures same { SameBlocks (D.slot disk.old) (D.slot disk.new) }
     ensures count { D.block_count disk.new ≡ D.block_count disk.old }
     ensures attempts { D.attempts disk.new ≡ D.attempts disk.old }
@@ -124,7 +132,8 @@ pub(crate) fn read_record<D: BlockDisk>(
     at: u64,
     part: &mut Part,
 ) -> Result<Record, Fault>
-    requires readable { IsReadable source.pages (records_in source.history.now) (D.slot disk.old) (D.block_count disk.old) source.bytes.now source.base }
+    requires readable { IsReadable source.pages (records_in source.history.now) (D.slot disk.old)
+        (D.block_count disk.old) source.bytes.now source.base }
     requires front { IsFrontEnd (records_in source.history.now) at }
     requires within { at < end_of (records_in source.history.now) }
     ensures ok { IfOk result (λ r. record_at (records_in source.entry.history.now) at ≡ Some r) }
@@ -132,7 +141,8 @@ pub(crate) fn read_record<D: BlockDisk>(
     ensures count { D.block_count disk.new ≡ D.block_count disk.old }
     ensures attempts { D.attempts disk.new ≡ D.attempts disk.old }
     ensures done { OnOk result (D.failures disk.new ≡ D.failures disk.old) }
-    ensures err { IfErr result (λ e. FailsToRead (records_in source.entry.history.now) at e (D.failures disk.old) (D.failures disk.new)) }
+    ensures err { IfErr result (λ e. FailsToRead (records_in source.entry.history.now) at e
+        (D.failures disk.old) (D.failures disk.new)) }
 {
     read_text(disk, source, at, 4, part)?;
     let size = word(part.as_slice(), 0) as usize;
@@ -155,8 +165,8 @@ fn start_of(history: &History, cursor: u64, to: u64) -> u64
     if cursor <= to { cursor } else { 16 }
 }
 
-/// Finds the record at an offset, and tells where the walk ended. It begins at `cursor`, the end of some records, or
-/// behind the header where that is past the offset.
+/// Finds the record at an offset, and tells where the walk ended. It begins at `cursor`, the end of
+/// some records, or behind the header where that is past the offset.
 pub(crate) fn find<D: BlockDisk>(
     source: Source<'_>,
     alloc: Global,
@@ -165,7 +175,8 @@ pub(crate) fn find<D: BlockDisk>(
     to: u64,
     part: &mut Part,
 ) -> Result<(u64, Option<Record>), Fault>
-    requires readable { IsReadable source.pages (records_in source.history.now) (D.slot disk.old) (D.block_count disk.old) source.bytes.now source.base }
+    requires readable { IsReadable source.pages (records_in source.history.now) (D.slot disk.old)
+        (D.block_count disk.old) source.bytes.now source.base }
     requires cursor { IsFrontEnd (records_in source.history.now) cursor }
     ensures front { IfOk result (λ x. IsFrontEnd (records_in source.entry.history.now) x.0) }
     ensures ok { IfOk result (λ x. x.1 ≡ record_at (records_in source.entry.history.now) to) }
@@ -173,7 +184,8 @@ pub(crate) fn find<D: BlockDisk>(
     ensures count { D.block_count disk.new ≡ D.block_count disk.old }
     ensures attempts { D.attempts disk.new ≡ D.attempts disk.old }
     ensures done { OnOk result (D.failures disk.new ≡ D.failures disk.old) }
-    ensures err { IfErr result (λ e. FailsToRead (records_in source.entry.history.now) to e (D.failures disk.old) (D.failures disk.new)) }
+    ensures err { IfErr result (λ e. FailsToRead (records_in source.entry.history.now) to e
+        (D.failures disk.old) (D.failures disk.new)) }
     ensures past { end_of (records_in source.entry.history.now) ≤ to → IsOk result }
 {
     let end = source.base + source.bytes.len() as u64;

@@ -1,5 +1,6 @@
 // The last bytes of a text that stands on a device.
-ghost use Rattle.std.specs.Prelude.{◌≡◌, ℕ, ◌<◌, ◌≤◌, ◌+◌, ◌*◌, List, length, drop, OnOk, IfOk, IfErr};
+ghost use Rattle.std.specs.Prelude.{◌≡◌, ℕ, ◌<◌, ◌≤◌, ◌+◌, ◌*◌, List, length, drop, OnOk, IfOk};
+ghost use Rattle.std.specs.Prelude.{IfErr};
 ghost use Rattle.als_disk.specs.Slot.{SameBlocks};
 ghost use Rattle.als_log.specs.Outcomes.{FailsToOpen};
 ghost use Rattle.als_log.specs.Texts.{AllHaveText};
@@ -18,7 +19,8 @@ pub(crate) fn read_front<D: BlockDisk>(
     requires len { len ≤ 512 }
     requires block { 0 < len → i < D.block_count disk.old }
     // For every text that ends there and stands on the device, they are its last ones.
-    ensures ok { IfOk result (λ bytes. (text : List ℕ) → AllHaveText (λ b. (D.slot disk.old b).readable) text (512 * i + len)
+    ensures ok { IfOk result (λ bytes. (text : List ℕ)
+        → AllHaveText (λ b. (D.slot disk.old b).readable) text (512 * i + len)
         → length text ≡ 512 * i + len → bytes.items ≡ drop (512 * i) text) }
     ensures err { IfErr result (λ e. FailsToOpen e (D.failures disk.old) (D.failures disk.new)) }
     ensures done { OnOk result (D.failures disk.new ≡ D.failures disk.old) }

@@ -18,8 +18,8 @@ pub(crate) fn word(bytes: &[u8], at: usize) -> u32
     u32::from_be_bytes([field[0], field[1], field[2], field[3]])
 }
 
-/// The end of the last record that ends at or below a limit, from the end of an earlier one on. Each record is stepped
-/// over by its length field.
+/// The end of the last record that ends at or below a limit, from the end of an earlier one on.
+/// Each record is stepped over by its length field.
 pub(crate) fn whole_end_of(history: &History, bytes: &[u8], base: u64, from: u64, limit: u64) -> u64
     requires text { IsText (records_in history.now) bytes.now base }
     requires from { IsFrontEnd (records_in history.now) from }

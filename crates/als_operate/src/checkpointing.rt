@@ -1,8 +1,10 @@
 use als_engine::{Events, Fault};
 
-/// Writes one checkpoint, publishes it, and makes that certain to survive a crash. The first refusal ends it.
+/// Writes one checkpoint, publishes it, and makes that certain to survive a crash. The first
+/// refusal ends it.
 ///
-/// A checkpoint is published only once its blocks are synced, and its position acknowledged: the caller has forced the log.
+/// A checkpoint is published only once its blocks are synced, and its position acknowledged: the
+/// caller has forced the log.
 pub fn checkpoint<E: Events>(events: &mut E) -> Result<(), Fault> {
     events.ckpt_begin()?;
     write_blocks(events)?;

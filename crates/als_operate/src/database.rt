@@ -4,8 +4,9 @@ use als_record::SLOT_COUNT;
 use als_script::ShownImage;
 use std::alloc::{AllocError, Global};
 
-/// A line for each record of the database, in key order; one line `empty` where there is none. Device: a read failed. BadPage: a block is
-/// not that of its page. Memory: there was none for the lines.
+/// A line for each record of the database, in key order; one line `empty` where there is none.
+/// Device: a read failed. BadPage: a block is not that of its page. Memory: there was none for the
+/// lines.
 pub fn listing<E: Events>(alloc: Global, events: &mut E) -> Result<String, Fault> {
     let mut listing = String::new(alloc);
     for number in 0..events.pages() {

@@ -7,7 +7,8 @@ use als_engine::{Events, Fault};
 /// After so many redos it is told again how many changes wait.
 const TOLD_EACH: u64 = 64;
 
-/// Redoes each page that waits for changes, in rising order, and again until none does. The first refusal ends it.
+/// Redoes each page that waits for changes, in rising order, and again until none does. The first
+/// refusal ends it.
 pub fn drain<E: Events>(events: &mut E) -> Result<(), Fault>
     // Then no page waits.
     ensures done { OnOk result (E.alone → IsDrained (E.machine events.new)) }
@@ -15,7 +16,8 @@ pub fn drain<E: Events>(events: &mut E) -> Result<(), Fault>
     drain_telling(events, &mut Silent)
 }
 
-/// The same, and tells every now and then how many changes wait: at the beginning, and last that none does.
+/// The same, and tells every now and then how many changes wait: at the beginning, and last that
+/// none does.
 pub fn drain_telling<E: Events, P: Progress>(events: &mut E, progress: &mut P) -> Result<(), Fault>
     ensures done { OnOk result (E.alone → IsDrained (E.machine events.new)) }
 {

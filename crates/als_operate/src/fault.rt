@@ -1,6 +1,10 @@
 ghost use Rattle.std.specs.Prelude.{◌≡◌, ◌⊎◌, Some};
 ghost use Rattle.als_fault.specs.Kinds.{number_of, name_of, text_of};
-ghost use Rattle.als_operate.specs.declared.fault.Fault.TheVariants.{Memory as OutOfMemory, Stream as StreamFailed, Folder as OfFolder, Session as OfSession, Refused as OfStandby};
+ghost use Rattle.als_operate.specs.declared.fault.Fault.TheVariants.{Memory as OutOfMemory};
+ghost use Rattle.als_operate.specs.declared.fault.Fault.TheVariants.{Stream as StreamFailed};
+ghost use Rattle.als_operate.specs.declared.fault.Fault.TheVariants.{Folder as OfFolder};
+ghost use Rattle.als_operate.specs.declared.fault.Fault.TheVariants.{Session as OfSession};
+ghost use Rattle.als_operate.specs.declared.fault.Fault.TheVariants.{Refused as OfStandby};
 ghost use Rattle.als_operate.specs.FaultNames.{kind_of, trouble_of};
 
 use crate::trouble::trouble_of;

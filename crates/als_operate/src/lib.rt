@@ -1,4 +1,5 @@
-//! What the program does on files and over the network: it ships a log, follows one as a standby, and makes a primary of a standby.
+//! What the program does on files and over the network: it ships a log, follows one as a standby,
+//! and makes a primary of a standby.
 #![tactic(auto)]
 
 // Which file of a folder is wrong, where its standby is refused.

@@ -9,7 +9,8 @@ use std::alloc::Global;
 use std::fs::File;
 use std::rt::Files;
 
-/// The engine of the folder's database, or, where there is none, of a new one whose log device has so many blocks.
+/// The engine of the folder's database, or, where there is none, of a new one whose log device has
+/// so many blocks.
 pub fn start<R: AllocGlobal + Files<File = File>>(
     rt: &R,
     folder: &Folder,

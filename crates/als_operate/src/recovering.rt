@@ -2,8 +2,8 @@ use crate::draining::drain_telling;
 use crate::progress::{Progress, Silent};
 use als_engine::{Events, Fault, State};
 
-/// Brings a standby that was opened to where it was left: its pages are redone, and it is Recovering no more. The first refusal
-/// ends it.
+/// Brings a standby that was opened to where it was left: its pages are redone, and it is
+/// Recovering no more. The first refusal ends it.
 pub fn recover<E: Events>(events: &mut E) -> Result<(), Fault> {
     recover_telling(events, &mut Silent)
 }

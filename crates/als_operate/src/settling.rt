@@ -5,8 +5,8 @@ use crate::passing::passed_over;
 use als_engine::{Events, Fault as EngineFault};
 use als_ship::force;
 
-/// Puts all that is held on the devices, so that the next opening has little to redo: forces the log, redoes and flushes the pages, and
-/// writes a checkpoint. The first refusal ends it.
+/// Puts all that is held on the devices, so that the next opening has little to redo: forces the
+/// log, redoes and flushes the pages, and writes a checkpoint. The first refusal ends it.
 pub fn settle<E: Events>(events: &mut E) -> Result<(), Fault> {
     force(events)?;
     drain(events)?;

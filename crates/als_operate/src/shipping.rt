@@ -17,19 +17,21 @@ use std::rt::Files;
 /// The most bytes of a log that are shipped: those of the largest log device.
 pub const LOG_LIMIT: u64 = 2_147_483_648;
 
-/// Serves the log text of a file to the first follower that comes to the address, and then prints `sent=N`, the log bytes that it
-/// sent. Nothing of the text is checked but its header.
+/// Serves the log text of a file to the first follower that comes to the address, and then prints
+/// `sent=N`, the log bytes that it sent. Nothing of the text is checked but its header.
 ///
-/// Session BadHeader: the file begins with no header, or the follower has another one. Session Gap: the follower holds more than there is.
-/// Session BadFrame, Cut, Stream: what came was no frame, the follower went away, the network failed. Stream: the file, the address or the
-/// output failed, or the file has more than `LOG_LIMIT` bytes. Memory: there was none for the file.
+/// Session BadHeader: the file begins with no header, or the follower has another one. Session Gap:
+/// the follower holds more than there is. Session BadFrame, Cut, Stream: what came was no frame,
+/// the follower went away, the network failed. Stream: the file, the address or the output failed,
+/// or the file has more than `LOG_LIMIT` bytes. Memory: there was none for the file.
 pub fn ship<R: AllocGlobal + Files + Net, O: Write>(
     rt: &R,
     log: &str,
     listen: &str,
     output: &mut O,
 ) -> Result<(), Fault>
-    ensures told { OnOk result ((n : ℕ) × Appends (O.contents output.old) (O.contents output.new) (sent_line n)) }
+    ensures told { OnOk result ((n : ℕ) × Appends (O.contents output.old) (O.contents output.new)
+        (sent_line n)) }
 {
     let bytes = read_whole(rt.alloc(), File::open(rt, log)?, LOG_LIMIT)?;
     let mut source = LogBytes::new(bytes)?;
@@ -47,7 +49,8 @@ pub(crate) fn serve_next<L: OpenListener, O: Write>(
 ) -> Result<(), Fault>
 where
     L::Stream: Read + Write + OpenStream,
-    ensures told { OnOk result ((n : ℕ) × Appends (O.contents output.old) (O.contents output.new) (sent_line n)) }
+    ensures told { OnOk result ((n : ℕ) × Appends (O.contents output.old) (O.contents output.new)
+        (sent_line n)) }
 {
     let (mut writer, _) = listener.accept()?;
     writer.set_nodelay(true)?;
@@ -56,7 +59,8 @@ where
     Ok(())
 }
 
-/// Serves a follower at the other end of two streams, and then prints how many log bytes it sent. `ship` does this over a socket.
+/// Serves a follower at the other end of two streams, and then prints how many log bytes it sent.
+/// `ship` does this over a socket.
 ///
 /// Session: as `Shipper::serve` says. Stream, Memory: the output failed.
 pub fn serve<S: Source, R: Read, W: Write, O: Write>(
@@ -66,14 +70,19 @@ pub fn serve<S: Source, R: Read, W: Write, O: Write>(
     writer: &mut W,
     output: &mut O,
 ) -> Result<(), Fault>
-    // All of the source was sent from where the follower goes on, and the line tells how much that was.
-    ensures sent { (header : LogHeader) → take 16 (S.text source.old) ≡ header_bytes header.pages → header.pages ≤ 4096
-        → OnOk result (Tells (S.text source.old) header (R.remaining reader.old) (W.contents writer.old) (W.contents writer.new)
+    // All of the source was sent from where the follower goes on, and the line tells how much that
+    // was.
+    ensures sent { (header : LogHeader) → take 16 (S.text source.old) ≡ header_bytes header.pages
+        → header.pages ≤ 4096
+        → OnOk result (Tells (S.text source.old) header (R.remaining reader.old)
+        (W.contents writer.old) (W.contents writer.new)
         (O.contents output.old) (O.contents output.new)) }
     // A line is all that is printed.
-    ensures told { OnOk result ((n : ℕ) × Appends (O.contents output.old) (O.contents output.new) (sent_line n)) }
+    ensures told { OnOk result ((n : ℕ) × Appends (O.contents output.old) (O.contents output.new)
+        (sent_line n)) }
     // Whatever ends it, what was sent are true frames of the source.
-    ensures true_frames { SendsTrue (S.text source.old) (W.contents writer.old) (W.contents writer.new) }
+    ensures true_frames { SendsTrue (S.text source.old) (W.contents writer.old)
+        (W.contents writer.new) }
 {
     let sent = Shipper::serve(alloc, source, reader, writer)?;
     writeln!(output, "sent={sent}")?;

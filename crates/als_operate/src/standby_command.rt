@@ -35,12 +35,14 @@ pub struct Following<'a> {
     pub log_blocks: u64,
 }
 
-/// Follows one session as the standby of a folder, and then prints `end=E ack=A`. Where the folder has no database, a new one is laid out.
-/// It is told how the redo of what the folder holds goes on.
+/// Follows one session as the standby of a folder, and then prints `end=E ack=A`. Where the folder
+/// has no database, a new one is laid out. It is told how the redo of what the folder holds goes
+/// on.
 ///
-/// BadConfig: a number is out of its range; no file was touched. Device: the folder or one of its files failed, or another program has the
-/// folder. Stream: nobody serves at the address, the network failed, or so did the output. Else as `Engine::open` and `Follower::follow` say.
-/// However the session ends, what is held is put on the devices.
+/// BadConfig: a number is out of its range; no file was touched. Device: the folder or one of its
+/// files failed, or another program has the folder. Stream: nobody serves at the address, the
+/// network failed, or so did the output. Else as `Engine::open` and `Follower::follow` say. However
+/// the session ends, what is held is put on the devices.
 pub fn standby<R: AllocGlobal + Files<File = File> + Net, P: Progress, O: Write>(
     rt: &R,
     following: Following<'_>,
@@ -62,7 +64,8 @@ pub fn standby<R: AllocGlobal + Files<File = File> + Net, P: Progress, O: Write>
 
 /// The configuration that is asked for. BadConfig: a number is out of its range.
 fn config_of(pages: u64, log_blocks: u64) -> Result<Config, Fault>
-    ensures ok { IfOk result (λ config. IsConfig config × (1 ≤ log_blocks) × (log_blocks ≤ 4194304)) }
+    ensures ok { IfOk result (λ config. IsConfig config × (1 ≤ log_blocks)
+        × (log_blocks ≤ 4194304)) }
     ensures fails { IfErr result (λ f. f ≡ Refused BadConfig) }
 {
     let config = Config {
@@ -78,7 +81,8 @@ fn config_of(pages: u64, log_blocks: u64) -> Result<Config, Fault>
     }
 }
 
-/// Follows one session with pages that are kept warm, and then settles, however the session ended. `standby` does this over a socket.
+/// Follows one session with pages that are kept warm, and then settles, however the session ended.
+/// `standby` does this over a socket.
 ///
 /// The refusal of the session, or else that of settling.
 pub fn follow<E: Events + Drop, R: Read, W: Write>(

@@ -11,11 +11,12 @@ use std::fs::File;
 use std::io::Write;
 use std::rt::Files;
 
-/// Makes a primary of the standby of a folder, and then prints `end=E` and each record of its database. It may be called again after a
-/// stop: the takeover then goes on. It is told how its redo goes on.
+/// Makes a primary of the standby of a folder, and then prints `end=E` and each record of its
+/// database. It may be called again after a stop: the takeover then goes on. It is told how its
+/// redo goes on.
 ///
-/// Device: the folder or one of its files failed, it has no database, or another program has it. Stream: the output failed. Else as
-/// `Engine::open` says, or the first refusal of an event.
+/// Device: the folder or one of its files failed, it has no database, or another program has it.
+/// Stream: the output failed. Else as `Engine::open` says, or the first refusal of an event.
 pub fn takeover<R: AllocGlobal + Files<File = File>, P: Progress, O: Write>(
     rt: &R,
     dir: &str,

@@ -9,8 +9,9 @@ use crate::recovering::recover_telling;
 use als_engine::{Events, Fault as EngineFault, State};
 use als_ship::force;
 
-/// Makes a primary of a standby: seals the log once all of it is stable, undoes what was not committed, and ends the takeover once that is
-/// stable and redone. The first refusal ends it. It may be called again after a stop: the takeover then goes on.
+/// Makes a primary of a standby: seals the log once all of it is stable, undoes what was not
+/// committed, and ends the takeover once that is stable and redone. The first refusal ends it. It
+/// may be called again after a stop: the takeover then goes on.
 pub fn take_over<E: Events>(events: &mut E) -> Result<(), Fault>
     // Only a primary is answered.
     ensures done { OnOk result (E.alone → state_of (E.machine events.new) ≡ Primary) }

@@ -4,7 +4,8 @@ ghost use Rattle.als_operate.specs.Troubles.{trouble_of_kind};
 use als_fault::FaultKind;
 use als_folder::{Part, Trouble, Wrong};
 
-/// What of a folder is wrong, where its standby is refused so. None: nothing is, or no file of it alone.
+/// What of a folder is wrong, where its standby is refused so. None: nothing is, or no file of it
+/// alone.
 pub fn trouble_of(kind: FaultKind) -> Option<Trouble>
     ensures { result ≡ trouble_of_kind kind }
 {

@@ -6,8 +6,8 @@ use als_page::Page;
 use als_record::{Key, LoggedPage, Lsn, Record, TransactionRow};
 use std::alloc::Global;
 
-/// A standby whose pages are kept warm: what it acknowledges is redone first. So the changes that wait never come near their limit, however
-/// long the log is.
+/// A standby whose pages are kept warm: what it acknowledges is redone first. So the changes that
+/// wait never come near their limit, however long the log is.
 ///
 /// A call may make more than one event, so the small machine says nothing of it.
 pub struct Warm<E: Events> {

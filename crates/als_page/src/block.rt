@@ -1,4 +1,5 @@
-ghost use Rattle.std.specs.Prelude.{◌≡◌, ◌*◌, ◌+◌, ◌<◌, ◌≤◌, ◌↔◌, List, length, IsTrue, IfSome, Some, None, replicate};
+ghost use Rattle.std.specs.Prelude.{◌≡◌, ◌*◌, ◌+◌, ◌<◌, ◌≤◌, ◌↔◌, List, length, IsTrue, IfSome};
+ghost use Rattle.std.specs.Prelude.{Some, None, replicate};
 ghost use Rattle.std.specs.List.{flat_map, AllByRecursion};
 ghost use Rattle.als_record.specs.Spelling.{Image as AnyImage, IsImage};
 ghost use Rattle.als_page.specs.Block.{slot_bytes, head_bytes};
@@ -42,7 +43,8 @@ pub fn write_slots(images: &[KeptImage], into: &mut [u8])
 /// The images whose slots have these bytes, if there are such.
 pub fn read_slots(bytes: &[u8]) -> Option<[KeptImage; SLOT_COUNT]>
     requires { length bytes.now ≡ 480 }
-    ensures found { IfSome result (λ images. (bytes.now ≡ flat_map slot_bytes images) × (length images ≡ 15)
+    ensures found { IfSome result (λ images. (bytes.now ≡ flat_map slot_bytes images)
+        × (length images ≡ 15)
         × AllByRecursion IsImage images) }
     ensures only { (images : List AnyImage) → length images ≡ 15 → AllByRecursion IsImage images
         → bytes.now ≡ flat_map slot_bytes images → result ≡ Some images }

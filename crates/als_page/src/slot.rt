@@ -21,7 +21,8 @@ pub fn write_slot(image: &KeptImage, into: &mut [u8])
 // The image that the first byte announces, if it may.
 fn announced(bytes: &[u8]) -> Option<KeptImage>
     requires { length bytes.now ≡ 32 }
-    ensures { (image : AnyImage) → IsImage image → bytes.now ≡ slot_bytes image → result ≡ Some image }
+    ensures { (image : AnyImage) → IsImage image → bytes.now ≡ slot_bytes image
+        → result ≡ Some image }
 {
     match bytes[0] {
         0 => Some(KeptImage::absent()),
@@ -36,7 +37,8 @@ fn announced(bytes: &[u8]) -> Option<KeptImage>
 pub fn read_slot(bytes: &[u8]) -> Option<KeptImage>
     requires { length bytes.now ≡ 32 }
     ensures found { IfSome result (λ image. (bytes.now ≡ slot_bytes image) × IsImage image) }
-    ensures only { (image : AnyImage) → IsImage image → bytes.now ≡ slot_bytes image → result ≡ Some image }
+    ensures only { (image : AnyImage) → IsImage image → bytes.now ≡ slot_bytes image
+        → result ≡ Some image }
 {
     let image = announced(bytes)?;
     let mut spelled = [0; SLOT];

@@ -68,8 +68,8 @@ fn an_untouched_page_is_zeros(rt: HostRuntime) {
 
 #[test]
 fn refuses_what_is_no_block(rt: HostRuntime) {
-    // page_LSN below 16; another number; another version; a zero of the head; a first byte above 32; a zero of an
-    // absent slot; a zero behind a value; a zero of a block whose page_LSN is 0
+    // page_LSN below 16; another number; another version; a zero of the head; a first byte above
+    // 32; a zero of an absent slot; a zero behind a value; a zero of a block whose page_LSN is 0
     for (at, byte) in [
         (7, 15),
         (11, 1),

@@ -1,4 +1,5 @@
-//! The buffer pool: the pages of a database on their device and in frames, what waits for redo, and the dirty page table.
+//! The buffer pool: the pages of a database on their device and in frames, what waits for redo, and
+//! the dirty page table.
 #![tactic(auto)]
 
 // Why a call is refused.

@@ -26,7 +26,10 @@ impl Model for NewPool {
     ghost view = { λ new. new.pages };
 
     ghost invariant = { λ new. (new.pages ≤ 4096) × (new.dirty ≡ replicate new.pages untouched_page)
-        × (new.queues ≡ record { waits = replicate new.pages []; places = replicate new.pages false }) × (new.unread.items ≡ replicate new.pages None) };
+        × (new.queues ≡ record {
+          waits = replicate new.pages [];
+          places = replicate new.pages false;
+        }) × (new.unread.items ≡ replicate new.pages None) };
 }
 
 impl NewPool {

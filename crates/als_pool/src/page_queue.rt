@@ -1,4 +1,5 @@
-ghost use Rattle.std.specs.Prelude.{◌≡◌, ◌<◌, ◌≤◌, ◌++◌, ◌∷◌, [], true, false, length, drop, IsOk, OnOk, OnErr};
+ghost use Rattle.std.specs.Prelude.{◌≡◌, ◌<◌, ◌≤◌, ◌++◌, ◌∷◌, [], true, false, length, drop, IsOk};
+ghost use Rattle.std.specs.Prelude.{OnOk, OnErr};
 ghost use Rattle.std.specs.Vec.{vec_len, vec_capacity};
 ghost use Rattle.als_dirty.specs.Images.{first_lsn};
 ghost use Rattle.als_pool.specs.Queues.{empty_queue, count_up_to, flag_of};
@@ -32,7 +33,8 @@ impl Model for PageQueue {
 
     ghost view = { λ q. record { pending = drop q.taken q.changes.items; has_room = q.has_room } };
 
-    ghost invariant = { λ q. (q.taken ≤ vec_len q.changes) × (q.has_room ≡ true → vec_len q.changes < vec_capacity q.changes) };
+    ghost invariant = { λ q. (q.taken ≤ vec_len q.changes)
+        × (q.has_room ≡ true → vec_len q.changes < vec_capacity q.changes) };
 }
 
 impl PageQueue {
@@ -103,7 +105,10 @@ impl PageQueue {
     /// Adds a change behind those that wait. It takes no memory.
     pub fn push(&mut self, change: Change)
         requires room { self.old.has_room ≡ true }
-        ensures { self.new ≡ record { pending = self.old.pending ++ change ∷ []; has_room = false } }
+        ensures { self.new ≡ record {
+          pending = self.old.pending ++ change ∷ [];
+          has_room = false;
+        } }
     {
         self.changes.push_reserved(change);
         self.has_room = false;
@@ -137,7 +142,8 @@ fn settle(changes: &mut Vec<Change>, taken: usize) -> usize
     requires { taken ≤ vec_len changes.old }
     ensures left { drop result changes.new.items ≡ drop taken changes.old.items }
     ensures taken { result ≤ vec_len changes.new }
-    ensures room { vec_len changes.old < vec_capacity changes.old → vec_len changes.new < vec_capacity changes.new }
+    ensures room { vec_len changes.old < vec_capacity changes.old
+        → vec_len changes.new < vec_capacity changes.new }
 {
     if taken != changes.len() {
         return taken;
@@ -146,8 +152,8 @@ fn settle(changes: &mut Vec<Change>, taken: usize) -> usize
     0
 }
 
-// Where no place is left and more than half of the changes are redone, moves the others to the front, so that none is
-// moved while changes are redone. Answers how many of those left are redone.
+// Where no place is left and more than half of the changes are redone, moves the others to the
+// front, so that none is moved while changes are redone. Answers how many of those left are redone.
 fn close_up(changes: &mut Vec<Change>, taken: usize) -> usize
     requires { taken ≤ vec_len changes.old }
     ensures left { drop result changes.new.items ≡ drop taken changes.old.items }

@@ -14,8 +14,8 @@ use als_frames::Frames;
 use als_record::Lsn;
 use std::marker::Model;
 
-/// The pages of a database: on a block device, some of them in frames in memory, with the changes that wait for each and the
-/// dirty page table.
+/// The pages of a database: on a block device, some of them in frames in memory, with the changes
+/// that wait for each and the dirty page table.
 pub struct Pool<D: BlockDisk> {
     frames: Frames<D>,
     dirty: DirtyTable,
@@ -24,7 +24,8 @@ pub struct Pool<D: BlockDisk> {
     unread: Vec<Option<Lsn>>,
 }
 
-// Written out: a derived drop is proved part by part wherever a pool is let go of, this one only here.
+// Written out: a derived drop is proved part by part wherever a pool is let go of, this one only
+// here.
 impl<D: BlockDisk + Drop> Drop for Pool<D> {
     fn drop(self) {
         let Pool {
@@ -46,9 +47,19 @@ impl<D: BlockDisk> Model for Pool<D> {
     ghost Value = { Held };
 
     ghost view = { λ p. record {
-      pool = record { frames = p.frames.paged; dirty = p.dirty; waits = p.queues.waits; unread = p.unread.items };
+      pool = record {
+        frames = p.frames.paged;
+        dirty = p.dirty;
+        waits = p.queues.waits;
+        unread = p.unread.items;
+      };
       room = record { frames = p.frames.spare; places = p.queues.places };
     } };
 
-    ghost invariant = { λ p. IsPooled (record { frames = p.frames.paged; dirty = p.dirty; waits = p.queues.waits; unread = p.unread.items }) };
+    ghost invariant = { λ p. IsPooled (record {
+      frames = p.frames.paged;
+      dirty = p.dirty;
+      waits = p.queues.waits;
+      unread = p.unread.items;
+    }) };
 }

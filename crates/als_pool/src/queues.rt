@@ -4,7 +4,8 @@ ghost use Rattle.std.specs.Prelude.{OnErr, IsTrue, ◌↔◌};
 ghost use Rattle.std.specs.Vec.{vec_len};
 ghost use Rattle.als_record.specs.Pages.{lsn_after};
 ghost use Rattle.als_dirty.specs.Images.{first_lsn};
-ghost use Rattle.als_pool.specs.Queues.{empty_queue, pending_of, has_place, total_waiting, count_up_to, WaitsFirst, IsNextFlag};
+ghost use Rattle.als_pool.specs.Queues.{empty_queue, pending_of, has_place, total_waiting};
+ghost use Rattle.als_pool.specs.Queues.{count_up_to, WaitsFirst, IsNextFlag};
 
 use crate::page_queue::PageQueue;
 use als_record::{Change, Lsn};
@@ -19,7 +20,8 @@ const BATCH: usize = 64;
 #[derive(Drop)]
 pub struct Queues {
     queues: Vec<PageQueue>,
-    // 1 for a page for which changes wait, else 0: the next one is found without a look at the queues.
+    // 1 for a page for which changes wait, else 0: the next one is found without a look at the
+    // queues.
     flags: Vec<u8>,
     // How many wait, over all pages.
     total: usize,
@@ -31,9 +33,13 @@ impl Model for Queues {
 
     ghost Value = { Waiting };
 
-    ghost view = { λ q. record { waits = map (λ p. p.pending) q.queues.items; places = map (λ p. p.has_room) q.queues.items } };
+    ghost view = { λ q. record {
+      waits = map (λ p. p.pending) q.queues.items;
+      places = map (λ p. p.has_room) q.queues.items;
+    } };
 
-    ghost invariant = { λ q. (length q.queues.items ≤ 4096) × (q.total ≡ total_waiting (map (λ p. p.pending) q.queues.items))
+    ghost invariant = { λ q. (length q.queues.items ≤ 4096)
+        × (q.total ≡ total_waiting (map (λ p. p.pending) q.queues.items))
         × (q.flags.items ≡ flags_of (map (λ p. p.pending) q.queues.items)) };
 }
 
@@ -41,7 +47,10 @@ impl Queues {
     /// A queue for each page, in which nothing waits.
     pub fn new(alloc: Global, pages: u32) -> Result<Queues, AllocError>
         requires { pages ≤ 4096 }
-        ensures { IfOk result (λ q. q ≡ record { waits = replicate pages []; places = replicate pages false }) }
+        ensures { IfOk result (λ q. q ≡ record {
+          waits = replicate pages [];
+          places = replicate pages false;
+        }) }
     {
         let mut queues = Vec::with_capacity(alloc, pages as usize)?;
         let mut flags = Vec::with_capacity(alloc, pages as usize)?;
@@ -95,7 +104,8 @@ impl Queues {
     /// Makes room for one more change of a page. An `Err` changes nothing.
     pub fn reserve(&mut self, page: u32) -> Result<(), AllocError>
         requires { page < length self.old.waits }
-        ensures ok { OnOk result (self.new ≡ record self.old { places = slice_set self.old.places page true }) }
+        ensures ok { OnOk result (self.new
+            ≡ record self.old { places = slice_set self.old.places page true }) }
         ensures place { OnOk result (has_place self.new.places page ≡ true) }
         ensures err { OnErr result (self.new ≡ self.old) }
         ensures reserved { has_place self.old.places page ≡ true → IsOk result }
@@ -110,7 +120,8 @@ impl Queues {
         requires in_range { change.key.page < length self.old.waits }
         requires room { has_place self.old.places change.key.page ≡ true }
         requires count { total_waiting self.old.waits + 1 < 2 ^ 64 }
-        ensures waits { self.new.waits ≡ slice_set self.old.waits change.key.page (pending_of self.old.waits change.key.page ++ change ∷ []) }
+        ensures waits { self.new.waits ≡ slice_set self.old.waits change.key.page
+            (pending_of self.old.waits change.key.page ++ change ∷ []) }
         ensures places { self.new.places ≡ slice_set self.old.places change.key.page false }
     {
         let page = change.key.page as usize;
@@ -123,7 +134,8 @@ impl Queues {
     pub fn drop_front(&mut self, page: u32, count: usize)
         requires in_range { page < length self.old.waits }
         requires some { count ≤ length (pending_of self.old.waits page) }
-        ensures waits { self.new.waits ≡ slice_set self.old.waits page (drop count (pending_of self.old.waits page)) }
+        ensures waits { self.new.waits ≡ slice_set self.old.waits page
+            (drop count (pending_of self.old.waits page)) }
         ensures places { self.new.places ≡ self.old.places }
     {
         let page = page as usize;

@@ -213,8 +213,8 @@ Exit statuses: 0 sound, 2 a fault of the command line, 3 unsound, or `als: refus
 /// The log blocks of a new database, where the command line does not say.
 const LOG_BLOCKS: u64 = 2_048;
 
-/// What the words ask for, of which the first is the program's name. An error is a mistake in the words, a request for
-/// help, or want of memory; its text says which.
+/// What the words ask for, of which the first is the program's name. An error is a mistake in the
+/// words, a request for help, or want of memory; its text says which.
 pub fn args<'a, S: AsStr>(alloc: Global, words: &'a [S]) -> Result<Command<'a>, Error> {
     let mut als = language(alloc)?;
     let matches = als.try_get_matches_from_mut(words)?;
@@ -234,7 +234,8 @@ pub fn args<'a, S: AsStr>(alloc: Global, words: &'a [S]) -> Result<Command<'a>, 
     }
 }
 
-/// The command that works on files. None: an argument that has to be given is missing, which the parser has told by then.
+/// The command that works on files. None: an argument that has to be given is missing, which the
+/// parser has told by then.
 fn operation<'a>(name: &str, matches: &ArgMatches<'a>) -> Option<Command<'a>> {
     match name {
         "ship" => Some(Command::Ship {

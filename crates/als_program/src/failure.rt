@@ -55,7 +55,8 @@ impl Failure {
         }
     }
 
-    /// Writes the failure's text, and answers its status. Where not even that can be written, the status has to do.
+    /// Writes the failure's text, and answers its status. Where not even that can be written, the
+    /// status has to do.
     pub fn report<W: Write>(&self, errors: &mut W) -> u8
         ensures { result ≡ status_of self.now }
     {

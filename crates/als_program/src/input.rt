@@ -9,7 +9,8 @@ const INPUT_LIMIT: u64 = 16_777_216;
 
 /// All bytes of the reader, which is standard input.
 ///
-/// TooLong: it has more than 16,777,216. Unreadable: it fails. Memory: there was none for the bytes.
+/// TooLong: it has more than 16,777,216. Unreadable: it fails. Memory: there was none for the
+/// bytes.
 pub fn read_input<R: Read + Drop>(alloc: Global, reader: R) -> Result<Vec<u8>, InputFault>
     ensures whole { IfOk result (λ v. IfSome (R.remaining reader) (λ bytes. v.items ≡ bytes)) }
     ensures limit { IfOk result (λ v. vec_len v ≤ 16777216) }

@@ -4,8 +4,8 @@ use std::alloc::Global;
 use std::io::Write;
 use std::str;
 
-/// `als make`: a line `pages N` and record lines to a log text, its bytes or lines of hexadecimal digits. Nothing is
-/// written before all lines are read.
+/// `als make`: a line `pages N` and record lines to a log text, its bytes or lines of hexadecimal
+/// digits. Nothing is written before all lines are read.
 pub fn make<W: Write>(
     alloc: Global,
     script: &[u8],

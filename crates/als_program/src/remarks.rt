@@ -45,7 +45,8 @@ pub fn ending<W: Write>(errors: &mut W, ending: &Ending, input: &[u8]) -> io::Re
     }
 }
 
-/// Says where feeds begin, if one did not begin there, which fault is kept, and how much of a record is there.
+/// Says where feeds begin, if one did not begin there, which fault is kept, and how much of a
+/// record is there.
 fn of_feeds<W: Write>(errors: &mut W, left: &Left) -> io::Result<()> {
     if let Some(misplaced) = &left.misplaced {
         began_elsewhere(errors, misplaced)?;

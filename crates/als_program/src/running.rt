@@ -31,8 +31,9 @@ pub fn program<
     program_on(rt, none, words, input, output, errors)
 }
 
-/// All of the program: does what the words ask for, of which the first is the program's name, and answers the exit
-/// status: 0, 2 for a fault of what the caller wrote, 3 for a refusal. What it has to say of itself goes to `errors`.
+/// All of the program: does what the words ask for, of which the first is the program's name, and
+/// answers the exit status: 0, 2 for a fault of what the caller wrote, 3 for a refusal. What it has
+/// to say of itself goes to `errors`.
 pub fn program_on<
     R: AllocGlobal + Files<File = File> + Net,
     S: AsStr,

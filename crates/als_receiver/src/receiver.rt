@@ -1,4 +1,5 @@
-ghost use Rattle.std.specs.Prelude.{◌≡◌, ◌≢◌, ◌+◌, ◌<◌, ◌≤◌, ◌^◌, [], ◌++◌, length, take, MatchBool, IfErr, IsOk, OnOk, OnErr};
+ghost use Rattle.std.specs.Prelude.{◌≡◌, ◌≢◌, ◌+◌, ◌<◌, ◌≤◌, ◌^◌, [], ◌++◌, length, take};
+ghost use Rattle.std.specs.Prelude.{MatchBool, IfErr, IsOk, OnOk, OnErr};
 ghost use Rattle.als_record.specs.declared.fault.Fault.TheVariants.{Memory};
 
 use crate::refusal::Refusal;
@@ -7,8 +8,9 @@ use bytes::BytesMut;
 use std::alloc::{AllocError, Global};
 use std::marker::Model;
 
-/// Takes the bytes of a log text in pieces, however they are cut, and hands out its records one by one. It keeps the
-/// bytes of a record that is not whole yet, and after bytes that are no record it gives the same refusal for good.
+/// Takes the bytes of a log text in pieces, however they are cut, and hands out its records one by
+/// one. It keeps the bytes of a record that is not whole yet, and after bytes that are no record it
+/// gives the same refusal for good.
 #[derive(Drop)]
 pub struct Receiver {
     pages: u32,
@@ -24,15 +26,25 @@ impl Model for Receiver {
 
     ghost Value = { Reception };
 
-    ghost view = { λ r. record { pages = r.pages; wanted = r.wanted.0; kept = r.kept.items; room = r.kept.spare; refusal = r.refusal } };
+    ghost view = { λ r. record {
+      pages = r.pages;
+      wanted = r.wanted.0;
+      kept = r.kept.items;
+      room = r.kept.spare;
+      refusal = r.refusal;
+    } };
 
-    ghost invariant = { λ r. (r.wanted.0 + length r.kept.items < 2 ^ 64) × IfSome r.refusal (λ refusal. refusal.fault ≢ Memory) };
+    ghost invariant = { λ r. (r.wanted.0 + length r.kept.items < 2 ^ 64)
+        × IfSome r.refusal (λ refusal. refusal.fault ≢ Memory) };
 }
 
 impl Receiver {
-    ghost use Rattle.als_receiver.specs.Reception.{fresh, with_kept, with_room, with_refusal, behind, is_memory, IsShown, Shows, Copies, Answers};
+    ghost use Rattle.als_receiver.specs.Reception.{fresh, with_kept, with_room, with_refusal};
+    ghost use Rattle.als_receiver.specs.Reception.{behind, is_memory, IsShown, Shows, Copies};
+    ghost use Rattle.als_receiver.specs.Reception.{Answers};
 
-    /// A receiver for a database of `pages` pages that wants the record at `at` first. It takes no memory.
+    /// A receiver for a database of `pages` pages that wants the record at `at` first. It takes no
+    /// memory.
     pub fn new(alloc: Global, at: Lsn, pages: u32) -> Receiver
         ensures { result ≡ fresh at.0 pages }
     {
@@ -44,11 +56,13 @@ impl Receiver {
         }
     }
 
-    /// Adds bytes to those kept. Only want of memory is refused, where the room was too small and could not grow, and
-    /// loses nothing. Log texts have less than 2^64 bytes: `position` tells where these begin.
+    /// Adds bytes to those kept. Only want of memory is refused, where the room was too small and
+    /// could not grow, and loses nothing. Log texts have less than 2^64 bytes: `position` tells
+    /// where these begin.
     pub fn push(&mut self, piece: &[u8]) -> Result<(), AllocError>
         requires { self.old.wanted + length self.old.kept + length piece.now < 2 ^ 64 }
-        ensures ok { OnOk result (self.new ≡ with_kept self.old (self.old.kept ++ piece.now) self.new.room) }
+        ensures ok { OnOk result (self.new
+            ≡ with_kept self.old (self.old.kept ++ piece.now) self.new.room) }
         ensures err { OnErr result (self.new ≡ with_room self.old self.new.room) }
         // Where there is room it takes no memory, and no more room than the piece is long.
         ensures reserved { length piece.now ≤ self.old.room → IsOk result }
@@ -58,8 +72,9 @@ impl Receiver {
         self.kept.extend_from_slice(piece)
     }
 
-    /// Makes room for so many bytes more, which can then be pushed with no memory. Only want of memory is refused, where the
-    /// room was too small and could not grow. Nothing changes but the room, which never shrinks.
+    /// Makes room for so many bytes more, which can then be pushed with no memory. Only want of
+    /// memory is refused, where the room was too small and could not grow. Nothing changes but the
+    /// room, which never shrinks.
     pub fn reserve(&mut self, len: usize) -> Result<(), AllocError>
         ensures same { self.new ≡ with_room self.old self.new.room }
         ensures ok { OnOk result (len ≤ self.new.room) }
@@ -69,9 +84,9 @@ impl Receiver {
         self.kept.reserve(len)
     }
 
-    /// The next record as it lies in the bytes kept, and how many of them it has; `None` where more bytes are needed. A
-    /// refusal says where the record should stand and which of the shape faults it has. It takes no memory, and nothing
-    /// changes.
+    /// The next record as it lies in the bytes kept, and how many of them it has; `None` where more
+    /// bytes are needed. A refusal says where the record should stand and which of the shape faults
+    /// it has. It takes no memory, and nothing changes.
     // Inlined, as `view_record` is, so that a view is not moved from answer to answer.
     #[inline(always)]
     pub fn peek(&self) -> Result<Option<(RecordView<'_>, usize)>, Refusal>
@@ -117,7 +132,8 @@ impl Receiver {
         front
     }
 
-    /// Hands out the record that `peek` has shown, of so many bytes: the next one is wanted behind it. It takes no memory.
+    /// Hands out the record that `peek` has shown, of so many bytes: the next one is wanted behind
+    /// it. It takes no memory.
     #[inline(always)]
     pub fn advance(&mut self, len: usize)
         requires { IsShown self.old len }
@@ -127,9 +143,9 @@ impl Receiver {
         self.wanted = Lsn(self.wanted.0 + len as u64);
     }
 
-    /// A copy of the record that `peek` shows, which is handed out; `None` where more bytes are needed. A refusal is that of
-    /// `peek`, and every later call gives it again; but want of memory, which only the rows of an
-    /// end_chkpt meet, is not kept: the call may be made again.
+    /// A copy of the record that `peek` shows, which is handed out; `None` where more bytes are
+    /// needed. A refusal is that of `peek`, and every later call gives it again; but want of
+    /// memory, which only the rows of an end_chkpt meet, is not kept: the call may be made again.
     #[inline(always)]
     pub fn next(&mut self) -> Result<Option<Record>, Refusal>
         ensures { Answers self.old result self.new }
@@ -149,14 +165,16 @@ impl Receiver {
 
     // The refusal of the bytes kept, which stays unless memory is wanted.
     fn keep(&mut self, refusal: Refusal)
-        ensures { MatchBool (is_memory refusal.fault) (self.new ≡ self.old) (self.new ≡ with_refusal self.old refusal) }
+        ensures { MatchBool (is_memory refusal.fault) (self.new ≡ self.old) (self.new
+            ≡ with_refusal self.old refusal) }
     {
         if refusal.fault != Fault::Memory {
             self.refusal = Some(refusal);
         }
     }
 
-    /// How many bytes are kept: fewer than the longest record's 54,560 once `next` has answered `None`.
+    /// How many bytes are kept: fewer than the longest record's 54,560 once `next` has answered
+    /// `None`.
     pub fn partial(&self) -> usize
         ensures { result ≡ length self.now.kept }
     {
@@ -178,7 +196,8 @@ impl Receiver {
         self.wanted
     }
 
-    /// The offset of the byte that is to be pushed next: behind the records handed out and the bytes kept.
+    /// The offset of the byte that is to be pushed next: behind the records handed out and the
+    /// bytes kept.
     pub fn position(&self) -> u64
         ensures { result ≡ self.now.wanted + length self.now.kept }
     {

@@ -1,6 +1,7 @@
 ghost use Rattle.std.specs.Prelude.{◌≡◌, ◌≢◌, ◌+◌, ◌≤◌, length, take, drop, IfErr, Ok, Err};
 ghost use Rattle.als_record.specs.declared.fault.Fault.TheVariants.{Memory};
-ghost use Rattle.als_record.specs.Reading.{Gives, image_of, read_update, read_compensation, read_checkpoint, is_key};
+ghost use Rattle.als_record.specs.Reading.{Gives, image_of, read_update, read_compensation};
+ghost use Rattle.als_record.specs.Reading.{read_checkpoint, is_key};
 ghost use Rattle.als_record.specs.Shown.{shown_image, shown_body};
 
 use crate::fault::Fault;

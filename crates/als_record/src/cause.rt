@@ -6,21 +6,23 @@ use crate::trans_id::TransId;
 use als_fault::FaultKind;
 use std::fmt;
 
-/// Why a record may not follow a valid log. Where several causes stand the least number is the one given.
+/// Why a record may not follow a valid log. Where several causes stand the least number is the one
+/// given.
 #[derive(Clone, Copy, Debug, PartialEq, Eq)]
 pub enum Cause {
     /// PrevLSN is not the transaction's LastLSN (not 0, for its first record).
     BadPrev,
     /// The transaction has ended, or is new and not greater than every TransID in the log.
     OldTransaction,
-    /// A committed transaction may only end; one that rolls back may only compensate and end; one that is not committed
-    /// may not end while an update of it survives.
+    /// A committed transaction may only end; one that rolls back may only compensate and end; one
+    /// that is not committed may not end while an update of it survives.
     WrongState,
     /// A compensation whose UndoNxtLSN is not the PrevLSN of the update that it undoes.
     WrongUndoNext,
     /// A compensation that does not undo the last surviving update of its transaction.
     WrongCompensation,
-    /// An update of a key at which another transaction, neither committed nor ended, has a surviving update.
+    /// An update of a key at which another transaction, neither committed nor ended, has a
+    /// surviving update.
     RecordHeld {
         /// That transaction.
         by: TransId,
@@ -29,7 +31,8 @@ pub enum Cause {
     BeforeImage,
     /// More than 256 transactions would be unended.
     TooManyTransactions,
-    /// A checkpoint record that names a transaction, or that does not fit the checkpoint records before it.
+    /// A checkpoint record that names a transaction, or that does not fit the checkpoint records
+    /// before it.
     BadCheckpoint,
 }
 

@@ -8,8 +8,8 @@ use crate::record::Record;
 use crate::record_view::{BodyView, RecordView};
 
 impl RecordView<'_> {
-    /// What redo does for the record: an update and a compensation write their after image, the others nothing. It takes no
-    /// memory.
+    /// What redo does for the record: an update and a compensation write their after image, the
+    /// others nothing. It takes no memory.
     #[inline]
     pub fn change(&self) -> Option<Change>
         ensures { result ≡ change_of (shown self.now) }
@@ -32,8 +32,8 @@ impl RecordView<'_> {
 }
 
 impl Record {
-    /// What redo does for the record: an update and a compensation write their after image, the others nothing. It takes no
-    /// memory.
+    /// What redo does for the record: an update and a compensation write their after image, the
+    /// others nothing. It takes no memory.
     #[inline]
     pub fn change(&self) -> Option<Change>
         ensures { result ≡ change_of self.now }

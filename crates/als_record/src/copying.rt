@@ -65,7 +65,12 @@ impl RecordView<'_> {
     /// The record that is shown, with this body.
     #[inline(always)]
     fn with_body(&self, body: Body) -> Record
-        ensures { result ≡ record { lsn = self.now.lsn; prev = self.now.prev; trans = self.now.trans; body = body } }
+        ensures { result ≡ record {
+          lsn = self.now.lsn;
+          prev = self.now.prev;
+          trans = self.now.trans;
+          body = body;
+        } }
     {
         Record {
             lsn: self.lsn,
@@ -75,8 +80,8 @@ impl RecordView<'_> {
         }
     }
 
-    /// The record that is shown, copied. Memory is wanted for nothing but the rows of an end_chkpt. Each arm builds its record
-    /// itself, which then needs no move.
+    /// The record that is shown, copied. Memory is wanted for nothing but the rows of an end_chkpt.
+    /// Each arm builds its record itself, which then needs no move.
     #[inline(always)]
     pub fn to_record(&self, alloc: Global) -> Result<Record, AllocError>
         ensures ok { IfOk result (λ copy. copy ≡ shown self.now) }

@@ -1,4 +1,5 @@
-ghost use Rattle.std.specs.Prelude.{◌≡◌, ℕ, ◌≤◌, ◌++◌, List, length, take, slice_index, Some, Ok, IfOk, IfErr, IfSome};
+ghost use Rattle.std.specs.Prelude.{◌≡◌, ℕ, ◌≤◌, ◌++◌, List, length, take, slice_index, Some, Ok};
+ghost use Rattle.std.specs.Prelude.{IfOk, IfErr, IfSome};
 ghost use Rattle.std.specs.Result.{IsErrOf};
 ghost use Rattle.als_record.specs.declared.record.Record.{Record as AnyRecord};
 ghost use Rattle.als_record.specs.declared.fault.Fault.TheVariants.{Memory};
@@ -20,7 +21,8 @@ fn copied(
     pages: u32,
 ) -> Result<Option<(Record, usize)>, Fault>
     ensures exact { Gives (λ o. o) result (read_record pages at.0 bytes.now) }
-    ensures memory { IfErr result (λ e. e ≡ Memory → TakesMemory (read_record pages at.0 bytes.now)) }
+    ensures memory { IfErr result (λ e. e ≡ Memory
+        → TakesMemory (read_record pages at.0 bytes.now)) }
 {
     match view_record(bytes, at, pages)? {
         None => Ok(None),
@@ -31,13 +33,15 @@ fn copied(
     }
 }
 
-/// The record at the front of the bytes, and its length in bytes, for a log in which it stands at `at` and a database of
-/// `pages` pages. `None`: more bytes are needed.
+/// The record at the front of the bytes, and its length in bytes, for a log in which it stands at
+/// `at` and a database of `pages` pages. `None`: more bytes are needed.
 ///
-/// The first of these that applies decides: `BadLength` for a length that its type may not have, `BadType`, `BadReserved`,
-/// `WrongLsn` for another own LSN than `at`, `None` for a record that is not whole, `BadKey`, `BadValue`, and `BadLength` for
-/// a length that its fields do not make. `Memory`: the rows of an end_chkpt found no room.
-// Inlined with all that it calls but for the rows of an end_chkpt, so that a record is not moved from answer to answer.
+/// The first of these that applies decides: `BadLength` for a length that its type may not have,
+/// `BadType`, `BadReserved`, `WrongLsn` for another own LSN than `at`, `None` for a record that is
+/// not whole, `BadKey`, `BadValue`, and `BadLength` for a length that its fields do not make.
+/// `Memory`: the rows of an end_chkpt found no room.
+// Inlined with all that it calls but for the rows of an end_chkpt, so that a record is not moved
+// from answer to answer.
 #[inline(always)]
 pub fn decode(
     alloc: Global,
@@ -46,10 +50,12 @@ pub fn decode(
     pages: u32,
 ) -> Result<Option<(Record, usize)>, Fault>
     // What is found is spelled so.
-    ensures found { IfOk result (λ o. IfSome o (λ x. (take x.1 bytes.now ≡ spelling x.0) × (x.1 ≡ record_len x.0)
+    ensures found { IfOk result (λ o. IfSome o (λ x. (take x.1 bytes.now ≡ spelling x.0)
+        × (x.1 ≡ record_len x.0)
         × (x.1 ≤ length bytes.now) × (x.0.lsn.0 ≡ at.0) × IsRecord pages x.0)) }
     // What is spelled so is found, unless memory runs out.
-    ensures only { (r : AnyRecord) (rest : List ℕ) → IsRecord pages r → r.lsn.0 ≡ at.0 → bytes.now ≡ spelling r ++ rest
+    ensures only { (r : AnyRecord) (rest : List ℕ) → IsRecord pages r → r.lsn.0 ≡ at.0
+        → bytes.now ≡ spelling r ++ rest
         → Gives (λ o. o) result (Ok (Some (r, record_len r))) }
     // Which fault it is, and when more bytes are needed.
     ensures exact { Gives (λ o. o) result (read_record pages at.0 bytes.now) }

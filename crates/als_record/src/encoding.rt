@@ -1,7 +1,9 @@
-ghost use Rattle.std.specs.Prelude.{◌≡◌, ◌+◌, ◌*◌, ◌<◌, ◌≤◌, ◌^◌, [], ◌∷◌, ◌++◌, length, OnOk, OnErr, IfErr, vec_len, vec_capacity};
+ghost use Rattle.std.specs.Prelude.{◌≡◌, ◌+◌, ◌*◌, ◌<◌, ◌≤◌, ◌^◌, [], ◌∷◌, ◌++◌, length, OnOk};
+ghost use Rattle.std.specs.Prelude.{OnErr, IfErr, vec_len, vec_capacity};
 ghost use Rattle.std.specs.Int.{w16, w32, w64, to_be_bytes};
 ghost use Rattle.als_record.specs.declared.fault.Fault.TheVariants.{Memory};
-ghost use Rattle.als_record.specs.Spelling.{type_byte, length_byte, head, body_bytes, body_len, record_len, spelling};
+ghost use Rattle.als_record.specs.Spelling.{type_byte, length_byte, head, body_bytes, body_len};
+ghost use Rattle.als_record.specs.Spelling.{record_len, spelling};
 
 use crate::fault::Fault;
 use crate::image::Image;
@@ -85,7 +87,8 @@ fn update_front(key: Key, before: u8, after: u8) -> [u8; 7]
 /// The fixed part of a compensation's body.
 #[inline]
 fn compensation_front(undo_next: Lsn, key: Key, after: u8) -> [u8; 14]
-    ensures { result ≡ to_be_bytes w64 undo_next.0 ++ to_be_bytes w32 key.page ++ (key.slot ∷ after ∷ []) }
+    ensures { result ≡ to_be_bytes w64 undo_next.0 ++ to_be_bytes w32 key.page
+        ++ (key.slot ∷ after ∷ []) }
 {
     let mut bytes = [0; 14];
     BigEndian::write_u64(&mut bytes, undo_next.0);
@@ -143,8 +146,8 @@ fn append_body(out: &mut Vec<u8>, body: &Body)
     }
 }
 
-/// Appends a record's bytes. `Memory` comes only where the room for them had to grow and could not; then nothing is
-/// appended.
+/// Appends a record's bytes. `Memory` comes only where the room for them had to grow and could not;
+/// then nothing is appended.
 #[tactic(auto, unfolding(crate::specs::Spelling::spelling, crate::specs::Spelling::record_len))]
 pub fn encode(logged: &Record, out: &mut Vec<u8>) -> Result<(), Fault>
     ensures ok { OnOk result (out.new.items ≡ out.old.items ++ spelling logged.now) }

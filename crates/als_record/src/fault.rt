@@ -7,10 +7,12 @@ use als_fault::FaultKind;
 use std::alloc::{AllocError, AllocFailed};
 use std::fmt;
 
-/// Why bytes are no log header or no record, or why there is none yet. The numbers are common to all crates.
+/// Why bytes are no log header or no record, or why there is none yet. The numbers are common to
+/// all crates.
 #[derive(Clone, Copy, Debug, PartialEq, Eq)]
 pub enum Fault {
-    /// The log's header has another text, a page count out of 1 to 4,096, or a byte that must be zero.
+    /// The log's header has another text, a page count out of 1 to 4,096, or a byte that must be
+    /// zero.
     BadHeader,
     /// A record's length is out of its type's range, or not what its fields make it.
     BadLength,

@@ -1,5 +1,6 @@
 ghost use Rattle.std.specs.Prelude.{◌≡◌, ◌+◌, ◌≤◌, length, take, drop};
-ghost use Rattle.als_record.specs.Reading.{half_at, word_at, long_at, key_at, is_length_byte, len_of_byte};
+ghost use Rattle.als_record.specs.Reading.{half_at, word_at, long_at, key_at, is_length_byte};
+ghost use Rattle.als_record.specs.Reading.{len_of_byte};
 
 use crate::key::Key;
 use crate::limits::VALUE_LIMIT;

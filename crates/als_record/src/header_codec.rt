@@ -1,4 +1,5 @@
-ghost use Rattle.std.specs.Prelude.{◌≡◌, ℕ, ◌≤◌, ◌<◌, ◌++◌, List, length, take, Some, None, Ok, IfOk, MatchOption};
+ghost use Rattle.std.specs.Prelude.{◌≡◌, ℕ, ◌≤◌, ◌<◌, ◌++◌, List, length, take, Some, None, Ok};
+ghost use Rattle.std.specs.Prelude.{IfOk, MatchOption};
 ghost use Rattle.als_record.specs.LogText.{header_bytes};
 ghost use Rattle.als_record.specs.HeaderReading.{is_magic, read_header};
 
@@ -38,14 +39,15 @@ fn read(bytes: &[u8]) -> Result<Option<LogHeader>, Fault>
 impl LogHeader {
     /// The header at the front of the bytes. `None`: there are fewer than 16.
     ///
-    /// `BadHeader`: another text, a page count that is not 1 to 4,096, or a byte that must be zero and is not. It takes no
-    /// memory.
+    /// `BadHeader`: another text, a page count that is not 1 to 4,096, or a byte that must be zero
+    /// and is not. It takes no memory.
     pub fn decode(bytes: &[u8]) -> Result<Option<LogHeader>, Fault>
         // What is found is spelled so.
         ensures found { IfOk result (λ o. MatchOption o (length bytes.now < 16)
             (λ h. (take 16 bytes.now ≡ header_bytes h.pages) × (1 ≤ h.pages) × (h.pages ≤ 4096))) }
         // What is spelled so is found.
-        ensures only { (pages : ℕ) (rest : List ℕ) → 1 ≤ pages → pages ≤ 4096 → bytes.now ≡ header_bytes pages ++ rest
+        ensures only { (pages : ℕ) (rest : List ℕ) → 1 ≤ pages → pages ≤ 4096
+            → bytes.now ≡ header_bytes pages ++ rest
             → result ≡ Ok (Some (record { pages = pages })) }
         // Which it is.
         ensures exact { result ≡ read_header bytes.now }

@@ -7,7 +7,8 @@ use crate::image::Image;
 use crate::image_view::ImageView;
 use std::marker::Model;
 
-/// An image in 32 bytes: one that says how long its value is, and 31 with the value. It is copied as it stands.
+/// An image in 32 bytes: one that says how long its value is, and 31 with the value. It is copied
+/// as it stands.
 #[derive(Clone, Copy)]
 pub struct KeptImage {
     // 0 for none, else a value's length and one.

@@ -3,7 +3,8 @@ use crate::lsn::Lsn;
 /// Where the first record of a log stands: behind the log's header, which has so many bytes.
 pub const FIRST_LSN: Lsn = Lsn(16);
 
-/// The length of a record's head in bytes: what stands in front of its body, and the whole of the shortest record.
+/// The length of a record's head in bytes: what stands in front of its body, and the whole of the
+/// shortest record.
 pub const HEAD_LEN: usize = 28;
 
 /// The length of the longest record in bytes: an end_chkpt with all rows that it may have.

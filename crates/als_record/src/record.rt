@@ -24,7 +24,8 @@ pub enum Body {
         before: Image,
         after: Image,
     },
-    /// An update is undone (a CLR). It is redone and never undone itself; undo goes on at `undo_next`.
+    /// An update is undone (a CLR). It is redone and never undone itself; undo goes on at
+    /// `undo_next`.
     Compensation {
         undo_next: Lsn,
         key: Key,

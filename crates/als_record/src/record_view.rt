@@ -4,7 +4,8 @@ use crate::lsn::Lsn;
 use crate::rows_view::RowsView;
 use crate::trans_id::TransId;
 
-/// A record of which nothing is copied but numbers: its images and rows lie elsewhere, in bytes or in a record.
+/// A record of which nothing is copied but numbers: its images and rows lie elsewhere, in bytes or
+/// in a record.
 #[derive(Clone, Copy)]
 pub struct RecordView<'a> {
     /// Where it stands: the byte offset of its first byte.

@@ -9,7 +9,7 @@ pub struct TransactionRow {
     pub state: TransactionState,
     /// LastLSN: its last record.
     pub last: Lsn,
-    /// UndoNxtLSN: where its undo goes on, 0 where there is nothing to undo. After an update that update, after a
-    /// compensation the UndoNxtLSN that the compensation carries.
+    /// UndoNxtLSN: where its undo goes on, 0 where there is nothing to undo. After an update that
+    /// update, after a compensation the UndoNxtLSN that the compensation carries.
     pub undo_next: Lsn,
 }

@@ -1,8 +1,10 @@
-ghost use Rattle.std.specs.Prelude.{◌≡◌, ◌≢◌, true, ℕ, ◌≤◌, ◌++◌, List, length, take, drop, Some, Ok, IsOk, IfOk, IfErr, IfSome};
+ghost use Rattle.std.specs.Prelude.{◌≡◌, ◌≢◌, true, ℕ, ◌≤◌, ◌++◌, List, length, take, drop, Some};
+ghost use Rattle.std.specs.Prelude.{Ok, IsOk, IfOk, IfErr, IfSome};
 ghost use Rattle.als_record.specs.declared.record.Record.{Record as AnyRecord};
 ghost use Rattle.als_record.specs.declared.fault.Fault.TheVariants.{Memory};
 ghost use Rattle.als_record.specs.Spelling.{spelling, record_len, IsRecord};
-ghost use Rattle.als_record.specs.Reading.{Gives, is_size, is_type, type_at, headed, with_head, read_body, read_record};
+ghost use Rattle.als_record.specs.Reading.{Gives, is_size, is_type, type_at, headed, with_head};
+ghost use Rattle.als_record.specs.Reading.{read_body, read_record};
 ghost use Rattle.als_record.specs.Shown.{shown, shown_body, shown_found};
 
 use crate::bodies::{checkpoint, compensation, update};
@@ -36,7 +38,8 @@ fn found<'a>(
     body: BodyView<'a>,
 ) -> Result<Option<(RecordView<'a>, usize)>, Fault>
     requires { 28 ≤ length bytes.now }
-    ensures exact { Gives shown_found result (Ok (Some (headed at.0 bytes.now (shown_body body.entry), size))) }
+    ensures exact { Gives shown_found result
+        (Ok (Some (headed at.0 bytes.now (shown_body body.entry), size))) }
     ensures ok { IsOk result }
 {
     let view = RecordView {
@@ -48,7 +51,8 @@ fn found<'a>(
     Ok(Some((view, size)))
 }
 
-/// The whole record of a type that there is. Each arm builds its view itself, which then needs no move.
+/// The whole record of a type that there is. Each arm builds its view itself, which then needs no
+/// move.
 #[inline(always)]
 #[tactic(auto, unfolding(crate::specs::Reading::read_body))]
 fn whole<'a>(
@@ -60,7 +64,9 @@ fn whole<'a>(
     requires whole { size ≤ length bytes.now }
     requires kind { is_type (type_at bytes.now) ≡ true }
     requires size { is_size (type_at bytes.now) size ≡ true }
-    ensures exact { Gives shown_found result (with_head at.0 bytes.now size (read_body pages (type_at bytes.now) (drop 28 (take size bytes.now)))) }
+    ensures exact { Gives shown_found result
+        (with_head at.0 bytes.now size (read_body pages (type_at bytes.now)
+        (drop 28 (take size bytes.now)))) }
     ensures no_memory { IfErr result (λ e. e ≢ Memory) }
 {
     let (front, _) = bytes.split_at(size);
@@ -106,12 +112,13 @@ fn read<'a>(bytes: &'a [u8], at: Lsn, pages: u32) -> Result<Option<(RecordView<'
     whole(bytes, at, pages, size)
 }
 
-/// The record at the front of the bytes as it lies there, and its length in bytes, for a log in which it stands at `at` and
-/// a database of `pages` pages. `None`: more bytes are needed. It takes no memory.
+/// The record at the front of the bytes as it lies there, and its length in bytes, for a log in
+/// which it stands at `at` and a database of `pages` pages. `None`: more bytes are needed. It takes
+/// no memory.
 ///
-/// The first of these that applies decides: `BadLength` for a length that its type may not have, `BadType`, `BadReserved`,
-/// `WrongLsn` for another own LSN than `at`, `None` for a record that is not whole, `BadKey`, `BadValue`, and `BadLength` for
-/// a length that its fields do not make.
+/// The first of these that applies decides: `BadLength` for a length that its type may not have,
+/// `BadType`, `BadReserved`, `WrongLsn` for another own LSN than `at`, `None` for a record that is
+/// not whole, `BadKey`, `BadValue`, and `BadLength` for a length that its fields do not make.
 // Inlined with all that it calls, so that a view is not moved from answer to answer.
 #[inline(always)]
 pub fn view_record<'a>(
@@ -120,10 +127,12 @@ pub fn view_record<'a>(
     pages: u32,
 ) -> Result<Option<(RecordView<'a>, usize)>, Fault>
     // What is found is spelled so.
-    ensures found { IfOk result (λ o. IfSome o (λ x. (take x.1 bytes.now ≡ spelling (shown x.0)) × (x.1 ≡ record_len (shown x.0))
+    ensures found { IfOk result (λ o. IfSome o (λ x. (take x.1 bytes.now ≡ spelling (shown x.0))
+        × (x.1 ≡ record_len (shown x.0))
         × (x.1 ≤ length bytes.now) × (x.0.lsn.0 ≡ at.0) × IsRecord pages (shown x.0))) }
     // What is spelled so is found.
-    ensures only { (r : AnyRecord) (rest : List ℕ) → IsRecord pages r → r.lsn.0 ≡ at.0 → bytes.now ≡ spelling r ++ rest
+    ensures only { (r : AnyRecord) (rest : List ℕ) → IsRecord pages r → r.lsn.0 ≡ at.0
+        → bytes.now ≡ spelling r ++ rest
         → Gives shown_found result (Ok (Some (r, record_len r))) }
     // Which fault it is, and when more bytes are needed.
     ensures exact { Gives shown_found result (read_record pages at.0 bytes.now) }

@@ -20,7 +20,9 @@ pub(crate) fn take_commit(
     validator: &Validator,
     logged: &Record,
 ) -> Result<(), Fault>
-    ensures warming { OnOk result ((pages : ℕ) (front : List AnyRecord) → IsValidatorOf pages validator.now (front ++ logged.now ∷ []) → IsValidLog pages (front ++ logged.now ∷ [])
+    ensures warming { OnOk result ((pages : ℕ) (front : List AnyRecord)
+        → IsValidatorOf pages validator.now (front ++ logged.now ∷ [])
+        → IsValidLog pages (front ++ logged.now ∷ [])
         → IsWarming pages front view.old → IsWarming pages (front ++ logged.now ∷ []) view.new) }
     ensures err { IfErr result (λ fault. fault ≡ Fault.Memory) }
 {

@@ -43,7 +43,8 @@ fn are_same_rows(a: &[LoggedTransaction], b: &[LoggedTransaction]) -> bool
     a == b
 }
 
-/// Whether the numbers and the transaction rows of a checkpoint are those of the records handed out.
+/// Whether the numbers and the transaction rows of a checkpoint are those of the records handed
+/// out.
 ///
 /// `Memory`: a growth was refused.
 pub(crate) fn is_checkpoint_of<D: BlockDisk>(
@@ -54,7 +55,8 @@ pub(crate) fn is_checkpoint_of<D: BlockDisk>(
 ) -> Result<bool, Fault>
     requires facts { IsScanned scan.now }
     requires counted { IsTallyOf count.now scan.now.log }
-    ensures ok { IfOk result (λ is. MatchBool is (IsCheckpointOf scan.now.log checkpoint.now) (IsCheckpointOf scan.now.log checkpoint.now → ⊥)) }
+    ensures ok { IfOk result (λ is. MatchBool is (IsCheckpointOf scan.now.log checkpoint.now)
+        (IsCheckpointOf scan.now.log checkpoint.now → ⊥)) }
     ensures err { IfErr result (λ fault. fault ≡ Fault.Memory) }
 {
     fits_checkpoint();

@@ -1,6 +1,7 @@
 ghost use Rattle.std.specs.Prelude.{◌≡◌, Some};
 ghost use Rattle.als_fault.specs.Kinds.{number_of, name_of, text_of};
-ghost use Rattle.als_reopen.specs.declared.fault.Fault.TheVariants.{Device as DeviceFailed, Memory as OutOfMemory};
+ghost use Rattle.als_reopen.specs.declared.fault.Fault.TheVariants.{Device as DeviceFailed};
+ghost use Rattle.als_reopen.specs.declared.fault.Fault.TheVariants.{Memory as OutOfMemory};
 ghost use Rattle.als_reopen.specs.FaultNames.{kind_of, of_scan, of_control};
 
 use als_ckpt::Fault as ControlFault;
@@ -14,11 +15,13 @@ use std::fmt;
 /// Why devices are not taken up again. The numbers are common to all crates.
 #[derive(Clone, Copy, Debug, PartialEq, Eq)]
 pub enum Fault {
-    /// The log's bytes are no record; `BadHeader`: its header is damaged, or it is that of another page count.
+    /// The log's bytes are no record; `BadHeader`: its header is damaged, or it is that of another
+    /// page count.
     Shape(ShapeFault),
     /// A record of the log may not follow those before it.
     Invalid(Cause),
-    /// The control block or its checkpoint is none, the mark stands within a record, or the checkpoint is not that of the log.
+    /// The control block or its checkpoint is none, the mark stands within a record, or the
+    /// checkpoint is not that of the log.
     BadControl,
     /// The log device has no room for the log and for what a takeover would append.
     LogFull,

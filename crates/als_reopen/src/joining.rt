@@ -1,5 +1,6 @@
 // The log and the pages of stopped devices, once the control block was read.
-ghost use Rattle.std.specs.Prelude.{◌≡◌, ℕ, ◌<◌, ◌≤◌, ◌+◌, ◌*◌, true, false, List, [], IfOk, IfErr, IfSome};
+ghost use Rattle.std.specs.Prelude.{◌≡◌, ℕ, ◌<◌, ◌≤◌, ◌+◌, ◌*◌, true, false, List, [], IfOk, IfErr};
+ghost use Rattle.std.specs.Prelude.{IfSome};
 ghost use Rattle.als_record.specs.declared.record.Record.{Record as AnyRecord};
 ghost use Rattle.als_record.specs.LogText.{log_text, end_of};
 ghost use Rattle.als_record.specs.Validity.{IsValidLog};
@@ -12,7 +13,8 @@ ghost use Rattle.als_view.specs.Showing.{IsWarming};
 ghost use Rattle.als_reopen.specs.Node.{position_of, rows_of};
 ghost use Rattle.als_reopen.specs.Outcomes.{AreSettled, all_synced, IsReopened, IsBare};
 ghost use Rattle.als_reopen.specs.Reading.{IsReading, IsMet};
-ghost use Rattle.als_reopen.specs.Reading.{IsLogOn, IsFrontOf, KeepsImages, IsBelowMark, CountsLog, IsScanLeft, IsPoolLeft, IsDiskLeft, IsPoolOpened};
+ghost use Rattle.als_reopen.specs.Reading.{IsLogOn, IsFrontOf, KeepsImages, IsBelowMark, CountsLog};
+ghost use Rattle.als_reopen.specs.Reading.{IsScanLeft, IsPoolLeft, IsDiskLeft, IsPoolOpened};
 
 use crate::fault::Fault;
 use crate::read_log::ReadLog;
@@ -48,7 +50,8 @@ fn rows_of(checkpoint: &Option<Checkpoint>) -> &[LoggedPage]
     }
 }
 
-/// Whether a device of so many blocks has room for the log that was read and for what a takeover would append.
+/// Whether a device of so many blocks has room for the log that was read and for what a takeover
+/// would append.
 fn has_room<D: BlockDisk>(scan: &Scan<D>, blocks: u64) -> bool
     requires { blocks ≡ scan.now.blocks }
     ensures fits { result ≡ true → end_of scan.now.log + reserve_of scan.now.log ≤ 512 * blocks }
@@ -76,17 +79,25 @@ fn finish<D: BlockDisk>(
     requires low { IfSome checkpoint.now (λ c. c.numbers.position.0 ≤ reading.scan.mark) }
     requires mark { reading.scan.mark ≡ state.mark.0 }
     requires blocks { blocks ≡ reading.scan.blocks }
-    ensures ok { IfOk result (λ x. IsReopened reading.scan.pages blocks (record { state = state; checkpoint = checkpoint.now })
+    ensures ok { IfOk result (λ x. IsReopened reading.scan.pages blocks (record {
+      state = state;
+      checkpoint = checkpoint.now;
+    })
         x.log.log x.validator x.count x.pool.pool) }
     ensures view { IfOk result (λ x. IsWarming reading.scan.pages x.log.log x.view) }
-    ensures log { IfOk result (λ x. x.log ≡ all_synced reading.scan.pages x.log.log blocks reading.scan.failures reading.scan.attempts x.log.room) }
+    ensures log { IfOk result (λ x. x.log
+        ≡ all_synced reading.scan.pages x.log.log blocks reading.scan.failures reading.scan.attempts
+        x.log.room) }
     ensures text { IfOk result (λ x. reading.scan.text ≡ log_text reading.scan.pages x.log.log) }
     ensures frames { IfOk result (λ x. x.pool.pool.frames ≡ reading.pool.pool.frames) }
     ensures images { IfOk result (λ x. KeepsImages reading.pool.pool x.pool.pool) }
-    ensures bare { (whole : List AnyRecord) → IsLogOn reading.scan.pages blocks reading.scan.mark reading.scan.text checkpoint.now whole
+    ensures bare { (whole : List AnyRecord)
+        → IsLogOn reading.scan.pages blocks reading.scan.mark reading.scan.text checkpoint.now whole
         → IsFrontOf reading.scan.log whole → IfErr result (λ u. IsBare u.fault) }
-    ensures failures { IfErr result (λ u. CountsLog u.fault reading.scan.failures (D.failures u.log)) }
-    ensures left_log { IfErr result (λ u. IsScanLeft reading.scan (D.slot u.log) (D.block_count u.log) (D.attempts u.log)) }
+    ensures failures { IfErr result (λ u. CountsLog u.fault reading.scan.failures
+        (D.failures u.log)) }
+    ensures left_log { IfErr result (λ u. IsScanLeft reading.scan (D.slot u.log)
+        (D.block_count u.log) (D.attempts u.log)) }
     ensures left_pages { IfErr result (λ u. IsPoolLeft reading.pool.pool.frames
         (D.slot u.pages) (D.block_count u.pages) (D.failures u.pages) (D.attempts u.pages)) }
 {
@@ -104,7 +115,8 @@ fn finish<D: BlockDisk>(
     }
 }
 
-/// The pages, of which none was read; what waits begins where the checkpoint says. The device comes back where a growth was refused.
+/// The pages, of which none was read; what waits begins where the checkpoint says. The device comes
+/// back where a growth was refused.
 fn open_pool<D: BlockDisk>(
     alloc: Global,
     disk: D,
@@ -115,9 +127,12 @@ fn open_pool<D: BlockDisk>(
     requires room { pages ≤ D.block_count disk }
     requires limit { pages ≤ 4096 }
     ensures ok { IfOk result (λ p. IsPoolOpened checkpoint.now p.pool) }
-    ensures frames { IfOk result (λ p. p.pool.frames ≡ without_frames pages frames (D.slot disk) (D.block_count disk) (D.failures disk) (D.attempts disk)) }
+    ensures frames { IfOk result (λ p. p.pool.frames
+        ≡ without_frames pages frames (D.slot disk) (D.block_count disk) (D.failures disk)
+        (D.attempts disk)) }
     ensures images { IfOk result (λ p. (whole : List AnyRecord) (below : ℕ)
-        → HoldsImagesFrom whole below pages (position_of checkpoint.now) (rows_of checkpoint.now) (D.slot disk) → HoldsImagesOf whole below p.pool) }
+        → HoldsImagesFrom whole below pages (position_of checkpoint.now) (rows_of checkpoint.now)
+        (D.slot disk) → HoldsImagesOf whole below p.pool) }
     ensures err { IfErr result (λ d. d ≡ disk) }
 {
     match Pool::open(
@@ -152,13 +167,18 @@ fn begin<D: BlockDisk>(
     ensures reading { IfOk result (λ r. IsReading checkpoint.now r.scan r.pool.pool r.count) }
     ensures view { IfOk result (λ r. IsWarming pages r.scan.log r.view) }
     ensures met { IfOk result (λ r. IsMet r.met r.scan.log checkpoint.now) }
-    ensures scan { IfOk result (λ r. r.scan ≡ scanned pages [] mark.0 (D.slot log) (D.block_count log) (D.failures log) (D.attempts log)) }
+    ensures scan { IfOk result (λ r. r.scan
+        ≡ scanned pages [] mark.0 (D.slot log) (D.block_count log) (D.failures log)
+        (D.attempts log)) }
     ensures pool { IfOk result (λ r. r.pool ≡ pool) }
-    ensures bare { (whole : List AnyRecord) → IsValidLog pages whole → text_of (D.slot log) mark.0 ≡ log_text pages whole → IfErr result (λ u. IsBare u.fault) }
+    ensures bare { (whole : List AnyRecord) → IsValidLog pages whole
+        → text_of (D.slot log) mark.0 ≡ log_text pages whole → IfErr result (λ u. IsBare u.fault) }
     ensures failures { IfErr result (λ u. CountsLog u.fault (D.failures log) (D.failures u.log)) }
-    ensures left_log { IfErr result (λ u. IsDiskLeft (D.block_count log) (D.slot log) (D.slot u.log) (D.block_count log) (D.attempts log)
+    ensures left_log { IfErr result (λ u. IsDiskLeft (D.block_count log) (D.slot log) (D.slot u.log)
+        (D.block_count log) (D.attempts log)
         (D.block_count u.log) (D.attempts u.log)) }
-    ensures left_pages { IfErr result (λ u. IsPoolLeft pool.pool.frames (D.slot u.pages) (D.block_count u.pages) (D.failures u.pages) (D.attempts u.pages)) }
+    ensures left_pages { IfErr result (λ u. IsPoolLeft pool.pool.frames (D.slot u.pages)
+        (D.block_count u.pages) (D.failures u.pages) (D.attempts u.pages)) }
 {
     // For the prover alone: there are as many blocks as pages that wait for changes.
     let _ = pool.pages();
@@ -190,9 +210,11 @@ fn begin<D: BlockDisk>(
     }
 }
 
-/// The log, the pages and what a restart takes of the log, over devices that were synced, once the control block was read.
+/// The log, the pages and what a restart takes of the log, over devices that were synced, once the
+/// control block was read.
 ///
-/// `Device`: the log's device failed. `Memory`: a growth was refused. Else the first fault of the log's bytes. Both devices come back.
+/// `Device`: the log's device failed. `Memory`: a growth was refused. Else the first fault of the
+/// log's bytes. Both devices come back.
 pub(crate) fn read_log<D: BlockDisk>(
     alloc: Global,
     log: D,
@@ -208,21 +230,34 @@ pub(crate) fn read_log<D: BlockDisk>(
     requires mark { (16 ≤ state.mark.0) × (state.mark.0 ≤ 512 * D.block_count log) }
     requires position { IfSome checkpoint.now (IsBelowMark state.mark.0) }
     requires room { pages ≤ D.block_count page_disk }
-    ensures ok { IfOk result (λ x. IsReopened pages (D.block_count log) (record { state = state; checkpoint = checkpoint.now })
+    ensures ok { IfOk result (λ x. IsReopened pages (D.block_count log) (record {
+      state = state;
+      checkpoint = checkpoint.now;
+    })
         x.log.log x.validator x.count x.pool.pool) }
     ensures view { IfOk result (λ x. IsWarming pages x.log.log x.view) }
-    ensures log { IfOk result (λ x. x.log ≡ all_synced pages x.log.log (D.block_count log) (D.failures log) (D.attempts log) x.log.room) }
+    ensures log { IfOk result (λ x. x.log
+        ≡ all_synced pages x.log.log (D.block_count log) (D.failures log)
+        (D.attempts log) x.log.room) }
     ensures text { IfOk result (λ x. text_of (D.slot log) state.mark.0 ≡ log_text pages x.log.log) }
-    ensures frames { IfOk result (λ x. x.pool.pool.frames ≡ without_frames pages frames (D.slot page_disk) (D.block_count page_disk) (D.failures page_disk)
+    ensures frames { IfOk result (λ x. x.pool.pool.frames
+        ≡ without_frames pages frames (D.slot page_disk) (D.block_count page_disk)
+        (D.failures page_disk)
         (D.attempts page_disk)) }
     ensures images { IfOk result (λ x. (whole : List AnyRecord) (below : ℕ)
-        → HoldsImagesFrom whole below pages (position_of checkpoint.now) (rows_of checkpoint.now) (D.slot page_disk) → HoldsImagesOf whole below x.pool.pool) }
-    ensures bare { (whole : List AnyRecord) → IsLogOn pages (D.block_count log) state.mark.0 (text_of (D.slot log) state.mark.0) checkpoint.now whole
+        → HoldsImagesFrom whole below pages (position_of checkpoint.now) (rows_of checkpoint.now)
+        (D.slot page_disk) → HoldsImagesOf whole below x.pool.pool) }
+    ensures bare { (whole : List AnyRecord)
+        → IsLogOn pages (D.block_count log) state.mark.0
+        (text_of (D.slot log) state.mark.0) checkpoint.now whole
         → IfErr result (λ u. IsBare u.fault) }
-    ensures failures { IfErr result (λ u. CountsLog u.fault (D.failures log) (D.failures u.log) × (D.failures u.pages ≡ D.failures page_disk)) }
-    ensures left_log { IfErr result (λ u. IsDiskLeft (D.block_count log) (D.slot log) (D.slot u.log) (D.block_count log) (D.attempts log)
+    ensures failures { IfErr result (λ u. CountsLog u.fault (D.failures log) (D.failures u.log)
+        × (D.failures u.pages ≡ D.failures page_disk)) }
+    ensures left_log { IfErr result (λ u. IsDiskLeft (D.block_count log) (D.slot log) (D.slot u.log)
+        (D.block_count log) (D.attempts log)
         (D.block_count u.log) (D.attempts u.log)) }
-    ensures left_pages { IfErr result (λ u. IsDiskLeft pages (D.slot page_disk) (D.slot u.pages) (D.block_count page_disk) (D.attempts page_disk)
+    ensures left_pages { IfErr result (λ u. IsDiskLeft pages (D.slot page_disk) (D.slot u.pages)
+        (D.block_count page_disk) (D.attempts page_disk)
         (D.block_count u.pages) (D.attempts u.pages)) }
 {
     let blocks = log.blocks();

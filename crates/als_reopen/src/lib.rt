@@ -1,5 +1,5 @@
-//! Three stopped devices are read and taken up again: the control block and its checkpoint, the log below the mark, and the changes
-//! that the pages may lack.
+//! Three stopped devices are read and taken up again: the control block and its checkpoint, the log
+//! below the mark, and the changes that the pages may lack.
 #![tactic(auto)]
 
 // The devices.

@@ -4,7 +4,8 @@ ghost use Rattle.als_frames.specs.Frames.{without_frames};
 ghost use Rattle.als_pool.specs.Images.{IsPoolOf};
 ghost use Rattle.als_view.specs.Showing.{IsWarming};
 ghost use Rattle.als_reopen.specs.Node.{Node, HoldsLog, IsNode};
-ghost use Rattle.als_reopen.specs.Outcomes.{AreSettled, all_synced, said_now, IsControlRead, IsReopened, IsBare};
+ghost use Rattle.als_reopen.specs.Outcomes.{AreSettled, all_synced, said_now, IsControlRead};
+ghost use Rattle.als_reopen.specs.Outcomes.{IsReopened, IsBare};
 ghost use Rattle.als_reopen.specs.Reading.{CountsLog, IsDiskLeft};
 
 use crate::disks::Disks;
@@ -18,7 +19,8 @@ use als_disk::BlockDisk;
 use als_pool::queues_join_images;
 use std::alloc::Global;
 
-/// Reads the control block, its checkpoint and the log, of devices that were synced. No device is written or synced.
+/// Reads the control block, its checkpoint and the log, of devices that were synced. No device is
+/// written or synced.
 pub(crate) fn read_back<D: BlockDisk>(
     alloc: Global,
     disks: Disks<D>,
@@ -31,25 +33,38 @@ pub(crate) fn read_back<D: BlockDisk>(
     requires page_blocks { pages ≤ D.block_count disks.pages }
     requires settled_log { AreSettled (D.slot disks.log) }
     requires settled_control { AreSettled (D.slot disks.control) }
-    ensures ok { IfOk result (λ x. IsReopened pages (D.block_count disks.log) (said_now x.control) x.log.log x.validator x.count x.pool.pool) }
+    ensures ok { IfOk result (λ x. IsReopened pages (D.block_count disks.log)
+        (said_now x.control) x.log.log x.validator x.count x.pool.pool) }
     ensures view { IfOk result (λ x. IsWarming pages x.log.log x.view) }
-    ensures log { IfOk result (λ x. x.log ≡ all_synced pages x.log.log (D.block_count disks.log) (D.failures disks.log) (D.attempts disks.log) x.log.room) }
-    ensures control { IfOk result (λ x. IsControlRead pages (D.block_count disks.log) (D.block_count disks.control) (D.failures disks.control)
+    ensures log { IfOk result (λ x. x.log
+        ≡ all_synced pages x.log.log (D.block_count disks.log) (D.failures disks.log)
+        (D.attempts disks.log) x.log.room) }
+    ensures control { IfOk result (λ x. IsControlRead pages (D.block_count disks.log)
+        (D.block_count disks.control) (D.failures disks.control)
         (D.attempts disks.control) x.control) }
-    ensures frames { IfOk result (λ x. x.pool.pool.frames ≡ without_frames pages frames (D.slot disks.pages) (D.block_count disks.pages)
+    ensures frames { IfOk result (λ x. x.pool.pool.frames
+        ≡ without_frames pages frames (D.slot disks.pages) (D.block_count disks.pages)
         (D.failures disks.pages) (D.attempts disks.pages)) }
-    ensures only { (n : Node) → HoldsLog pages (D.block_count disks.log) (D.slot disks.log) (D.slot disks.control) n
+    ensures only { (n : Node) → HoldsLog pages (D.block_count disks.log) (D.slot disks.log)
+        (D.slot disks.control) n
         → IfOk result (λ x. (x.log.log ≡ n.log) × (said_now x.control ≡ n.said)) }
-    ensures bare { (n : Node) → HoldsLog pages (D.block_count disks.log) (D.slot disks.log) (D.slot disks.control) n → IfErr result (λ u. IsBare u.fault) }
-    ensures warm { (n : Node) → IsNode pages (D.block_count disks.log) (D.slot disks.log) (D.slot disks.control) (D.slot disks.pages) n
+    ensures bare { (n : Node) → HoldsLog pages (D.block_count disks.log) (D.slot disks.log)
+        (D.slot disks.control) n → IfErr result (λ u. IsBare u.fault) }
+    ensures warm { (n : Node) → IsNode pages (D.block_count disks.log) (D.slot disks.log)
+        (D.slot disks.control) (D.slot disks.pages) n
         → IfOk result (λ x. IsPoolOf n.log n.said.state.mark.0 x.pool.pool) }
-    ensures failures { IfErr result (λ u. CountsLog u.fault (D.failures disks.log + D.failures disks.control + D.failures disks.pages)
+    ensures failures { IfErr result (λ u. CountsLog u.fault (D.failures disks.log
+        + D.failures disks.control + D.failures disks.pages)
         (D.failures u.disks.log + D.failures u.disks.control + D.failures u.disks.pages)) }
-    ensures left_log { IfErr result (λ u. IsDiskLeft (D.block_count disks.log) (D.slot disks.log) (D.slot u.disks.log) (D.block_count disks.log)
+    ensures left_log { IfErr result (λ u. IsDiskLeft (D.block_count disks.log) (D.slot disks.log)
+        (D.slot u.disks.log) (D.block_count disks.log)
         (D.attempts disks.log) (D.block_count u.disks.log) (D.attempts u.disks.log)) }
-    ensures left_control { IfErr result (λ u. ((k : ℕ) → D.slot u.disks.control k ≡ D.slot disks.control k)
-        × (D.block_count u.disks.control ≡ D.block_count disks.control) × (D.attempts u.disks.control ≡ D.attempts disks.control)) }
-    ensures left_pages { IfErr result (λ u. IsDiskLeft pages (D.slot disks.pages) (D.slot u.disks.pages) (D.block_count disks.pages)
+    ensures left_control { IfErr result (λ u. ((k : ℕ)
+        → D.slot u.disks.control k ≡ D.slot disks.control k)
+        × (D.block_count u.disks.control ≡ D.block_count disks.control)
+        × (D.attempts u.disks.control ≡ D.attempts disks.control)) }
+    ensures left_pages { IfErr result (λ u. IsDiskLeft pages (D.slot disks.pages)
+        (D.slot u.disks.pages) (D.block_count disks.pages)
         (D.attempts disks.pages) (D.block_count u.disks.pages) (D.attempts u.disks.pages)) }
 {
     queues_join_images();

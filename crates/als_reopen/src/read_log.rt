@@ -18,7 +18,8 @@ pub(crate) struct ReadLog<D: BlockDisk> {
     pub(crate) view: View,
 }
 
-// Written out: a derived drop is proved wherever a log that was read is let go of, this one only here.
+// Written out: a derived drop is proved wherever a log that was read is let go of, this one only
+// here.
 impl<D: BlockDisk + Drop> Drop for ReadLog<D> {
     fn drop(self) {
         let ReadLog {
@@ -39,7 +40,8 @@ impl<D: BlockDisk> ReadLog<D> {
     /// All that was read, with the control block.
     pub(crate) fn with_control(self, control: Control<D>) -> Reopened<D>
         ensures { (result.log ≡ self.log) × (result.control ≡ control) × (result.pool ≡ self.pool)
-            × (result.validator ≡ self.validator) × (result.count ≡ self.count) × (result.view ≡ self.view) }
+            × (result.validator ≡ self.validator) × (result.count ≡ self.count)
+            × (result.view ≡ self.view) }
     {
         let ReadLog {
             log,

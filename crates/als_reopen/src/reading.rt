@@ -1,5 +1,6 @@
 // The log below the mark, record by record, with what a restart takes of it.
-ghost use Rattle.std.specs.Prelude.{◌≡◌, ◌⊎◌, ℕ, ◌<◌, ◌≤◌, true, false, List, ◌++◌, OnOk, IfOk, IfErr, MatchBool, IfSome, IsSomeAnd};
+ghost use Rattle.std.specs.Prelude.{◌≡◌, ◌⊎◌, ℕ, ◌<◌, ◌≤◌, true, false, List, ◌++◌, OnOk, IfOk};
+ghost use Rattle.std.specs.Prelude.{IfErr, MatchBool, IfSome, IsSomeAnd};
 ghost use Rattle.als_record.specs.declared.record.Record.{Record as AnyRecord};
 ghost use Rattle.als_record.specs.LogText.{log_text, end_of};
 ghost use Rattle.als_record.specs.Validity.{IsValidLog};
@@ -9,7 +10,8 @@ ghost use Rattle.als_tables.specs.Fronts.{IsOfFront};
 ghost use Rattle.als_view.specs.Showing.{IsWarming};
 ghost use Rattle.als_reopen.specs.Outcomes.{IsBare};
 ghost use Rattle.als_reopen.specs.Reading.{IsReading, IsMet, IsMetBefore};
-ghost use Rattle.als_reopen.specs.Reading.{ScansOn, KeepsImages, IsOneMore, IsFrontOf, CountsDevice, CountsLog, IsScanLeft, IsPoolLeft};
+ghost use Rattle.als_reopen.specs.Reading.{ScansOn, KeepsImages, IsOneMore, IsFrontOf};
+ghost use Rattle.als_reopen.specs.Reading.{CountsDevice, CountsLog, IsScanLeft, IsPoolLeft};
 
 use crate::committing::take_commit;
 use crate::comparing::is_checkpoint_of;
@@ -25,8 +27,8 @@ use als_tables::Tally;
 use als_view::View;
 use std::alloc::Global;
 
-/// A log that is being read: the records handed out so far are counted, their changes wait for the pages, and their
-/// commits for the readers.
+/// A log that is being read: the records handed out so far are counted, their changes wait for the
+/// pages, and their commits for the readers.
 pub(crate) struct Reading<D: BlockDisk> {
     pub(crate) scan: Scan<D>,
     pub(crate) pool: Pool<D>,
@@ -53,7 +55,8 @@ impl<D: BlockDisk + Drop> Drop for Reading<D> {
     }
 }
 
-/// Compares the checkpoint with the records handed out, where they end at its position. Whether it was met is answered.
+/// Compares the checkpoint with the records handed out, where they end at its position. Whether it
+/// was met is answered.
 ///
 /// `BadControl`: it is not that of these records. `Memory`: a growth was refused.
 fn meet<D: BlockDisk>(
@@ -61,11 +64,13 @@ fn meet<D: BlockDisk>(
     reading: &Reading<D>,
     checkpoint: &Option<Checkpoint>,
 ) -> Result<bool, Fault>
-    requires reading { IsReading checkpoint.now reading.now.scan reading.now.pool.pool reading.now.count }
+    requires reading { IsReading checkpoint.now reading.now.scan reading.now.pool.pool
+        reading.now.count }
     requires met { IsMet reading.now.met reading.now.scan.log checkpoint.now }
     ensures ok { IfOk result (λ met. IsMetBefore met reading.now.scan.log checkpoint.now) }
     ensures err { IfErr result (λ fault. (fault ≡ Fault.Memory) ⊎ (fault ≡ Fault.BadControl)) }
-    ensures bare { (whole rest : List AnyRecord) → whole ≡ reading.now.scan.log ++ rest → IfSome checkpoint.now (IsOfFront whole)
+    ensures bare { (whole rest : List AnyRecord) → whole ≡ reading.now.scan.log ++ rest
+        → IfSome checkpoint.now (IsOfFront whole)
         → IfErr result (λ fault. fault ≡ Fault.Memory) }
 {
     let Some(checkpoint) = checkpoint else {
@@ -87,8 +92,10 @@ fn meet<D: BlockDisk>(
 ///
 /// `BadControl`: they do, so no front of the log ends there.
 fn check_position(met: bool, end: u64, checkpoint: &Option<Checkpoint>) -> Result<(), Fault>
-    ensures ok { OnOk result (IfSome checkpoint.now (λ c. (met ≡ true) ⊎ (end ≤ c.numbers.position.0))) }
-    ensures err { IfErr result (λ fault. (fault ≡ Fault.BadControl) × IsSomeAnd checkpoint.now (λ c. (met ≡ false) × (c.numbers.position.0 < end))) }
+    ensures ok { OnOk result (IfSome checkpoint.now (λ c. (met ≡ true)
+        ⊎ (end ≤ c.numbers.position.0))) }
+    ensures err { IfErr result (λ fault. (fault ≡ Fault.BadControl)
+        × IsSomeAnd checkpoint.now (λ c. (met ≡ false) × (c.numbers.position.0 < end))) }
 {
     let Some(checkpoint) = checkpoint else {
         return Ok(());
@@ -102,22 +109,29 @@ fn check_position(met: bool, end: u64, checkpoint: &Option<Checkpoint>) -> Resul
 impl<D: BlockDisk> Reading<D> {
     /// Takes the next record, if there is one. Whether there was is answered.
     fn take_one(&mut self, alloc: Global, checkpoint: &Option<Checkpoint>) -> Result<bool, Fault>
-        requires reading { IsReading checkpoint.now self.old.scan self.old.pool.pool self.old.count }
+        requires reading { IsReading checkpoint.now self.old.scan self.old.pool.pool
+            self.old.count }
         requires view { IsWarming self.old.scan.pages self.old.scan.log self.old.view }
         ensures view { OnOk result (IsWarming self.new.scan.pages self.new.scan.log self.new.view) }
-        ensures reading { OnOk result (IsReading checkpoint.now self.new.scan self.new.pool.pool self.new.count) }
-        ensures more { IfOk result (λ more. MatchBool more (IsOneMore self.old.scan.log self.new.scan.log)
+        ensures reading { OnOk result (IsReading checkpoint.now self.new.scan self.new.pool.pool
+            self.new.count) }
+        ensures more { IfOk result (λ more. MatchBool more
+            (IsOneMore self.old.scan.log self.new.scan.log)
             (IsWhole self.new.scan × (self.new.scan.log ≡ self.old.scan.log))) }
         ensures met { self.new.met ≡ self.old.met }
         ensures scan { ScansOn self.old.scan self.new.scan }
         ensures images { KeepsImages self.old.pool.pool self.new.pool.pool }
         ensures frames { self.new.pool.pool.frames ≡ self.old.pool.pool.frames }
         ensures done { OnOk result (self.new.scan.failures ≡ self.old.scan.failures) }
-        ensures err { IfErr result (λ fault. CountsDevice fault self.old.scan.failures self.new.scan.failures) }
-        // Over the text of a log its records come in order, and only a failed device and want of memory are in the way.
-        ensures bare { (whole : List AnyRecord) → IsValidLog self.old.scan.pages whole → self.old.scan.text ≡ log_text self.old.scan.pages whole
+        ensures err { IfErr result (λ fault. CountsDevice fault self.old.scan.failures
+            self.new.scan.failures) }
+        // Over the text of a log its records come in order, and only a failed device and want of
+        // memory are in the way.
+        ensures bare { (whole : List AnyRecord) → IsValidLog self.old.scan.pages whole
+            → self.old.scan.text ≡ log_text self.old.scan.pages whole
             → IfErr result IsBare }
-        ensures front { (whole : List AnyRecord) → IsValidLog self.old.scan.pages whole → self.old.scan.text ≡ log_text self.old.scan.pages whole
+        ensures front { (whole : List AnyRecord) → IsValidLog self.old.scan.pages whole
+            → self.old.scan.text ≡ log_text self.old.scan.pages whole
             → OnOk result (IsFrontOf self.new.scan.log whole) }
     {
         change_can_be_read();
@@ -130,25 +144,34 @@ impl<D: BlockDisk> Reading<D> {
         Ok(true)
     }
 
-    /// Compares the checkpoint, if its position is reached, and takes the next record, if there is one. Whether there was is answered.
+    /// Compares the checkpoint, if its position is reached, and takes the next record, if there is
+    /// one. Whether there was is answered.
     fn step(&mut self, alloc: Global, checkpoint: &Option<Checkpoint>) -> Result<bool, Fault>
-        requires reading { IsReading checkpoint.now self.old.scan self.old.pool.pool self.old.count }
+        requires reading { IsReading checkpoint.now self.old.scan self.old.pool.pool
+            self.old.count }
         requires view { IsWarming self.old.scan.pages self.old.scan.log self.old.view }
         requires met { IsMet self.old.met self.old.scan.log checkpoint.now }
         requires low { IfSome checkpoint.now (λ c. c.numbers.position.0 ≤ self.old.scan.mark) }
         ensures view { OnOk result (IsWarming self.new.scan.pages self.new.scan.log self.new.view) }
-        ensures reading { OnOk result (IsReading checkpoint.now self.new.scan self.new.pool.pool self.new.count) }
+        ensures reading { OnOk result (IsReading checkpoint.now self.new.scan self.new.pool.pool
+            self.new.count) }
         ensures met { OnOk result (IsMet self.new.met self.new.scan.log checkpoint.now) }
-        ensures more { IfOk result (λ more. MatchBool more (IsOneMore self.old.scan.log self.new.scan.log)
-            (IsWhole self.new.scan × (self.new.scan.log ≡ self.old.scan.log) × IfSome checkpoint.now (IsOfFront self.new.scan.log))) }
+        ensures more { IfOk result (λ more. MatchBool more
+            (IsOneMore self.old.scan.log self.new.scan.log)
+            (IsWhole self.new.scan × (self.new.scan.log ≡ self.old.scan.log)
+            × IfSome checkpoint.now (IsOfFront self.new.scan.log))) }
         ensures scan { ScansOn self.old.scan self.new.scan }
         ensures images { KeepsImages self.old.pool.pool self.new.pool.pool }
         ensures frames { self.new.pool.pool.frames ≡ self.old.pool.pool.frames }
         ensures done { OnOk result (self.new.scan.failures ≡ self.old.scan.failures) }
-        ensures err { IfErr result (λ fault. CountsDevice fault self.old.scan.failures self.new.scan.failures) }
-        ensures bare { (whole : List AnyRecord) → IsValidLog self.old.scan.pages whole → self.old.scan.text ≡ log_text self.old.scan.pages whole
-            → IsFrontOf self.old.scan.log whole → IfSome checkpoint.now (IsOfFront whole) → IfErr result IsBare }
-        ensures front { (whole : List AnyRecord) → IsValidLog self.old.scan.pages whole → self.old.scan.text ≡ log_text self.old.scan.pages whole
+        ensures err { IfErr result (λ fault. CountsDevice fault self.old.scan.failures
+            self.new.scan.failures) }
+        ensures bare { (whole : List AnyRecord) → IsValidLog self.old.scan.pages whole
+            → self.old.scan.text ≡ log_text self.old.scan.pages whole
+            → IsFrontOf self.old.scan.log whole → IfSome checkpoint.now (IsOfFront whole)
+            → IfErr result IsBare }
+        ensures front { (whole : List AnyRecord) → IsValidLog self.old.scan.pages whole
+            → self.old.scan.text ≡ log_text self.old.scan.pages whole
             → OnOk result (IsFrontOf self.new.scan.log whole) }
     {
         self.met = meet(alloc, self, checkpoint)?;
@@ -163,21 +186,26 @@ impl<D: BlockDisk> Reading<D> {
         alloc: Global,
         checkpoint: &Option<Checkpoint>,
     ) -> Result<(), Fault>
-        requires reading { IsReading checkpoint.now self.old.scan self.old.pool.pool self.old.count }
+        requires reading { IsReading checkpoint.now self.old.scan self.old.pool.pool
+            self.old.count }
         requires view { IsWarming self.old.scan.pages self.old.scan.log self.old.view }
         requires met { IsMet self.old.met self.old.scan.log checkpoint.now }
         requires low { IfSome checkpoint.now (λ c. c.numbers.position.0 ≤ self.old.scan.mark) }
         ensures view { OnOk result (IsWarming self.new.scan.pages self.new.scan.log self.new.view) }
-        ensures reading { OnOk result (IsReading checkpoint.now self.new.scan self.new.pool.pool self.new.count) }
+        ensures reading { OnOk result (IsReading checkpoint.now self.new.scan self.new.pool.pool
+            self.new.count) }
         ensures whole { OnOk result (IsWhole self.new.scan) }
         ensures of_front { OnOk result (IfSome checkpoint.now (IsOfFront self.new.scan.log)) }
         ensures scan { ScansOn self.old.scan self.new.scan }
         ensures images { KeepsImages self.old.pool.pool self.new.pool.pool }
         ensures frames { self.new.pool.pool.frames ≡ self.old.pool.pool.frames }
         ensures done { OnOk result (self.new.scan.failures ≡ self.old.scan.failures) }
-        ensures err { IfErr result (λ fault. CountsDevice fault self.old.scan.failures self.new.scan.failures) }
-        ensures bare { (whole : List AnyRecord) → IsValidLog self.old.scan.pages whole → self.old.scan.text ≡ log_text self.old.scan.pages whole
-            → IsFrontOf self.old.scan.log whole → IfSome checkpoint.now (IsOfFront whole) → IfErr result IsBare }
+        ensures err { IfErr result (λ fault. CountsDevice fault self.old.scan.failures
+            self.new.scan.failures) }
+        ensures bare { (whole : List AnyRecord) → IsValidLog self.old.scan.pages whole
+            → self.old.scan.text ≡ log_text self.old.scan.pages whole
+            → IsFrontOf self.old.scan.log whole → IfSome checkpoint.now (IsOfFront whole)
+            → IfErr result IsBare }
     {
         let mut more = true;
         while more {
@@ -189,10 +217,12 @@ impl<D: BlockDisk> Reading<D> {
     /// The devices, as they were before the log was read, with a fault.
     pub(crate) fn into_disks(self, fault: Fault) -> UnreadLog<D>
         ensures fault { result.fault ≡ fault }
-        ensures log { IsScanLeft self.scan (D.slot result.log) (D.block_count result.log) (D.attempts result.log) }
+        ensures log { IsScanLeft self.scan (D.slot result.log) (D.block_count result.log)
+            (D.attempts result.log) }
         ensures failures { D.failures result.log ≡ self.scan.failures }
         ensures pages { IsPoolLeft self.pool.pool.frames
-            (D.slot result.pages) (D.block_count result.pages) (D.failures result.pages) (D.attempts result.pages) }
+            (D.slot result.pages) (D.block_count result.pages) (D.failures result.pages)
+            (D.attempts result.pages) }
     {
         let Reading {
             scan,
@@ -214,10 +244,14 @@ impl<D: BlockDisk> Reading<D> {
     pub(crate) fn take_up(self) -> Result<ReadLog<D>, UnreadLog<D>>
         requires { IsWhole self.scan }
         ensures log { IfOk result (λ x. x.log ≡ taken_up self.scan x.log.room) }
-        ensures judged { IfOk result (λ x. IsValidatorOf self.scan.pages x.validator self.scan.log) }
-        ensures pool { IfOk result (λ x. (x.pool ≡ self.pool) × (x.count ≡ self.count) × (x.view ≡ self.view)) }
-        ensures fault { IfErr result (λ u. IsBare u.fault × CountsLog u.fault self.scan.failures (D.failures u.log)) }
-        ensures left_log { IfErr result (λ u. IsScanLeft self.scan (D.slot u.log) (D.block_count u.log) (D.attempts u.log)) }
+        ensures judged { IfOk result (λ x. IsValidatorOf self.scan.pages x.validator
+            self.scan.log) }
+        ensures pool { IfOk result (λ x. (x.pool ≡ self.pool) × (x.count ≡ self.count)
+            × (x.view ≡ self.view)) }
+        ensures fault { IfErr result (λ u. IsBare u.fault
+            × CountsLog u.fault self.scan.failures (D.failures u.log)) }
+        ensures left_log { IfErr result (λ u. IsScanLeft self.scan (D.slot u.log)
+            (D.block_count u.log) (D.attempts u.log)) }
         ensures left_pages { IfErr result (λ u. IsPoolLeft self.pool.pool.frames
             (D.slot u.pages) (D.block_count u.pages) (D.failures u.pages) (D.attempts u.pages)) }
     {

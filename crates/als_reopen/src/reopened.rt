@@ -46,7 +46,8 @@ impl<D: BlockDisk + Drop> Drop for Reopened<D> {
 impl<D: BlockDisk> Reopened<D> {
     /// The log, the control state, the pages, the validator, the counts and the view.
     pub fn into_parts(self) -> (LocalLog<D>, Control<D>, Pool<D>, Validator, Tally, View)
-        ensures { (result.0 ≡ self.log) × (result.1 ≡ self.control) × (result.2 ≡ self.pool) × (result.3 ≡ self.validator) × (result.4 ≡ self.count)
+        ensures { (result.0 ≡ self.log) × (result.1 ≡ self.control) × (result.2 ≡ self.pool)
+            × (result.3 ≡ self.validator) × (result.4 ≡ self.count)
             × (result.5 ≡ self.view) }
     {
         let Reopened {

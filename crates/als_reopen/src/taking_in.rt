@@ -1,5 +1,6 @@
 // The changes of a log's records, on their way to where they wait for their pages.
-ghost use Rattle.std.specs.Prelude.{◌≡◌, ℕ, ◌≤◌, ◌+◌, true, false, List, [], ◌∷◌, ◌++◌, IsSome, IfSome, IfErr, OnOk};
+ghost use Rattle.std.specs.Prelude.{◌≡◌, ℕ, ◌≤◌, ◌+◌, true, false, List, [], ◌∷◌, ◌++◌, IsSome};
+ghost use Rattle.std.specs.Prelude.{IfSome, IfErr, OnOk};
 ghost use Rattle.als_record.specs.declared.lsn.Lsn.{Lsn as AnyLsn};
 ghost use Rattle.als_record.specs.declared.record.Record.{Record as AnyRecord};
 ghost use Rattle.als_record.specs.declared.rows.LoggedPage.{LoggedPage as AnyRow};
@@ -17,7 +18,8 @@ use als_disk::BlockDisk;
 use als_pool::{Pool, other_records_wait_nowhere};
 use als_record::{Change, Record};
 
-/// Whether a change of a page that was not read stands at or above the LSN from which on its page's changes wait.
+/// Whether a change of a page that was not read stands at or above the LSN from which on its page's
+/// changes wait.
 fn waits<D: BlockDisk>(pool: &Pool<D>, change: &Change) -> bool
     requires { IsSome (unread_of pool.now.pool.unread change.now.key.page) }
     ensures from_on { result ≡ true → IsFromOn pool.now.pool change.now }
@@ -29,13 +31,16 @@ fn waits<D: BlockDisk>(pool: &Pool<D>, change: &Change) -> bool
     }
 }
 
-/// Puts a change behind those that its page waits for. An `Err`, a growth was refused, changes nothing.
+/// Puts a change behind those that its page waits for. An `Err`, a growth was refused, changes
+/// nothing.
 fn route<D: BlockDisk>(pool: &mut Pool<D>, change: Change) -> Result<(), Fault>
     requires can { CanRoute pool.old.pool change }
     requires from_on { IsFromOn pool.old.pool change }
-    ensures reads { OnOk result ((front : List AnyRecord) (r : AnyRecord) → QueuesOf front pool.old.pool → r.lsn.0 ≡ end_of front → change_of r ≡ Some change
+    ensures reads { OnOk result ((front : List AnyRecord) (r : AnyRecord)
+        → QueuesOf front pool.old.pool → r.lsn.0 ≡ end_of front → change_of r ≡ Some change
         → QueuesOf (front ++ r ∷ []) pool.new.pool) }
-    ensures given { (position : AnyLsn) (rows : List AnyRow) → HasRowsFrom position rows pool.old.pool → HasRowsFrom position rows pool.new.pool }
+    ensures given { (position : AnyLsn) (rows : List AnyRow)
+        → HasRowsFrom position rows pool.old.pool → HasRowsFrom position rows pool.new.pool }
     ensures images { KeepsImages pool.old.pool pool.new.pool }
     ensures few { total_waiting pool.new.pool.waits ≤ total_waiting pool.old.pool.waits + 1 }
     ensures frames { pool.new.pool.frames ≡ pool.old.pool.frames }
@@ -46,16 +51,21 @@ fn route<D: BlockDisk>(pool: &mut Pool<D>, change: Change) -> Result<(), Fault>
     Ok(())
 }
 
-/// Takes in a record of the log: its change, if it makes one, waits for its page, unless it stands below where the page's changes wait.
+/// Takes in a record of the log: its change, if it makes one, waits for its page, unless it stands
+/// below where the page's changes wait.
 ///
 /// `Memory`: a growth was refused, and nothing has changed.
 pub(crate) fn take_change<D: BlockDisk>(pool: &mut Pool<D>, logged: &Record) -> Result<(), Fault>
-    requires unread { IfSome (change_of logged.now) (λ c. IsSome (unread_of pool.old.pool.unread c.key.page)) }
-    requires can { IfSome (change_of logged.now) (λ c. IsFromOn pool.old.pool c → CanRoute pool.old.pool c) }
+    requires unread { IfSome (change_of logged.now)
+        (λ c. IsSome (unread_of pool.old.pool.unread c.key.page)) }
+    requires can { IfSome (change_of logged.now) (λ c. IsFromOn pool.old.pool c
+        → CanRoute pool.old.pool c) }
     // For every front of the log whose changes wait as they should, they do so with the record.
-    ensures reads { OnOk result ((front : List AnyRecord) → QueuesOf front pool.old.pool → logged.now.lsn.0 ≡ end_of front
+    ensures reads { OnOk result ((front : List AnyRecord) → QueuesOf front pool.old.pool
+        → logged.now.lsn.0 ≡ end_of front
         → QueuesOf (front ++ logged.now ∷ []) pool.new.pool) }
-    ensures given { (position : AnyLsn) (rows : List AnyRow) → HasRowsFrom position rows pool.old.pool → HasRowsFrom position rows pool.new.pool }
+    ensures given { (position : AnyLsn) (rows : List AnyRow)
+        → HasRowsFrom position rows pool.old.pool → HasRowsFrom position rows pool.new.pool }
     ensures images { KeepsImages pool.old.pool pool.new.pool }
     ensures few { total_waiting pool.new.pool.waits ≤ total_waiting pool.old.pool.waits + 1 }
     ensures frames { pool.new.pool.frames ≡ pool.old.pool.frames }

@@ -1,6 +1,7 @@
 ghost use Rattle.std.specs.Prelude.{◌≡◌, Some};
 ghost use Rattle.als_fault.specs.Kinds.{number_of, name_of, text_of};
-ghost use Rattle.als_scan.specs.declared.fault.Fault.TheVariants.{Device as DeviceFailed, Memory as OutOfMemory};
+ghost use Rattle.als_scan.specs.declared.fault.Fault.TheVariants.{Device as DeviceFailed};
+ghost use Rattle.als_scan.specs.declared.fault.Fault.TheVariants.{Memory as OutOfMemory};
 ghost use Rattle.als_scan.specs.FaultNames.{kind_of, of_shape, of_judgement, of_log};
 
 use als_disk::DeviceError;
@@ -14,7 +15,8 @@ use std::fmt;
 /// Why no record is read from a device. The numbers are common to all crates.
 #[derive(Clone, Copy, Debug, PartialEq, Eq)]
 pub enum Fault {
-    /// The bytes are no record; `BadHeader`: the log's header is damaged, or it is that of another page count.
+    /// The bytes are no record; `BadHeader`: the log's header is damaged, or it is that of another
+    /// page count.
     Shape(ShapeFault),
     /// The record may not follow those before it.
     Invalid(Cause),

@@ -1,4 +1,5 @@
-ghost use Rattle.std.specs.Prelude.{◌≡◌, ◌≢◌, ℕ, ◌<◌, ◌+◌, ◌^◌, false, List, [], ◌∷◌, ◌++◌, length, None, Ok, OnOk, OnErr, IfOk, IfErr};
+ghost use Rattle.std.specs.Prelude.{◌≡◌, ◌≢◌, ℕ, ◌<◌, ◌+◌, ◌^◌, false, List, [], ◌∷◌, ◌++◌, length};
+ghost use Rattle.std.specs.Prelude.{None, Ok, OnOk, OnErr, IfOk, IfErr};
 ghost use Rattle.als_record.specs.declared.record.Record.{Record as AnyRecord};
 ghost use Rattle.als_record.specs.Spelling.{IsRecord};
 ghost use Rattle.als_record.specs.LogText.{end_of};
@@ -7,7 +8,8 @@ ghost use Rattle.als_record.specs.Validity.{IsValidLog, first_bad};
 ghost use Rattle.als_validator.specs.Validated.{IsValidatorOf};
 ghost use Rattle.als_log.specs.History.{records_in};
 ghost use Rattle.als_scan.specs.declared.fault.Fault.TheVariants.{Memory as OutOfMemory};
-ghost use Rattle.als_scan.specs.Judged.{Judged, begun, position_of, reading_of, TakesNext, Refuses, IsCauseAt};
+ghost use Rattle.als_scan.specs.Judged.{Judged, begun, position_of, reading_of, TakesNext, Refuses};
+ghost use Rattle.als_scan.specs.Judged.{IsCauseAt};
 
 use crate::fault::Fault;
 use als_log::History;
@@ -17,8 +19,8 @@ use als_validator::Validator;
 use std::alloc::Global;
 use std::marker::Model;
 
-/// A valid log of which the bytes come in pieces. It keeps no record: what a validator knows of them, and the bytes of a
-/// record that is not whole.
+/// A valid log of which the bytes come in pieces. It keeps no record: what a validator knows of
+/// them, and the bytes of a record that is not whole.
 pub(crate) struct Judge {
     receiver: Receiver,
     validator: Validator,
@@ -31,7 +33,11 @@ impl Model for Judge {
 
     ghost Value = { Judged };
 
-    ghost view = { λ j. record { pages = j.receiver.pages; log = records_in j.history; kept = j.receiver.kept } };
+    ghost view = { λ j. record {
+      pages = j.receiver.pages;
+      log = records_in j.history;
+      kept = j.receiver.kept;
+    } };
 
     ghost invariant = { λ j. IsJudge j.receiver j.validator (records_in j.history) };
 }
@@ -55,13 +61,20 @@ impl Drop for Judge {
 #[inline(always)]
 fn admit(validator: &mut Validator, seen: &RecordView<'_>, alloc: Global) -> Result<Record, Fault>
     ensures copy { IfOk result (λ r. r ≡ shown seen.now) }
-    ensures good { OnOk result ((pages : ℕ) (log : List AnyRecord) → IsValidatorOf pages validator.old log
-        → IsValidLog pages log → IsRecord pages (shown seen.now) → first_bad log (shown seen.now) ≡ None) }
-    ensures ok { OnOk result ((pages : ℕ) (log : List AnyRecord) → IsValidatorOf pages validator.old log
-        → IsValidLog pages (log ++ shown seen.now ∷ []) → IsValidatorOf pages validator.new (log ++ shown seen.now ∷ [])) }
-    ensures err { IfErr result (λ fault. (pages : ℕ) (log : List AnyRecord) → IsValidatorOf pages validator.old log
-        → IsValidLog pages log → IsRecord pages (shown seen.now) → IsCauseAt log (shown seen.now) fault) }
-    ensures same { OnErr result ((pages : ℕ) (log : List AnyRecord) → IsValidatorOf pages validator.old log
+    ensures good { OnOk result ((pages : ℕ) (log : List AnyRecord)
+        → IsValidatorOf pages validator.old log
+        → IsValidLog pages log → IsRecord pages (shown seen.now)
+        → first_bad log (shown seen.now) ≡ None) }
+    ensures ok { OnOk result ((pages : ℕ) (log : List AnyRecord)
+        → IsValidatorOf pages validator.old log
+        → IsValidLog pages (log ++ shown seen.now ∷ [])
+        → IsValidatorOf pages validator.new (log ++ shown seen.now ∷ [])) }
+    ensures err { IfErr result (λ fault. (pages : ℕ) (log : List AnyRecord)
+        → IsValidatorOf pages validator.old log
+        → IsValidLog pages log → IsRecord pages (shown seen.now)
+        → IsCauseAt log (shown seen.now) fault) }
+    ensures same { OnErr result ((pages : ℕ) (log : List AnyRecord)
+        → IsValidatorOf pages validator.old log
         → IsValidatorOf pages validator.new log) }
 {
     validator.check(seen)?;
@@ -101,7 +114,8 @@ impl Judge {
         self.receiver.next_lsn()
     }
 
-    /// Whether fewer bytes have come than the longest record has. If not, the next record wants no more.
+    /// Whether fewer bytes have come than the longest record has. If not, the next record wants no
+    /// more.
     #[inline]
     pub(crate) fn is_short(&self) -> bool
         ensures { result ≡ false → reading_of self.now ≢ Ok None }
@@ -112,7 +126,8 @@ impl Judge {
     /// Takes the next bytes.
     pub(crate) fn push(&mut self, piece: &[u8]) -> Result<(), Fault>
         requires { position_of self.old + length piece.now < 2 ^ 64 }
-        ensures ok { OnOk result (self.new ≡ record self.old { kept = self.old.kept ++ piece.now }) }
+        ensures ok { OnOk result (self.new
+            ≡ record self.old { kept = self.old.kept ++ piece.now }) }
         ensures err { IfErr result (λ fault. fault ≡ OutOfMemory) }
         ensures same { OnErr result (self.new ≡ self.old) }
     {
@@ -120,8 +135,8 @@ impl Judge {
         Ok(())
     }
 
-    /// Judges the next record, and takes it where it may follow; `None` where no byte is left. No more bytes come for it: what is
-    /// left and less than a record is refused.
+    /// Judges the next record, and takes it where it may follow; `None` where no byte is left. No
+    /// more bytes come for it: what is left and less than a record is refused.
     #[inline(always)]
     pub(crate) fn take_one(&mut self, alloc: Global) -> Result<Option<Record>, Fault>
         ensures ok { IfOk result (λ found. TakesNext self.old found self.new) }

@@ -5,7 +5,8 @@ ghost use Rattle.als_record.specs.Validity.{IsValidLog};
 ghost use Rattle.als_analysis.specs.Noted.{IsTableOf};
 ghost use Rattle.als_disk.specs.Slot.{IsSettled, SameBlocks};
 ghost use Rattle.als_validator.specs.Validated.{IsValidatorOf};
-ghost use Rattle.als_scan.specs.Scanned.{IsScanned, IsWhole, HandsNext, RefusesNext, GivesNextOf, RefusesHeader, RefusesLog, scanned, taken_up};
+ghost use Rattle.als_scan.specs.Scanned.{IsScanned, IsWhole, HandsNext, RefusesNext, GivesNextOf};
+ghost use Rattle.als_scan.specs.Scanned.{RefusesHeader, RefusesLog, scanned, taken_up};
 ghost use Rattle.als_scan.specs.Texts.{text_of, slot_in};
 
 use crate::fault::Fault;
@@ -20,8 +21,9 @@ use als_validator::Validator;
 use std::alloc::Global;
 use std::marker::Model;
 
-/// The log that stands on a device below a mark, read from its first record on. Each record is judged by those before it and
-/// then handed out. Memory holds what a validator keeps of them, and the bytes of the longest record and of one block at most.
+/// The log that stands on a device below a mark, read from its first record on. Each record is
+/// judged by those before it and then handed out. Memory holds what a validator keeps of them, and
+/// the bytes of the longest record and of one block at most.
 pub struct Scan<D: BlockDisk> {
     alloc: Global,
     disk: D,
@@ -35,7 +37,8 @@ impl<D: BlockDisk> Model for Scan<D> {
 
     ghost Value = { Scanned };
 
-    ghost view = { λ s. scanned s.pages s.judge.log s.mark (D.slot s.disk) (D.block_count s.disk) (D.failures s.disk) (D.attempts s.disk) };
+    ghost view = { λ s. scanned s.pages s.judge.log s.mark (D.slot s.disk) (D.block_count s.disk)
+        (D.failures s.disk) (D.attempts s.disk) };
 
     ghost invariant = { λ s. IsScan s.pages s.mark (D.block_count s.disk) (D.slot s.disk) s.judge };
 }
@@ -56,24 +59,29 @@ impl<D: BlockDisk + Drop> Drop for Scan<D> {
 }
 
 impl<D: BlockDisk> Scan<D> {
-    /// Reads the header of the log of a database with so many pages, of which the text stands below a mark on a device that was
-    /// synced.
+    /// Reads the header of the log of a database with so many pages, of which the text stands below
+    /// a mark on a device that was synced.
     ///
-    /// `Device`: the device failed. `Shape(BadHeader)`: the header is damaged, or that of another page count. `Memory`: a growth
-    /// was refused. The device comes back as it was.
+    /// `Device`: the device failed. `Shape(BadHeader)`: the header is damaged, or that of another
+    /// page count. `Memory`: a growth was refused. The device comes back as it was.
     pub fn new(alloc: Global, disk: D, pages: u32, mark: u64) -> Result<Scan<D>, Unread<D>>
         requires settled { (k : ℕ) → IsSettled (D.slot disk k) }
         requires few { D.block_count disk ≤ 4194304 }
         requires low { 16 ≤ mark }
         requires high { mark ≤ 512 * D.block_count disk }
-        ensures ok { IfOk result (λ s. s ≡ scanned pages [] mark (D.slot disk) (D.block_count disk) (D.failures disk) (D.attempts disk)) }
+        ensures ok { IfOk result (λ s. s
+            ≡ scanned pages [] mark (D.slot disk) (D.block_count disk) (D.failures disk)
+            (D.attempts disk)) }
         ensures facts { IfOk result IsScanned }
-        ensures err { IfErr result (λ u. RefusesHeader u.fault (text_of (D.slot disk) mark) pages (D.failures disk) (D.failures u.disk)) }
+        ensures err { IfErr result (λ u. RefusesHeader u.fault (text_of (D.slot disk) mark) pages
+            (D.failures disk) (D.failures u.disk)) }
         // Over the text of a log no header is refused.
-        ensures bare { (log : List AnyRecord) → IsValidLog pages log → 1 ≤ pages → pages ≤ 4096 → text_of (D.slot disk) mark ≡ log_text pages log
+        ensures bare { (log : List AnyRecord) → IsValidLog pages log → 1 ≤ pages → pages ≤ 4096
+            → text_of (D.slot disk) mark ≡ log_text pages log
             → IfErr result (λ u. RefusesLog u.fault (D.failures disk) (D.failures u.disk)) }
         ensures same { IfErr result (λ u. SameBlocks (D.slot disk) (D.slot u.disk)) }
-        ensures counts { IfErr result (λ u. (D.block_count u.disk ≡ D.block_count disk) × (D.attempts u.disk ≡ D.attempts disk)) }
+        ensures counts { IfErr result (λ u. (D.block_count u.disk ≡ D.block_count disk)
+            × (D.attempts u.disk ≡ D.attempts disk)) }
     {
         let mut disk = disk;
         match begin(alloc, &mut disk, pages) {
@@ -90,16 +98,19 @@ impl<D: BlockDisk> Scan<D> {
 
     /// The next record, which may follow those before it; `None` where the mark is their end.
     ///
-    /// Any fault of the bytes is that of the first record that is refused. `Shape`: the bytes are no record. `Invalid`: the record
-    /// may not follow. `BadControl`: the mark stands within a record. `Device`: the device failed. `Memory`: a growth was refused.
-    /// After the last two the call may be made again.
+    /// Any fault of the bytes is that of the first record that is refused. `Shape`: the bytes are
+    /// no record. `Invalid`: the record may not follow. `BadControl`: the mark stands within a
+    /// record. `Device`: the device failed. `Memory`: a growth was refused. After the last two the
+    /// call may be made again.
     #[inline(always)]
     pub fn next(&mut self) -> Result<Option<Record>, Fault>
         ensures ok { IfOk result (λ found. HandsNext self.old found self.new) }
         ensures err { IfErr result (λ fault. RefusesNext self.old fault self.new) }
         ensures facts { IsScanned self.new }
-        // Over the text of a log its records are handed out, and no fault comes but a failed device and want of memory.
-        ensures bare { (log : List AnyRecord) → IsValidLog self.old.pages log → self.old.text ≡ log_text self.old.pages log
+        // Over the text of a log its records are handed out, and no fault comes but a failed device
+        // and want of memory.
+        ensures bare { (log : List AnyRecord) → IsValidLog self.old.pages log
+            → self.old.text ≡ log_text self.old.pages log
             → GivesNextOf log self.old.log result }
     {
         fill(&mut self.disk, &mut self.judge, self.mark)?;
@@ -129,17 +140,20 @@ impl<D: BlockDisk> Scan<D> {
         self.judge.validator().table()
     }
 
-    /// The log, all of it written and synced, and the validator of its records, once `next` has answered `None`. Its last block is
-    /// read again.
+    /// The log, all of it written and synced, and the validator of its records, once `next` has
+    /// answered `None`. Its last block is read again.
     ///
-    /// `Device`: the device failed. `Memory`: a growth was refused. Both hand the device back as it was.
+    /// `Device`: the device failed. `Memory`: a growth was refused. Both hand the device back as it
+    /// was.
     pub fn into_parts(self) -> Result<(LocalLog<D>, Validator), Unread<D>>
         requires { IsWhole self }
         ensures log { IfOk result (λ parts. parts.0 ≡ taken_up self parts.0.room) }
         ensures known { IfOk result (λ parts. IsValidatorOf self.pages parts.1 self.log) }
         ensures err { IfErr result (λ u. RefusesLog u.fault self.failures (D.failures u.disk)) }
-        ensures same { IfErr result (λ u. (k : ℕ) → k < self.blocks → D.slot u.disk k ≡ slot_in self.slots k) }
-        ensures counts { IfErr result (λ u. (D.block_count u.disk ≡ self.blocks) × (D.attempts u.disk ≡ self.attempts)) }
+        ensures same { IfErr result (λ u. (k : ℕ) → k < self.blocks
+            → D.slot u.disk k ≡ slot_in self.slots k) }
+        ensures counts { IfErr result (λ u. (D.block_count u.disk ≡ self.blocks)
+            × (D.attempts u.disk ≡ self.attempts)) }
     {
         let Scan {
             alloc,

@@ -8,8 +8,8 @@ pub fn line_number(index: usize) -> u64 {
     (index as u64).saturating_add(1)
 }
 
-/// The number of the line that would come behind the last. What stands behind the last line's end is a line unless it
-/// is empty.
+/// The number of the line that would come behind the last. What stands behind the last line's end
+/// is a line unless it is empty.
 pub fn number_past(text: &[u8]) -> u64 {
     let pieces = text.split(|b| *b == b'\n').count();
     match text {

@@ -8,7 +8,8 @@ pub enum CrashLine<'a> {
     Old,
     /// `crash new`: each block keeps what was written last.
     New,
-    /// `crash N N ..`: which of its candidates a block keeps, in turn for each block that has more than one.
+    /// `crash N N ..`: which of its candidates a block keeps, in turn for each block that has more
+    /// than one.
     Picks(Words<'a>),
 }
 
@@ -32,7 +33,8 @@ impl<'a> CrashLine<'a> {
         }
     }
 
-    /// The picks for devices of so many blocks together: a candidate past the last is the last, and where no pick is left the first.
+    /// The picks for devices of so many blocks together: a candidate past the last is the last, and
+    /// where no pick is left the first.
     pub fn picks(self, alloc: Global, blocks: usize) -> Result<Vec<u8>, AllocError> {
         match self {
             CrashLine::Old => Ok(Vec::new(alloc)),

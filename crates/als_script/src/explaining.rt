@@ -3,7 +3,8 @@ use crate::words::Words;
 use std::fmt;
 use std::fmt::{Formatter, Write};
 
-/// Why a line is bad: the first of its words, counted from 1, that no good line has there, and what a good line has.
+/// Why a line is bad: the first of its words, counted from 1, that no good line has there, and what
+/// a good line has.
 #[derive(Clone, Copy, Debug, PartialEq, Eq)]
 pub struct Explanation<'a> {
     pub word: usize,
@@ -33,7 +34,8 @@ impl<'a> fmt::Display for Explanation<'a> {
     }
 }
 
-/// Why a line is none of these forms: by the form that it agrees with for longest. None where it is one of them.
+/// Why a line is none of these forms: by the form that it agrees with for longest. None where it is
+/// one of them.
 pub fn explain<'a>(line: &'a str, forms: &[&'static str]) -> Option<Explanation<'a>> {
     let mut best = unknown(line);
     for form in forms {
@@ -120,7 +122,8 @@ fn is_number(word: &str, label: &str, bits: u32) -> bool {
     }
 }
 
-/// What a part of a form stands for: a word of small letters for itself, one of capitals for what varies.
+/// What a part of a form stands for: a word of small letters for itself, one of capitals for what
+/// varies.
 fn wanted_at(part: &'static str) -> Wanted {
     match part {
         "P" | "T" => number("", 32),

@@ -1,10 +1,13 @@
-ghost use Rattle.std.specs.Prelude.{◌≡◌, ◌≤◌, ◌<◌, ◌+◌, ℕ, Option, List, length, IfOk, IfErr, OnOk, Ok, Err};
+ghost use Rattle.std.specs.Prelude.{◌≡◌, ◌≤◌, ◌<◌, ◌+◌, ℕ, Option, List, length, IfOk, IfErr, OnOk};
+ghost use Rattle.std.specs.Prelude.{Ok, Err};
 ghost use Rattle.als_engine.specs.declared.fault.Fault.{Fault as AnyFault};
 ghost use Rattle.als_ship.specs.declared.fault.Fault.TheVariants.{Refused};
 ghost use Rattle.als_ship.specs.declared.frame.Frame.TheVariants.{Data};
 ghost use Rattle.als_ship.specs.Frames.{IsPiece};
-ghost use Rattle.als_ship.specs.Follows.{held_text, position, IsFront, IsTrueFrame, FeedsRest, Takes, Handles, WasResynced};
-ghost use Rattle.als_ship.specs.Sessions.{KeepsFront, TakesOne, Follows, Stops, StopsEarly, GivesUp, EndsEarly};
+ghost use Rattle.als_ship.specs.Follows.{held_text, position, IsFront, IsTrueFrame, FeedsRest};
+ghost use Rattle.als_ship.specs.Follows.{Takes, Handles, WasResynced};
+ghost use Rattle.als_ship.specs.Sessions.{KeepsFront, TakesOne, Follows, Stops, StopsEarly};
+ghost use Rattle.als_ship.specs.Sessions.{GivesUp, EndsEarly};
 
 use crate::fault::Fault;
 use crate::forcing::force;
@@ -44,24 +47,28 @@ impl Follower {
 
     /// Takes one frame, and answers the position after it: what is past the position is fed.
     ///
-    /// BadFrame: it is none for a follower, or it has more than 65,536 bytes or ends past the greatest offset; `resync` was called.
-    /// Gap: it begins past the position, and nothing has changed. Else the refusal of the feed; what that admitted is held.
+    /// BadFrame: it is none for a follower, or it has more than 65,536 bytes or ends past the
+    /// greatest offset; `resync` was called. Gap: it begins past the position, and nothing has
+    /// changed. Else the refusal of the feed; what that admitted is held.
     #[tactic(auto, using(crate::proofs::Fronts::handles_front))]
     pub fn frame<E: Events>(&self, events: &mut E, frame: Frame) -> Result<Lsn, Fault>
-        ensures handles { E.alone → Handles (E.machine events.old) frame result (E.machine events.new) }
+        ensures handles { E.alone → Handles (E.machine events.old) frame result
+            (E.machine events.new) }
         // Over true frames the held text stays a front of the source's.
-        ensures front { (text : List ℕ) → E.alone → IsTrueFrame text frame → IsFront (held_text (E.machine events.old)) text
+        ensures front { (text : List ℕ) → E.alone → IsTrueFrame text frame
+            → IsFront (held_text (E.machine events.old)) text
             → IsFront (held_text (E.machine events.new)) text }
     {
         handle(events, frame)
     }
 
-    /// Follows one session: it asks for what is behind the held log, takes each frame, forces the log and acknowledges, up to a frame
-    /// with no bytes.
+    /// Follows one session: it asks for what is behind the held log, takes each frame, forces the
+    /// log and acknowledges, up to a frame with no bytes.
     ///
-    /// BadFrame: another frame came than a Data frame that may come. Cut: the stream ended. Stream: it failed, or a session has more
-    /// than 1,000,000 frames. After these three `resync` was called. Gap: a frame begins past the position, and it has changed
-    /// nothing. Memory: there was none for a frame's bytes. Else the refusal of an event; what a feed admitted is held.
+    /// BadFrame: another frame came than a Data frame that may come. Cut: the stream ended. Stream:
+    /// it failed, or a session has more than 1,000,000 frames. After these three `resync` was
+    /// called. Gap: a frame begins past the position, and it has changed nothing. Memory: there was
+    /// none for a frame's bytes. Else the refusal of an event; what a feed admitted is held.
     pub fn follow<E: Events, R: Read, W: Write>(
         &self,
         alloc: Global,
@@ -69,11 +76,15 @@ impl Follower {
         reader: &mut R,
         writer: &mut W,
     ) -> Result<(), Fault>
-        ensures done { OnOk result (Follows E.alone self.now (E.machine events.old) (E.machine events.new) (R.remaining reader.old)
+        ensures done { OnOk result (Follows E.alone self.now (E.machine events.old)
+            (E.machine events.new) (R.remaining reader.old)
             (R.remaining reader.new) (W.contents writer.old) (W.contents writer.new)) }
-        ensures fails { IfErr result (λ f. EndsEarly E.alone f (E.machine events.old) (E.machine events.new) (R.remaining reader.old)) }
+        ensures fails { IfErr result (λ f. EndsEarly E.alone f (E.machine events.old)
+            (E.machine events.new) (R.remaining reader.old)) }
         // Over true frames the held text stays a front of the source's.
-        ensures front { (behind : Option (List ℕ)) × KeepsFront E.alone (R.remaining reader.old) behind (E.machine events.old) (E.machine events.new) }
+        ensures front { (behind : Option (List ℕ))
+            × KeepsFront E.alone (R.remaining reader.old) behind (E.machine events.old)
+            (E.machine events.new) }
     {
         match session(alloc, self.header, events, reader, writer) {
             Ok(()) => Ok(()),
@@ -105,10 +116,14 @@ fn session<E: Events, R: Read, W: Write>(
     reader: &mut R,
     writer: &mut W,
 ) -> Result<(), Fault>
-    ensures done { OnOk result (Follows E.alone header (E.machine events.old) (E.machine events.new) (R.remaining reader.old)
+    ensures done { OnOk result (Follows E.alone header (E.machine events.old) (E.machine events.new)
+        (R.remaining reader.old)
         (R.remaining reader.new) (W.contents writer.old) (W.contents writer.new)) }
-    ensures fails { IfErr result (λ f. StopsEarly E.alone f (E.machine events.old) (E.machine events.new) (R.remaining reader.old)) }
-    ensures front { (behind : Option (List ℕ)) × KeepsFront E.alone (R.remaining reader.old) behind (E.machine events.old) (E.machine events.new) }
+    ensures fails { IfErr result (λ f. StopsEarly E.alone f (E.machine events.old)
+        (E.machine events.new) (R.remaining reader.old)) }
+    ensures front { (behind : Option (List ℕ))
+        × KeepsFront E.alone (R.remaining reader.old) behind (E.machine events.old)
+        (E.machine events.new) }
 {
     let from = events.status().end;
     write_resume(writer, from, header)?;
@@ -128,10 +143,14 @@ fn turn<E: Events, R: Read, W: Write>(
     reader: &mut R,
     writer: &mut W,
 ) -> Result<bool, Fault>
-    ensures ok { IfOk result (λ last. TakesOne E.alone last (E.machine events.old) (E.machine events.new) (R.remaining reader.old)
+    ensures ok { IfOk result (λ last. TakesOne E.alone last (E.machine events.old)
+        (E.machine events.new) (R.remaining reader.old)
         (R.remaining reader.new) (W.contents writer.old) (W.contents writer.new)) }
-    ensures fails { IfErr result (λ f. E.alone → Stops (E.machine events.old) f (E.machine events.new)) }
-    ensures front { (behind : Option (List ℕ)) × KeepsFront E.alone (R.remaining reader.old) behind (E.machine events.old) (E.machine events.new) }
+    ensures fails { IfErr result (λ f. E.alone
+        → Stops (E.machine events.old) f (E.machine events.new)) }
+    ensures front { (behind : Option (List ℕ))
+        × KeepsFront E.alone (R.remaining reader.old) behind (E.machine events.old)
+        (E.machine events.new) }
 {
     let frame = Frame::read(alloc, reader, Tag::Data)?;
     let last = frame.is_last();
@@ -167,7 +186,8 @@ fn resync<E: Events>(events: &mut E)
 
 /// Takes bytes that stand at an offset, and answers the position after them.
 fn take<E: Events>(events: &mut E, offset: u64, bytes: &[u8]) -> Result<Lsn, Fault>
-    ensures { E.alone → Takes (E.machine events.old) offset bytes.now result (E.machine events.new) }
+    ensures { E.alone → Takes (E.machine events.old) offset bytes.now result
+        (E.machine events.new) }
 {
     if !is_piece(offset, bytes.len()) {
         resync(events);
@@ -195,8 +215,11 @@ fn position<E: Events>(events: &E) -> u64
 /// Feeds bytes that follow those held.
 fn feed<E: Events>(events: &mut E, bytes: &[u8]) -> Result<(), Fault>
     requires { 0 < length bytes.now }
-    ensures ok { OnOk result (E.alone → FeedsRest (E.machine events.old) bytes.now (Ok tt) (E.machine events.new)) }
-    ensures err { IfErr result (λ f. (fault : AnyFault) × (f ≡ Refused fault) × (E.alone → FeedsRest (E.machine events.old) bytes.now (Err fault) (E.machine events.new))) }
+    ensures ok { OnOk result (E.alone → FeedsRest (E.machine events.old) bytes.now (Ok tt)
+        (E.machine events.new)) }
+    ensures err { IfErr result (λ f. (fault : AnyFault) × (f ≡ Refused fault)
+        × (E.alone → FeedsRest (E.machine events.old) bytes.now (Err fault)
+        (E.machine events.new))) }
 {
     match events.feed(bytes) {
         Ok(_) => Ok(()),

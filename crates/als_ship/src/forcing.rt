@@ -7,12 +7,13 @@ use crate::fault::Fault;
 use als_engine::{Events, Fault as EngineFault};
 use als_record::Lsn;
 
-/// Forces the log: what is held is put on the devices, and the acknowledged LSN answered. The standby's refusal: an event was
-/// refused, and not for want of something to do.
+/// Forces the log: what is held is put on the devices, and the acknowledged LSN answered. The
+/// standby's refusal: an event was refused, and not for want of something to do.
 #[tactic(auto, using(crate::proofs::LogForcing::same_trans))]
 pub fn force<E: Events>(events: &mut E) -> Result<Lsn, Fault>
     ensures same { E.alone → SameText (E.machine events.old) (E.machine events.new) }
-    ensures forces { IfOk result (λ lsn. E.alone → Forces (E.machine events.old) lsn (E.machine events.new)) }
+    ensures forces { IfOk result (λ lsn. E.alone
+        → Forces (E.machine events.old) lsn (E.machine events.new)) }
     ensures fails { IfErr result (λ f. E.alone → FailsToForce f (E.machine events.new)) }
 {
     write_log(events)?;
@@ -24,7 +25,8 @@ pub fn force<E: Events>(events: &mut E) -> Result<Lsn, Fault>
 #[tactic(auto, using(crate::proofs::LogForcing::has_written_none, crate::proofs::LogForcing::has_written_more, crate::proofs::LogForcing::has_written_text, crate::proofs::LogForcing::has_written_all, crate::proofs::LogForcing::log_write_same, crate::proofs::LogForcing::same_trans, crate::proofs::LogForcing::write_refused))]
 fn write_log<E: Events>(events: &mut E) -> Result<(), Fault>
     ensures same { E.alone → SameText (E.machine events.old) (E.machine events.new) }
-    ensures writes { OnOk result (E.alone → WritesAll (E.machine events.old) (E.machine events.new)) }
+    ensures writes { OnOk result (E.alone
+        → WritesAll (E.machine events.old) (E.machine events.new)) }
     ensures fails { IfErr result (λ f. E.alone → FailsToForce f (E.machine events.new)) }
 {
     for _ in 0..u64::MAX {
@@ -59,7 +61,8 @@ fn sync_log<E: Events>(events: &mut E) -> Result<(), Fault>
 #[tactic(auto, using(crate::proofs::LogForcing::ctl_sync_same, crate::proofs::LogForcing::control_refused))]
 fn acknowledge<E: Events>(events: &mut E) -> Result<Lsn, Fault>
     ensures same { E.alone → SameText (E.machine events.old) (E.machine events.new) }
-    ensures acknowledges { IfOk result (λ lsn. E.alone → ControlSyncs (E.machine events.old) (Ok lsn) (E.machine events.new)) }
+    ensures acknowledges { IfOk result (λ lsn. E.alone
+        → ControlSyncs (E.machine events.old) (Ok lsn) (E.machine events.new)) }
     ensures fails { IfErr result (λ f. E.alone → FailsToForce f (E.machine events.new)) }
 {
     match events.ctl_sync() {

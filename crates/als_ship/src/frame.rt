@@ -8,7 +8,8 @@ use bytes::Bytes;
 /// What goes over the stream between a shipper and a follower.
 #[derive(Drop)]
 pub enum Frame {
-    /// Bytes of the source's log text that stand at an offset; the last frame of a session has none.
+    /// Bytes of the source's log text that stand at an offset; the last frame of a session has
+    /// none.
     Data { offset: u64, bytes: Bytes },
     /// The follower's acknowledged LSN.
     Acknowledged(Lsn),

@@ -1,4 +1,5 @@
-//! The primary's log over a byte stream: frames, the shipper that sends them, and the follower that takes them.
+//! The primary's log over a byte stream: frames, the shipper that sends them, and the follower that
+//! takes them.
 #![tactic(auto)]
 
 // Why a session ends early.

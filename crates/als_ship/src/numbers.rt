@@ -22,7 +22,8 @@ fn word_of(bytes: [u8; 4]) -> u32
 
 /// Reads a number of eight bytes.
 pub(crate) fn read_long<R: Read>(reader: &mut R) -> Result<u64, Fault>
-    ensures found { IfOk result (λ n. Consumes (R.remaining reader.old) (R.remaining reader.new) (to_be_bytes w64 n)) }
+    ensures found { IfOk result (λ n. Consumes (R.remaining reader.old) (R.remaining reader.new)
+        (to_be_bytes w64 n)) }
     ensures fails { IfErr result IsOfStream }
 {
     let mut bytes = [0u8; 8];
@@ -32,7 +33,8 @@ pub(crate) fn read_long<R: Read>(reader: &mut R) -> Result<u64, Fault>
 
 /// Reads a number of four bytes.
 pub(crate) fn read_word<R: Read>(reader: &mut R) -> Result<u32, Fault>
-    ensures found { IfOk result (λ n. Consumes (R.remaining reader.old) (R.remaining reader.new) (to_be_bytes w32 n)) }
+    ensures found { IfOk result (λ n. Consumes (R.remaining reader.old) (R.remaining reader.new)
+        (to_be_bytes w32 n)) }
     ensures fails { IfErr result IsOfStream }
 {
     let mut bytes = [0u8; 4];

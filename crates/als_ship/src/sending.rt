@@ -6,11 +6,14 @@ ghost use Rattle.als_ship.specs.Sending.{Puts};
 use crate::fault::Fault;
 use std::io::{ErrorKind, Write};
 
-/// Writes some of the bytes, none where a signal came between. Stream: the writer failed, or takes no more.
+/// Writes some of the bytes, none where a signal came between. Stream: the writer failed, or takes
+/// no more.
 #[tactic(auto, using(crate::proofs::Putting::appends_kept, crate::proofs::Putting::appends_none))]
 fn put_some<W: Write>(writer: &mut W, bytes: &[u8]) -> Result<usize, Fault>
-    ensures some { IfOk result (λ n. (n ≤ length bytes.now) × Appends (W.contents writer.old) (W.contents writer.new) (take n bytes.now)) }
-    ensures fails { IfErr result (λ f. (f ≡ fault.Stream) × Appends (W.contents writer.old) (W.contents writer.new) []) }
+    ensures some { IfOk result (λ n. (n ≤ length bytes.now)
+        × Appends (W.contents writer.old) (W.contents writer.new) (take n bytes.now)) }
+    ensures fails { IfErr result (λ f. (f ≡ fault.Stream)
+        × Appends (W.contents writer.old) (W.contents writer.new) []) }
 {
     match writer.write(bytes) {
         Ok(0) => Err(Fault::Stream),
@@ -55,7 +58,8 @@ pub(crate) fn flush<W: Write>(writer: &mut W) -> Result<(), Fault>
     }
 }
 
-/// Writes all of the bytes, and hands them on. Stream: the writer failed, and a front of them was written.
+/// Writes all of the bytes, and hands them on. Stream: the writer failed, and a front of them was
+/// written.
 #[tactic(auto, using(crate::proofs::Putting::appends_more, crate::proofs::Putting::puts_flushed))]
 pub(crate) fn put_all<W: Write>(writer: &mut W, bytes: &[u8]) -> Result<(), Fault>
     ensures all { OnOk result (Appends (W.contents writer.old) (W.contents writer.new) bytes.now) }

@@ -1,4 +1,5 @@
-ghost use Rattle.std.specs.Prelude.{◌≡◌, ◌≤◌, ◌+◌, ◌++◌, ℕ, List, length, take, OnOk, IsOk, IfOk, IfErr};
+ghost use Rattle.std.specs.Prelude.{◌≡◌, ◌≤◌, ◌+◌, ◌++◌, ℕ, List, length, take, OnOk, IsOk, IfOk};
+ghost use Rattle.std.specs.Prelude.{IfErr};
 ghost use Rattle.als_record.specs.LogText.{header_bytes};
 ghost use Rattle.als_ship.specs.declared.fault.Fault.TheVariants as fault;
 ghost use Rattle.als_ship.specs.Reading.{IsHeader};
@@ -47,16 +48,19 @@ impl Model for LogBytes {
 
     ghost view = { λ s. s.bytes.items };
 
-    ghost invariant = { λ s. (take 16 s.bytes.items ≡ header_bytes s.header.pages) × IsHeader s.header };
+    ghost invariant = { λ s. (take 16 s.bytes.items ≡ header_bytes s.header.pages)
+        × IsHeader s.header };
 }
 
 impl LogBytes {
-    /// A source of these bytes, which are not looked at past their header. BadHeader: they begin with none.
+    /// A source of these bytes, which are not looked at past their header. BadHeader: they begin
+    /// with none.
     pub fn new(bytes: Vec<u8>) -> Result<LogBytes, Fault>
         ensures text { IfOk result (λ s. s ≡ bytes.items) }
         ensures fails { IfErr result (λ f. f ≡ fault.BadHeader) }
         // A text with a header is taken.
-        ensures taken { (pages : ℕ) (rest : List ℕ) → 1 ≤ pages → pages ≤ 4096 → bytes.items ≡ header_bytes pages ++ rest → IsOk result }
+        ensures taken { (pages : ℕ) (rest : List ℕ) → 1 ≤ pages → pages ≤ 4096
+            → bytes.items ≡ header_bytes pages ++ rest → IsOk result }
     {
         match LogHeader::decode(bytes.as_slice()) {
             Ok(Some(header)) => Ok(LogBytes { header, bytes }),

@@ -1,7 +1,8 @@
 ghost use Rattle.std.specs.Prelude.{◌≡◌, ◌≤◌, ◌<◌, ◌+◌, ◌^◌, length, IfErr, OnOk};
 ghost use Rattle.std.specs.Io.KnownBytes.{Appends};
 ghost use Rattle.als_ship.specs.declared.fault.Fault.TheVariants as fault;
-ghost use Rattle.als_ship.specs.Frames.{head_bytes, data_bytes, resume_head, resume_bytes, acknowledged_bytes, frame_bytes, IsFrame};
+ghost use Rattle.als_ship.specs.Frames.{head_bytes, data_bytes, resume_head, resume_bytes};
+ghost use Rattle.als_ship.specs.Frames.{acknowledged_bytes, frame_bytes, IsFrame};
 ghost use Rattle.als_ship.specs.Sending.{Puts};
 
 use crate::fault::Fault;
@@ -12,10 +13,12 @@ use byteorder::{BigEndian, ByteOrder};
 use std::io::Write;
 
 impl Frame {
-    /// Writes the frame's bytes, and hands them on. Stream: the writer failed, and a front of them was written.
+    /// Writes the frame's bytes, and hands them on. Stream: the writer failed, and a front of them
+    /// was written.
     pub fn write<W: Write>(&self, writer: &mut W) -> Result<(), Fault>
         requires { IsFrame self.now }
-        ensures all { OnOk result (Appends (W.contents writer.old) (W.contents writer.new) (frame_bytes self.now)) }
+        ensures all { OnOk result (Appends (W.contents writer.old) (W.contents writer.new)
+            (frame_bytes self.now)) }
         ensures part { Puts (frame_bytes self.now) (W.contents writer.old) (W.contents writer.new) }
         ensures fails { IfErr result (λ f. f ≡ fault.Stream) }
     {
@@ -41,8 +44,10 @@ fn head(offset: u64, len: u32) -> [u8; 13]
 /// Writes a Data frame.
 pub(crate) fn write_data<W: Write>(writer: &mut W, offset: u64, bytes: &[u8]) -> Result<(), Fault>
     requires { length bytes.now ≤ 65536 }
-    ensures all { OnOk result (Appends (W.contents writer.old) (W.contents writer.new) (data_bytes offset bytes.now)) }
-    ensures part { Puts (data_bytes offset bytes.now) (W.contents writer.old) (W.contents writer.new) }
+    ensures all { OnOk result (Appends (W.contents writer.old) (W.contents writer.new)
+        (data_bytes offset bytes.now)) }
+    ensures part { Puts (data_bytes offset bytes.now) (W.contents writer.old)
+        (W.contents writer.new) }
     ensures fails { IfErr result (λ f. f ≡ fault.Stream) }
 {
     put(writer, &head(offset, bytes.len() as u32))?;
@@ -61,7 +66,8 @@ fn acknowledged(lsn: u64) -> [u8; 9]
 
 /// Writes an Acknowledged frame.
 pub(crate) fn write_acknowledged<W: Write>(writer: &mut W, lsn: Lsn) -> Result<(), Fault>
-    ensures all { OnOk result (Appends (W.contents writer.old) (W.contents writer.new) (acknowledged_bytes lsn.0)) }
+    ensures all { OnOk result (Appends (W.contents writer.old) (W.contents writer.new)
+        (acknowledged_bytes lsn.0)) }
     ensures part { Puts (acknowledged_bytes lsn.0) (W.contents writer.old) (W.contents writer.new) }
     ensures fails { IfErr result (λ f. f ≡ fault.Stream) }
 {
@@ -83,8 +89,10 @@ pub(crate) fn write_resume<W: Write>(
     from: Lsn,
     header: LogHeader,
 ) -> Result<(), Fault>
-    ensures all { OnOk result (Appends (W.contents writer.old) (W.contents writer.new) (resume_bytes from.0 header.pages)) }
-    ensures part { Puts (resume_bytes from.0 header.pages) (W.contents writer.old) (W.contents writer.new) }
+    ensures all { OnOk result (Appends (W.contents writer.old) (W.contents writer.new)
+        (resume_bytes from.0 header.pages)) }
+    ensures part { Puts (resume_bytes from.0 header.pages) (W.contents writer.old)
+        (W.contents writer.new) }
     ensures fails { IfErr result (λ f. f ≡ fault.Stream) }
 {
     put(writer, &resume(from.0))?;

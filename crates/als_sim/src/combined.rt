@@ -5,8 +5,9 @@ use als_record::BLOCK_LEN;
 use als_world::World;
 use std::alloc::Global;
 
-/// Makes all that is held certain to survive a crash: writes and syncs the log, and then the control block. Answers what is
-/// acknowledged, or the first refusal that is not passed over, after which it stops.
+/// Makes all that is held certain to survive a crash: writes and syncs the log, and then the
+/// control block. Answers what is acknowledged, or the first refusal that is not passed over, after
+/// which it stops.
 pub fn force(alloc: Global, world: World<Disk>) -> (World<Disk>, Reply) {
     let (mut world, mut reply) = write_log(alloc, world);
     for step in [Step::LogSync, Step::MarkWrite, Step::ControlSync] {
@@ -34,8 +35,9 @@ fn write_log(alloc: Global, world: World<Disk>) -> (World<Disk>, Reply) {
     (world, Reply::Done)
 }
 
-/// Redoes each page that has pending changes, in rising order, and again until nothing is pending. Answers the first
-/// refusal that is not passed over, after which it stops: Stopped while the world is down.
+/// Redoes each page that has pending changes, in rising order, and again until nothing is pending.
+/// Answers the first refusal that is not passed over, after which it stops: Stopped while the world
+/// is down.
 pub fn drain(alloc: Global, world: World<Disk>) -> (World<Disk>, Reply) {
     let Some(engine) = world.engine() else {
         return (world, Reply::Refused(Fault::Stopped));
@@ -102,8 +104,9 @@ const PARTS: [Part; 8] = [
     Part::Finish,
 ];
 
-/// Takes over: seals the log once all of it is stable, undoes what was not committed, and ends the takeover once that is stable
-/// and redone. A standby that is recovering is made ready first. Answers the first refusal that is not passed over, after which it stops.
+/// Takes over: seals the log once all of it is stable, undoes what was not committed, and ends the
+/// takeover once that is stable and redone. A standby that is recovering is made ready first.
+/// Answers the first refusal that is not passed over, after which it stops.
 pub fn takeover(alloc: Global, world: World<Disk>) -> (World<Disk>, Reply) {
     let mut world = world;
     for part in PARTS {
@@ -157,7 +160,8 @@ fn seal(alloc: Global, world: World<Disk>) -> (World<Disk>, Reply) {
 /// Holds each record of the log's tail.
 fn undo(alloc: Global, world: World<Disk>) -> (World<Disk>, Reply) {
     let mut world = world;
-    // A tail has at most two records for each one of the log, and each of these takes 28 bytes and more.
+    // A tail has at most two records for each one of the log, and each of these takes 28 bytes and
+    // more.
     for _ in 0..end_of(&world).0 {
         let (after, reply) = one_event(alloc, world, Step::UndoOne);
         world = after;

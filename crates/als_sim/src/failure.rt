@@ -1,5 +1,6 @@
 ghost use Rattle.std.specs.Prelude.{◌≡◌, ◌⊎◌};
-ghost use Rattle.als_sim.specs.declared.failure.Failure.TheVariants.{Memory as OutOfMemory, Stream as StreamFailed};
+ghost use Rattle.als_sim.specs.declared.failure.Failure.TheVariants.{Memory as OutOfMemory};
+ghost use Rattle.als_sim.specs.declared.failure.Failure.TheVariants.{Stream as StreamFailed};
 
 use std::alloc::{AllocError, AllocFailed};
 use std::io;

@@ -11,7 +11,8 @@ pub struct Fuses {
     pages: Fuse,
 }
 
-// Written out: a derived drop is proved part by part wherever a value is let go of, this one only here.
+// Written out: a derived drop is proved part by part wherever a value is let go of, this one only
+// here.
 impl Drop for Fuses {
     fn drop(self) {
         let Fuses {

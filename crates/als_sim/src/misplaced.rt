@@ -17,8 +17,8 @@ pub struct Misplaced {
 }
 
 impl Misplaced {
-    /// The step of a line, where it is such a feed: a standby that followed refuses from then on. `before` and `after` are what the
-    /// standby tells on both sides of it.
+    /// The step of a line, where it is such a feed: a standby that followed refuses from then on.
+    /// `before` and `after` are what the standby tells on both sides of it.
     pub(crate) fn of(
         number: u64,
         line: StepLine,

@@ -7,9 +7,9 @@ use std::alloc::Global;
 use std::io::Write;
 use std::str;
 
-/// Runs a script, writes what its lines answer, and says how it ended. A bad line ends it; what came before has been
-/// written. BadLine: a line is none of the language, or there is no first line. Memory: a growth was refused. Stream: the
-/// output fails.
+/// Runs a script, writes what its lines answer, and says how it ended. A bad line ends it; what
+/// came before has been written. BadLine: a line is none of the language, or there is no first
+/// line. Memory: a growth was refused. Stream: the output fails.
 pub fn sim<W: Write>(alloc: Global, script: &[u8], output: &mut W) -> Result<Ending, Failure> {
     let mut simulation: Option<Simulation> = None;
     for (index, line) in script.split(|b| *b == b'\n').enumerate() {

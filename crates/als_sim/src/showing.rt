@@ -74,8 +74,8 @@ pub fn dirty<W: Write>(output: &mut W, engine: &Engine<Disk>) -> io::Result<()> 
     Ok(())
 }
 
-/// `show page`, of a page that there is. It is gathered, so that a refusal stands alone. Stopped: the world is down. Device: a read
-/// failed. Memory: a growth was refused.
+/// `show page`, of a page that there is. It is gathered, so that a refusal stands alone. Stopped:
+/// the world is down. Device: a read failed. Memory: a growth was refused.
 // Generic in the device: with the device named, the prover cannot carry a page across `?`.
 pub fn page<D: BlockDisk>(
     alloc: Global,
@@ -118,8 +118,8 @@ fn present(listing: &mut String, number: u32, page: &Page) -> Result<(), AllocEr
     Ok(())
 }
 
-/// `show log`: the records from an LSN on. They are gathered, so that a refusal stands alone. Stopped: the world is down. Device: a read
-/// failed. Memory: a growth was refused.
+/// `show log`: the records from an LSN on. They are gathered, so that a refusal stands alone.
+/// Stopped: the world is down. Device: a read failed. Memory: a growth was refused.
 pub fn log(alloc: Global, world: &mut World<Disk>, from: u64) -> Result<String, Fault> {
     let mut listing = String::new(alloc);
     let mut at = FIRST_LSN.0;

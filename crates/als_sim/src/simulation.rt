@@ -17,7 +17,8 @@ use std::io::Write;
 /// The most slots for leases.
 const WORKER_LIMIT: u64 = 8;
 
-/// A standby in a world, what makes its devices fail, and the primary's log text of the record lines so far.
+/// A standby in a world, what makes its devices fail, and the primary's log text of the record
+/// lines so far.
 pub struct Simulation {
     alloc: Global,
     world: World<Disk>,
@@ -29,7 +30,8 @@ pub struct Simulation {
     misplaced: Option<Misplaced>,
 }
 
-// Written out: a derived drop is proved part by part wherever a value is let go of, this one only here.
+// Written out: a derived drop is proved part by part wherever a value is let go of, this one only
+// here.
 impl Drop for Simulation {
     fn drop(self) {
         let Simulation {
@@ -289,7 +291,8 @@ fn config(line: WorldLine) -> Config {
     }
 }
 
-/// The standby of a world line, over devices that it formats. The number of slots, which only threads have, is judged here.
+/// The standby of a world line, over devices that it formats. The number of slots, which only
+/// threads have, is judged here.
 fn engine(
     alloc: Global,
     line: WorldLine,

@@ -32,7 +32,8 @@ pub fn step_of(line: StepLine, text: &[u8]) -> Option<Step<'_>> {
     })
 }
 
-/// Runs one step. Where there is no memory for its reply nothing is run, and the step counts as refused.
+/// Runs one step. Where there is no memory for its reply nothing is run, and the step counts as
+/// refused.
 pub fn one_step(alloc: Global, world: World<Disk>, step: WorldStep) -> (World<Disk>, WorldReply) {
     let steps = [step];
     match run(alloc, world, &steps) {

@@ -52,5 +52,6 @@ pub fn logged_rows(alloc: Global, rows: &[OpenTransaction]) -> Result<Transactio
 /// A valid log has at most 256 unended transactions, in rising TransID.
 pub fn fits_checkpoint()
     ensures few { (log : List AnyRecord) → is_valid log ≡ true → length (table_of log) ≤ 256 }
-    ensures rising { (log : List AnyRecord) → is_valid log ≡ true → are_transactions 0 (logged_rows (table_of log)) ≡ true }
+    ensures rising { (log : List AnyRecord) → is_valid log ≡ true
+        → are_transactions 0 (logged_rows (table_of log)) ≡ true }
 {}

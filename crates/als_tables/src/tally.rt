@@ -5,7 +5,8 @@ ghost use Rattle.als_tables.specs.Counting.{IsTallyOf};
 
 use als_record::{BodyView, Lsn, RecordView};
 
-/// How many records a log has, how many of them are commits, and the LSN of the last commit, 0 for none.
+/// How many records a log has, how many of them are commits, and the LSN of the last commit, 0 for
+/// none.
 #[derive(Clone, Copy, Debug, PartialEq, Eq)]
 pub struct Tally {
     pub records: usize,
@@ -30,7 +31,8 @@ impl Tally {
     pub fn note(&mut self, logged: &RecordView<'_>)
         requires records { self.old.records < 2 ^ 62 }
         requires commits { self.old.commits < 2 ^ 62 }
-        ensures { (log : List AnyRecord) → IsTallyOf self.old log → IsTallyOf self.new (log ++ shown logged.now ∷ []) }
+        ensures { (log : List AnyRecord) → IsTallyOf self.old log
+            → IsTallyOf self.new (log ++ shown logged.now ∷ []) }
     {
         self.records += 1;
         if let BodyView::Commit = logged.body {

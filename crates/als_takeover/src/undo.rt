@@ -21,8 +21,8 @@ fn has_nothing_left(kept: &OpenTransaction) -> bool
     }
 }
 
-/// Whether nothing of a transaction is to be undone: it has committed, or no update of it survives. Most often the kept LSN tells
-/// that there is something.
+/// Whether nothing of a transaction is to be undone: it has committed, or no update of it survives.
+/// Most often the kept LSN tells that there is something.
 fn is_finished(kept: &OpenTransaction) -> bool
     ensures { result ≡ is_over kept.now }
 {
@@ -36,7 +36,8 @@ fn newest_of(kept: &OpenTransaction) -> Option<&Record>
     kept.survivors().last()
 }
 
-/// What undoes an update: its key gets its before image back, and undo goes on at the record before it.
+/// What undoes an update: its key gets its before image back, and undo goes on at the record before
+/// it.
 fn undone_by(update: &Record) -> Body
     ensures { result ≡ undone update.now.prev update.now.body }
 {
@@ -52,7 +53,12 @@ fn undone_by(update: &Record) -> Body
 
 /// The record at the log's end that follows the last one of a transaction.
 fn record_of(kept: &OpenTransaction, end: Lsn, body: Body) -> Record
-    ensures { result ≡ record { lsn = end; prev = kept.now.row.last; trans = kept.now.row.trans; body = body } }
+    ensures { result ≡ record {
+      lsn = end;
+      prev = kept.now.row.last;
+      trans = kept.now.row.trans;
+      body = body;
+    } }
 {
     let row = kept.row();
     Record {
@@ -73,10 +79,12 @@ fn compensation_of(kept: &OpenTransaction, end: Lsn) -> Option<Record>
     }
 }
 
-/// The next record of the tail of a log that ends here, from its transactions: the end of the first one with nothing to undo,
-/// or else the compensation of the greatest update of all. One pass, which looks at no other update.
+/// The next record of the tail of a log that ends here, from its transactions: the end of the first
+/// one with nothing to undo, or else the compensation of the greatest update of all. One pass,
+/// which looks at no other update.
 pub(crate) fn next_of(entries: &[OpenTransaction], end: Lsn) -> Option<Record>
-    ensures { (log : List AnyRecord) → IsTrue (is_valid log) → AreOf log end.0 entries.now → result ≡ first_of (tail_of log) }
+    ensures { (log : List AnyRecord) → IsTrue (is_valid log) → AreOf log end.0 entries.now
+        → result ≡ first_of (tail_of log) }
 {
     let mut greatest = 0;
     let mut top = 0;
@@ -96,17 +104,20 @@ pub(crate) fn next_of(entries: &[OpenTransaction], end: Lsn) -> Option<Record>
     }
 }
 
-/// The next record that a takeover appends to its log: the first one of the log's tail, `None` where no transaction is
-/// unended. First each transaction with nothing to undo ends, in rising TransID; then the updates of all losers are undone in
-/// one falling sweep, whoever wrote them, and a transaction ends after its last one.
+/// The next record that a takeover appends to its log: the first one of the log's tail, `None`
+/// where no transaction is unended. First each transaction with nothing to undo ends, in rising
+/// TransID; then the updates of all losers are undone in one falling sweep, whoever wrote them, and
+/// a transaction ends after its last one.
 ///
-/// The table keeps the surviving updates, so that what a compensation has undone is not met again, no device is read and no
-/// memory taken: it answers `Ok`. It costs one look at the row of each unended transaction, whatever they have to undo.
+/// The table keeps the surviving updates, so that what a compensation has undone is not met again,
+/// no device is read and no memory taken: it answers `Ok`. It costs one look at the row of each
+/// unended transaction, whatever they have to undo.
 pub fn next_undo<D: BlockDisk>(
     table: &TransTable,
     log: &mut LocalLog<D>,
 ) -> Result<Option<Record>, Fault>
-    ensures next { IsTrue (is_valid log.old.log) → IsTableOf table.now log.old.log → result ≡ Ok (first_of (tail_of log.old.log)) }
+    ensures next { IsTrue (is_valid log.old.log) → IsTableOf table.now log.old.log
+        → result ≡ Ok (first_of (tail_of log.old.log)) }
     ensures ok { IsOk result }
     ensures same { log.new ≡ log.old }
 {

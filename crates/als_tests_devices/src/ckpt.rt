@@ -9,7 +9,8 @@ use std::alloc::Global;
 use std::process::Abort;
 use std::test::Fail;
 
-/// A device of 321 blocks whose block 0 is this one, synced. A growth that is refused once is met by a second try.
+/// A device of 321 blocks whose block 0 is this one, synced. A growth that is refused once is met
+/// by a second try.
 fn disk_of(alloc: Global, block: &[u8; 512]) -> Result<MemDisk, DeviceError>
     ensures count { IfOk result (λ disk. ⟦<MemDisk as BlockDisk>⟧.block_count disk ≡ 321) }
     ensures settled { IfOk result (λ disk. IsSettled (⟦<MemDisk as BlockDisk>⟧.slot disk 0)) }
@@ -47,10 +48,12 @@ fn read_with(alloc: Global, edits: &[(u16, u8)]) -> Result<ControlState, Fault> 
     read_state(&mut disk, 4, 4096)
 }
 
-/// The control block of a new database of four pages, over a log of 4,096 bytes. `None`: the device failed.
+/// The control block of a new database of four pages, over a log of 4,096 bytes. `None`: the device
+/// failed.
 fn created<D: BlockDisk + Drop>(disk: D) -> Option<Control<D>>
     requires { 321 ≤ D.block_count disk }
-    ensures { IfSome result (λ c. c ≡ new_control 4 4096 first_state (D.block_count disk) (D.failures disk) (D.attempts disk + 2)) }
+    ensures { IfSome result (λ c. c ≡ new_control 4 4096 first_state (D.block_count disk)
+        (D.failures disk) (D.attempts disk + 2)) }
 {
     Control::create(disk, 4, 4096).ok()
 }
@@ -209,7 +212,8 @@ fn each_call_of_the_device_fails_in_turn(rt: HostRuntime) {
     }
 }
 
-/// What is acknowledged after a crash with this pick, where the write of a mark has failed. `None`: memory was refused.
+/// What is acknowledged after a crash with this pick, where the write of a mark has failed. `None`:
+/// memory was refused.
 fn left_by(rt: &impl Abort, alloc: Global, pick: u8) -> Option<Lsn> {
     let fuse = Fuse::new(alloc).ok()?;
     let disk = FailingDisk::new(MemDisk::new(alloc, 321), fuse.clone().ok()?);

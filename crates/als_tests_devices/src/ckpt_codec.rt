@@ -53,7 +53,8 @@ fn checkpoint_block(alloc: Global) -> Result<[u8; 512], Fault> {
     Ok(block)
 }
 
-/// What is read from the checkpoint's bytes with another byte at a place: the numbers, and how many rows.
+/// What is read from the checkpoint's bytes with another byte at a place: the numbers, and how many
+/// rows.
 fn read_checkpoint_with(
     alloc: Global,
     at: u16,

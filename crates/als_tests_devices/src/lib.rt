@@ -1,4 +1,5 @@
-//! Tests of the log, and of the control block with its checkpoints, on their devices. They use public names alone.
+//! Tests of the log, and of the control block with its checkpoints, on their devices. They use
+//! public names alone.
 #![tactic(auto)]
 
 // als_ckpt.

@@ -5,7 +5,8 @@ use std::alloc::Global;
 use std::process::Abort;
 use std::test::Fail;
 
-// The header of a log of a database of four pages, and one transaction: an update at 16, a commit at 52 and an end at 80.
+// The header of a log of a database of four pages, and one transaction: an update at 16, a commit
+// at 52 and an end at 80.
 const HEADER: [u8; 16] = *b"ALSLOG01\x00\x00\x00\x04\x00\x00\x00\x00";
 
 const UPDATE: [u8; 36] = [
@@ -55,7 +56,8 @@ fn formatted<D: BlockDisk + Drop>(rt: &impl Abort, alloc: Global, mut disk: D) -
     panic!(rt; "the device fails each time")
 }
 
-// Appends the record of these bytes, and tells what is answered. A refusal leaves the log as it was.
+// Appends the record of these bytes, and tells what is answered. A refusal leaves the log as it
+// was.
 fn append<D: BlockDisk + Drop>(
     rt: &impl Abort,
     alloc: Global,

@@ -18,7 +18,8 @@ use std::test::Fail;
 
 // Two empty pages. A call that is refused once is made again.
 fn formatted<D: BlockDisk + Drop>(rt: &impl Abort, alloc: Global, disk: D, frames: usize) -> Pool<D>
-    ensures { (page : ℕ) → page < 2 → (pending_of result.pool.waits page ≡ []) × (frame_of result.pool.frames page ≡ None) }
+    ensures { (page : ℕ) → page < 2 → (pending_of result.pool.waits page ≡ [])
+        × (frame_of result.pool.frames page ≡ None) }
 {
     assert!(rt; 2 <= disk.blocks());
     match Pool::format(alloc, disk, 2, frames) {
@@ -59,7 +60,8 @@ fn route<D: BlockDisk>(rt: &impl Abort, pool: &mut Pool<D>, page: u32, at: u64)
     requires absent { frame_of pool.old.pool.frames page ≡ None }
     requires first { 16 ≤ at }
     requires none { pending_of pool.old.pool.waits page ≡ [] }
-    ensures others { (p : ℕ) → p ≢ page → (pending_of pool.new.pool.waits p ≡ pending_of pool.old.pool.waits p)
+    ensures others { (p : ℕ) → p ≢ page → (pending_of pool.new.pool.waits p
+        ≡ pending_of pool.old.pool.waits p)
         × (frame_of pool.new.pool.frames p ≡ frame_of pool.old.pool.frames p) }
 {
     assert!(rt; page < pool.pages() && pool.waiting() < 1000);
@@ -274,7 +276,8 @@ fn laws_take_nothing() {
     opened_pages_are_covered();
 }
 
-// Two pages of a database that was laid out before, after a restart. A call that is refused once is made again.
+// Two pages of a database that was laid out before, after a restart. A call that is refused once is
+// made again.
 fn opened<D: BlockDisk + Drop>(
     rt: &impl Abort,
     alloc: Global,
@@ -282,7 +285,8 @@ fn opened<D: BlockDisk + Drop>(
     position: u64,
     rows: &[LoggedPage],
 ) -> Pool<D>
-    ensures { (page : ℕ) → page < 2 → (pending_of result.pool.waits page ≡ []) × (frame_of result.pool.frames page ≡ None) }
+    ensures { (page : ℕ) → page < 2 → (pending_of result.pool.waits page ≡ [])
+        × (frame_of result.pool.frames page ≡ None) }
 {
     assert!(rt; 2 <= disk.blocks());
     match Pool::open(alloc, disk, 2, 2, Lsn(position), rows) {

@@ -53,7 +53,8 @@ const FORCED: [(&str, &str); 11] = [
         "fail control 2\nforce\nshow status\n",
         "ok\nrefused 30 Device\nstate=Stopped end=108 ack=16 pending=1 leases=0\n",
     ),
-    // A second line replaces the first; a call fails only when it comes. A failed read changes nothing.
+    // A second line replaces the first; a call fails only when it comes. A failed read changes
+    // nothing.
     (
         "fail log 1\nfail log 3\nfail control 1\nfail control 4\nfail pages 1\nforce\ndrain\ndrain\nshow db\nlog-sync\n",
         "ok\nok\nok\nok\nok\nok ack=108\nrefused 30 Device\nok\n0/0 aa\nrefused 30 Device\n",
@@ -85,7 +86,8 @@ fn devices_are_written(rt: HostRuntime) {
     run_scripts(&rt, NARROW, &FULL);
 }
 
-/// Records that only the log device has are read from it; a read that fails is refused alone, and changes nothing.
+/// Records that only the log device has are read from it; a read that fails is refused alone, and
+/// changes nothing.
 fn reads_fail<R: Abort + AllocGlobal + Files<File = File> + Net>(rt: &R) -> Option<()> {
     let mut script = String::from_str(rt.alloc(), WORLD).ok()?;
     for trans in 1..21 {

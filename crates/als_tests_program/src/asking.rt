@@ -69,8 +69,8 @@ fn errs<R: Abort + AllocGlobal + Files<File = File> + Net>(rt: &R, words: &[&str
     );
 }
 
-/// Whether a run without input ends with this status and writes one text, with this part in it: to standard output where
-/// it ends well, else to standard error.
+/// Whether a run without input ends with this status and writes one text, with this part in it: to
+/// standard output where it ends well, else to standard error.
 fn answers<R: AllocGlobal + Files<File = File> + Net>(
     rt: &R,
     words: &[&str],

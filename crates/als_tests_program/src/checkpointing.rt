@@ -2,7 +2,8 @@ use crate::row::{FED, joined, run_scripts};
 
 /// Checkpoints of that, and what they print.
 const CHECKPOINTS: [(&str, &str); 2] = [
-    // It is published once its block is synced and its position is acknowledged, and the next is begun once that is synced.
+    // It is published once its block is synced and its position is acknowledged, and the next is
+    // begun once that is synced.
     (
         "ckpt-begin
 ckpt-block

@@ -4,7 +4,8 @@ use std::net::{Ipv4Addr, Net, SocketAddr, TcpListener, TcpStream};
 use std::rt::Files;
 use std::{fs, io, thread};
 
-/// A log of a database of four pages: its header, an update of 0/0 to `aa` at 16, its commit at 52 and its end at 80.
+/// A log of a database of four pages: its header, an update of 0/0 to `aa` at 16, its commit at 52
+/// and its end at 80.
 pub const TEXT: [u8; 108] = [
     65, 76, 83, 76, 79, 71, 48, 49, 0, 0, 0, 4, 0, 0, 0, 0, 0, 0, 0, 36, 1, 0, 0, 0, 0, 0, 0, 0, 0,
     0, 0, 16, 0, 0, 0, 0, 0, 0, 0, 0, 0, 0, 0, 1, 0, 0, 0, 0, 0, 255, 1, 170, 0, 0, 0, 28, 3, 0, 0,
@@ -45,7 +46,8 @@ where
     format!(in rt.alloc(); "{addr}").ok()
 }
 
-/// Follows a session, and is called again while it is refused: nobody may listen yet, or a growth was refused.
+/// Follows a session, and is called again while it is refused: nobody may listen yet, or a growth
+/// was refused.
 fn stands<R: AllocGlobal + Files<File = File> + Net>(rt: &R, addr: &str) -> bool {
     let words = [
         "als", "standby", "--dir", "followed", "--from", addr, "--pages", "4",
@@ -58,7 +60,8 @@ fn stands<R: AllocGlobal + Files<File = File> + Net>(rt: &R, addr: &str) -> bool
     false
 }
 
-/// Serves a session: whether the sending end prints this. A growth that was refused is met by a second try.
+/// Serves a session: whether the sending end prints this. A growth that was refused is met by a
+/// second try.
 fn ships<R: AllocGlobal + Files<File = File> + Net>(rt: &R, addr: &str, sent: &str) -> bool {
     let words = ["als", "ship", "--log", "followed.log", "--listen", addr];
     prints(rt, &words, sent) || prints(rt, &words, sent)
@@ -84,8 +87,8 @@ fn takes_over<R: AllocGlobal + Files<File = File> + Net>(rt: &R) -> bool {
         && prints(rt, &takeover, "end=108\n0/0 aa\n")
 }
 
-/// Two sessions of both ends over the network, what is then held, and a takeover. Threads are begun here: a helper that is
-/// generic over its runtime may not send it to one.
+/// Two sessions of both ends over the network, what is then held, and a takeover. Threads are begun
+/// here: a helper that is generic over its runtime may not send it to one.
 #[test]
 fn a_standby_follows_and_takes_over(rt: HostRuntime) {
     assert!(rt; lays_out(&rt) || lays_out(&rt));
@@ -106,7 +109,8 @@ fn a_standby_follows_and_takes_over(rt: HostRuntime) {
     assert!(rt; fs::remove_file(&rt, "followed.log").is_ok());
 }
 
-/// Numbers out of range are found before a file is touched; a folder that is missing is a device that failed.
+/// Numbers out of range are found before a file is touched; a folder that is missing is a device
+/// that failed.
 #[test]
 fn standbys_that_are_refused(rt: HostRuntime) {
     let bad = "als: refused 37 BadConfig\n";
@@ -141,7 +145,8 @@ fn standbys_that_are_refused(rt: HostRuntime) {
     assert!(rt; refuses(&rt, &words, "", failed) || refuses(&rt, &words, "", failed));
 }
 
-/// A log file that is altered is told from the record on that is refused; what stands before it is dumped.
+/// A log file that is altered is told from the record on that is refused; what stands before it is
+/// dumped.
 #[test]
 fn an_altered_log_is_told(rt: HostRuntime) {
     let mut altered = TEXT;

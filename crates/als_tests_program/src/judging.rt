@@ -39,8 +39,8 @@ const REFUSED: [(&str, &str); 7] = [
     ),
 ];
 
-/// What a transaction that rolls back may not write; and where two causes stand, the one with the lower number: 8 and 9, 9 and
-/// 10, 10 and 11, 13 and 14.
+/// What a transaction that rolls back may not write; and where two causes stand, the one with the
+/// lower number: 8 and 9, 9 and 10, 10 and 11, 13 and 14.
 const ORDERED: [(&str, &str); 6] = [
     (
         "rollback 1\ncommit 1\nfeed 16 72\n",
@@ -68,8 +68,8 @@ const ORDERED: [(&str, &str); 6] = [
     ),
 ];
 
-/// Updates of a key that is held, and of one that has another value; the transaction table of logs with losers, committed
-/// transactions and compensations.
+/// Updates of a key that is held, and of one that has another value; the transaction table of logs
+/// with losers, committed transactions and compensations.
 const HELD: [(&str, &str); 5] = [
     (
         "u 1 0 0 - 11\nu 2 0 0 11 22\nfeed 16 89\nfeed 52 89\n",

@@ -142,7 +142,8 @@ fn sim_tells_bad_lines(rt: HostRuntime) {
     assert!(rt; tells_bad_lines(&rt).is_some() || tells_bad_lines(&rt).is_some());
 }
 
-/// Empty lines and comments are passed over and counted; a missing first line would come behind the last.
+/// Empty lines and comments are passed over and counted; a missing first line would come behind the
+/// last.
 fn counts_lines<R: Abort + AllocGlobal + Files<File = File> + Net>(rt: &R) -> Option<()> {
     let bare = "world pages=4 log=8 frames=4 workers=2 pending=1000";
     let zeros =

@@ -1,4 +1,5 @@
-//! Tests of the program `als`: scripts and command lines, with what it prints. They use public names alone.
+//! Tests of the program `als`: scripts and command lines, with what it prints. They use public
+//! names alone.
 #![tactic(auto)]
 
 // A growth is refused once at most: a test that meets one is run once more.

@@ -5,7 +5,8 @@ use std::net::Net;
 use std::process::Abort;
 use std::rt::Files;
 
-/// Record lines, and the text that they make: the bytes are those of the format, written down by hand and by another program.
+/// Record lines, and the text that they make: the bytes are those of the format, written down by
+/// hand and by another program.
 const TEXTS: [(&str, &str); 4] = [
     ("pages 4", "414c534c4f4730310000000400000000\n"),
     (

@@ -1,7 +1,8 @@
 use crate::row::run_scripts;
 
-/// Every step, drain, force and every query, the second script over a log that a takeover would have to undo. No clause can say
-/// that a growth succeeds, so a program that always wants memory is proved too: it is these lines that it does not print.
+/// Every step, drain, force and every query, the second script over a log that a takeover would
+/// have to undo. No clause can say that a growth succeeds, so a program that always wants memory is
+/// proved too: it is these lines that it does not print.
 const REQUESTS: [(&str, &str); 2] = [
     (
         "world pages=4 log=8 frames=4 workers=2 pending=1000

@@ -6,7 +6,8 @@ use std::rt::Files;
 
 /// Pages that are redone, written and replaced: whole scripts, and what they print.
 const PAGES: [(&str, &str); 3] = [
-    // A page is written once the log is acknowledged past its page_LSN, and its row goes at the sync.
+    // A page is written once the log is acknowledged past its page_LSN, and its row goes at the
+    // sync.
     (
         "world pages=4 log=8 frames=4 workers=2 pending=1000
 u 1 0 0 - aa

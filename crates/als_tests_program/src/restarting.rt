@@ -93,7 +93,8 @@ state=Stopped end=108 ack=16 pending=1 leases=0
 ok end=16
 ",
     ),
-    // A mark that was written and not synced, by the picks for the log's block and then for the control block.
+    // A mark that was written and not synced, by the picks for the log's block and then for the
+    // control block.
     (
         "log-write
 log-sync

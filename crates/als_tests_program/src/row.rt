@@ -77,8 +77,8 @@ fn is_so<R: AllocGlobal + Files<File = File> + Net>(rt: &R, row: Row) -> bool {
         && status == row.status
 }
 
-/// Runs a row of a table, and again where its first run does not end so: a growth is refused once at most, so the second
-/// run meets none, and tells what differs.
+/// Runs a row of a table, and again where its first run does not end so: a growth is refused once
+/// at most, so the second run meets none, and tells what differs.
 pub fn run_row<R: Abort + AllocGlobal + Files<File = File> + Net>(rt: &R, row: Row) {
     if is_so(rt, row) {
         return;
@@ -112,8 +112,8 @@ pub fn joined<R: Abort + AllocGlobal + Files<File = File> + Net>(
     }
 }
 
-/// Runs scripts that end well, each given by its lines and by what they print. In front of each stand lines that print this
-/// by themselves.
+/// Runs scripts that end well, each given by its lines and by what they print. In front of each
+/// stand lines that print this by themselves.
 pub fn run_scripts<R: Abort + AllocGlobal + Files<File = File> + Net>(
     rt: &R,
     front: (&str, &str),

@@ -4,7 +4,8 @@ use std::io;
 use std::net::Net;
 use std::rt::Files;
 
-/// Whether shipping this file is refused so, with nothing on standard output. Standard input is not read.
+/// Whether shipping this file is refused so, with nothing on standard output. Standard input is not
+/// read.
 fn refuses<R: AllocGlobal + Files<File = File> + Net>(rt: &R, log: &str, wanted: &str) -> bool {
     let mut output = Vec::new(rt.alloc());
     let mut errors = Vec::new(rt.alloc());

@@ -52,8 +52,8 @@ fn row(trans: u32, state: TransactionState, last: u64, undo_next: u64) -> Transa
     }
 }
 
-// Notes a record. A refused growth changes nothing, and is met once at most: the record is noted at the next try. What a
-// takeover would append then was told before.
+// Notes a record. A refused growth changes nothing, and is met once at most: the record is noted at
+// the next try. What a takeover would append then was told before.
 fn note(rt: &impl Abort, table: &mut TransTable, logged: &Record) {
     let open = table.rows().len();
     let reserve = table.reserve_bytes();

@@ -43,7 +43,8 @@ impl Found {
     }
 }
 
-// Pushes a piece. A refused growth changes nothing, and is met once at most: the piece is taken at the next try.
+// Pushes a piece. A refused growth changes nothing, and is met once at most: the piece is taken at
+// the next try.
 fn push(rt: &impl Abort, receiver: &mut Receiver, piece: &[u8]) {
     let before = receiver.partial();
     let position = receiver.position();

@@ -6,7 +6,8 @@ use std::alloc::Global;
 use std::process::Abort;
 use std::test::Fail;
 
-// A log of a database of four pages: its header, and then one transaction that writes the value aa at 0/0.
+// A log of a database of four pages: its header, and then one transaction that writes the value aa
+// at 0/0.
 const HEADER: [u8; 16] = *b"ALSLOG01\x00\x00\x00\x04\x00\x00\x00\x00";
 
 const UPDATE: [u8; 36] = [
@@ -41,7 +42,8 @@ const CHECKPOINT: [u8; 65] = [
     0x02,
 ];
 
-// The bytes are one record at `at`, of which they are the spelling. A refused growth changes nothing.
+// The bytes are one record at `at`, of which they are the spelling. A refused growth changes
+// nothing.
 fn spelled(rt: &impl Abort, alloc: Global, bytes: &[u8], at: u64) -> Result<Record, Fail> {
     let first = match decode(alloc, bytes, Lsn(at), 4) {
         Err(Fault::Memory) => decode(alloc, bytes, Lsn(at), 4)?,

@@ -41,7 +41,8 @@ fn new_log(rt: &impl Abort, alloc: Global) -> NewLog {
     panic!(rt; "memory is refused twice")
 }
 
-// An empty log on a device of eight blocks. A device in memory fails where a growth is refused, once at most.
+// An empty log on a device of eight blocks. A device in memory fails where a growth is refused,
+// once at most.
 fn empty(rt: &impl Abort, alloc: Global) -> Held {
     for _ in 0..2 {
         if let Ok(log) = LocalLog::lay_out(MemDisk::new(alloc, 8), new_log(rt, alloc)) {
@@ -92,7 +93,8 @@ fn log(rt: &impl Abort, alloc: Global, held: &mut Held, prev: u64, trans: u32, b
     put(rt, alloc, held, &logged);
 }
 
-// The next record of the tail stands here, follows that record, and undoes to there; an end undoes to nowhere. It is appended.
+// The next record of the tail stands here, follows that record, and undoes to there; an end undoes
+// to nowhere. It is appended.
 fn next(
     rt: &impl Abort,
     alloc: Global,

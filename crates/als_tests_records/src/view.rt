@@ -39,8 +39,8 @@ fn said(view: &View, page: u32, slot: u8) -> Option<(Image, u64, u64)> {
     Some((value, commits, lsn.0))
 }
 
-// Three commits wait: at 52 (0,0) gets aa and (0,1) gets 01, at 116 (0,0) gets bb and (7,0) of another database gets 02, at 200
-// (0,0) gets nothing and (1,14) gets 03.
+// Three commits wait: at 52 (0,0) gets aa and (0,1) gets 01, at 116 (0,0) gets bb and (7,0) of
+// another database gets 02, at 200 (0,0) gets nothing and (1,14) gets 03.
 fn fill(alloc: Global, view: &mut View) -> Option<()> {
     view.reserve(3).ok()?;
     let first = commit_of(alloc, 52, (key(0, 0), byte(0xaa)), (key(0, 1), byte(1)))?;
@@ -52,7 +52,8 @@ fn fill(alloc: Global, view: &mut View) -> Option<()> {
     Some(())
 }
 
-// What waits does not show; of the first two commits the last write of a key is seen, in parts as at once.
+// What waits does not show; of the first two commits the last write of a key is seen, in parts as
+// at once.
 fn shows_in_parts(rt: &impl Abort, alloc: Global) -> Option<()> {
     let mut view = View::new(alloc, 2, true).ok()?;
     assert_eq!(rt; said(&view, 0, 0), Some((None, 0, 0)));
@@ -104,7 +105,8 @@ fn a_view_without_a_list_warms(rt: HostRuntime) {
     assert_eq!(rt; Fault::Warming.name(), "Warming");
 }
 
-// What survives of a transaction that commits at 152: at 16 it gave (0,0) the value aa, at 116 it gave (0,1) nothing.
+// What survives of a transaction that commits at 152: at 16 it gave (0,0) the value aa, at 116 it
+// gave (0,1) nothing.
 fn survivors(alloc: Global) -> Option<Vec<Record>> {
     let mut left = Vec::with_capacity(alloc, 2).ok()?;
     left.push(update(16, key(0, 0), None, byte(0xaa))).ok()?;
@@ -121,7 +123,8 @@ fn update(lsn: u64, key: Key, before: Image, after: Image) -> Record {
     }
 }
 
-// The commit has the keys and after images of its survivors, in order, and the LSN of its own record.
+// The commit has the keys and after images of its survivors, in order, and the LSN of its own
+// record.
 fn is_made(rt: &impl Abort, alloc: Global) -> Option<()> {
     let left = survivors(alloc)?;
     let made = Commit::of(alloc, TransId(3), Lsn(152), left.as_slice()).ok()?;
@@ -138,7 +141,8 @@ fn a_commit_is_made_of_what_survives(rt: HostRuntime) {
     assert!(rt; is_made(&rt, alloc).is_some() || is_made(&rt, alloc).is_some());
 }
 
-// Commits that end at 80, 144 and 228: those that end at or below an offset are published, and no other.
+// Commits that end at 80, 144 and 228: those that end at or below an offset are published, and no
+// other.
 fn shows_what_is_acknowledged(rt: &impl Abort, alloc: Global) -> Option<()> {
     let mut view = View::new(alloc, 2, false).ok()?;
     fill(alloc, &mut view)?;

@@ -16,7 +16,8 @@ pub const TEXT: [u8; 108] = [
     0, 0, 0, 0, 0, 80, 0, 0, 0, 0, 0, 0, 0, 52, 0, 0, 0, 1,
 ];
 
-/// What a follower of that log tells: a Resume frame from 16 on, and two Acknowledged frames of 108.
+/// What a follower of that log tells: a Resume frame from 16 on, and two Acknowledged frames of
+/// 108.
 pub const TOLD: [u8; 43] = [
     0x52, 0, 0, 0, 0, 0, 0, 0, 16, 65, 76, 83, 76, 79, 71, 48, 49, 0, 0, 0, 4, 0, 0, 0, 0, //
     0x41, 0, 0, 0, 0, 0, 0, 0, 108, //

@@ -80,7 +80,8 @@ fn records_are_chosen(rt: HostRuntime) {
     }
 }
 
-/// Whether verifying a file with these bytes is refused so, with this line. A growth is refused once at most.
+/// Whether verifying a file with these bytes is refused so, with this line. A growth is refused
+/// once at most.
 fn tells<R: AllocGlobal + Files<File = File>>(
     rt: &R,
     bytes: &[u8],

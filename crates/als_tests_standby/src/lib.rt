@@ -1,4 +1,5 @@
-//! Tests of the engine, of sessions, of scripts, and of what an operator asks for. They use public names alone.
+//! Tests of the engine, of sessions, of scripts, and of what an operator asks for. They use public
+//! names alone.
 #![tactic(auto)]
 
 // What several of these tests use.

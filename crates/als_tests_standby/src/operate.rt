@@ -11,7 +11,8 @@ use std::rt::Files;
 use std::test::Fail;
 use std::{fs, io, thread};
 
-// The session's bytes from the shipper: a Data frame of the 92 bytes from 16 on, and the last one, which has none.
+// The session's bytes from the shipper: a Data frame of the 92 bytes from 16 on, and the last one,
+// which has none.
 const SENT: usize = 118;
 
 // Serves the next follower that comes, as `ship` does.
@@ -58,7 +59,8 @@ fn a_session_is_told(rt: HostRuntime) -> Result<(), Fail> {
     Ok(())
 }
 
-// Whether shipping a file with these bytes to an address is refused so, with nothing printed. A growth is refused once at most.
+// Whether shipping a file with these bytes to an address is refused so, with nothing printed. A
+// growth is refused once at most.
 fn refuses<R: AllocGlobal + Files + Net>(
     rt: &R,
     bytes: &[u8],

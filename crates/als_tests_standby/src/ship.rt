@@ -34,7 +34,8 @@ fn data(alloc: Global, from: usize, to: usize) -> Option<Frame> {
     })
 }
 
-// Frames in some order, some of them again and some that overlap: the position after each, and then a gap. `None`: memory was refused.
+// Frames in some order, some of them again and some that overlap: the position after each, and then
+// a gap. `None`: memory was refused.
 fn takes_frames(rt: &impl Abort, alloc: Global) -> Option<()> {
     let mut engine = standby(alloc)?;
     let follower = Follower::new(HEADER);
@@ -59,7 +60,8 @@ fn frames_come_again_and_overlap(rt: HostRuntime) {
     assert!(rt; takes_frames(&rt, alloc).is_some() || takes_frames(&rt, alloc).is_some());
 }
 
-// A session over memory, byte for byte: what a shipper writes to a follower's bytes. `None`: memory was refused.
+// A session over memory, byte for byte: what a shipper writes to a follower's bytes. `None`: memory
+// was refused.
 fn ships(rt: &impl Abort, alloc: Global) -> Option<Vec<u8>> {
     let mut source = source(alloc)?;
     let mut sent = Vec::new(alloc);
@@ -93,7 +95,8 @@ fn a_session_over_memory(rt: HostRuntime) {
     assert!(rt; follows(&rt, alloc).is_some() || follows(&rt, alloc).is_some());
 }
 
-// What a follower that holds the log answers to a stream, which leaves its position as it was. `None`: memory was refused.
+// What a follower that holds the log answers to a stream, which leaves its position as it was.
+// `None`: memory was refused.
 fn meets(rt: &impl Abort, alloc: Global, stream: &[u8], wanted: Fault) -> Option<()> {
     let mut engine = standby(alloc)?;
     let follower = Follower::new(HEADER);

@@ -1,4 +1,5 @@
-//! Tests of the store, and of what reads stopped devices and takes them up again. They use public names alone.
+//! Tests of the store, and of what reads stopped devices and takes them up again. They use public
+//! names alone.
 #![tactic(auto)]
 
 // Logs as bytes.

@@ -8,8 +8,8 @@ use als_view::{Answer, View};
 use std::alloc::Global;
 use std::process::Abort;
 
-// A log of a database of four pages with two commits, at 130 and 195. The first transaction writes slot 0 at 16 and slot 1 at 52, and
-// takes the write at 52 back; the second writes slot 0 at 158.
+// A log of a database of four pages with two commits, at 130 and 195. The first transaction writes
+// slot 0 at 16 and slot 1 at 52, and takes the write at 52 back; the second writes slot 0 at 158.
 const COMMITS: [u8; 223] = [
     0x41, 0x4c, 0x53, 0x4c, 0x4f, 0x47, 0x30, 0x31, 0, 0, 0, 4, 0, 0, 0, 0, //
     0, 0, 0, 0x24, 1, 0, 0, 0, 0, 0, 0, 0, 0, 0, 0, 0x10, 0, 0, 0, 0, 0, 0, 0, 0, 0, 0, 0, 1, 0, 0,
@@ -24,7 +24,8 @@ const COMMITS: [u8; 223] = [
     0, 0, 0, 0x1c, 3, 0, 0, 0, 0, 0, 0, 0, 0, 0, 0, 0xc3, 0, 0, 0, 0, 0, 0, 0, 0x9e, 0, 0, 0, 2,
 ];
 
-// The control block of four pages that acknowledges a mark, with a checkpoint at a position in region 1, or none (0).
+// The control block of four pages that acknowledges a mark, with a checkpoint at a position in
+// region 1, or none (0).
 fn control_block(mark: u8, position: u8) -> [u8; 512] {
     let mut block = [0; 512];
     let front = [
@@ -39,8 +40,8 @@ fn control_block(mark: u8, position: u8) -> [u8; 512] {
     block
 }
 
-// A checkpoint at a position, of a log of so many commits, the last at 52, in which transaction 1 has committed and is not ended; no
-// page is dirty.
+// A checkpoint at a position, of a log of so many commits, the last at 52, in which transaction 1
+// has committed and is not ended; no page is dirty.
 fn checkpoint_block(position: u8, commits: u8) -> [u8; 512] {
     let mut block = [0; 512];
     block[7] = position;
@@ -94,7 +95,8 @@ fn laid_out(
     })
 }
 
-// How many changes wait, and where the log ends, once three such devices are taken up; or why they are not. `None`: a growth was refused.
+// How many changes wait, and where the log ends, once three such devices are taken up; or why they
+// are not. `None`: a growth was refused.
 fn outcome(
     alloc: Global,
     log: &[u8; 512],
@@ -193,7 +195,8 @@ fn a_damaged_header_is_refused(rt: HostRuntime) {
     assert_eq!(rt; found, Err(Fault::Shape(ShapeFault::BadHeader)));
 }
 
-// What a reader sees of a slot of page 0: the first byte of its value, how many commits there are, and the LSN of the last one.
+// What a reader sees of a slot of page 0: the first byte of its value, how many commits there are,
+// and the LSN of the last one.
 fn seen(view: &View, slot: u8) -> Option<(Option<u8>, u64, Lsn)> {
     let answer = view.get(Key { page: 0, slot }).ok()?;
     let Answer {
@@ -207,7 +210,8 @@ fn seen(view: &View, slot: u8) -> Option<(Option<u8>, u64, Lsn)> {
     Some((bytes.as_slice().first().copied(), commits, lsn))
 }
 
-// The commits of the log wait, and readers see them once they are published. `None`: a growth was refused.
+// The commits of the log wait, and readers see them once they are published. `None`: a growth was
+// refused.
 fn commits(rt: &impl Abort, alloc: Global) -> Option<()> {
     let mut log = [0; 512];
     log[..223].copy_from_slice(&COMMITS);

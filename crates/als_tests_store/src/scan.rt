@@ -11,7 +11,8 @@ use std::alloc::Global;
 use std::process::Abort;
 use std::test::Fail;
 
-/// A device of two blocks to which a log appended the records of a text. `None`: a growth was refused.
+/// A device of two blocks to which a log appended the records of a text. `None`: a growth was
+/// refused.
 fn appended(alloc: Global, text: &[u8]) -> Option<MemDisk> {
     let new = NewLog::new(alloc, 4).ok()?;
     let mut log = LocalLog::lay_out(MemDisk::new(alloc, 2), new).ok()?;

@@ -27,7 +27,8 @@ fn key(bytes: &[u8], at: usize) -> Key
     }
 }
 
-/// A word of what is kept of the key that the record at the front of these bytes seems to write, 0 where it writes none.
+/// A word of what is kept of the key that the record at the front of these bytes seems to write, 0
+/// where it writes none.
 fn glance(keys: &[KeyState], front: &[u8]) -> u64
     requires { 42 ≤ length front.now }
 {
@@ -42,8 +43,9 @@ fn glance(keys: &[KeyState], front: &[u8]) -> u64
     keys[at].word()
 }
 
-/// Reads a word of what is kept of each key that the records at the front of these bytes seem to write, and answers how many
-/// bytes these records seem to have, and the words together, which say nothing. The bytes may be any.
+/// Reads a word of what is kept of each key that the records at the front of these bytes seem to
+/// write, and answers how many bytes these records seem to have, and the words together, which say
+/// nothing. The bytes may be any.
 pub(crate) fn glance_ahead(keys: &[KeyState], bytes: &[u8]) -> (usize, u64) {
     let mut from = 0usize;
     let mut seen = 0u64;

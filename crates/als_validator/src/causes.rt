@@ -1,4 +1,5 @@
-ghost use Rattle.std.specs.Prelude.{◌≡◌, ◌==◌, ◌&&◌, ℕ, not, true, false, List, MatchOption, option_copied, is_none, nat_le};
+ghost use Rattle.std.specs.Prelude.{◌≡◌, ◌==◌, ◌&&◌, ℕ, not, true, false, List, MatchOption};
+ghost use Rattle.std.specs.Prelude.{option_copied, is_none, nat_le};
 ghost use Rattle.std.specs.List.{list_any};
 ghost use Rattle.als_record.specs.declared.record.Record.{Record};
 ghost use Rattle.als_record.specs.declared.trans_id.TransId.{TransId};
@@ -8,8 +9,10 @@ ghost use Rattle.als_record.specs.Transactions.{is_transactional, is_end, is_ope
 ghost use Rattle.als_record.specs.Images.{same_image, is_update_at, image_before};
 ghost use Rattle.als_record.specs.Validity.{fits_checkpoints};
 ghost use Rattle.als_analysis.specs.Noted.{IsTableOf};
-ghost use Rattle.als_validator.specs.Causing.{TellsBadPrev, TellsOld, TellsWrongState, TellsWrongUndoNext};
-ghost use Rattle.als_validator.specs.Causing.{TellsWrongCompensation, TellsHolder, TellsHolderIn, TellsStale};
+ghost use Rattle.als_validator.specs.Causing.{TellsBadPrev, TellsOld, TellsWrongState};
+ghost use Rattle.als_validator.specs.Causing.{TellsWrongUndoNext};
+ghost use Rattle.als_validator.specs.Causing.{TellsWrongCompensation, TellsHolder, TellsHolderIn};
+ghost use Rattle.als_validator.specs.Causing.{TellsStale};
 ghost use Rattle.als_validator.specs.Causing.{TellsOneTooMany, TellsBadCheckpoint};
 ghost use Rattle.als_validator.specs.Keys.{AreKeysOf, IsKeyOf};
 ghost use Rattle.als_validator.specs.Tests.{state_in, last_in, goes_on, barred, skips, misses};
@@ -78,7 +81,8 @@ fn is_barred(state: TransactionState, left: bool, body: &BodyView<'_>) -> bool
 
 /// Whether this is an update of the key with this before image.
 fn is_undone_by(update: &Record, key: Key, after: &ImageView<'_>) -> bool
-    ensures { result ≡ (is_update_at key update.now.body && same_image (shown_image after.now) (image_before update.now.body)) }
+    ensures { result ≡ (is_update_at key update.now.body
+        && same_image (shown_image after.now) (image_before update.now.body)) }
 {
     match &update.body {
         Body::Update {
@@ -119,21 +123,24 @@ fn does_miss(newest: Option<&Record>, body: &BodyView<'_>) -> bool
 
 /// Whether PrevLSN is another than the LastLSN of this row.
 fn is_off_chain(row: Option<TransactionRow>, logged: &RecordView<'_>) -> bool
-    ensures { result ≡ (is_transactional (shown_body logged.now.body) && not (logged.now.prev.0 == last_in row)) }
+    ensures { result ≡ (is_transactional (shown_body logged.now.body)
+        && not (logged.now.prev.0 == last_in row)) }
 {
     is_transaction_record(&logged.body) && logged.prev.0 != last_of(row).0
 }
 
 /// Whether a transaction without a row does not rise above the greatest TransID.
 fn is_below(row: Option<TransactionRow>, greatest: TransId, logged: &RecordView<'_>) -> bool
-    ensures { result ≡ (is_transactional (shown_body logged.now.body) && is_none row && nat_le logged.now.trans.0 greatest.0) }
+    ensures { result ≡ (is_transactional (shown_body logged.now.body) && is_none row
+        && nat_le logged.now.trans.0 greatest.0) }
 {
     is_transaction_record(&logged.body) && row.is_none() && logged.trans.0 <= greatest.0
 }
 
 /// Whether a record makes one row more than the limit.
 fn does_overflow(row: Option<TransactionRow>, count: usize, logged: &RecordView<'_>) -> bool
-    ensures { result ≡ (is_transactional (shown_body logged.now.body) && not (is_end (shown_body logged.now.body)) && is_none row && nat_le 256 count) }
+    ensures { result ≡ (is_transactional (shown_body logged.now.body)
+        && not (is_end (shown_body logged.now.body)) && is_none row && nat_le 256 count) }
 {
     is_transaction_record(&logged.body)
         && !is_end_record(&logged.body)
@@ -185,7 +192,8 @@ pub(crate) fn is_old(past: &Past, greatest: TransId, logged: &RecordView<'_>) ->
     is_below(past.row, greatest, logged)
 }
 
-/// 10: what the transaction may no longer write. A checkpoint's record may not name one that has committed.
+/// 10: what the transaction may no longer write. A checkpoint's record may not name one that has
+/// committed.
 pub(crate) fn is_wrong_state(past: &Past, committed: &[TransId], logged: &RecordView<'_>) -> bool
     ensures { TellsWrongState past.now committed.now (shown logged.now) result }
 {
@@ -231,8 +239,8 @@ fn is_still_open(table: &TransTable, trans: TransId) -> bool
     }
 }
 
-/// 13: the transaction that holds the key of an update. What is kept of the key names one at most, which holds the key only
-/// while it is unended and not committed.
+/// 13: the transaction that holds the key of an update. What is kept of the key names one at most,
+/// which holds the key only while it is unended and not committed.
 pub(crate) fn holder_of(
     keys: &[KeyState],
     table: &TransTable,

@@ -1,4 +1,5 @@
-ghost use Rattle.std.specs.Prelude.{◌≡◌, ℕ, List, [], ◌∷◌, ◌++◌, None, option_to_list, false, IsOk, IfOk, IfErr};
+ghost use Rattle.std.specs.Prelude.{◌≡◌, ℕ, List, [], ◌∷◌, ◌++◌, None, option_to_list, false, IsOk};
+ghost use Rattle.std.specs.Prelude.{IfOk, IfErr};
 ghost use Rattle.als_record.specs.declared.record.Record.{Record};
 ghost use Rattle.als_record.specs.Spelling.{IsRecord};
 ghost use Rattle.als_record.specs.Shown.{shown, shown_body};
@@ -30,16 +31,22 @@ fn is_commit_body(body: &Body) -> bool
 }
 
 impl Validator {
-    /// The commit that a record makes, with what survives of its transaction: asked before the record is admitted. `None`: it is no
-    /// commit record, or may not follow the log. Memory: a growth was refused, for what a commit writes alone.
+    /// The commit that a record makes, with what survives of its transaction: asked before the
+    /// record is admitted. `None`: it is no commit record, or may not follow the log. Memory: a
+    /// growth was refused, for what a commit writes alone.
     pub fn commit_of(&self, alloc: Global, logged: &RecordView<'_>) -> Result<Option<Commit>, Fault>
-        // Of a record that may follow: the commits of the log with it are those of the log and this one, if there is one.
-        ensures ok { IfOk result (λ found. (pages : ℕ) (log : List Record) → IsValidatorOf pages self.now log → IsValidLog pages log
-            → IsRecord pages (shown logged.now) → logged.now.lsn.0 ≡ end_of log → first_bad log (shown logged.now) ≡ None
-            → commits_of (log ++ (shown logged.now) ∷ []) ≡ commits_of log ++ option_to_list found) }
+        // Of a record that may follow: the commits of the log with it are those of the log and this
+        // one, if there is one.
+        ensures ok { IfOk result (λ found. (pages : ℕ) (log : List Record)
+            → IsValidatorOf pages self.now log → IsValidLog pages log
+            → IsRecord pages (shown logged.now) → logged.now.lsn.0 ≡ end_of log
+            → first_bad log (shown logged.now) ≡ None
+            → commits_of (log ++ (shown logged.now) ∷ [])
+            ≡ commits_of log ++ option_to_list found) }
         ensures err { IfErr result (λ e. e ≡ Memory) }
         ensures reserved { is_commit (shown_body logged.now.body) ≡ false → IsOk result }
-        ensures wanted { IfErr result (λ e. (pages : ℕ) (log : List Record) → IsValidatorOf pages self.now log → IsValidLog pages log
+        ensures wanted { IfErr result (λ e. (pages : ℕ) (log : List Record)
+            → IsValidatorOf pages self.now log → IsValidLog pages log
             → IsRecord pages (shown logged.now) → first_bad log (shown logged.now) ≡ None) }
     {
         if !is_commit_record(&logged.body) {
@@ -55,11 +62,14 @@ impl Validator {
         }
     }
 
-    /// The commit that the last record of the log made, with what survives of its transaction: asked after the record was admitted.
-    /// `None`: it is no commit record. Memory: a growth was refused, for what a commit writes alone.
+    /// The commit that the last record of the log made, with what survives of its transaction:
+    /// asked after the record was admitted. `None`: it is no commit record. Memory: a growth was
+    /// refused, for what a commit writes alone.
     pub fn commit_made(&self, alloc: Global, last: &AnyRecord) -> Result<Option<Commit>, Fault>
-        ensures ok { IfOk result (λ found. (pages : ℕ) (log : List Record) → IsValidatorOf pages self.now (log ++ last.now ∷ [])
-            → IsValidLog pages (log ++ last.now ∷ []) → commits_of (log ++ last.now ∷ []) ≡ commits_of log ++ option_to_list found) }
+        ensures ok { IfOk result (λ found. (pages : ℕ) (log : List Record)
+            → IsValidatorOf pages self.now (log ++ last.now ∷ [])
+            → IsValidLog pages (log ++ last.now ∷ [])
+            → commits_of (log ++ last.now ∷ []) ≡ commits_of log ++ option_to_list found) }
         ensures err { IfErr result (λ e. e ≡ Memory) }
         ensures reserved { is_commit last.now.body ≡ false → IsOk result }
     {

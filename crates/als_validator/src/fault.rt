@@ -8,7 +8,8 @@ use als_record::Cause;
 use std::alloc::{AllocError, AllocFailed};
 use std::fmt;
 
-/// Why a record is not admitted, or why there is no room for it. The numbers are common to all crates.
+/// Why a record is not admitted, or why there is no room for it. The numbers are common to all
+/// crates.
 #[derive(Clone, Copy, Debug, PartialEq, Eq)]
 pub enum Fault {
     /// The record may not follow the log.

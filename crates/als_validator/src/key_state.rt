@@ -3,11 +3,13 @@ ghost use Rattle.als_record.specs.Shown.{shown_image};
 
 use als_record::{ImageView, KeptImage, TransId};
 
-/// What is kept of a key: what it has, and how many surviving updates of it a transaction has. Once that transaction has
-/// committed or ended the count says nothing, and nobody clears it: the next update of the key does.
+/// What is kept of a key: what it has, and how many surviving updates of it a transaction has. Once
+/// that transaction has committed or ended the count says nothing, and nobody clears it: the next
+/// update of the key does.
 #[derive(Drop)]
 pub(crate) struct KeyState {
-    // The numbers stand before the image: with a short value all that a record needs is in 21 bytes.
+    // The numbers stand before the image: with a short value all that a record needs is in 21
+    // bytes.
     pub(crate) count: u64,
     pub(crate) holder: TransId,
     pub(crate) image: KeptImage,
@@ -26,7 +28,8 @@ impl KeyState {
         }
     }
 
-    /// A word that is made of the front of what is kept and of the image, and says nothing: who asks for it has both at hand.
+    /// A word that is made of the front of what is kept and of the image, and says nothing: who
+    /// asks for it has both at hand.
     pub(crate) fn word(&self) -> u64 {
         self.count ^ u64::from(self.image.first())
     }
@@ -35,7 +38,8 @@ impl KeyState {
     pub(crate) fn update(&mut self, trans: TransId, after: &ImageView<'_>)
         ensures image { self.new.image ≡ shown_image after.now }
         ensures holder { self.new.holder ≡ trans }
-        ensures count { self.new.count ≡ (if self.old.holder.0 == trans.0 then min (self.old.count + 1) (2 ^ 64 - 1) else 1) }
+        ensures count { self.new.count ≡ (if self.old.holder.0 == trans.0 then min (self.old.count
+            + 1) (2 ^ 64 - 1) else 1) }
     {
         self.count = if self.holder.0 == trans.0 {
             self.count.saturating_add(1)
@@ -50,7 +54,8 @@ impl KeyState {
     pub(crate) fn undo(&mut self, trans: TransId, after: &ImageView<'_>)
         ensures image { self.new.image ≡ shown_image after.now }
         ensures holder { self.new.holder ≡ self.old.holder }
-        ensures count { self.new.count ≡ (if self.old.holder.0 == trans.0 then self.old.count - 1 else self.old.count) }
+        ensures count { self.new.count ≡ (if self.old.holder.0 == trans.0 then self.old.count
+            - 1 else self.old.count) }
     {
         if self.holder.0 == trans.0 {
             self.count = self.count.saturating_sub(1);

@@ -1,4 +1,5 @@
-ghost use Rattle.std.specs.Prelude.{◌≡◌, ℕ, ◌+◌, ◌*◌, ◌<◌, List, [], ◌∷◌, ◌++◌, IfOk, IfErr, slice_index_or, length};
+ghost use Rattle.std.specs.Prelude.{◌≡◌, ℕ, ◌+◌, ◌*◌, ◌<◌, List, [], ◌∷◌, ◌++◌, IfOk, IfErr};
+ghost use Rattle.std.specs.Prelude.{slice_index_or, length};
 ghost use Rattle.als_record.specs.declared.record.Record.{Record};
 ghost use Rattle.als_record.specs.declared.key.Key.{Key};
 ghost use Rattle.als_record.specs.Shown.{shown};
@@ -35,7 +36,8 @@ pub(crate) fn unwritten_keys(alloc: Global, pages: u32) -> Result<Vec<KeyState>,
 /// Notes what a record writes.
 pub(crate) fn note_change(keys: &mut [KeyState], logged: &RecordView<'_>)
     ensures { (pages : ℕ) (log : List Record) → AreKeysOf keys.old pages log
-        → IsValidLog pages (log ++ (shown logged.now) ∷ []) → AreKeysOf keys.new pages (log ++ (shown logged.now) ∷ []) }
+        → IsValidLog pages (log ++ (shown logged.now) ∷ [])
+        → AreKeysOf keys.new pages (log ++ (shown logged.now) ∷ []) }
 {
     match &logged.body {
         BodyView::Update { key, after, .. } => {

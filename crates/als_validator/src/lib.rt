@@ -1,4 +1,5 @@
-//! Which record may follow a valid log: what is kept of the log, and the causes for which a record is refused.
+//! Which record may follow a valid log: what is kept of the log, and the causes for which a record
+//! is refused.
 #![tactic(auto)]
 
 // What is read before it is asked for.

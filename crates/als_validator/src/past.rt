@@ -6,7 +6,8 @@ ghost use Rattle.als_validator.specs.Seen.{IsPastOf};
 use als_analysis::TransTable;
 use als_record::{Record, TransId, TransactionRow};
 
-/// What the causes ask of a record's transaction: its row of the transaction table, and its newest surviving update.
+/// What the causes ask of a record's transaction: its row of the transaction table, and its newest
+/// surviving update.
 #[derive(Clone, Copy)]
 pub(crate) struct Past<'a> {
     pub(crate) row: Option<TransactionRow>,

@@ -1,4 +1,5 @@
-ghost use Rattle.std.specs.Prelude.{◌≡◌, ◌≢◌, ◌<◌, vec_len, vec_capacity, ℕ, ◌+◌, ◌^◌, List, [], ◌∷◌, ◌++◌, max, map};
+ghost use Rattle.std.specs.Prelude.{◌≡◌, ◌≢◌, ◌<◌, vec_len, vec_capacity, ℕ, ◌+◌, ◌^◌, List, []};
+ghost use Rattle.std.specs.Prelude.{◌∷◌, ◌++◌, max, map};
 ghost use Rattle.std.specs.Prelude.{None, Ok, Err, IsOk, OnOk, OnErr, IfOk, IfErr, slice_index_or};
 ghost use Rattle.als_record.specs.declared.record.Record.{Record};
 ghost use Rattle.als_record.specs.Spelling.{IsRecord};
@@ -7,7 +8,8 @@ ghost use Rattle.als_record.specs.LogText.{end_of};
 ghost use Rattle.als_record.specs.Tail.{reserve_of};
 ghost use Rattle.als_record.specs.Transactions.{unended, surviving, greatest_trans};
 ghost use Rattle.als_record.specs.Table.{table_of};
-ghost use Rattle.als_record.specs.Validity.{first_bad, checkpoint_after, open_checkpoint, IsValidLog};
+ghost use Rattle.als_record.specs.Validity.{first_bad, checkpoint_after, open_checkpoint};
+ghost use Rattle.als_record.specs.Validity.{IsValidLog};
 ghost use Rattle.als_analysis.specs.Noted.{IsTableOf};
 ghost use Rattle.als_analysis.specs.Open.{rows_of, left_of};
 ghost use Rattle.als_validator.specs.declared.fault.Fault.TheVariants.{Memory};
@@ -29,9 +31,9 @@ use als_analysis::{OpenTransaction, TransTable};
 use als_record::{BodyView, Cause, Lsn, RecordView, TransId};
 use std::alloc::Global;
 
-/// What is kept of a valid log to tell which record may follow it: the transaction table with the surviving updates, what
-/// each key has and who may hold it, the transactions that have committed, the greatest TransID and the open checkpoint.
-/// (Mohan et al., TODS 1992, sections 3 and 4.)
+/// What is kept of a valid log to tell which record may follow it: the transaction table with the
+/// surviving updates, what each key has and who may hold it, the transactions that have committed,
+/// the greatest TransID and the open checkpoint. (Mohan et al., TODS 1992, sections 3 and 4.)
 #[derive(Drop)]
 pub struct Validator {
     table: TransTable,
@@ -69,7 +71,8 @@ fn next_greatest(greatest: TransId, logged: &RecordView<'_>) -> TransId
 /// Notes a commit.
 fn note_commit(committed: &mut Vec<TransId>, logged: &RecordView<'_>)
     requires { vec_len committed.old < vec_capacity committed.old }
-    ensures { (log : List Record) → AreCommitted committed.old.items log → AreCommitted committed.new.items (log ++ (shown logged.now) ∷ []) }
+    ensures { (log : List Record) → AreCommitted committed.old.items log
+        → AreCommitted committed.new.items (log ++ (shown logged.now) ∷ []) }
 {
     match &logged.body {
         BodyView::Commit => committed.push_reserved(logged.trans),
@@ -92,7 +95,8 @@ fn reserve_one(committed: &mut Vec<TransId>) -> Result<(), Fault>
 }
 
 impl Validator {
-    /// The validator of the empty log of a database with this many pages. It takes the room for all that is kept of keys.
+    /// The validator of the empty log of a database with this many pages. It takes the room for all
+    /// that is kept of keys.
     pub fn new(alloc: Global, pages: u32) -> Result<Validator, Fault>
         ensures ok { IfOk result (λ v. IsValidatorOf pages v []) }
         ensures err { IfErr result (λ e. e ≡ Memory) }
@@ -107,9 +111,11 @@ impl Validator {
         })
     }
 
-    /// The first cause for which a record may not follow the log. `check` answers by it, in the words of this crate's faults.
+    /// The first cause for which a record may not follow the log. `check` answers by it, in the
+    /// words of this crate's faults.
     fn first_cause(&self, logged: &RecordView<'_>) -> Option<Cause>
-        ensures { (pages : ℕ) (log : List Record) → IsValidatorOf pages self.now log → IsValidLog pages log
+        ensures { (pages : ℕ) (log : List Record) → IsValidatorOf pages self.now log
+            → IsValidLog pages log
             → IsRecord pages (shown logged.now) → result ≡ first_bad log (shown logged.now) }
     {
         let past = past_of(&self.table, logged.trans);
@@ -143,12 +149,14 @@ impl Validator {
         None
     }
 
-    /// Whether a record may follow the log, where it stands at the log's end: `Err` carries the first cause in the order of
-    /// their numbers. The cost does not depend on how much is kept, but for a checkpoint's record that wrongly names a
-    /// transaction.
+    /// Whether a record may follow the log, where it stands at the log's end: `Err` carries the
+    /// first cause in the order of their numbers. The cost does not depend on how much is kept, but
+    /// for a checkpoint's record that wrongly names a transaction.
     pub fn check(&self, logged: &RecordView<'_>) -> Result<(), Fault>
-        ensures exact { (pages : ℕ) (log : List Record) → IsValidatorOf pages self.now log → IsValidLog pages log
-            → IsRecord pages (shown logged.now) → result ≡ answer_of (first_bad log (shown logged.now)) }
+        ensures exact { (pages : ℕ) (log : List Record) → IsValidatorOf pages self.now log
+            → IsValidLog pages log
+            → IsRecord pages (shown logged.now)
+            → result ≡ answer_of (first_bad log (shown logged.now)) }
         ensures no_memory { IfErr result (λ e. e ≢ Memory) }
     {
         match self.first_cause(logged) {
@@ -157,11 +165,13 @@ impl Validator {
         }
     }
 
-    /// Makes room for one more record, whatever it is: the next `admit` takes no memory. What is kept stays as it is.
+    /// Makes room for one more record, whatever it is: the next `admit` takes no memory. What is
+    /// kept stays as it is.
     pub fn reserve(&mut self) -> Result<(), Fault>
         ensures ok { OnOk result (HasRoom self.new) }
         ensures err { IfErr result (λ e. e ≡ Memory) }
-        ensures kept { (pages : ℕ) (log : List Record) → IsValidatorOf pages self.old log → IsValidatorOf pages self.new log }
+        ensures kept { (pages : ℕ) (log : List Record) → IsValidatorOf pages self.old log
+            → IsValidatorOf pages self.new log }
         // Memory is wanted only where there is no room yet.
         ensures reserved { HasRoom self.old → IsOk result }
     {
@@ -169,12 +179,13 @@ impl Validator {
         reserve_one(&mut self.committed)
     }
 
-    /// Takes a record that may follow the log: what is kept is that of the log with the record. Of any other record it is
-    /// only said that nothing breaks.
+    /// Takes a record that may follow the log: what is kept is that of the log with the record. Of
+    /// any other record it is only said that nothing breaks.
     pub fn admit(&mut self, logged: &RecordView<'_>)
         requires { HasRoom self.old }
         ensures { (pages : ℕ) (log : List Record) → IsValidatorOf pages self.old log
-            → IsValidLog pages (log ++ (shown logged.now) ∷ []) → IsValidatorOf pages self.new (log ++ (shown logged.now) ∷ []) }
+            → IsValidLog pages (log ++ (shown logged.now) ∷ [])
+            → IsValidatorOf pages self.new (log ++ (shown logged.now) ∷ []) }
     {
         match self.table.note(logged) {
             Ok(()) => {}
@@ -186,12 +197,14 @@ impl Validator {
         self.begun = next_begun(self.begun, logged);
     }
 
-    /// Reads what is kept of the keys that the next records seem to write, so that it is at hand when they are judged. It
-    /// answers how many bytes these records seem to have: 32 records at most, 0 where there is none. The bytes may be any, and
-    /// nothing is judged. It takes no memory.
+    /// Reads what is kept of the keys that the next records seem to write, so that it is at hand
+    /// when they are judged. It answers how many bytes these records seem to have: 32 records at
+    /// most, 0 where there is none. The bytes may be any, and nothing is judged. It takes no
+    /// memory.
     #[inline(never)]
     pub fn look_ahead(&mut self, bytes: &[u8]) -> usize
-        ensures kept { (pages : ℕ) (log : List Record) → IsValidatorOf pages self.old log → IsValidatorOf pages self.new log }
+        ensures kept { (pages : ℕ) (log : List Record) → IsValidatorOf pages self.old log
+            → IsValidatorOf pages self.new log }
         ensures room { HasRoom self.old → HasRoom self.new }
     {
         let (len, seen) = glance_ahead(self.keys.as_slice(), bytes);
@@ -202,45 +215,55 @@ impl Validator {
     /// The transaction table.
     pub fn table(&self) -> &TransTable
         ensures value { result.now ≡ self.now.table }
-        ensures table { (pages : ℕ) (log : List Record) → IsValidatorOf pages self.now log → IsTableOf result.now log }
+        ensures table { (pages : ℕ) (log : List Record) → IsValidatorOf pages self.now log
+            → IsTableOf result.now log }
     {
         &self.table
     }
 
-    /// The rows of the transaction table in rising TransID, each with the updates that survive of its transaction.
+    /// The rows of the transaction table in rising TransID, each with the updates that survive of
+    /// its transaction.
     pub fn rows(&self) -> &[OpenTransaction]
-        ensures rows { (pages : ℕ) (log : List Record) → IsValidatorOf pages self.now log → rows_of result.now ≡ table_of log }
-        ensures left { (pages : ℕ) (log : List Record) → IsValidatorOf pages self.now log → left_of result.now ≡ map (surviving log) (unended log) }
+        ensures rows { (pages : ℕ) (log : List Record) → IsValidatorOf pages self.now log
+            → rows_of result.now ≡ table_of log }
+        ensures left { (pages : ℕ) (log : List Record) → IsValidatorOf pages self.now log
+            → left_of result.now ≡ map (surviving log) (unended log) }
     {
         self.table.rows()
     }
 
     /// The greatest TransID of the log, 0 for none.
     pub fn greatest(&self) -> TransId
-        ensures { (pages : ℕ) (log : List Record) → IsValidatorOf pages self.now log → result.0 ≡ greatest_trans log }
+        ensures { (pages : ℕ) (log : List Record) → IsValidatorOf pages self.now log
+            → result.0 ≡ greatest_trans log }
     {
         self.greatest
     }
 
     /// The begin_chkpt that no end_chkpt has followed, 0 for none.
     pub fn open_checkpoint(&self) -> Lsn
-        ensures { (pages : ℕ) (log : List Record) → IsValidatorOf pages self.now log → result.0 ≡ open_checkpoint log }
+        ensures { (pages : ℕ) (log : List Record) → IsValidatorOf pages self.now log
+            → result.0 ≡ open_checkpoint log }
     {
         self.begun
     }
 
     /// The bytes that a takeover would append, exact for a log of less than 2^62 bytes.
     pub fn reserve_bytes(&self) -> u64
-        ensures { (pages : ℕ) (log : List Record) → IsValidatorOf pages self.now log → end_of log < 2 ^ 62 → result ≡ reserve_of log }
+        ensures { (pages : ℕ) (log : List Record) → IsValidatorOf pages self.now log
+            → end_of log < 2 ^ 62 → result ≡ reserve_of log }
     {
         self.table.reserve_bytes()
     }
 
-    /// The bytes that a takeover would append after one more record that may follow the log, before that is taken, exact for a
-    /// log of less than 2^62 bytes. It takes no memory, and the cost does not depend on how much is kept.
+    /// The bytes that a takeover would append after one more record that may follow the log, before
+    /// that is taken, exact for a log of less than 2^62 bytes. It takes no memory, and the cost
+    /// does not depend on how much is kept.
     pub fn reserve_after(&self, logged: &RecordView<'_>) -> u64
-        ensures { (pages : ℕ) (log : List Record) → IsValidatorOf pages self.now log → logged.now.lsn.0 ≡ end_of log
-            → first_bad log (shown logged.now) ≡ None → end_of (log ++ (shown logged.now) ∷ []) < 2 ^ 62
+        ensures { (pages : ℕ) (log : List Record) → IsValidatorOf pages self.now log
+            → logged.now.lsn.0 ≡ end_of log
+            → first_bad log (shown logged.now) ≡ None
+            → end_of (log ++ (shown logged.now) ∷ []) < 2 ^ 62
             → result ≡ reserve_of (log ++ (shown logged.now) ∷ []) }
     {
         self.table.reserve_after(logged)

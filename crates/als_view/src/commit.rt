@@ -16,5 +16,9 @@ impl Model for Commit {
 
     ghost Value = { Commit };
 
-    ghost view = { λ c. record { trans = c.trans; lsn = c.lsn; writes = map write_of c.writes.items } };
+    ghost view = { λ c. record {
+      trans = c.trans;
+      lsn = c.lsn;
+      writes = map write_of c.writes.items;
+    } };
 }

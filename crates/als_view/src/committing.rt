@@ -9,8 +9,9 @@ use als_record::{Body, Image, ImageView, Key, Lsn, Record, TransId};
 use std::alloc::Global;
 
 impl Commit {
-    /// The commit of a transaction by a record at this LSN, where these updates of it survive: each key and what it gets, in
-    /// order. Memory: a growth was refused; none is wanted where nothing survives.
+    /// The commit of a transaction by a record at this LSN, where these updates of it survive: each
+    /// key and what it gets, in order. Memory: a growth was refused; none is wanted where nothing
+    /// survives.
     pub fn of(
         alloc: Global,
         trans: TransId,

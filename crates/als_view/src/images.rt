@@ -1,7 +1,8 @@
 ghost use Rattle.std.specs.Prelude.{◌≡◌, ◌+◌, ◌≤◌, [], IfOk, IfErr, fold, take, drop, length};
 ghost use Rattle.als_view.specs.declared.fault.Fault.TheVariants.{Memory};
 ghost use Rattle.std.specs.VecDeque.{deque_len, deque_capacity};
-ghost use Rattle.als_view.specs.Fronts.{AreImagesAfter, place_of, written, written_by, last_from, count_below};
+ghost use Rattle.als_view.specs.Fronts.{AreImagesAfter, place_of, written, written_by, last_from};
+ghost use Rattle.als_view.specs.Fronts.{count_below};
 
 use crate::commit::Commit;
 use crate::fault::Fault;
@@ -51,8 +52,8 @@ pub(crate) fn write_all(images: &mut [KeptImage], commit: Commit) -> u64
     lsn
 }
 
-/// Takes so many of the first commits out of a queue and gives the keys that they write their images, in order. Answers the
-/// LSN of the last of them, that of the one before without one.
+/// Takes so many of the first commits out of a queue and gives the keys that they write their
+/// images, in order. Answers the LSN of the last of them, that of the one before without one.
 pub(crate) fn write_first(
     images: &mut [KeptImage],
     queued: &mut VecDeque<Commit, Global>,
@@ -75,7 +76,8 @@ pub(crate) fn write_first(
     last
 }
 
-/// How many of the first commits have a commit record that begins below an LSN, up to the first that does not.
+/// How many of the first commits have a commit record that begins below an LSN, up to the first
+/// that does not.
 pub(crate) fn count_below(queued: &VecDeque<Commit, Global>, lsn: Lsn) -> usize
     ensures { result ≡ count_below lsn queued.now.items }
 {

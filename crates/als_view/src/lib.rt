@@ -1,4 +1,5 @@
-//! What readers of a standby see: the committed transactions that are published, one front of them after another.
+//! What readers of a standby see: the committed transactions that are published, one front of them
+//! after another.
 #![tactic(auto)]
 
 // A committed transaction and what it writes.

@@ -1,4 +1,6 @@
-ghost use Rattle.std.specs.Prelude.{◌≡◌, ℕ, ◌<◌, ◌%◌, ◌^◌, ◌++◌, ◌∷◌, ◌+◌, ◌-◌, ◌≤◌, [], List, take, drop, IsOk, true, false, Ok, Err, None, IfOk, IfErr, OnOk, OnErr, if◌then◌else◌, ◌&&◌, nat_lt, length, MatchResult};
+ghost use Rattle.std.specs.Prelude.{◌≡◌, ℕ, ◌<◌, ◌%◌, ◌^◌, ◌++◌, ◌∷◌, ◌+◌, ◌-◌, ◌≤◌, [], List};
+ghost use Rattle.std.specs.Prelude.{take, drop, IsOk, true, false, Ok, Err, None, IfOk, IfErr};
+ghost use Rattle.std.specs.Prelude.{OnOk, OnErr, if◌then◌else◌, ◌&&◌, nat_lt, length, MatchResult};
 ghost use Rattle.als_record.specs.Commits.{Commit as AnyCommit, seen_after};
 ghost use Rattle.als_view.specs.declared.fault.Fault.TheVariants.{Memory, Warming};
 ghost use Rattle.als_view.specs.Fronts.{HasPublished, Answers, count_below};
@@ -12,8 +14,8 @@ use std::alloc::Global;
 use std::collections::VecDeque;
 use std::marker::Model;
 
-/// What a reader is answered: the value of a key after the published commits, how many these are, and the LSN of the last of
-/// them, 0 without one.
+/// What a reader is answered: the value of a key after the published commits, how many these are,
+/// and the LSN of the last of them, 0 without one.
 #[derive(Drop)]
 pub struct Answer {
     pub value: Image,
@@ -21,8 +23,8 @@ pub struct Answer {
     pub lsn: Lsn,
 }
 
-/// What readers see: the published commits, as the image that each key has after them. Commits that are queued show at the
-/// next publishing.
+/// What readers see: the published commits, as the image that each key has after them. Commits that
+/// are queued show at the next publishing.
 #[derive(Drop)]
 pub struct View {
     pages: u32,
@@ -44,15 +46,26 @@ impl Model for View {
 
     ghost Value = { View };
 
-    ghost view = { λ v. record { pages = v.pages; listed = v.listed; images = v.images.items; commits = v.commits; last = v.last.0; queued = v.queued.items; room = v.room } };
+    ghost view = { λ v. record {
+      pages = v.pages;
+      listed = v.listed;
+      images = v.images.items;
+      commits = v.commits;
+      last = v.last.0;
+      queued = v.queued.items;
+      room = v.room;
+    } };
 
-    ghost invariant = { λ v. (length v.images.items ≡ v.pages * 15) × (deque_len v.queued + v.room ≤ deque_capacity v.queued) };
+    ghost invariant = { λ v. (length v.images.items ≡ v.pages * 15)
+        × (deque_len v.queued + v.room ≤ deque_capacity v.queued) };
 }
 
 impl View {
-    /// The view of a database with so many pages: with the empty list of published commits, or with none.
+    /// The view of a database with so many pages: with the empty list of published commits, or with
+    /// none.
     pub fn new(alloc: Global, pages: u32, listed: bool) -> Result<View, Fault>
-        ensures ok { IfOk result (λ v. HasPublished v [] × (v.listed ≡ listed) × (v.pages ≡ pages) × (v.queued ≡ [])) }
+        ensures ok { IfOk result (λ v. HasPublished v [] × (v.listed ≡ listed) × (v.pages ≡ pages)
+            × (v.queued ≡ [])) }
         ensures warming { IfOk result (λ v. listed ≡ false → IsWarming pages [] v) }
         ensures err { IfErr result (λ e. e ≡ Memory) }
     {
@@ -67,9 +80,14 @@ impl View {
         })
     }
 
-    /// Makes room for so many more commits: the next so many `queue` take no memory. An `Err` changes nothing.
+    /// Makes room for so many more commits: the next so many `queue` take no memory. An `Err`
+    /// changes nothing.
     pub fn reserve(&mut self, count: usize) -> Result<(), Fault>
-        ensures ok { OnOk result (self.new ≡ record self.old { room = if nat_lt self.old.room count then count else self.old.room }) }
+        ensures ok { OnOk result (self.new
+            ≡ record self.old {
+              room = if nat_lt self.old.room count then count else
+                  self.old.room;
+            }) }
         ensures err { IfErr result (λ e. (e ≡ Memory) × (self.new ≡ self.old)) }
         ensures reserved { count ≤ self.old.room → IsOk result }
     {
@@ -80,10 +98,14 @@ impl View {
         Ok(())
     }
 
-    /// Queues a commit behind the others. It takes no memory where there is room. Where memory for it is refused, it is handed
-    /// back and nothing changes.
+    /// Queues a commit behind the others. It takes no memory where there is room. Where memory for
+    /// it is refused, it is handed back and nothing changes.
     pub fn queue(&mut self, commit: Commit) -> Result<(), Commit>
-        ensures ok { OnOk result (self.new ≡ record self.old { queued = self.old.queued ++ commit ∷ []; room = self.old.room - 1 }) }
+        ensures ok { OnOk result (self.new
+            ≡ record self.old {
+              queued = self.old.queued ++ commit ∷ [];
+              room = self.old.room - 1;
+            }) }
         ensures err { IfErr result (λ back. (back ≡ commit) × (self.new ≡ self.old)) }
         ensures reserved { 0 < self.old.room → IsOk result }
     {
@@ -105,18 +127,21 @@ impl View {
         self.queued.len()
     }
 
-    /// How many of the first queued commits have a commit record that begins below an LSN, up to the first that does not.
+    /// How many of the first queued commits have a commit record that begins below an LSN, up to
+    /// the first that does not.
     pub fn count_below(&self, lsn: Lsn) -> usize
         ensures { result ≡ count_below lsn self.now.queued }
     {
         images::count_below(&self.queued, lsn)
     }
 
-    /// Publishes so many of the first queued commits at once, in order, and opens the list if need be. It takes no memory, and
-    /// their places in the queue are room again. It costs what these commits write.
+    /// Publishes so many of the first queued commits at once, in order, and opens the list if need
+    /// be. It takes no memory, and their places in the queue are room again. It costs what these
+    /// commits write.
     pub fn publish_first(&mut self, count: usize)
         requires { count ≤ length self.old.queued }
-        ensures shown { (commits : List AnyCommit) → HasPublished self.old commits → HasPublished self.new (commits ++ take count self.old.queued) }
+        ensures shown { (commits : List AnyCommit) → HasPublished self.old commits
+            → HasPublished self.new (commits ++ take count self.old.queued) }
         ensures listed { self.new.listed ≡ true }
         ensures queued { self.new.queued ≡ drop count self.old.queued }
         ensures pages { self.new.pages ≡ self.old.pages }
@@ -135,7 +160,8 @@ impl View {
 
     /// Publishes all queued commits.
     pub fn publish(&mut self)
-        ensures shown { (commits : List AnyCommit) → HasPublished self.old commits → HasPublished self.new (commits ++ self.old.queued) }
+        ensures shown { (commits : List AnyCommit) → HasPublished self.old commits
+            → HasPublished self.new (commits ++ self.old.queued) }
         ensures listed { self.new.listed ≡ true }
         ensures queued { self.new.queued ≡ [] }
         ensures pages { self.new.pages ≡ self.old.pages }
@@ -145,10 +171,12 @@ impl View {
         self.publish_first(count);
     }
 
-    /// What a key has after the published commits: one look-up, however many they are. A key outside the database has
-    /// nothing. `Warming`: there is no list yet.
+    /// What a key has after the published commits: one look-up, however many they are. A key
+    /// outside the database has nothing. `Warming`: there is no list yet.
     pub fn get(&self, key: Key) -> Result<Answer, Fault>
-        ensures ok { IfOk result (λ a. (self.now.listed ≡ true) × ((commits : List AnyCommit) → HasPublished self.now commits → length commits < 2 ^ 64 → Answers a self.now.pages key commits)) }
+        ensures ok { IfOk result (λ a. (self.now.listed ≡ true)
+            × ((commits : List AnyCommit) → HasPublished self.now commits → length commits < 2 ^ 64
+            → Answers a self.now.pages key commits)) }
         ensures err { IfErr result (λ e. (e ≡ Warming) × (self.now.listed ≡ false)) }
     {
         if !self.listed {
@@ -163,7 +191,9 @@ impl View {
 
     /// The image of a key after the published commits.
     fn image_of(&self, key: Key) -> Image
-        ensures { (commits : List AnyCommit) → HasPublished self.now commits → result ≡ (if nat_lt key.page self.now.pages && nat_lt key.slot 15 then seen_after commits key else None) }
+        ensures { (commits : List AnyCommit) → HasPublished self.now commits
+            → result ≡ (if nat_lt key.page self.now.pages
+            && nat_lt key.slot 15 then seen_after commits key else None) }
     {
         if key.page >= self.pages || key.slot as usize >= SLOT_COUNT {
             return None;

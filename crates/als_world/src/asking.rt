@@ -19,7 +19,8 @@ impl<D: BlockDisk> World<D> {
 
     /// The engine, to ask it; None while the world is down.
     pub fn engine(&self) -> Option<&Engine<D>>
-        ensures engine { (s : Standing) → Shows D.slot D.block_count self.now s → IsEngineOf result s }
+        ensures engine { (s : Standing) → Shows D.slot D.block_count self.now s
+            → IsEngineOf result s }
     {
         match &self.place {
             Place::Up(engine) => Some(engine),
@@ -27,10 +28,11 @@ impl<D: BlockDisk> World<D> {
         }
     }
 
-    /// The engine's page as it is now, which may have to be read from its block; None past the page count. Stopped: the world is down.
-    /// The engine's refusals: Device, BadPage.
+    /// The engine's page as it is now, which may have to be read from its block; None past the page
+    /// count. Stopped: the world is down. The engine's refusals: Device, BadPage.
     pub fn page_now(&mut self, page: u32) -> Result<Option<Page>, Fault>
-        ensures tells { TellsTo D.slot D.block_count self.old (λ old new. TellsPage old page result new) self.new }
+        ensures tells { TellsTo D.slot D.block_count self.old
+            (λ old new. TellsPage old page result new) self.new }
         ensures same { self.new.config ≡ self.old.config }
     {
         match &mut self.place {
@@ -47,10 +49,11 @@ impl<D: BlockDisk> World<D> {
         }
     }
 
-    /// The engine's record at an LSN, which may have to be read from its log device. Stopped: the world is down. The engine's refusals:
-    /// Device, Memory.
+    /// The engine's record at an LSN, which may have to be read from its log device. Stopped: the
+    /// world is down. The engine's refusals: Device, Memory.
     pub fn record_at(&mut self, lsn: Lsn) -> Result<Option<Record>, Fault>
-        ensures tells { TellsTo D.slot D.block_count self.old (λ old new. TellsRecord old lsn result new) self.new }
+        ensures tells { TellsTo D.slot D.block_count self.old
+            (λ old new. TellsRecord old lsn result new) self.new }
         ensures same { self.new.config ≡ self.old.config }
     {
         match &mut self.place {

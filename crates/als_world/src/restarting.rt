@@ -16,7 +16,8 @@ use std::alloc::Global;
 
 /// A standby over what devices hold; or they come back, and the world is down.
 fn open<D: Restart>(alloc: Global, config: Config, disks: Disks<D>) -> (World<D>, WorldReply)
-    ensures opens { (n : Node) → Holds config (D.block_count disks.log) (D.block_count disks.control) (D.block_count disks.pages)
+    ensures opens { (n : Node) → Holds config (D.block_count disks.log)
+        (D.block_count disks.control) (D.block_count disks.pages)
         (D.slot disks.log) (D.slot disks.control) (D.slot disks.pages) n
         → OpensTo D.slot D.block_count config n result.1 result.0 }
     ensures same { result.0.config ≡ config }
@@ -78,9 +79,12 @@ fn step_up<D: Restart>(
 
 /// What a crash leaves of devices that a standby left.
 fn crash<D: Restart>(disks: Disks<D>, picks: &[u8]) -> Disks<D>
-    ensures left { (config : AnyConfig) (n : Node) → StillHolds config (D.block_count disks.log) (D.block_count disks.control) (D.block_count disks.pages)
+    ensures left { (config : AnyConfig) (n : Node)
+        → StillHolds config (D.block_count disks.log) (D.block_count disks.control)
+        (D.block_count disks.pages)
         (D.slot disks.log) (D.slot disks.control) (D.slot disks.pages) n
-        → Holds config (D.block_count result.log) (D.block_count result.control) (D.block_count result.pages)
+        → Holds config (D.block_count result.log) (D.block_count result.control)
+        (D.block_count result.pages)
         (D.slot result.log) (D.slot result.control) (D.slot result.pages) n }
 {
     let (left, _) = crash_disks(disks, picks);
@@ -94,7 +98,8 @@ fn step_down<D: Restart>(
     disks: Disks<D>,
     step: &WorldStep,
 ) -> (World<D>, WorldReply)
-    ensures steps { (n : Node) → StillHolds config (D.block_count disks.log) (D.block_count disks.control) (D.block_count disks.pages)
+    ensures steps { (n : Node) → StillHolds config (D.block_count disks.log)
+        (D.block_count disks.control) (D.block_count disks.pages)
         (D.slot disks.log) (D.slot disks.control) (D.slot disks.pages) n
         → StepsTo D.slot D.block_count config (Down n) step.now result.1 result.0 }
     ensures same { result.0.config ≡ config }

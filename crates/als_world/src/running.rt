@@ -8,17 +8,19 @@ use crate::world::World;
 use als_disk::Restart;
 use std::alloc::Global;
 
-/// Runs the steps one after another, and answers each one's reply. The replies' room is taken first: where that is refused nothing is run, and
-/// the world comes back.
+/// Runs the steps one after another, and answers each one's reply. The replies' room is taken
+/// first: where that is refused nothing is run, and the world comes back.
 pub fn run<D: Restart>(
     alloc: Global,
     world: World<D>,
     steps: &[WorldStep],
 ) -> Result<(World<D>, Vec<WorldReply>), World<D>>
-    // Over every list of steps the replies and what the world then shows are a run of the small machine, with crashes and restarts. What is
-    // acknowledged stays so, and what the control states say of the log is true.
+    // Over every list of steps the replies and what the world then shows are a run of the small
+    // machine, with crashes and restarts. What is acknowledged stays so, and what the control
+    // states say of the log is true.
     ensures run { (old : Standing) → Shows D.slot D.block_count world old
-        → IfOk result (λ x. (new : Standing) × Shows D.slot D.block_count x.0 new × Run world.config old steps.now x.1.items new × Keeps old new × IsTrue new) }
+        → IfOk result (λ x. (new : Standing) × Shows D.slot D.block_count x.0 new
+        × Run world.config old steps.now x.1.items new × Keeps old new × IsTrue new) }
     ensures err { IfErr result (λ w. w ≡ world) }
 {
     world.settle();

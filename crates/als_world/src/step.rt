@@ -8,8 +8,9 @@ pub enum WorldStep<'a> {
     Event(Step<'a>),
     /// A reader asks for a key. It is no event: it goes on in an engine that has stopped.
     Read(Key),
-    /// The standby stops, each block of its devices keeps one of its candidates, which these picks name, and it begins again. The log's
-    /// device takes the picks first, then the control block's, then the pages'.
+    /// The standby stops, each block of its devices keeps one of its candidates, which these picks
+    /// name, and it begins again. The log's device takes the picks first, then the control block's,
+    /// then the pages'.
     Crash(&'a [u8]),
 }
 
@@ -22,6 +23,7 @@ pub enum WorldReply {
     Restarted(Lsn),
     /// What the published commits left at the key.
     Answered(Answer),
-    /// Device or Memory of a restart; Warming of a read before a recovery has ended; Stopped of an event or a read while the world is down.
+    /// Device or Memory of a restart; Warming of a read before a recovery has ended; Stopped of an
+    /// event or a read while the world is down.
     Refused(Fault),
 }

@@ -6,13 +6,15 @@ use crate::place::Place;
 use als_disk::BlockDisk;
 use als_engine::{Config, Engine};
 
-/// What a run of steps goes over: a standby that is up, or the devices that it left. It knows with what a standby begins again.
+/// What a run of steps goes over: a standby that is up, or the devices that it left. It knows with
+/// what a standby begins again.
 pub struct World<D: BlockDisk> {
     pub(crate) config: Config,
     pub(crate) place: Place<D>,
 }
 
-// Written out: a derived drop is proved part by part wherever a world is let go of, this one only here.
+// Written out: a derived drop is proved part by part wherever a world is let go of, this one only
+// here.
 impl<D: BlockDisk + Drop> Drop for World<D> {
     fn drop(self) {
         let World { config: _, place } = self;
@@ -23,7 +25,8 @@ impl<D: BlockDisk + Drop> Drop for World<D> {
 impl<D: BlockDisk> World<D> {
     /// A world with this engine, which was made with this configuration.
     pub fn new(engine: Engine<D>, config: Config) -> World<D>
-        ensures shows { IsMadeWith config engine.machine → IsWarm engine.machine → Shows D.slot D.block_count result (Up engine.machine) }
+        ensures shows { IsMadeWith config engine.machine → IsWarm engine.machine
+            → Shows D.slot D.block_count result (Up engine.machine) }
     {
         World {
             config,

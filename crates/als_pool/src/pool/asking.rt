@@ -24,7 +24,8 @@ use als_record::{LoggedPage, Lsn, PageRows};
 use std::alloc::{AllocError, Global};
 
 impl<D: BlockDisk> Pool<D> {
-    /// The LSN from which on the changes of a page wait that was not read since a restart; none for one that was, and for no page.
+    /// The LSN from which on the changes of a page wait that was not read since a restart; none for
+    /// one that was, and for no page.
     pub fn waits_from(&self, page: u32) -> Option<Lsn>
         ensures { result ≡ unread_of self.now.pool.unread page }
     {
@@ -34,7 +35,8 @@ impl<D: BlockDisk> Pool<D> {
         }
     }
 
-    /// The page as it is now: a copy of the page in its frame, or else of the one in its block, which is read. It takes no memory.
+    /// The page as it is now: a copy of the page in its frame, or else of the one in its block,
+    /// which is read. It takes no memory.
     ///
     /// `Device`: the read has failed. `BadPage`: the block is not that of the page.
     pub fn page_now(&mut self, page: u32) -> Result<Page, Fault>
@@ -44,14 +46,19 @@ impl<D: BlockDisk> Pool<D> {
         ensures same { OnOk result (self.new ≡ self.old) }
         ensures err { IfErr result (λ e. RefusesPage e self.old.pool self.new.pool page) }
         ensures room { self.new.room ≡ self.old.room }
-        // For every log that the pool is of, it stays so, and the page is history repeated up to its page_LSN.
-        ensures keeps { (log : List AnyRecord) (below : ℕ) → IsPoolOf log below self.old.pool → IsPoolOf log below self.new.pool }
-        ensures history { IfOk result (λ p. (log : List AnyRecord) (below : ℕ) → IsPoolOf log below self.old.pool
+        // For every log that the pool is of, it stays so, and the page is history repeated up to
+        // its page_LSN.
+        ensures keeps { (log : List AnyRecord) (below : ℕ) → IsPoolOf log below self.old.pool
+            → IsPoolOf log below self.new.pool }
+        ensures history { IfOk result (λ p. (log : List AnyRecord) (below : ℕ)
+            → IsPoolOf log below self.old.pool
             → state_of p ≡ page_at log page (lsn_now self.old.pool.frames page)) }
-        ensures sound { (log : List AnyRecord) (below : ℕ) → IsPoolOf log below self.old.pool → IsErrOf result (Fault.BadPage page) → ⊥ }
+        ensures sound { (log : List AnyRecord) (below : ℕ) → IsPoolOf log below self.old.pool
+            → IsErrOf result (Fault.BadPage page) → ⊥ }
         ensures ends { (end : ℕ) → EndsBelow end self.old.pool → EndsBelow end self.new.pool }
         // The rows of unread pages stay those of the checkpoint.
-        ensures given { (position : AnyLsn) (rows : List AnyRow) → HasRowsFrom position rows self.old.pool → HasRowsFrom position rows self.new.pool }
+        ensures given { (position : AnyLsn) (rows : List AnyRow)
+            → HasRowsFrom position rows self.old.pool → HasRowsFrom position rows self.new.pool }
     {
         self.read_page(page)
     }
@@ -97,8 +104,10 @@ impl<D: BlockDisk> Pool<D> {
     pub fn rec_lsn(&self, page: u32) -> Option<Lsn>
         requires { page < length self.now.pool.waits }
         ensures value { result ≡ rec_lsn_of self.now.pool.dirty page }
-        // For every log that the pool is of, it is the first record that the image last synced lacks, once the page was read.
-        ensures first { (log : List AnyRecord) (below : ℕ) → IsPoolOf log below self.now.pool → unread_of self.now.pool.unread page ≡ None
+        // For every log that the pool is of, it is the first record that the image last synced
+        // lacks, once the page was read.
+        ensures first { (log : List AnyRecord) (below : ℕ) → IsPoolOf log below self.now.pool
+            → unread_of self.now.pool.unread page ≡ None
             → result ≡ first_lsn (changes_above log page (synced_lsn self.now.pool.frames page)) }
     {
         self.dirty.rec_lsn(page)

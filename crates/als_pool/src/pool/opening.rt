@@ -9,7 +9,8 @@ ghost use Rattle.als_pool.specs.Pooled.{new_pool};
 ghost use Rattle.als_pool.specs.Bounds.{EndsBelow};
 ghost use Rattle.als_pool.specs.Outcomes.{RefusesFormat};
 ghost use Rattle.als_pool.specs.Images.{IsPoolOf, QueuesOf};
-ghost use Rattle.als_pool.specs.Restart.{started_at, with_row, IsOpened, HasRowsFrom, HoldsImagesFrom, HoldsImagesOf};
+ghost use Rattle.als_pool.specs.Restart.{started_at, with_row, IsOpened, HasRowsFrom};
+ghost use Rattle.als_pool.specs.Restart.{HoldsImagesFrom, HoldsImagesOf};
 
 use super::Pool;
 use crate::fault::Fault;
@@ -23,8 +24,9 @@ use als_record::{LoggedPage, Lsn};
 use std::alloc::{AllocError, Global};
 
 impl<D: BlockDisk> Pool<D> {
-    /// Lays out a device as a database of so many empty pages, at most 4,096, of which at most `frames` can be in memory at once:
-    /// writes the block of each page, and syncs. The device comes back with a fault.
+    /// Lays out a device as a database of so many empty pages, at most 4,096, of which at most
+    /// `frames` can be in memory at once: writes the block of each page, and syncs. The device
+    /// comes back with a fault.
     ///
     /// `Memory`: a growth was refused, and the device was not called. `Device`: it failed.
     pub fn format(
@@ -35,11 +37,13 @@ impl<D: BlockDisk> Pool<D> {
     ) -> Result<Pool<D>, Unformatted<D>>
         requires room { pages ≤ D.block_count disk }
         requires limit { pages ≤ 4096 }
-        ensures ok { IfOk result (λ p. p.pool ≡ new_pool (without_frames pages frames (λ _. only zeros)
+        ensures ok { IfOk result (λ p. p.pool
+            ≡ new_pool (without_frames pages frames (λ _. only zeros)
             (D.block_count disk) (D.failures disk) (D.attempts disk + pages + 1)) pages) }
         ensures keeps { IfOk result (λ p. (below : ℕ) → IsPoolOf [] below p.pool) }
         ensures ends { IfOk result (λ p. (end : ℕ) → 0 < end → EndsBelow end p.pool) }
-        ensures err { IfErr result (λ u. RefusesFormat u.fault (D.failures disk) (D.failures u.disk)) }
+        ensures err { IfErr result (λ u. RefusesFormat u.fault (D.failures disk)
+            (D.failures u.disk)) }
         ensures untouched { IfErr result (λ u. u.fault ≡ Fault.Memory → u.disk ≡ disk) }
         ensures blocks { IfErr result (λ u. D.block_count u.disk ≡ D.block_count disk) }
     {
@@ -56,11 +60,13 @@ impl<D: BlockDisk> Pool<D> {
         }
     }
 
-    /// Lays out a device as a database of empty pages, whose memory was taken before, of which at most `frames` can be in memory at
-    /// once: writes the block of each page, and syncs. The device comes back where it failed.
+    /// Lays out a device as a database of empty pages, whose memory was taken before, of which at
+    /// most `frames` can be in memory at once: writes the block of each page, and syncs. The device
+    /// comes back where it failed.
     pub fn lay_out(disk: D, new: NewPool, frames: usize) -> Result<Pool<D>, D>
         requires { new ≤ D.block_count disk }
-        ensures ok { IfOk result (λ p. p.pool ≡ new_pool (without_frames new frames (λ _. only zeros)
+        ensures ok { IfOk result (λ p. p.pool
+            ≡ new_pool (without_frames new frames (λ _. only zeros)
             (D.block_count disk) (D.failures disk) (D.attempts disk + new + 1)) new) }
         ensures keeps { IfOk result (λ p. (below : ℕ) → IsPoolOf [] below p.pool) }
         ensures ends { IfOk result (λ p. (end : ℕ) → 0 < end → EndsBelow end p.pool) }
@@ -85,9 +91,10 @@ impl<D: BlockDisk> Pool<D> {
         }
     }
 
-    /// The pages of a database that was laid out before, as a restart finds them: none was read, at most `frames` can be in memory at
-    /// once, and nothing waits yet. The changes of a page wait from its row in the published checkpoint on, or else from the
-    /// checkpoint's position on; where none is published the position is that of the first record. The device is not called.
+    /// The pages of a database that was laid out before, as a restart finds them: none was read, at
+    /// most `frames` can be in memory at once, and nothing waits yet. The changes of a page wait
+    /// from its row in the published checkpoint on, or else from the checkpoint's position on;
+    /// where none is published the position is that of the first record. The device is not called.
     ///
     /// An `Err`, the device as it was: a growth was refused.
     pub fn open(
@@ -100,15 +107,19 @@ impl<D: BlockDisk> Pool<D> {
     ) -> Result<Pool<D>, D>
         requires room { pages ≤ D.block_count disk }
         requires limit { pages ≤ 4096 }
-        ensures ok { IfOk result (λ p. IsOpened (without_frames pages frames (D.slot disk) (D.block_count disk) (D.failures disk) (D.attempts disk))
+        ensures ok { IfOk result (λ p. IsOpened
+            (without_frames pages frames (D.slot disk) (D.block_count disk) (D.failures disk)
+            (D.attempts disk))
             position rows.now p.pool) }
         ensures err { IfErr result (λ d. d ≡ disk) }
         // No record was read yet; and a page's row is the checkpoint's.
         ensures reads { IfOk result (λ p. QueuesOf [] p.pool) }
         ensures given { IfOk result (λ p. HasRowsFrom position rows.now p.pool) }
         ensures ends { IfOk result (λ p. (end : ℕ) → 0 < end → EndsBelow end p.pool) }
-        // For every log of whose pages each block has an image which lacks nothing below where its changes wait.
-        ensures holds { IfOk result (λ p. (log : List AnyRecord) (below : ℕ) → HoldsImagesFrom log below pages position rows.now (D.slot disk)
+        // For every log of whose pages each block has an image which lacks nothing below where its
+        // changes wait.
+        ensures holds { IfOk result (λ p. (log : List AnyRecord) (below : ℕ)
+            → HoldsImagesFrom log below pages position rows.now (D.slot disk)
             → HoldsImagesOf log below p.pool) }
     {
         let Ok((starts, queues)) = restarted(alloc, pages, position, rows) else {
@@ -134,7 +145,8 @@ fn restarted(
 ) -> Result<(Starts, Queues), AllocError>
     requires { pages ≤ 4096 }
     ensures starts { IfOk result (λ r. r.0 ≡ fold with_row (started_at pages position) rows.now) }
-    ensures queues { IfOk result (λ r. r.1 ≡ record { waits = replicate pages []; places = replicate pages false }) }
+    ensures queues { IfOk result (λ r. r.1
+        ≡ record { waits = replicate pages []; places = replicate pages false }) }
 {
     let mut starts = Starts::new(alloc, pages, position)?;
     starts.take_rows(rows);

@@ -1,5 +1,6 @@
 // Changes on their way: behind those that wait, and into the pages.
-ghost use Rattle.std.specs.Prelude.{◌≡◌, ◌≢◌, ◌<◌, ◌≤◌, ◌+◌, ℕ, List, [], ◌∷◌, ◌++◌, length, Some, None, IsSome, IsOk, IfOk, IfErr, OnOk, OnErr};
+ghost use Rattle.std.specs.Prelude.{◌≡◌, ◌≢◌, ◌<◌, ◌≤◌, ◌+◌, ℕ, List, [], ◌∷◌, ◌++◌, length, Some};
+ghost use Rattle.std.specs.Prelude.{None, IsSome, IsOk, IfOk, IfErr, OnOk, OnErr};
 ghost use Rattle.std.specs.Result.{IsErrOf};
 ghost use Rattle.als_record.specs.declared.record.Record.{Record as AnyRecord};
 ghost use Rattle.als_record.specs.LogText.{end_of, IsLog};
@@ -39,31 +40,40 @@ impl<D: BlockDisk> Pool<D> {
         Ok(())
     }
 
-    /// Adds a change, which the log has at its end, behind those that its page waits for. It takes no memory.
+    /// Adds a change, which the log has at its end, behind those that its page waits for. It takes
+    /// no memory.
     pub fn route(&mut self, change: Change)
         requires can { CanRoute self.old.pool change }
         requires place { HasPlace self.old.room change.key.page }
         ensures value { self.new.pool ≡ with_change self.old.pool change }
         ensures room { self.new.room ≡ without_place self.old.room change.key.page }
-        // For every log that the pool is of, it is that of the log with a record which makes the change.
+        // For every log that the pool is of, it is that of the log with a record which makes the
+        // change.
         ensures keeps { (log : List AnyRecord) (below : ℕ) (r : AnyRecord)
             → IsPoolOf log below self.old.pool → IsLog self.old.pool.frames.pages (log ++ r ∷ [])
-            → r.lsn.0 ≡ end_of log → change_of r ≡ Some change → IsPoolOf (log ++ r ∷ []) below self.new.pool }
-        // While a log is read at a restart: for every front of it whose changes wait as they should, they do so with a record more.
-        ensures reads { (front : List AnyRecord) (r : AnyRecord) → QueuesOf front self.old.pool → r.lsn.0 ≡ end_of front → change_of r ≡ Some change
+            → r.lsn.0 ≡ end_of log → change_of r ≡ Some change
+            → IsPoolOf (log ++ r ∷ []) below self.new.pool }
+        // While a log is read at a restart: for every front of it whose changes wait as they
+        // should, they do so with a record more.
+        ensures reads { (front : List AnyRecord) (r : AnyRecord) → QueuesOf front self.old.pool
+            → r.lsn.0 ≡ end_of front → change_of r ≡ Some change
             → IsFromOn self.old.pool change → QueuesOf (front ++ r ∷ []) self.new.pool }
-        ensures holds { (log : List AnyRecord) (below : ℕ) → HoldsImagesOf log below self.old.pool → HoldsImagesOf log below self.new.pool }
+        ensures holds { (log : List AnyRecord) (below : ℕ) → HoldsImagesOf log below self.old.pool
+            → HoldsImagesOf log below self.new.pool }
         // Whatever the blocks hold: pages and what waits for them end below the log's end.
         ensures ends { (log : List AnyRecord) (r : AnyRecord)
-            → EndsBelow (end_of log) self.old.pool → r.lsn.0 ≡ end_of log → change_of r ≡ Some change
+            → EndsBelow (end_of log) self.old.pool → r.lsn.0 ≡ end_of log
+            → change_of r ≡ Some change
             → EndsBelow (end_of (log ++ r ∷ [])) self.new.pool }
         // The rows of unread pages stay those of the checkpoint.
-        ensures given { (position : AnyLsn) (rows : List AnyRow) → HasRowsFrom position rows self.old.pool → HasRowsFrom position rows self.new.pool }
+        ensures given { (position : AnyLsn) (rows : List AnyRow)
+            → HasRowsFrom position rows self.old.pool → HasRowsFrom position rows self.new.pool }
     {
         self.add(change);
     }
 
-    // The private twins below carry what a call does; what it keeps for every log follows from that at the public call.
+    // The private twins below carry what a call does; what it keeps for every log follows from that
+    // at the public call.
     fn add(&mut self, change: Change)
         requires can { CanRoute self.old.pool change }
         requires place { HasPlace self.old.room change.key.page }
@@ -74,29 +84,39 @@ impl<D: BlockDisk> Pool<D> {
         self.queues.push(change);
     }
 
-    /// Redoes the first changes that wait for a page, at most 64, and answers its page_LSN. A page that has no frame is read
-    /// into one; the changes that it has already no longer wait, and its row becomes exact. `end` is the end of the log.
+    /// Redoes the first changes that wait for a page, at most 64, and answers its page_LSN. A page
+    /// that has no frame is read into one; the changes that it has already no longer wait, and its
+    /// row becomes exact. `end` is the end of the log.
     ///
-    /// `NothingToDo`: there is no such page, or nothing waits for it. `PoolFull`: the page has no frame, all frames are used
-    /// and none is free. `Device`: it could not be read. `BadPage`: its block has no image of it with a page_LSN below `end`.
-    /// `Memory`: a growth was refused. They come in this order, and change no page, no row and nothing that waits; a failed read
-    /// is counted. Then again `NothingToDo`: the page that was read has all that waited, which waits no more.
+    /// `NothingToDo`: there is no such page, or nothing waits for it. `PoolFull`: the page has no
+    /// frame, all frames are used and none is free. `Device`: it could not be read. `BadPage`: its
+    /// block has no image of it with a page_LSN below `end`. `Memory`: a growth was refused. They
+    /// come in this order, and change no page, no row and nothing that waits; a failed read is
+    /// counted. Then again `NothingToDo`: the page that was read has all that waited, which waits
+    /// no more.
     pub fn apply(&mut self, page: u32, end: Lsn) -> Result<Lsn, Fault>
         ensures ok { IfOk result (λ lsn. Applies self.old.pool self.new.pool page end.0 lsn) }
         ensures err { IfErr result (λ e. RefusesApply e self.old self.new page end.0) }
-        ensures full { pending_of self.old.pool.waits page ≢ [] → IsFull self.old.pool.frames page → IsErrOf result IsPoolFull }
+        ensures full { pending_of self.old.pool.waits page ≢ [] → IsFull self.old.pool.frames page
+            → IsErrOf result IsPoolFull }
         ensures places { self.new.room.places ≡ self.old.room.places }
-        // For every log that the pool is of, it stays so; no other page's page_LSN changes, and no page_LSN last synced; and the
-        // block is one of the page's images.
-        ensures keeps { (log : List AnyRecord) (below : ℕ) → IsPoolOf log below self.old.pool → IsPoolOf log below self.new.pool }
-        ensures others { (log : List AnyRecord) (below : ℕ) → IsPoolOf log below self.old.pool → SameLsnsBut page self.old.pool self.new.pool }
-        ensures grows { (log : List AnyRecord) (below : ℕ) → IsPoolOf log below self.old.pool → Grows self.old.pool self.new.pool }
+        // For every log that the pool is of, it stays so; no other page's page_LSN changes, and no
+        // page_LSN last synced; and the block is one of the page's images.
+        ensures keeps { (log : List AnyRecord) (below : ℕ) → IsPoolOf log below self.old.pool
+            → IsPoolOf log below self.new.pool }
+        ensures others { (log : List AnyRecord) (below : ℕ) → IsPoolOf log below self.old.pool
+            → SameLsnsBut page self.old.pool self.new.pool }
+        ensures grows { (log : List AnyRecord) (below : ℕ) → IsPoolOf log below self.old.pool
+            → Grows self.old.pool self.new.pool }
         ensures sound { (log : List AnyRecord) (below : ℕ) → IsPoolOf log below self.old.pool
             → end_of log ≤ end.0 → IsErrOf result (Fault.BadPage page) → ⊥ }
-        // Whatever the blocks hold: pages and what waits for them end below an offset that the end is not above.
-        ensures ends { (limit : ℕ) → end.0 ≤ limit → EndsBelow limit self.old.pool → EndsBelow limit self.new.pool }
+        // Whatever the blocks hold: pages and what waits for them end below an offset that the end
+        // is not above.
+        ensures ends { (limit : ℕ) → end.0 ≤ limit → EndsBelow limit self.old.pool
+            → EndsBelow limit self.new.pool }
         // The rows of unread pages stay those of the checkpoint.
-        ensures given { (position : AnyLsn) (rows : List AnyRow) → HasRowsFrom position rows self.old.pool → HasRowsFrom position rows self.new.pool }
+        ensures given { (position : AnyLsn) (rows : List AnyRow)
+            → HasRowsFrom position rows self.old.pool → HasRowsFrom position rows self.new.pool }
     {
         self.redo_waiting(page, end)
     }

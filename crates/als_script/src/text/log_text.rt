@@ -11,7 +11,8 @@ use std::alloc::{AllocError, Global};
 use std::collections::HashMap;
 use std::marker::Model;
 
-/// The log text of record lines: a header, and a record for each line, with its place and its PrevLSN filled in.
+/// The log text of record lines: a header, and a record for each line, with its place and its
+/// PrevLSN filled in.
 pub struct LogText {
     bytes: Vec<u8>,
     /// Where the header and then each record ends.
@@ -30,7 +31,8 @@ impl Model for LogText {
     ghost view = { λ t. t.bytes.items };
 }
 
-// Written out: a derived drop is proved part by part wherever a text is let go of, this one only here.
+// Written out: a derived drop is proved part by part wherever a text is let go of, this one only
+// here.
 impl Drop for LogText {
     fn drop(self) {
         let LogText {
@@ -74,10 +76,12 @@ impl LogText {
         self.ends.as_slice()
     }
 
-    /// Appends the record of a line: it stands where the text ends, and has the line's PrevLSN where the line has one.
+    /// Appends the record of a line: it stands where the text ends, and has the line's PrevLSN
+    /// where the line has one.
     pub fn push(&mut self, line: &RecordLine) -> Result<(), AllocError>
         ensures { OnOk result ((prev : _)
-            × (self.new ≡ self.old ++ spelling (record_of (length self.old) prev line.now.trans line.now.body))
+            × (self.new ≡ self.old ++ spelling
+            (record_of (length self.old) prev line.now.trans line.now.body))
             × ((own : _) → line.now.prev ≡ Some own → prev ≡ own)) }
     {
         let lsn = self.bytes.len() as u64;
@@ -94,8 +98,8 @@ impl LogText {
         Ok(())
     }
 
-    /// The PrevLSN of a line's record where the line has none: the last record of the same TransID; for an end_chkpt the
-    /// last begin_chkpt, and none for a begin_chkpt.
+    /// The PrevLSN of a line's record where the line has none: the last record of the same TransID;
+    /// for an end_chkpt the last begin_chkpt, and none for a begin_chkpt.
     fn prev_of(&self, line: &RecordLine) -> u64 {
         match &line.body {
             RawBody::BeginCheckpoint => 0,

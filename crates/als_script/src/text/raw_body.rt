@@ -6,7 +6,8 @@ ghost use Rattle.als_script.specs.RawRecord.{body_of};
 use super::raw_image::{RawImage, image_bytes, length_byte};
 use std::alloc::AllocError;
 
-/// What a record line says, with numbers and values that need not be those of a record that is held.
+/// What a record line says, with numbers and values that need not be those of a record that is
+/// held.
 #[derive(Drop)]
 pub enum RawBody {
     Update {

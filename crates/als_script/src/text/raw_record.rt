@@ -14,7 +14,8 @@ pub fn append_record(
     trans: u32,
     body: &RawBody,
 ) -> Result<(), AllocError>
-    ensures { OnOk result (text.new.items ≡ text.old.items ++ spelling (record_of lsn prev trans body.now)) }
+    ensures { OnOk result (text.new.items
+        ≡ text.old.items ++ spelling (record_of lsn prev trans body.now)) }
 {
     let head = head_bytes(28 + spelled_len(body), kind_of(body), lsn, prev, trans);
     text.extend_from_slice(&head)?;

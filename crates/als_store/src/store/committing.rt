@@ -25,7 +25,8 @@ impl<D: BlockDisk> Store<D> {
         // Of a record that may follow: the commits of the log with it are those of the log and this
         // one, if there is one.
         ensures ok { IfOk result (λ found. first_bad self.now.stored.log (shown logged.now) ≡ None
-            → commits_of (self.now.stored.log ++ shown logged.now ∷ []) ≡ commits_of self.now.stored.log
+            → commits_of (self.now.stored.log ++ shown logged.now ∷ [])
+            ≡ commits_of self.now.stored.log
             ++ option_to_list found) }
         ensures err { IfErr result (λ f. (f ≡ fault.Memory)
             × (first_bad self.now.stored.log (shown logged.now) ≡ None)) }

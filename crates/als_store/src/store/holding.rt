@@ -220,8 +220,8 @@ impl<D: BlockDisk> Store<D> {
     }
 
     /// Reads what is kept of the keys that the next records seem to write, so that it is at hand
-    /// when they are held: 32 records at most. It answers how many bytes these seem to have, 0 where
-    /// there is none. The bytes may be any, and nothing is judged. It takes no memory.
+    /// when they are held: 32 records at most. It answers how many bytes these seem to have, 0
+    /// where there is none. The bytes may be any, and nothing is judged. It takes no memory.
     pub fn look_ahead(&mut self, bytes: &[u8]) -> usize
         ensures same { self.new.stored ≡ self.old.stored }
         ensures spare { (r : AnyRecord) → HasSpare self.old.spare r → HasSpare self.new.spare r }

@@ -1,4 +1,5 @@
-ghost use Rattle.std.specs.Prelude.{◌≡◌, ℕ, ◌≤◌, ◌+◌, true, false, IsTrue, List, [], ◌∷◌, ◌++◌, IfOk, IfErr, OnOk, IfSome, Some, IsOk, not};
+ghost use Rattle.std.specs.Prelude.{◌≡◌, ℕ, ◌≤◌, ◌+◌, true, false, IsTrue, List, [], ◌∷◌, ◌++◌};
+ghost use Rattle.std.specs.Prelude.{IfOk, IfErr, OnOk, IfSome, Some, IsOk, not};
 ghost use Rattle.std.specs.Result.{IsErrOf};
 ghost use Rattle.als_record.specs.declared.record.Record.{Record as AnyRecord};
 ghost use Rattle.als_record.specs.Spelling.{record_len, IsRecord};
@@ -14,7 +15,10 @@ ghost use Rattle.als_validator.specs.Validated.{IsValidatorOf};
 ghost use Rattle.als_log.specs.Local.{HasRoomFor};
 ghost use Rattle.als_takeover.specs.Next.{first_of};
 ghost use Rattle.als_store.specs.declared.fault.Fault.TheVariants as fault;
-ghost use Rattle.als_store.specs.Takeover.{is_following, is_primary, is_drained, is_none, IsUnderTakeover, IsFinished, WritesState, BreaksState, sealed_state, finished_state, UndoesOne, NotUndone, HasRoomToUndo};
+ghost use Rattle.als_store.specs.Takeover.{is_following, is_primary, is_drained, is_none};
+ghost use Rattle.als_store.specs.Takeover.{IsUnderTakeover, IsFinished, WritesState, BreaksState};
+ghost use Rattle.als_store.specs.Takeover.{sealed_state, finished_state, UndoesOne, NotUndone};
+ghost use Rattle.als_store.specs.Takeover.{HasRoomToUndo};
 
 use super::{Store, admit, make_room, reserve_after, route_change};
 use crate::fault::Fault;
@@ -28,7 +32,8 @@ use als_validator::Validator;
 
 /// The next record of the log's tail.
 fn next_of_tail<D: BlockDisk>(validator: &Validator, log: &mut LocalLog<D>) -> Option<Record>
-    ensures next { (pages : ℕ) → IsTrue (is_valid log.old.log) → IsValidatorOf pages validator.now log.old.log → result ≡ first_of (tail_of log.old.log) }
+    ensures next { (pages : ℕ) → IsTrue (is_valid log.old.log)
+        → IsValidatorOf pages validator.now log.old.log → result ≡ first_of (tail_of log.old.log) }
     ensures same { log.new ≡ log.old }
 {
     match next_undo(validator.table(), log) {
@@ -42,7 +47,8 @@ fn let_go(_logged: Record) {}
 
 /// A transaction of the log is unended.
 fn has_unended(validator: &Validator) -> bool
-    ensures { (pages : ℕ) (log : List AnyRecord) → IsValidatorOf pages validator.now log → result ≡ not (is_none (unended log)) }
+    ensures { (pages : ℕ) (log : List AnyRecord) → IsValidatorOf pages validator.now log
+        → result ≡ not (is_none (unended log)) }
 {
     !validator.rows().is_empty()
 }
@@ -82,7 +88,8 @@ impl<D: BlockDisk> Store<D> {
     /// The log still follows its source: it was not sealed.
     pub fn is_following(&self) -> bool
         ensures is { result ≡ is_following self.now.stored }
-        // What each control state that a crash may leave says of the log, if the devices were sound when the store was made.
+        // What each control state that a crash may leave says of the log, if the devices were sound
+        // when the store was made.
         ensures taken { WasWarm self.now.stored → IsUnderTakeover self.now.stored }
     {
         match self.control.newest().phase {
@@ -94,9 +101,11 @@ impl<D: BlockDisk> Store<D> {
     /// The takeover is done.
     pub fn is_primary(&self) -> bool
         ensures is { result ≡ is_primary self.now.stored }
-        // Then no transaction is unended, and each slot of each page has what the committed transactions of the sealed log left: unless the store
-        // is recovering, or the devices were not sound when it was made.
-        ensures finished { WasWarm self.now.stored → self.now.stored.recovering ≡ false → is_primary self.now.stored ≡ true → IsFinished self.now.stored }
+        // Then no transaction is unended, and each slot of each page has what the committed
+        // transactions of the sealed log left: unless the store is recovering, or the devices were
+        // not sound when it was made.
+        ensures finished { WasWarm self.now.stored → self.now.stored.recovering ≡ false
+            → is_primary self.now.stored ≡ true → IsFinished self.now.stored }
     {
         match self.control.newest().phase {
             Phase::Primary => true,
@@ -138,17 +147,19 @@ impl<D: BlockDisk> Store<D> {
         self.log.synced()
     }
 
-    /// Seals the log, which is synced up to its end: writes the control block with phase Sealed, and with the log's end as its
-    /// mark and its seal, by one write of the control device. From then on the log takes only its own tail. It takes no memory
-    /// and no room of the log.
+    /// Seals the log, which is synced up to its end: writes the control block with phase Sealed,
+    /// and with the log's end as its mark and its seal, by one write of the control device. From
+    /// then on the log takes only its own tail. It takes no memory and no room of the log.
     ///
     /// Device: the device failed, and the state may have been written or not.
     pub fn seal(&mut self) -> Result<(), Fault>
         requires whole { self.old.stored.broken ≡ false }
         requires following { is_following self.old.stored ≡ true }
         requires synced { end_of self.old.stored.log ≤ self.old.stored.synced }
-        ensures ok { OnOk result (WritesState (sealed_state self.old.stored) self.old.stored self.new.stored) }
-        ensures err { IfErr result (λ f. (f ≡ fault.Device) × BreaksState (sealed_state self.old.stored) self.old.stored self.new.stored) }
+        ensures ok { OnOk result (WritesState
+            (sealed_state self.old.stored) self.old.stored self.new.stored) }
+        ensures err { IfErr result (λ f. (f ≡ fault.Device)
+            × BreaksState (sealed_state self.old.stored) self.old.stored self.new.stored) }
         ensures rises { (newest self.old.stored).mark.0 ≤ end_of self.old.stored.log }
     {
         let end = self.log.end();
@@ -163,14 +174,15 @@ impl<D: BlockDisk> Store<D> {
         }
     }
 
-    /// Holds the next record of the sealed log's tail, and answers its LSN. NothingToDo: no transaction is unended. Memory: a
-    /// growth was refused, in a part that had no room for the record; nothing has changed. The log device has room for the
-    /// whole tail.
+    /// Holds the next record of the sealed log's tail, and answers its LSN. NothingToDo: no
+    /// transaction is unended. Memory: a growth was refused, in a part that had no room for the
+    /// record; nothing has changed. The log device has room for the whole tail.
     pub fn undo_one(&mut self) -> Result<Lsn, Fault>
         requires sealed { is_following self.old.stored ≡ false }
         ensures ok { IfOk result (λ lsn. UndoesOne self.old.stored lsn self.new.stored) }
         ensures err { IfErr result (λ f. NotUndone self.old.stored f self.new.stored) }
-        ensures reserved { HasRoomToUndo self.old.stored self.old.spare → IsErrOf result fault.Memory → ⊥ }
+        ensures reserved { HasRoomToUndo self.old.stored self.old.spare
+            → IsErrOf result fault.Memory → ⊥ }
     {
         // For the prover alone: what always holds of the log and of the control block.
         let _ = self.log.end();
@@ -223,8 +235,9 @@ impl<D: BlockDisk> Store<D> {
         Ok(())
     }
 
-    /// Ends the takeover of a sealed log whose tail is held and acknowledged: writes the control block with phase Primary, by one
-    /// write of the control device. It takes no memory and no room of the log.
+    /// Ends the takeover of a sealed log whose tail is held and acknowledged: writes the control
+    /// block with phase Primary, by one write of the control device. It takes no memory and no room
+    /// of the log.
     ///
     /// Device: the device failed, and the state may have been written or not.
     pub fn finish(&mut self) -> Result<(), Fault>
@@ -232,8 +245,10 @@ impl<D: BlockDisk> Store<D> {
         requires sealed { is_following self.old.stored ≡ false }
         requires unfinished { is_primary self.old.stored ≡ false }
         requires drained { is_drained self.old.stored ≡ true }
-        ensures ok { OnOk result (WritesState (finished_state self.old.stored) self.old.stored self.new.stored) }
-        ensures err { IfErr result (λ f. (f ≡ fault.Device) × BreaksState (finished_state self.old.stored) self.old.stored self.new.stored) }
+        ensures ok { OnOk result (WritesState
+            (finished_state self.old.stored) self.old.stored self.new.stored) }
+        ensures err { IfErr result (λ f. (f ≡ fault.Device)
+            × BreaksState (finished_state self.old.stored) self.old.stored self.new.stored) }
     {
         // For the prover alone: what always holds of the log.
         let _ = self.log.end();

@@ -7,7 +7,8 @@ use als_disk::BlockDisk;
 use als_record::Lsn;
 use std::alloc::Global;
 
-/// The 808 bytes of a checkpoint at a position with 64 dirty pages, and zeros to the end of its second block.
+/// The 808 bytes of a checkpoint at a position with 64 dirty pages, and zeros to the end of its
+/// second block.
 pub(crate) fn checkpoint_bytes(position: u8) -> [u8; 1024] {
     let mut bytes = [0; 1024];
     bytes[7] = position;
@@ -55,7 +56,8 @@ pub(crate) fn marked<D: BlockDisk + Drop>(disk: D) -> Option<Control<D>>
     Some(control)
 }
 
-/// Begins the checkpoint at that position and writes it. `None`: it can't, the device failed, or memory was refused.
+/// Begins the checkpoint at that position and writes it. `None`: it can't, the device failed, or
+/// memory was refused.
 pub(crate) fn written<D: BlockDisk>(
     control: &mut Control<D>,
     alloc: Global,
@@ -72,7 +74,8 @@ pub(crate) fn written<D: BlockDisk>(
     Some(())
 }
 
-/// Publishes the checkpoint at that position. `None`: it can't, the device failed, or memory was refused.
+/// Publishes the checkpoint at that position. `None`: it can't, the device failed, or memory was
+/// refused.
 pub(crate) fn published<D: BlockDisk>(
     control: &mut Control<D>,
     alloc: Global,

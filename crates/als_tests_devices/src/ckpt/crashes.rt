@@ -6,7 +6,8 @@ use als_disk::{MemDisk, Restart};
 use std::alloc::Global;
 use std::process::Abort;
 
-/// The position of the state that a crash with these picks leaves, with its whole checkpoint in its region. `None`: there is none.
+/// The position of the state that a crash with these picks leaves, with its whole checkpoint in its
+/// region. `None`: there is none.
 fn left_whole<D: Restart + Drop>(control: Control<D>, picks: &[u8]) -> Option<u64> {
     let (mut disk, _) = crashed(control, picks);
     if disk.blocks() < 321 {
@@ -34,7 +35,8 @@ fn left_of_a_publish(alloc: Global, picks: &[u8]) -> Option<u64> {
     left_whole(control, picks)
 }
 
-/// What is left where the blocks of a second checkpoint are written and not synced. `None`: memory was refused.
+/// What is left where the blocks of a second checkpoint are written and not synced. `None`: memory
+/// was refused.
 fn left_of_blocks(alloc: Global, picks: &[u8]) -> Option<u64> {
     let mut control = marked(MemDisk::new(alloc, 321))?;
     published(&mut control, alloc, 108)?;

@@ -9,7 +9,8 @@ use als_disk::{BlockDisk, DeviceError, FailingDisk, Fuse, MemDisk, Restart};
 use als_record::Lsn;
 use std::alloc::Global;
 
-/// The position that a control publishes once a crash has left it, and whether the checkpoint there is the one at that position.
+/// The position that a control publishes once a crash has left it, and whether the checkpoint there
+/// is the one at that position.
 fn read_again<D: Restart + Drop>(
     control: Control<D>,
     alloc: Global,
@@ -29,7 +30,8 @@ fn read_again<D: Restart + Drop>(
     Ok(Some((position, bytes.as_slice() == wanted)))
 }
 
-/// What is read of the second checkpoint over a device of which this call fails from then on. `None`: memory was refused.
+/// What is read of the second checkpoint over a device of which this call fails from then on.
+/// `None`: memory was refused.
 fn read_failing(alloc: Global, call: u64) -> Option<Result<Option<(Lsn, bool)>, Fault>>
     requires { 0 < call }
 {
@@ -59,8 +61,8 @@ fn a_published_checkpoint_is_read_back(rt: HostRuntime) {
     }
 }
 
-/// The first three blocks of a device: a control block of 64 pages that publishes region 1 at 108, and the checkpoint. Some bytes
-/// are others.
+/// The first three blocks of a device: a control block of 64 pages that publishes region 1 at 108,
+/// and the checkpoint. Some bytes are others.
 fn image(edits: &[(u16, u8)]) -> [u8; 1536] {
     let mut image = [0; 1536];
     let (control, region) = image.split_at_mut(512);
@@ -79,7 +81,8 @@ fn image(edits: &[(u16, u8)]) -> [u8; 1536] {
 /// A device of which these are the first three blocks, synced.
 fn device(alloc: Global, image: &[u8; 1536]) -> Result<MemDisk, DeviceError>
     ensures count { IfOk result (λ disk. ⟦<MemDisk as BlockDisk>⟧.block_count disk ≡ 321) }
-    ensures settled { IfOk result (λ disk. (k : ℕ) → IsSettled (⟦<MemDisk as BlockDisk>⟧.slot disk k)) }
+    ensures settled { IfOk result (λ disk. (k : ℕ)
+        → IsSettled (⟦<MemDisk as BlockDisk>⟧.slot disk k)) }
 {
     let (mut one, mut two, mut three) = ([0; 512], [0; 512], [0; 512]);
     let (front, rest) = image.split_at(512);

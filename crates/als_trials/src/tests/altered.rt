@@ -52,7 +52,8 @@ fn put(disks: &mut Disks<MemDisk>, part: Part, block: &[u8; 512]) -> Option<()> 
     }
 }
 
-/// The devices of a standby that was stopped after so many steps of the script. None: memory was refused.
+/// The devices of a standby that was stopped after so many steps of the script. None: memory was
+/// refused.
 fn stopped(rt: &impl Abort, alloc: Global, taken: usize) -> Option<Disks<MemDisk>> {
     let mut engine = standby(alloc, 8)?;
     let steps = script(&TEXT);
@@ -60,7 +61,8 @@ fn stopped(rt: &impl Abort, alloc: Global, taken: usize) -> Option<Disks<MemDisk
     Some(engine.into_disks())
 }
 
-/// Where the log ends that a standby over these devices holds, or why they are refused. The devices come back.
+/// Where the log ends that a standby over these devices holds, or why they are refused. The devices
+/// come back.
 fn answer(alloc: Global, disks: Disks<MemDisk>) -> (Disks<MemDisk>, Result<Lsn, Fault>) {
     match Engine::open(alloc, disks, CONFIG) {
         Ok(engine) => {
@@ -71,8 +73,9 @@ fn answer(alloc: Global, disks: Disks<MemDisk>) -> (Disks<MemDisk>, Result<Lsn, 
     }
 }
 
-/// The checkpoint has its numbers and two transactions in its first 82 bytes, and then a row of page 0. Any other number is not that of the log.
-/// Its row may name another page, and its RecLSN is not looked at, nor what is behind it.
+/// The checkpoint has its numbers and two transactions in its first 82 bytes, and then a row of
+/// page 0. Any other number is not that of the log. Its row may name another page, and its RecLSN
+/// is not looked at, nor what is behind it.
 fn is_checkpoint_answer(at: usize, byte: u8, answer: Result<Lsn, Fault>) -> bool {
     let is_taken = match at {
         39 => byte == 0,
@@ -86,7 +89,8 @@ fn is_checkpoint_answer(at: usize, byte: u8, answer: Result<Lsn, Fault>) -> bool
     }
 }
 
-/// A byte of the header is the header's matter, and from the mark on none is read. Between them a record may be another one, or be refused.
+/// A byte of the header is the header's matter, and from the mark on none is read. Between them a
+/// record may be another one, or be refused.
 fn is_log_answer(at: usize, answer: Result<Lsn, Fault>) -> bool {
     if at < 16 {
         return answer == Err(Fault::BadHeader);
@@ -100,7 +104,8 @@ fn is_log_answer(at: usize, answer: Result<Lsn, Fault>) -> bool {
     }
 }
 
-/// How devices are opened of which one byte was altered. A mark among zeros stands behind no record; all else in the control block is checked.
+/// How devices are opened of which one byte was altered. A mark among zeros stands behind no
+/// record; all else in the control block is checked.
 fn is_answer(part: Part, at: usize, byte: u8, answer: Result<Lsn, Fault>) -> bool {
     match (part, at, byte) {
         (Part::Control, 22, 1) | (Part::Control, 23, 255) => answer == Err(Fault::BadLength),
@@ -110,7 +115,8 @@ fn is_answer(part: Part, at: usize, byte: u8, answer: Result<Lsn, Fault>) -> boo
     }
 }
 
-/// Devices are opened with each byte of a block set to 0, 1 and 255 in turn. None: memory was refused.
+/// Devices are opened with each byte of a block set to 0, 1 and 255 in turn. None: memory was
+/// refused.
 fn opens_with_each_byte(rt: &impl Abort, alloc: Global, taken: usize, part: Part) -> Option<()> {
     let mut disks = stopped(rt, alloc, taken)?;
     let block = block_of(&mut disks, part)?;
@@ -216,7 +222,8 @@ fn what_the_control_device_says_is_checked(rt: HostRuntime) {
         (FORCED, &[control(23, 80)], Ok(Lsn(80))),
         (FORCED, &[control(23, 100)], refused),
         (FORCED, &[control(22, 16), control(23, 1)], refused),
-        // The checkpoint's position stands within a record, or behind one before which the numbers are others.
+        // The checkpoint's position stands within a record, or behind one before which the numbers
+        // are others.
         (CHECKPOINTED, &[control(31, 60), checkpoint(7, 60)], refused),
         (CHECKPOINTED, &[control(31, 80), checkpoint(7, 80)], refused),
         // It counts one commit too many.
@@ -233,7 +240,8 @@ fn what_the_control_device_says_is_checked(rt: HostRuntime) {
     }
 }
 
-/// A log device of one block holds a log that leaves no room for its tail. None: memory was refused.
+/// A log device of one block holds a log that leaves no room for its tail. None: memory was
+/// refused.
 fn leaves_no_room(rt: &impl Abort, alloc: Global) -> Option<()> {
     let mut disks = standby(alloc, 1)?.into_disks();
     let mut log = block_of(&mut disks, Part::Log)?;

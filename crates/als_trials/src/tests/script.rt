@@ -12,7 +12,8 @@ pub const CHECKPOINTED: usize = 18;
 /// After so many steps the log is sealed.
 pub const SEALED: usize = 22;
 
-/// A text is fed, forced and redone, a checkpoint is taken, the rest is fed, and the standby takes over.
+/// A text is fed, forced and redone, a checkpoint is taken, the rest is fed, and the standby takes
+/// over.
 pub fn script(text: &[u8; 278]) -> [Step; STEPS] {
     [
         Step::Feed(&text[..100]),

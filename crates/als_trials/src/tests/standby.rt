@@ -13,7 +13,8 @@ pub const CONFIG: Config = Config {
     readers: 1,
 };
 
-/// A standby over new devices in memory, of which the log's has so many blocks. None: memory was refused.
+/// A standby over new devices in memory, of which the log's has so many blocks. None: memory was
+/// refused.
 pub fn standby(alloc: Global, blocks: u64) -> Option<Engine<MemDisk>> {
     let disks = Disks {
         log: MemDisk::new(alloc, blocks),
@@ -58,7 +59,8 @@ pub fn opened(rt: &impl Abort, alloc: Global, disks: Disks<MemDisk>) -> Option<E
     }
 }
 
-/// The records below the log's end are held, byte by byte, and none at or behind it. None: memory was refused.
+/// The records below the log's end are held, byte by byte, and none at or behind it. None: memory
+/// was refused.
 fn holds_records(
     rt: &impl Abort,
     alloc: Global,
@@ -112,8 +114,8 @@ pub fn holds_page(rt: &impl Abort, engine: &mut Engine<MemDisk>, end: Lsn) -> Op
     Some(())
 }
 
-/// A standby that began again holds the log up to its end, all of it acknowledged, and the page that this log makes. The log reaches what was
-/// acknowledged before. None: memory was refused.
+/// A standby that began again holds the log up to its end, all of it acknowledged, and the page
+/// that this log makes. The log reaches what was acknowledged before. None: memory was refused.
 pub fn stands(
     rt: &impl Abort,
     alloc: Global,

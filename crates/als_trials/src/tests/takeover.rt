@@ -19,7 +19,8 @@ const REST: [Step; 11] = [
     Step::ControlSync,
 ];
 
-/// Takes those of the steps that have something to do. None: memory was refused, also to a device; nothing else refuses one.
+/// Takes those of the steps that have something to do. None: memory was refused, also to a device;
+/// nothing else refuses one.
 fn take_due(rt: &impl Abort, engine: &mut Engine<MemDisk>, steps: &[Step]) -> Option<()> {
     for step in steps {
         if let Reply::Refused(fault) = engine.step(step) {
@@ -48,7 +49,8 @@ fn seal(rt: &impl Abort, engine: &mut Engine<MemDisk>) -> Option<()> {
     Some(())
 }
 
-/// Where a log with its tail ends, by where the log ends. That of the first three records has a tail of its own.
+/// Where a log with its tail ends, by where the log ends. That of the first three records has a
+/// tail of its own.
 fn taken_over(end: Lsn) -> Lsn {
     match end.0 {
         16 => Lsn(16),
@@ -57,7 +59,8 @@ fn taken_over(end: Lsn) -> Lsn {
     }
 }
 
-/// A standby that has begun again and has redone its log takes over, and then holds the tail and the page that it makes. None: memory was refused.
+/// A standby that has begun again and has redone its log takes over, and then holds the tail and
+/// the page that it makes. None: memory was refused.
 pub fn takes_over(rt: &impl Abort, engine: &mut Engine<MemDisk>) -> Option<()> {
     let end = taken_over(engine.status().end);
     seal(rt, engine)?;

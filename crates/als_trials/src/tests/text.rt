@@ -3,8 +3,9 @@ use als_record::Lsn;
 /// Where each record of the text stands, and last the offset after them.
 pub const OFFSETS: [usize; 9] = [16, 52, 80, 116, 153, 181, 224, 266, 294];
 
-/// Four records of two transactions, the second of which does not end: `aa` at 0/0, its commit, `bb` at 0/1, `cc` at 0/0. Behind them, from
-/// 153 on, stands the tail that a takeover appends. The first byte is that at 16.
+/// Four records of two transactions, the second of which does not end: `aa` at 0/0, its commit,
+/// `bb` at 0/1, `cc` at 0/0. Behind them, from 153 on, stands the tail that a takeover appends. The
+/// first byte is that at 16.
 pub const TEXT: [u8; 278] = [
     0, 0, 0, 36, 1, 0, 0, 0, 0, 0, 0, 0, 0, 0, 0, 16, 0, 0, 0, 0, 0, 0, 0, 0, 0, 0, 0, 1, 0, 0, 0,
     0, 0, 255, 1, 170, 0, 0, 0, 28, 3, 0, 0, 0, 0, 0, 0, 0, 0, 0, 0, 52, 0, 0, 0, 0, 0, 0, 0, 16,
@@ -46,7 +47,8 @@ pub fn page_block(end: Lsn) -> [u8; 512] {
     block
 }
 
-/// Six updates by one transaction, of 0/0 to 0/5. The sixth has a value of two bytes, and so the log and its tail together have 513 bytes.
+/// Six updates by one transaction, of 0/0 to 0/5. The sixth has a value of two bytes, and so the
+/// log and its tail together have 513 bytes.
 pub const SIX_LONG: [u8; 217] = [
     0, 0, 0, 36, 1, 0, 0, 0, 0, 0, 0, 0, 0, 0, 0, 16, 0, 0, 0, 0, 0, 0, 0, 0, 0, 0, 0, 1, 0, 0, 0,
     0, 0, 255, 1, 160, 0, 0, 0, 36, 1, 0, 0, 0, 0, 0, 0, 0, 0, 0, 0, 52, 0, 0, 0, 0, 0, 0, 0, 16,

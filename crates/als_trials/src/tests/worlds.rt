@@ -21,7 +21,8 @@ fn devices(alloc: Global) -> Result<(Disks<Disk>, Fuse), AllocError> {
     Ok((disks, control))
 }
 
-/// A world with a new standby, of which a call of the control device fails. None: memory was refused.
+/// A world with a new standby, of which a call of the control device fails. None: memory was
+/// refused.
 fn world(alloc: Global, failing: u64) -> Option<World<Disk>>
     requires { 0 < failing }
 {
@@ -76,8 +77,9 @@ fn replies(alloc: Global, failing: u64, steps: &[WorldStep], wanted: &[WorldRepl
     }
 }
 
-/// A standby is fed, forced and redone, and then crashed: with the older page, and with the newer one. Then a sync of the control device fails
-/// in the restart, and the world is down until the next crash. Once it is ready it takes the rest of the log.
+/// A standby is fed, forced and redone, and then crashed: with the older page, and with the newer
+/// one. Then a sync of the control device fails in the restart, and the world is down until the
+/// next crash. Once it is ready it takes the rest of the log.
 fn restarts(alloc: Global) -> Option<()> {
     let steps = [
         WorldStep::Event(Step::Feed(&TEXT[..100])),
@@ -136,7 +138,8 @@ fn restarts(alloc: Global) -> Option<()> {
         WorldReply::Event(Reply::Done),
         WorldReply::Event(Reply::Fed(rest)),
     ];
-    // The steps make two calls of the control device, and each restart two: the seventh is the third restart's sync.
+    // The steps make two calls of the control device, and each restart two: the seventh is the
+    // third restart's sync.
     replies(alloc, 7, &steps, &wanted)
 }
 
