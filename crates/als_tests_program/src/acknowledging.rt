@@ -8,73 +8,207 @@ use std::rt::Files;
 const FORCED: [(&str, &str); 11] = [
     // One call after another.
     (
-        "mark-write\nlog-write\nlog-write\nmark-write\nlog-sync\nmark-write\nctl-sync\n",
-        "refused 27 NothingToDo\nok\nrefused 27 NothingToDo\nrefused 27 NothingToDo\nok\nok\nok ack=108\n",
+        "mark-write
+log-write
+log-write
+mark-write
+log-sync
+mark-write
+ctl-sync
+",
+        "refused 27 NothingToDo
+ok
+refused 27 NothingToDo
+refused 27 NothingToDo
+ok
+ok
+ok ack=108
+",
     ),
     // All of them, as in `examples/acknowledge.als`, and once more.
     (
-        "force\nshow status\nforce\n",
-        "ok ack=108\nstate=Following end=108 ack=108 pending=1 leases=0\nok ack=108\n",
+        "force
+show status
+force
+",
+        "ok ack=108
+state=Following end=108 ack=108 pending=1 leases=0
+ok ack=108
+",
     ),
     // The log device fails to write.
     (
-        "fail log 1\nlog-write\nlog-write\nshow status\n",
-        "ok\nrefused 30 Device\nrefused 31 Stopped\nstate=Stopped end=108 ack=16 pending=1 leases=0\n",
+        "fail log 1
+log-write
+log-write
+show status
+",
+        "ok
+refused 30 Device
+refused 31 Stopped
+state=Stopped end=108 ack=16 pending=1 leases=0
+",
     ),
     // It fails to sync. Each event is refused from then on, and what is there is shown.
     (
-        "log-write\nfail log 1\nlog-sync\nfeed 108 108\nresync\napply 0\nlog-write\nlog-sync\nmark-write\nctl-sync\nforce\ndrain\nfail control 1\nshow table\nshow page 0\nshow db\nshow log 80\n",
-        "ok\nok\nrefused 30 Device\nrefused 31 Stopped taken=0 records=0 end=108\nrefused 31 Stopped\nrefused 31 Stopped\nrefused 31 Stopped\nrefused 31 Stopped\nrefused 31 Stopped\nrefused 31 Stopped\nrefused 31 Stopped\nrefused 31 Stopped\nok\nnone\npage 0 lsn=0\nempty\n80 end trans=1 prev=52\n",
+        "log-write
+fail log 1
+log-sync
+feed 108 108
+resync
+apply 0
+log-write
+log-sync
+mark-write
+ctl-sync
+force
+drain
+fail control 1
+show table
+show page 0
+show db
+show log 80
+",
+        "ok
+ok
+refused 30 Device
+refused 31 Stopped taken=0 records=0 end=108
+refused 31 Stopped
+refused 31 Stopped
+refused 31 Stopped
+refused 31 Stopped
+refused 31 Stopped
+refused 31 Stopped
+refused 31 Stopped
+refused 31 Stopped
+ok
+none
+page 0 lsn=0
+empty
+80 end trans=1 prev=52
+",
     ),
     // The control device fails to write.
     (
-        "log-write\nlog-sync\nfail control 1\nmark-write\nctl-sync\n",
-        "ok\nok\nok\nrefused 30 Device\nrefused 31 Stopped\n",
+        "log-write
+log-sync
+fail control 1
+mark-write
+ctl-sync
+",
+        "ok
+ok
+ok
+refused 30 Device
+refused 31 Stopped
+",
     ),
     // It fails to sync. Nothing is left to drain.
     (
-        "drain\nfail control 1\nctl-sync\ndrain\n",
-        "ok\nok\nrefused 30 Device\nok\n",
+        "drain
+fail control 1
+ctl-sync
+drain
+",
+        "ok
+ok
+refused 30 Device
+ok
+",
     ),
     // A force stops at its first write to a device, or at its sync.
     (
-        "fail log 1\nforce\nforce\n",
-        "ok\nrefused 30 Device\nrefused 31 Stopped\n",
+        "fail log 1
+force
+force
+",
+        "ok
+refused 30 Device
+refused 31 Stopped
+",
     ),
     (
-        "fail log 2\nforce\nshow status\n",
-        "ok\nrefused 30 Device\nstate=Stopped end=108 ack=16 pending=1 leases=0\n",
+        "fail log 2
+force
+show status
+",
+        "ok
+refused 30 Device
+state=Stopped end=108 ack=16 pending=1 leases=0
+",
     ),
     (
-        "fail control 1\nforce\nshow status\n",
-        "ok\nrefused 30 Device\nstate=Stopped end=108 ack=16 pending=1 leases=0\n",
+        "fail control 1
+force
+show status
+",
+        "ok
+refused 30 Device
+state=Stopped end=108 ack=16 pending=1 leases=0
+",
     ),
     (
-        "fail control 2\nforce\nshow status\n",
-        "ok\nrefused 30 Device\nstate=Stopped end=108 ack=16 pending=1 leases=0\n",
+        "fail control 2
+force
+show status
+",
+        "ok
+refused 30 Device
+state=Stopped end=108 ack=16 pending=1 leases=0
+",
     ),
     // A second line replaces the first; a call fails only when it comes. A failed read changes
     // nothing.
     (
-        "fail log 1\nfail log 3\nfail control 1\nfail control 4\nfail pages 1\nforce\ndrain\ndrain\nshow db\nlog-sync\n",
-        "ok\nok\nok\nok\nok\nok ack=108\nrefused 30 Device\nok\n0/0 aa\nrefused 30 Device\n",
+        "fail log 1
+fail log 3
+fail control 1
+fail control 4
+fail pages 1
+force
+drain
+drain
+show db
+log-sync
+",
+        "ok
+ok
+ok
+ok
+ok
+ok ack=108
+refused 30 Device
+ok
+0/0 aa
+refused 30 Device
+",
     ),
 ];
 
 /// A log device of one block, and five records at 16, 52, 88, 124 and 160.
 const NARROW: (&str, &str) = (
-    "world pages=4 log=1 frames=4 workers=2 pending=1000\nu 1 0 0 - a0\nu 1 0 1 - a1\nu 1 0 2 - a2\nu 1 0 3 - a3\nu 1 0 4 - a4\n",
+    "world pages=4 log=1 frames=4 workers=2 pending=1000
+u 1 0 0 - a0
+u 1 0 1 - a1
+u 1 0 2 - a2
+u 1 0 3 - a3
+u 1 0 4 - a4
+",
     "",
 );
 
 /// A sixth record that leaves room for what a takeover would append, and one that does not.
 const FULL: [(&str, &str); 2] = [
     (
-        "u 1 0 5 - a5\nfeed 16 232\n",
+        "u 1 0 5 - a5
+feed 16 232
+",
         "ok taken=216 records=6 end=232\n",
     ),
     (
-        "u 1 0 5 - a5a6\nfeed 16 233\n",
+        "u 1 0 5 - a5a6
+feed 16 233
+",
         "refused 29 LogFull taken=180 records=5 end=196\n",
     ),
 ];
@@ -94,7 +228,15 @@ fn reads_fail<R: Abort + AllocGlobal + Files<File = File> + Net>(rt: &R) -> Opti
         writeln!(script, "rollback {trans}").ok()?;
     }
     script
-        .push_str("feed 16 576\nforce\nfail log 1\nshow log 548\nshow status\nshow log 548\n")
+        .push_str(
+            "feed 16 576
+force
+fail log 1
+show log 548
+show status
+show log 548
+",
+        )
         .ok()?;
     let output = "ok taken=560 records=20 end=576
 ok ack=576

@@ -10,7 +10,9 @@ u 2 0 0 aa cc
 feed 16 153
 force
 ",
-    "ok taken=137 records=4 end=153\nok ack=153\n",
+    "ok taken=137 records=4 end=153
+ok ack=153
+",
 );
 
 /// A seal that was written and not synced, and a crash.
@@ -51,21 +53,53 @@ refused 21 Sealed taken=0 records=0 end=153
 
 /// What readers see of them.
 const READ: [(&str, &str); 1] = [(
-    "publish\nread 0 0\nread 0 1\n",
-    "ok\nok aa commits=1 lsn=52\nok - commits=1 lsn=52\n",
+    "publish
+read 0 0
+read 0 1
+",
+    "ok
+ok aa commits=1 lsn=52
+ok - commits=1 lsn=52
+",
 )];
 
 /// What a crash leaves of a checkpoint that was published, and of one that is synced.
 const PUBLISHED: [(&str, &str); 4] = [
-    ("crash old\nshow dirty\n", "ok end=153\npage 0 rec=16\n"),
-    ("crash new\nshow dirty\n", "ok end=153\nnone\n"),
     (
-        "ctl-sync\ncrash old\nshow dirty\n",
-        "ok ack=153\nok end=153\nnone\n",
+        "crash old
+show dirty
+",
+        "ok end=153
+page 0 rec=16
+",
     ),
     (
-        "ctl-sync\ncrash new\nshow dirty\n",
-        "ok ack=153\nok end=153\nnone\n",
+        "crash new
+show dirty
+",
+        "ok end=153
+none
+",
+    ),
+    (
+        "ctl-sync
+crash old
+show dirty
+",
+        "ok ack=153
+ok end=153
+none
+",
+    ),
+    (
+        "ctl-sync
+crash new
+show dirty
+",
+        "ok ack=153
+ok end=153
+none
+",
     ),
 ];
 
@@ -83,16 +117,39 @@ const STEPS: [(&str, &str); 7] = [
 /// A crash after such a step, or after a sync of the control block, and a takeover.
 const ENDINGS: [(&str, &str); 3] = [
     (
-        "ctl-sync\ncrash new\nshow table\ntakeover\n",
-        "ok ack=153\nok end=153\ntrans 1 committed last=52 undo=16\ntrans 2 active last=116 undo=116\nok end=294\n",
+        "ctl-sync
+crash new
+show table
+takeover
+",
+        "ok ack=153
+ok end=153
+trans 1 committed last=52 undo=16
+trans 2 active last=116 undo=116
+ok end=294
+",
     ),
     (
-        "crash old\nshow table\ntakeover\n",
-        "ok end=153\ntrans 1 committed last=52 undo=16\ntrans 2 active last=116 undo=116\nok end=294\n",
+        "crash old
+show table
+takeover
+",
+        "ok end=153
+trans 1 committed last=52 undo=16
+trans 2 active last=116 undo=116
+ok end=294
+",
     ),
     (
-        "crash new\nshow table\ntakeover\n",
-        "ok end=153\ntrans 1 committed last=52 undo=16\ntrans 2 active last=116 undo=116\nok end=294\n",
+        "crash new
+show table
+takeover
+",
+        "ok end=153
+trans 1 committed last=52 undo=16
+trans 2 active last=116 undo=116
+ok end=294
+",
     ),
 ];
 

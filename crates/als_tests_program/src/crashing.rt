@@ -26,29 +26,98 @@ ok ack=153
 /// How far the takeover went when it crashed.
 const UNDONE: [(&str, &str); 10] = [
     ("crash", "ok end=153\n"),
-    ("force\ncrash", "ok ack=153\nok end=153\n"),
-    ("undo\ncrash", "ok lsn=153\nok end=153\n"),
-    ("undo\nforce\ncrash", "ok lsn=153\nok ack=181\nok end=181\n"),
-    ("undo\nundo\ncrash", "ok lsn=153\nok lsn=181\nok end=153\n"),
     (
-        "undo\nundo\nforce\ncrash",
-        "ok lsn=153\nok lsn=181\nok ack=224\nok end=224\n",
+        "force\ncrash",
+        "ok ack=153
+ok end=153
+",
     ),
     (
-        "undo\nundo\nundo\ncrash",
-        "ok lsn=153\nok lsn=181\nok lsn=224\nok end=153\n",
+        "undo\ncrash",
+        "ok lsn=153
+ok end=153
+",
     ),
     (
-        "undo\nundo\nundo\nforce\ncrash",
-        "ok lsn=153\nok lsn=181\nok lsn=224\nok ack=266\nok end=266\n",
+        "undo
+force
+crash",
+        "ok lsn=153
+ok ack=181
+ok end=181
+",
     ),
     (
-        "undo\nundo\nundo\nundo\ncrash",
-        "ok lsn=153\nok lsn=181\nok lsn=224\nok lsn=266\nok end=153\n",
+        "undo
+undo
+crash",
+        "ok lsn=153
+ok lsn=181
+ok end=153
+",
     ),
     (
-        "undo\nundo\nundo\nundo\nforce\ncrash",
-        "ok lsn=153\nok lsn=181\nok lsn=224\nok lsn=266\nok ack=294\nok end=294\n",
+        "undo
+undo
+force
+crash",
+        "ok lsn=153
+ok lsn=181
+ok ack=224
+ok end=224
+",
+    ),
+    (
+        "undo
+undo
+undo
+crash",
+        "ok lsn=153
+ok lsn=181
+ok lsn=224
+ok end=153
+",
+    ),
+    (
+        "undo
+undo
+undo
+force
+crash",
+        "ok lsn=153
+ok lsn=181
+ok lsn=224
+ok ack=266
+ok end=266
+",
+    ),
+    (
+        "undo
+undo
+undo
+undo
+crash",
+        "ok lsn=153
+ok lsn=181
+ok lsn=224
+ok lsn=266
+ok end=153
+",
+    ),
+    (
+        "undo
+undo
+undo
+undo
+force
+crash",
+        "ok lsn=153
+ok lsn=181
+ok lsn=224
+ok lsn=266
+ok ack=294
+ok end=294
+",
     ),
 ];
 
@@ -74,25 +143,89 @@ ok ack=166
 /// How far that takeover went when it crashed, once or twice.
 const UNDONE_AGAIN: [(&str, &str); 9] = [
     ("crash", "ok end=166\n"),
-    ("force\ncrash", "ok ack=166\nok end=166\n"),
-    ("undo\ncrash", "ok lsn=166\nok end=166\n"),
-    ("undo\nforce\ncrash", "ok lsn=166\nok ack=208\nok end=208\n"),
-    ("undo\nundo\ncrash", "ok lsn=166\nok lsn=208\nok end=166\n"),
     (
-        "undo\nundo\nforce\ncrash",
-        "ok lsn=166\nok lsn=208\nok ack=250\nok end=250\n",
+        "force\ncrash",
+        "ok ack=166
+ok end=166
+",
     ),
     (
-        "undo\nundo\nundo\ncrash",
-        "ok lsn=166\nok lsn=208\nok lsn=250\nok end=166\n",
+        "undo\ncrash",
+        "ok lsn=166
+ok end=166
+",
     ),
     (
-        "undo\nundo\nundo\nforce\ncrash",
-        "ok lsn=166\nok lsn=208\nok lsn=250\nok ack=278\nok end=278\n",
+        "undo
+force
+crash",
+        "ok lsn=166
+ok ack=208
+ok end=208
+",
     ),
     (
-        "undo\nforce\ncrash new\ndrain\nready\nundo\nforce\ncrash",
-        "ok lsn=166\nok ack=208\nok end=208\nok\nok\nok lsn=208\nok ack=250\nok end=250\n",
+        "undo
+undo
+crash",
+        "ok lsn=166
+ok lsn=208
+ok end=166
+",
+    ),
+    (
+        "undo
+undo
+force
+crash",
+        "ok lsn=166
+ok lsn=208
+ok ack=250
+ok end=250
+",
+    ),
+    (
+        "undo
+undo
+undo
+crash",
+        "ok lsn=166
+ok lsn=208
+ok lsn=250
+ok end=166
+",
+    ),
+    (
+        "undo
+undo
+undo
+force
+crash",
+        "ok lsn=166
+ok lsn=208
+ok lsn=250
+ok ack=278
+ok end=278
+",
+    ),
+    (
+        "undo
+force
+crash new
+drain
+ready
+undo
+force
+crash",
+        "ok lsn=166
+ok ack=208
+ok end=208
+ok
+ok
+ok lsn=208
+ok ack=250
+ok end=250
+",
     ),
 ];
 

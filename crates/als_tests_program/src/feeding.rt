@@ -16,7 +16,11 @@ feed 16 108
 drain
 show page 0
 ",
-        "ok taken=92 records=3 end=108\nok\npage 0 lsn=16\n0/0 aa\n",
+        "ok taken=92 records=3 end=108
+ok
+page 0 lsn=16
+0/0 aa
+",
     ),
     // Records taken and partial.
     (
@@ -98,7 +102,13 @@ fn feeds_are_taken_or_refused(rt: HostRuntime) {
 
 /// A record is held as soon as its last byte has come, whatever the pieces.
 fn feeds_byte_by_byte<R: Abort + AllocGlobal + Files<File = File> + Net>(rt: &R) -> Option<()> {
-    let mut script = format!(in rt.alloc(); "{WORLD}u 1 0 0 - aa\ncommit 1\nend 1\n").ok()?;
+    let mut script = format!(in rt.alloc();
+        "{WORLD}u 1 0 0 - aa
+commit 1
+end 1
+"
+    )
+    .ok()?;
     let mut output = String::new(rt.alloc());
     let mut end = 16;
     for at in 16..108 {
@@ -130,7 +140,12 @@ fn takes_a_long_piece<R: Abort + AllocGlobal + Files<File = File> + Net>(rt: &R)
         script.push_str("u 1 0 0 00 00\n").ok()?;
     }
     script
-        .push_str("feed 16 70352\nshow status\nshow log 70315\n")
+        .push_str(
+            "feed 16 70352
+show status
+show log 70315
+",
+        )
         .ok()?;
     let output = "ok taken=70336 records=1901 end=70352
 state=Following end=70352 ack=16 pending=1901 leases=0

@@ -81,10 +81,24 @@ fn takes_over<R: AllocGlobal + Files<File = File> + Net>(rt: &R) -> bool {
         && prints(
             rt,
             &dump,
-            "52 commit trans=1 prev=16\n80 end trans=1 prev=52\n",
+            "52 commit trans=1 prev=16
+80 end trans=1 prev=52
+",
         )
-        && prints(rt, &takeover, "end=108\n0/0 aa\n")
-        && prints(rt, &takeover, "end=108\n0/0 aa\n")
+        && prints(
+            rt,
+            &takeover,
+            "end=108
+0/0 aa
+",
+        )
+        && prints(
+            rt,
+            &takeover,
+            "end=108
+0/0 aa
+",
+        )
 }
 
 /// Two sessions of both ends over the network, what is then held, and a takeover. Threads are begun

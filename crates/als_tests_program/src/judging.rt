@@ -10,31 +10,53 @@ const WIDE: (&str, &str) = ("world pages=4 log=32 frames=4 workers=2 pending=100
 /// Each cause for which a record may not follow the log, fed whole.
 const REFUSED: [(&str, &str); 7] = [
     (
-        "u 1 0 0 - aa\ncommit 1 prev=0\nfeed 16 80\n",
+        "u 1 0 0 - aa
+commit 1 prev=0
+feed 16 80
+",
         "refused 8 BadPrev taken=36 records=1 end=52\n",
     ),
     (
-        "u 2 0 0 - aa\nu 1 0 1 - bb\nfeed 16 88\n",
+        "u 2 0 0 - aa
+u 1 0 1 - bb
+feed 16 88
+",
         "refused 9 OldTransaction taken=36 records=1 end=52\n",
     ),
     (
-        "u 1 0 0 - aa\nend 1\nfeed 16 80\n",
+        "u 1 0 0 - aa
+end 1
+feed 16 80
+",
         "refused 10 WrongState taken=36 records=1 end=52\n",
     ),
     (
-        "u 1 0 0 - 11\nc 1 0 0 - 16\nfeed 16 94\n",
+        "u 1 0 0 - 11
+c 1 0 0 - 16
+feed 16 94
+",
         "refused 11 WrongUndoNext taken=36 records=1 end=52\n",
     ),
     (
-        "u 1 0 0 - 11\nc 1 0 0 22 0\nfeed 16 95\n",
+        "u 1 0 0 - 11
+c 1 0 0 22 0
+feed 16 95
+",
         "refused 12 WrongCompensation taken=36 records=1 end=52\n",
     ),
     (
-        "ckpt\nckptend\nckptend\nfeed 16 108\n",
+        "ckpt
+ckptend
+ckptend
+feed 16 108
+",
         "refused 16 BadCheckpoint taken=60 records=2 end=76\n",
     ),
     (
-        "u 1 0 0 - aa\nckpt prev=16\nfeed 16 80\n",
+        "u 1 0 0 - aa
+ckpt prev=16
+feed 16 80
+",
         "refused 16 BadCheckpoint taken=36 records=1 end=52\n",
     ),
 ];
@@ -43,27 +65,49 @@ const REFUSED: [(&str, &str); 7] = [
 /// lower number: 8 and 9, 9 and 10, 10 and 11, 13 and 14.
 const ORDERED: [(&str, &str); 6] = [
     (
-        "rollback 1\ncommit 1\nfeed 16 72\n",
+        "rollback 1
+commit 1
+feed 16 72
+",
         "refused 10 WrongState taken=28 records=1 end=44\n",
     ),
     (
-        "u 1 0 0 - aa\nrollback 1\nrollback 1\nfeed 16 108\n",
+        "u 1 0 0 - aa
+rollback 1
+rollback 1
+feed 16 108
+",
         "refused 10 WrongState taken=64 records=2 end=80\n",
     ),
     (
-        "commit 1\nend 1\nrollback 1 prev=16\nfeed 16 100\n",
+        "commit 1
+end 1
+rollback 1 prev=16
+feed 16 100
+",
         "refused 8 BadPrev taken=56 records=2 end=72\n",
     ),
     (
-        "commit 1\nend 1\ncommit 1 prev=0\nfeed 16 100\n",
+        "commit 1
+end 1
+commit 1 prev=0
+feed 16 100
+",
         "refused 9 OldTransaction taken=56 records=2 end=72\n",
     ),
     (
-        "u 1 0 0 - aa\ncommit 1\nc 1 0 0 - 16\nfeed 16 122\n",
+        "u 1 0 0 - aa
+commit 1
+c 1 0 0 - 16
+feed 16 122
+",
         "refused 10 WrongState taken=64 records=2 end=80\n",
     ),
     (
-        "u 1 0 0 - 11\nu 2 0 0 - 22\nfeed 16 88\n",
+        "u 1 0 0 - 11
+u 2 0 0 - 22
+feed 16 88
+",
         "refused 13 RecordHeld 1 taken=36 records=1 end=52\n",
     ),
 ];
@@ -72,24 +116,62 @@ const ORDERED: [(&str, &str); 6] = [
 /// with losers, committed transactions and compensations.
 const HELD: [(&str, &str); 5] = [
     (
-        "u 1 0 0 - 11\nu 2 0 0 11 22\nfeed 16 89\nfeed 52 89\n",
-        "refused 13 RecordHeld 1 taken=36 records=1 end=52\nrefused 13 RecordHeld 1 taken=0 records=0 end=52\n",
+        "u 1 0 0 - 11
+u 2 0 0 11 22
+feed 16 89
+feed 52 89
+",
+        "refused 13 RecordHeld 1 taken=36 records=1 end=52
+refused 13 RecordHeld 1 taken=0 records=0 end=52
+",
     ),
     (
-        "u 1 0 0 - aa\ncommit 1\nu 2 0 0 ab cc\nfeed 16 117\n",
+        "u 1 0 0 - aa
+commit 1
+u 2 0 0 ab cc
+feed 16 117
+",
         "refused 14 BeforeImage taken=64 records=2 end=80\n",
     ),
     (
-        "u 1 0 0 - aa\ncommit 1\nu 2 0 1 - bb\nu 2 0 0 aa cc\nshow table\nfeed 16 153\nshow table\n",
-        "none\nok taken=137 records=4 end=153\ntrans 1 committed last=52 undo=16\ntrans 2 active last=116 undo=116\n",
+        "u 1 0 0 - aa
+commit 1
+u 2 0 1 - bb
+u 2 0 0 aa cc
+show table
+feed 16 153
+show table
+",
+        "none
+ok taken=137 records=4 end=153
+trans 1 committed last=52 undo=16
+trans 2 active last=116 undo=116
+",
     ),
     (
-        "u 1 0 0 - 11\nc 1 0 0 - 0\nu 2 0 0 - 22\ncommit 2\nfeed 16 158\nshow table\n",
-        "ok taken=142 records=4 end=158\ntrans 1 active last=52 undo=0\ntrans 2 committed last=130 undo=94\n",
+        "u 1 0 0 - 11
+c 1 0 0 - 0
+u 2 0 0 - 22
+commit 2
+feed 16 158
+show table
+",
+        "ok taken=142 records=4 end=158
+trans 1 active last=52 undo=0
+trans 2 committed last=130 undo=94
+",
     ),
     (
-        "u 1 0 0 - 11\nu 1 0 1 - 22\nc 1 0 1 - 16\nu 1 0 2 - 33\nfeed 16 166\nshow table\n",
-        "ok taken=150 records=4 end=166\ntrans 1 active last=130 undo=130\n",
+        "u 1 0 0 - 11
+u 1 0 1 - 22
+c 1 0 1 - 16
+u 1 0 2 - 33
+feed 16 166
+show table
+",
+        "ok taken=150 records=4 end=166
+trans 1 active last=130 undo=130
+",
     ),
 ];
 

@@ -111,7 +111,12 @@ const BAD_LINES: [&str; 72] = [
 
 fn tells_bad_worlds<R: Abort + AllocGlobal + Files<File = File> + Net>(rt: &R) -> Option<()> {
     for line in BAD_WORLDS {
-        let script = format!(in rt.alloc(); "#\n{line}\n").ok()?;
+        let script = format!(in rt.alloc();
+            "#
+{line}
+"
+        )
+        .ok()?;
         run_row(
             rt,
             Row::sim(script.as_str(), "").failing("line 2: bad line\n", 2),
@@ -127,7 +132,13 @@ fn sim_tells_bad_worlds(rt: HostRuntime) {
 
 fn tells_bad_lines<R: Abort + AllocGlobal + Files<File = File> + Net>(rt: &R) -> Option<()> {
     for line in BAD_LINES {
-        let script = format!(in rt.alloc(); "{WORLD}feed 16 16\n{line}\nfeed 16 16\n").ok()?;
+        let script = format!(in rt.alloc();
+            "{WORLD}feed 16 16
+{line}
+feed 16 16
+"
+        )
+        .ok()?;
         let output = "ok taken=0 records=0 end=16\n";
         run_row(
             rt,
@@ -148,7 +159,16 @@ fn counts_lines<R: Abort + AllocGlobal + Files<File = File> + Net>(rt: &R) -> Op
     let bare = "world pages=4 log=8 frames=4 workers=2 pending=1000";
     let zeros =
         "world pages=0004 log=08 frames=4 workers=2 pending=1000\nfeed 0016 000000000000000000000016";
-    let passed = format!(in rt.alloc(); "\n# \u{e9}\n{WORLD}\n#\r\nfeed 16 16\n\nx").ok()?;
+    let passed = format!(in rt.alloc();
+        "
+# \u{e9}
+{WORLD}
+#\r
+feed 16 16
+
+x"
+    )
+    .ok()?;
     let fed = "ok taken=0 records=0 end=16\n";
     run_row(rt, Row::sim(bare, ""));
     run_row(rt, Row::sim(zeros, fed));
@@ -157,7 +177,16 @@ fn counts_lines<R: Abort + AllocGlobal + Files<File = File> + Net>(rt: &R) -> Op
         Row::sim(passed.as_str(), fed).failing("line 8: bad line\n", 2),
     );
     run_row(rt, Row::sim("", "").failing("line 1: bad line\n", 2));
-    run_row(rt, Row::sim("\n\n", "").failing("line 3: bad line\n", 2));
+    run_row(
+        rt,
+        Row::sim(
+            "
+
+",
+            "",
+        )
+        .failing("line 3: bad line\n", 2),
+    );
     run_row(rt, Row::sim("#", "").failing("line 2: bad line\n", 2));
     Some(())
 }
@@ -188,7 +217,12 @@ fn sim_wants_text(rt: HostRuntime) {
 /// A world that is refused ends the script, whatever follows.
 fn refuses_worlds<R: Abort + AllocGlobal + Files<File = File> + Net>(rt: &R) -> Option<()> {
     for line in REFUSED_WORLDS {
-        let script = format!(in rt.alloc(); "{line}\nx\n").ok()?;
+        let script = format!(in rt.alloc();
+            "{line}
+x
+"
+        )
+        .ok()?;
         run_row(
             rt,
             Row::sim(script.as_str(), "refused 37 BadConfig\n").failing("", 3),

@@ -10,7 +10,11 @@ use std::rt::Files;
 const TEXTS: [(&str, &str); 4] = [
     ("pages 4", "414c534c4f4730310000000400000000\n"),
     (
-        "pages 4\nu 1 0 0 - aa\ncommit 1\nend 1\n",
+        "pages 4
+u 1 0 0 - aa
+commit 1
+end 1
+",
         "414c534c4f4730310000000400000000
 000000240100000000000000000000100000000000000000000000010000000000ff01aa
 0000001c030000000000000000000034000000000000001000000001
@@ -19,7 +23,14 @@ const TEXTS: [(&str, &str); 4] = [
     ),
     // A compensation, as a takeover would write it.
     (
-        "pages 4\nu 1 0 0 - aa\ncommit 1\nu 2 0 1 - bb\nu 2 0 0 aa cc\nend 1\nc 2 0 0 aa 80\n",
+        "pages 4
+u 1 0 0 - aa
+commit 1
+u 2 0 1 - bb
+u 2 0 0 aa cc
+end 1
+c 2 0 0 aa 80
+",
         "414c534c4f4730310000000400000000
 000000240100000000000000000000100000000000000000000000010000000000ff01aa
 0000001c030000000000000000000034000000000000001000000001
@@ -64,16 +75,47 @@ end 7 prev=0",
 /// Scripts, and the number of their first bad line.
 const BAD: [(&str, u64); 11] = [
     ("", 1),
-    ("#\n\n", 3),
+    (
+        "#
+
+",
+        3,
+    ),
     ("# no end of line", 2),
     ("pages\n", 1),
     ("pages 4 4\n", 1),
     ("pages 4294967296\n", 1),
     ("pages 4\r\n", 1),
-    ("commit 1\npages 4\n", 1),
-    ("pages 4\ncommit 1\npages 4\n", 3),
-    ("pages 4\nfeed 0 16\n", 2),
-    ("\n# c\npages 4\n\n# c\ncommit 1\nx\n", 7),
+    (
+        "commit 1
+pages 4
+",
+        1,
+    ),
+    (
+        "pages 4
+commit 1
+pages 4
+",
+        3,
+    ),
+    (
+        "pages 4
+feed 0 16
+",
+        2,
+    ),
+    (
+        "
+# c
+pages 4
+
+# c
+commit 1
+x
+",
+        7,
+    ),
 ];
 
 #[test]
@@ -86,11 +128,21 @@ fn make_writes_log_texts(rt: HostRuntime) {
 /// A value may have 254 bytes, and no more.
 fn takes_long_values<R: Abort + AllocGlobal + Files<File = File> + Net>(rt: &R) -> Option<()> {
     let longest = "5a".repeat(rt.alloc(), 254).ok()?;
-    let script = format!(in rt.alloc(); "pages 1\nu 1 0 0 {longest} {longest}\n").ok()?;
+    let script = format!(in rt.alloc();
+        "pages 1
+u 1 0 0 {longest} {longest}
+"
+    )
+    .ok()?;
     let head = "414c534c4f4730310000000100000000
 0000021f01000000000000000000001000000000000000000000000100000000";
     let output = format!(in rt.alloc(); "{head}00fefe{longest}{longest}\n").ok()?;
-    let too_long = format!(in rt.alloc(); "pages 1\nu 1 0 0 - {longest}5a\n").ok()?;
+    let too_long = format!(in rt.alloc();
+        "pages 1
+u 1 0 0 - {longest}5a
+"
+    )
+    .ok()?;
     run_row(rt, Row::make_hex(script.as_str(), output.as_str()));
     run_row(
         rt,

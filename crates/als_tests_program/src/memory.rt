@@ -14,7 +14,11 @@ show db
 drain
 show db
 ",
-        "ok taken=92 records=3 end=108\nempty\nok\n0/0 aa\n",
+        "ok taken=92 records=3 end=108
+empty
+ok
+0/0 aa
+",
     ),
     (
         "world pages=4 log=8 frames=4 workers=2 pending=1000

@@ -15,11 +15,23 @@ const FILES: [&str; 3] = [
 /// A log of so many updates of one record. `None`: memory was refused.
 fn log_of<R: AllocGlobal + Files<File = File> + Net>(rt: &R, updates: u32) -> Option<Vec<u8>> {
     let mut script = String::new(rt.alloc());
-    script.push_str("pages 4\nu 1 0 0 - aa\n").ok()?;
+    script
+        .push_str(
+            "pages 4
+u 1 0 0 - aa
+",
+        )
+        .ok()?;
     for _ in 1..updates {
         script.push_str("u 1 0 0 aa aa\n").ok()?;
     }
-    script.push_str("commit 1\nend 1\n").ok()?;
+    script
+        .push_str(
+            "commit 1
+end 1
+",
+        )
+        .ok()?;
     let mut log = Vec::new(rt.alloc());
     let status = program(
         rt,

@@ -144,12 +144,25 @@ fn pages_are_redone_and_written(rt: HostRuntime) {
 /// More changes of a page than one redo takes, and a page that has none.
 fn goes_round<R: Abort + AllocGlobal + Files<File = File> + Net>(rt: &R) -> Option<()> {
     let world = "world pages=4 log=32 frames=4 workers=2 pending=1000\n";
-    let mut script = format!(in rt.alloc(); "{world}u 1 2 0 - 00\nu 1 1 0 - 00\n").ok()?;
+    let mut script = format!(in rt.alloc();
+        "{world}u 1 2 0 - 00
+u 1 1 0 - 00
+"
+    )
+    .ok()?;
     for _ in 0..130 {
         script.push_str("u 1 2 0 00 00\n").ok()?;
     }
     script
-        .push_str("feed 16 4898\nshow status\ndrain\nshow status\nshow db\ndrain\n")
+        .push_str(
+            "feed 16 4898
+show status
+drain
+show status
+show db
+drain
+",
+        )
         .ok()?;
     let output = "ok taken=4882 records=132 end=4898
 state=Following end=4898 ack=16 pending=132 leases=0

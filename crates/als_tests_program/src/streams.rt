@@ -137,7 +137,10 @@ fn writers_fail<R: Abort + AllocGlobal + Files<File = File> + Net>(rt: &R) -> Op
     let status = program(rt, &words, "pages 4\n".as_bytes(), Unflushed, &mut errors);
     refuses(status, errors.as_slice())?;
     let mut errors = Vec::new(rt.alloc());
-    let script = WORLD.as_bytes().chain("show status\nbad\n".as_bytes());
+    let script = WORLD.as_bytes().chain("show status
+bad
+"
+        .as_bytes());
     let status = program(rt, &["als", "sim"], script, Full { room: 10 }, &mut errors);
     refuses(status, errors.as_slice())?;
     // Help, and a standard error that fails too.

@@ -114,7 +114,9 @@ u 1 0 5 - 01
 feed 16 232
 takeover
 ",
-        "ok taken=216 records=6 end=232\nok end=512\n",
+        "ok taken=216 records=6 end=232
+ok end=512
+",
     ),
     (
         "u 1 0 0 - 01

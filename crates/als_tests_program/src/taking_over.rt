@@ -22,7 +22,10 @@ ok end=108
 show db
 show table
 ",
-        "ok end=16\nempty\nnone\n",
+        "ok end=16
+empty
+none
+",
     ),
     // A partial record is dropped, and a loser is undone.
     (
