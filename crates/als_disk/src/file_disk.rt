@@ -134,8 +134,16 @@ impl FileDisk {
             → IsSettled (⟦<FileDisk as BlockDisk>⟧.slot disk k)) }
     {
         let file = OpenOptions::new().read(true).write(true).open(rt, path)?;
+        FileDisk::over(rt.alloc(), file)
+    }
+
+    /// A device over a file that is open, as `open` makes it.
+    pub fn over(alloc: Global, file: File) -> io::Result<FileDisk>
+        ensures settled { IfOk result (λ disk. (k : ℕ)
+            → IsSettled (⟦<FileDisk as BlockDisk>⟧.slot disk k)) }
+    {
         let blocks = file.metadata()?.len() / 512;
-        let mirror = mirror_of(rt.alloc(), &file, blocks)?;
+        let mirror = mirror_of(alloc, &file, blocks)?;
         // What is read has to be on the disk: an earlier run's writes may still be on their way.
         file.sync_all()?;
         Ok(FileDisk {
@@ -205,42 +213,5 @@ impl BlockDisk for FileDisk {
         }
         settle(&mut self.mirror);
         Ok(())
-    }
-}
-
-#[cfg(test)]
-mod tests {
-    use super::*;
-    use std::fs;
-    use std::process::Abort;
-
-    /// A file that takes no write fails each call from its first write on. `None`: memory was
-    /// refused, and where that was for the write the file has not failed.
-    fn stays_failed<R: Abort + AllocGlobal + Files<File = File>>(rt: &R) -> Option<()> {
-        let path = "read_only.blk";
-        fs::write(rt, path, "").ok()?;
-        let mut disk = FileDisk {
-            file: OpenOptions::new().read(true).open(rt, path).ok()?,
-            mirror: MemDisk::new(rt.alloc(), 1),
-            broken: false,
-            failed: Count::Zero,
-            attempted: Count::Zero,
-        };
-        let mut block = [0; 512];
-        assert_eq!(rt; disk.read(0, &mut block), Ok(()));
-        assert_eq!(rt; disk.sync(), Ok(()));
-        assert_eq!(rt; disk.write(0, &[1; 512]), Err(DeviceError));
-        if !disk.broken {
-            return None;
-        }
-        assert_eq!(rt; disk.read(0, &mut block), Err(DeviceError));
-        assert_eq!(rt; disk.sync(), Err(DeviceError));
-        assert_eq!(rt; disk.write(0, &[1; 512]), Err(DeviceError));
-        fs::remove_file(rt, path).ok()
-    }
-
-    #[test]
-    fn a_file_that_failed_stays_failed(rt: HostRuntime) {
-        assert!(rt; stays_failed(&rt).is_some() || stays_failed(&rt).is_some());
     }
 }

@@ -24,8 +24,6 @@ mod fuse;
 mod failing_disk;
 // a device over a file
 mod file_disk;
-#[cfg(test)]
-mod tests;
 
 pub use block_disk::BlockDisk;
 pub use device_error::DeviceError;

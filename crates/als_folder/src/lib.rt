@@ -17,6 +17,3 @@ pub use fault::Fault;
 pub use folder::Folder;
 pub use part::Part;
 pub use trouble::{Trouble, Wrong};
-
-#[cfg(test)]
-mod tests;

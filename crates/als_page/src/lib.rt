@@ -12,6 +12,3 @@ mod block;
 
 pub use fault::Fault;
 pub use page::Page;
-
-#[cfg(test)]
-mod tests;

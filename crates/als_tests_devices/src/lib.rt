@@ -1,5 +1,5 @@
-//! Tests of the log, and of the control block with its checkpoints, on their devices. They use
-//! public names alone.
+//! Tests of the devices, and of the log and the control block with its checkpoints on them. They
+//! use public names alone.
 #![tactic(auto)]
 
 // als_ckpt.
@@ -8,6 +8,9 @@ mod ckpt;
 // als_ckpt_codec.
 #[cfg(test)]
 mod ckpt_codec;
+// als_disk.
+#[cfg(test)]
+mod disk;
 // als_log.
 #[cfg(test)]
 mod log;

@@ -1,4 +1,5 @@
-//! Tests of the pages: the dirty page table, the frames and the pool. They use public names alone.
+//! Tests of the pages: a page and its block, the dirty page table, the frames and the pool. They use
+//! public names alone.
 #![tactic(auto)]
 
 // als_dirty.
@@ -7,6 +8,9 @@ mod dirty;
 // als_frames.
 #[cfg(test)]
 mod frames;
+// als_page.
+#[cfg(test)]
+mod page;
 // als_pool.
 #[cfg(test)]
 mod pool;

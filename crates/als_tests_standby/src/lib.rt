@@ -1,5 +1,5 @@
-//! Tests of the engine, of sessions, of scripts, and of what an operator asks for. They use public
-//! names alone.
+//! Tests of the engine, of a folder, of sessions, of scripts, and of what an operator asks for. They
+//! use public names alone.
 #![tactic(auto)]
 
 // What several of these tests use.
@@ -8,6 +8,9 @@ mod common;
 // als_engine.
 #[cfg(test)]
 mod engine;
+// als_folder.
+#[cfg(test)]
+mod folders;
 // als_inspect.
 #[cfg(test)]
 mod inspect;

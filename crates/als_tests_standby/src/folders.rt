@@ -1,5 +1,5 @@
-use super::*;
 use als_disk::{BlockDisk, DeviceError};
+use als_folder::{Fault, Folder, Part, Sizes, Trouble, Wrong};
 use std::fs;
 use std::fs::File;
 use std::process::Abort;

@@ -1,4 +1,4 @@
-use crate::{Fault, Page};
+use als_page::{Fault, Page};
 use als_record::{BLOCK_LEN, Change, Image, ImageView, KeptImage, Key, Lsn, Value};
 use std::process::Abort;
 

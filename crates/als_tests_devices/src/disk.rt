@@ -1,8 +1,8 @@
 ghost use Rattle.std.specs.Prelude.{◌≡◌, ◌<◌, ◌⊎◌, ℕ, List, Contains, IfOk, OnOk};
 
-use crate::{BlockDisk, DeviceError, FailingDisk, FileDisk, Fuse, MemDisk, Restart};
+use als_disk::{BlockDisk, DeviceError, FailingDisk, FileDisk, Fuse, MemDisk, Restart};
 use std::alloc::Global;
-use std::fs::{self, File};
+use std::fs::{self, File, OpenOptions};
 use std::process::Abort;
 use std::rt::Files;
 use std::test::Fail;
@@ -263,6 +263,30 @@ fn keeps_in_a_file<R: Abort + AllocGlobal + Files<File = File>>(rt: &R) -> Optio
 #[test]
 fn a_file_is_a_device(rt: HostRuntime) {
     assert!(rt; keeps_in_a_file(&rt).is_some() || keeps_in_a_file(&rt).is_some());
+}
+
+/// A file that takes no write fails each call from its first write on. `None`: memory was refused,
+/// and where that was for the write the file has not failed.
+fn stays_failed<R: Abort + AllocGlobal + Files<File = File>>(rt: &R) -> Option<()> {
+    let path = "read_only.blk";
+    fs::write(rt, path, filled(0).as_slice()).ok()?;
+    let file = OpenOptions::new().read(true).open(rt, path).ok()?;
+    let mut disk = FileDisk::over(rt.alloc(), file).ok()?;
+    assert_eq!(rt; disk.blocks(), 1);
+    assert_eq!(rt; first(&mut disk, 0), Ok(0));
+    assert_eq!(rt; disk.sync(), Ok(()));
+    assert_eq!(rt; disk.write(0, &filled(1)), Err(DeviceError));
+    if first(&mut disk, 0).is_ok() {
+        return None;
+    }
+    assert_eq!(rt; disk.sync(), Err(DeviceError));
+    assert_eq!(rt; disk.write(0, &filled(1)), Err(DeviceError));
+    fs::remove_file(rt, path).ok()
+}
+
+#[test]
+fn a_file_that_failed_stays_failed(rt: HostRuntime) {
+    assert!(rt; stays_failed(&rt).is_some() || stays_failed(&rt).is_some());
 }
 
 fn can_be_sent<T: Send + Drop>(_: T) {}
