@@ -19,13 +19,25 @@ use std::marker::Model;
 /// One transaction that has not ended: its row of the transaction table, and its surviving updates
 /// in order. The bytes of its compensations to come are counted from record to record, modulo 2^64,
 /// so that any record may be noted: of a valid log they are those of the surviving updates.
-#[derive(Drop)]
 pub struct OpenTransaction {
     row: TransactionRow,
     left: Vec<Record>,
     undo_bytes: u64,
     // Kept beside the row: a takeover asks it of each transaction for each record that it appends.
     undo_at: Lsn,
+}
+
+// Written out: a derived drop is proved wherever a transaction is let go of, this one only here.
+impl Drop for OpenTransaction {
+    fn drop(self) {
+        let OpenTransaction {
+            row: _,
+            left,
+            undo_bytes: _,
+            undo_at: _,
+        } = self;
+        drop(left);
+    }
 }
 
 impl Model for OpenTransaction {

@@ -30,7 +30,6 @@ const FEW: usize = 64;
 
 /// The transaction table of ARIES, kept as its log grows: the unended transactions in rising
 /// TransID, with the updates that survive of each, and the length of what a takeover would append.
-#[derive(Drop)]
 pub struct TransTable {
     alloc: Global,
     entries: Vec<OpenTransaction>,
@@ -43,6 +42,23 @@ pub struct TransTable {
     // Where a transaction stands, by the low bits of its TransID: asked first and not relied on,
     // since two may share a place.
     places: [u8; PLACE_COUNT],
+}
+
+// Written out: a derived drop is proved wherever a table is let go of, this one only here.
+impl Drop for TransTable {
+    fn drop(self) {
+        let TransTable {
+            alloc: _,
+            entries,
+            spares,
+            reserve: _,
+            tight: _,
+            has_room: _,
+            places: _,
+        } = self;
+        drop(entries);
+        drop(spares);
+    }
 }
 
 impl Model for TransTable {

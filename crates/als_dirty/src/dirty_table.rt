@@ -10,12 +10,25 @@ use std::marker::Model;
 
 /// The dirty page table. A page has a row where its device may have an image that lacks a record of
 /// the log; the row's RecLSN is the first record that the image last synced lacks.
-#[derive(Drop)]
 pub struct DirtyTable {
     pages: Vec<DirtyPage>,
     // Whether a page is on the list of those written since the last sync.
     is_listed: Vec<bool>,
     listed: Vec<u32>,
+}
+
+// Written out: a derived drop is proved wherever a table is let go of, this one only here.
+impl Drop for DirtyTable {
+    fn drop(self) {
+        let DirtyTable {
+            pages,
+            is_listed,
+            listed,
+        } = self;
+        drop(pages);
+        drop(is_listed);
+        drop(listed);
+    }
 }
 
 impl Model for DirtyTable {

@@ -8,12 +8,25 @@ use crate::{BlockDisk, DeviceError, Fuse, Restart};
 ///
 /// Where it does, a write still reaches the device below and is answered as failed, and a read or a
 /// sync does not reach it. It counts the writes and syncs that it is called for itself.
-#[derive(Drop)]
 pub struct FailingDisk<D> {
     inner: D,
     fuse: Fuse,
     failed: Count,
     attempted: Count,
+}
+
+// Written out: a derived drop is proved wherever a device is let go of, this one only here.
+impl<D: Drop> Drop for FailingDisk<D> {
+    fn drop(self) {
+        let FailingDisk {
+            inner,
+            fuse,
+            failed: _,
+            attempted: _,
+        } = self;
+        drop(inner);
+        drop(fuse);
+    }
 }
 
 impl<D: BlockDisk> FailingDisk<D> {

@@ -20,7 +20,6 @@ use std::rt::Files;
 ///
 /// So what a read gives is proved and not taken from the file. One premise is left, which no clause
 /// can say: the next opening reads in each block one of the candidates of this run.
-#[derive(Drop)]
 pub struct FileDisk {
     file: File,
     mirror: MemDisk,
@@ -28,6 +27,21 @@ pub struct FileDisk {
     failed: Count,
     attempted: Count,
     ghost fits: { mem_blocks mirror * 512 < 2 ^ 64 },
+}
+
+// Written out: a derived drop is proved wherever a device is let go of, this one only here.
+impl Drop for FileDisk {
+    fn drop(self) {
+        let FileDisk {
+            file,
+            mirror,
+            broken: _,
+            failed: _,
+            attempted: _,
+        } = self;
+        drop(file);
+        drop(mirror);
+    }
 }
 
 /// The contents of the file's blocks, each read once.

@@ -12,7 +12,6 @@ use std::collections::BTreeMap;
 
 /// A device in memory. Only the blocks that were written take room. A write for whose content there
 /// is no memory fails and changes nothing; nothing else fails.
-#[derive(Drop)]
 pub struct MemDisk {
     alloc: Global,
     blocks: u64,
@@ -23,6 +22,22 @@ pub struct MemDisk {
     ghost room: { HasRoom synced unsynced },
     ghost in_range: { IsInRange unsynced blocks },
     ghost contents: { HoldsBlocks (slot_of synced unsynced) },
+}
+
+// Written out: a derived drop is proved wherever a device is let go of, this one only here.
+impl Drop for MemDisk {
+    fn drop(self) {
+        let MemDisk {
+            alloc: _,
+            blocks: _,
+            synced,
+            unsynced,
+            failed: _,
+            attempted: _,
+        } = self;
+        drop(synced);
+        drop(unsynced);
+    }
 }
 
 impl MemDisk {

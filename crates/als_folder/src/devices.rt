@@ -54,7 +54,6 @@ impl Drop for Devices {
 }
 
 /// The files of a standby, open to be read alone.
-#[derive(Drop)]
 pub struct DeviceFiles {
     /// The log's.
     pub log: File,
@@ -62,4 +61,18 @@ pub struct DeviceFiles {
     pub control: File,
     /// The pages'.
     pub pages: File,
+}
+
+// Written out: a derived drop is proved wherever the files are let go of, this one only here.
+impl Drop for DeviceFiles {
+    fn drop(self) {
+        let DeviceFiles {
+            log,
+            control,
+            pages,
+        } = self;
+        drop(log);
+        drop(control);
+        drop(pages);
+    }
 }

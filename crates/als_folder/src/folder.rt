@@ -22,11 +22,19 @@ use std::rt::Files;
 /// A new database is laid out without its control.blk: the caller formats it, and then `keep` gives
 /// the file its name. So a stop in between leaves a folder with no control.blk, which is laid out
 /// again.
-#[derive(Drop)]
 pub struct Folder {
     path: PathBuf,
     /// The folder itself, open and locked.
     held: File,
+}
+
+// Written out: a derived drop is proved wherever a folder is let go of, this one only here.
+impl Drop for Folder {
+    fn drop(self) {
+        let Folder { path, held } = self;
+        drop(path);
+        drop(held);
+    }
 }
 
 impl Folder {

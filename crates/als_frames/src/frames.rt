@@ -37,7 +37,6 @@ use std::marker::Model;
 /// A page that is changed has a frame. Its image reaches the device by a write, and is certain to
 /// survive a crash from the next sync on. A frame is free where its page is the image last synced;
 /// free frames alone are taken from their pages.
-#[derive(Drop)]
 pub struct Frames<D: BlockDisk> {
     disk: D,
     pages: u32,
@@ -52,6 +51,24 @@ pub struct Frames<D: BlockDisk> {
     hand: usize,
     // No write has failed.
     sure: bool,
+}
+
+// Written out: a derived drop is proved wherever the frames are let go of, this one only here.
+impl<D: BlockDisk + Drop> Drop for Frames<D> {
+    fn drop(self) {
+        let Frames {
+            disk,
+            pages: _,
+            most: _,
+            frames,
+            zones: _,
+            room: _,
+            hand: _,
+            sure: _,
+        } = self;
+        drop(disk);
+        drop(frames);
+    }
 }
 
 impl<D: BlockDisk> Model for Frames<D> {
@@ -340,7 +357,17 @@ impl<D: BlockDisk> Frames<D> {
             → Contains (D.slot result page).candidates content
             → IsImageOf log page below (synced page) content }
     {
-        let Frames { disk, .. } = self;
+        let Frames {
+            disk,
+            pages: _,
+            most: _,
+            frames,
+            zones: _,
+            room: _,
+            hand: _,
+            sure: _,
+        } = self;
+        drop(frames);
         disk
     }
 

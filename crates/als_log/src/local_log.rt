@@ -32,7 +32,6 @@ use std::marker::Model;
 /// A record is appended in memory; its bytes reach the device with the blocks that are written, and
 /// are certain to survive a crash from the next sync on. Memory holds the bytes from the block of
 /// the synced end on.
-#[derive(Drop)]
 pub struct LocalLog<D: BlockDisk> {
     alloc: Global,
     disk: D,
@@ -49,6 +48,28 @@ pub struct LocalLog<D: BlockDisk> {
     // The bytes that were read last.
     part: Part,
     history: History,
+}
+
+// Written out: a derived drop is proved wherever a log is let go of, this one only here.
+impl<D: BlockDisk + Drop> Drop for LocalLog<D> {
+    fn drop(self) {
+        let LocalLog {
+            alloc: _,
+            disk,
+            pages: _,
+            base: _,
+            tail,
+            written: _,
+            synced: _,
+            cursor: _,
+            part,
+            history,
+        } = self;
+        drop(disk);
+        drop(tail);
+        drop(part);
+        drop(history);
+    }
 }
 
 impl<D: BlockDisk> Model for LocalLog<D> {
@@ -450,6 +471,21 @@ impl<D: BlockDisk> LocalLog<D> {
         ensures attempts { D.attempts result ≡ self.attempts }
         ensures facts { IsLocal self }
     {
-        self.disk
+        let LocalLog {
+            alloc: _,
+            disk,
+            pages: _,
+            base: _,
+            tail,
+            written: _,
+            synced: _,
+            cursor: _,
+            part,
+            history,
+        } = self;
+        drop(tail);
+        drop(part);
+        drop(history);
+        disk
     }
 }

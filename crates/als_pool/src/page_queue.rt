@@ -15,13 +15,24 @@ const LARGE: usize = 1024;
 const SMALL: usize = 64;
 
 /// The changes of a page that are not redone yet.
-#[derive(Drop)]
 pub struct PageQueue {
     changes: Vec<Change>,
     // So many of the first ones are redone already.
     taken: usize,
     // The queue has a place for one more change.
     has_room: bool,
+}
+
+// Written out: a derived drop is proved wherever a queue is let go of, this one only here.
+impl Drop for PageQueue {
+    fn drop(self) {
+        let PageQueue {
+            changes,
+            taken: _,
+            has_room: _,
+        } = self;
+        drop(changes);
+    }
 }
 
 impl Model for PageQueue {

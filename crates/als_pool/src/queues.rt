@@ -17,7 +17,6 @@ use std::marker::Model;
 const BATCH: usize = 64;
 
 /// The changes that wait for each page.
-#[derive(Drop)]
 pub struct Queues {
     queues: Vec<PageQueue>,
     // 1 for a page for which changes wait, else 0: the next one is found without a look at the
@@ -25,6 +24,19 @@ pub struct Queues {
     flags: Vec<u8>,
     // How many wait, over all pages.
     total: usize,
+}
+
+// Written out: a derived drop is proved wherever the queues are let go of, this one only here.
+impl Drop for Queues {
+    fn drop(self) {
+        let Queues {
+            queues,
+            flags,
+            total: _,
+        } = self;
+        drop(queues);
+        drop(flags);
+    }
 }
 
 impl Model for Queues {

@@ -11,12 +11,24 @@ use std::marker::Model;
 /// Takes the bytes of a log text in pieces, however they are cut, and hands out its records one by
 /// one. It keeps the bytes of a record that is not whole yet, and after bytes that are no record it
 /// gives the same refusal for good.
-#[derive(Drop)]
 pub struct Receiver {
     pages: u32,
     wanted: Lsn,
     kept: BytesMut,
     refusal: Option<Refusal>,
+}
+
+// Written out: a derived drop is proved wherever a receiver is let go of, this one only here.
+impl Drop for Receiver {
+    fn drop(self) {
+        let Receiver {
+            pages: _,
+            wanted: _,
+            kept,
+            refusal: _,
+        } = self;
+        drop(kept);
+    }
 }
 
 impl Model for Receiver {

@@ -23,9 +23,16 @@ pub struct LoggedPage {
 }
 
 /// The transaction rows of an end_chkpt record: at most 256.
-#[derive(Drop)]
 pub struct TransactionRows {
     rows: Vec<LoggedTransaction>,
+}
+
+// Written out: a derived drop is proved wherever rows are let go of, this one only here.
+impl Drop for TransactionRows {
+    fn drop(self) {
+        let TransactionRows { rows } = self;
+        drop(rows);
+    }
 }
 
 impl Model for TransactionRows {
@@ -87,9 +94,16 @@ impl TransactionRows {
 }
 
 /// The dirty page rows of an end_chkpt record: at most 4,096.
-#[derive(Drop)]
 pub struct PageRows {
     rows: Vec<LoggedPage>,
+}
+
+// Written out: a derived drop is proved wherever rows are let go of, this one only here.
+impl Drop for PageRows {
+    fn drop(self) {
+        let PageRows { rows } = self;
+        drop(rows);
+    }
 }
 
 impl Model for PageRows {

@@ -33,10 +33,17 @@ pub trait Source {
 }
 
 /// A log text in memory.
-#[derive(Drop)]
 pub struct LogBytes {
     header: LogHeader,
     bytes: Vec<u8>,
+}
+
+// Written out: a derived drop is proved wherever a log is let go of, this one only here.
+impl Drop for LogBytes {
+    fn drop(self) {
+        let LogBytes { header: _, bytes } = self;
+        drop(bytes);
+    }
 }
 
 impl Model for LogBytes {

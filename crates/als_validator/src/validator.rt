@@ -34,7 +34,6 @@ use std::alloc::Global;
 /// What is kept of a valid log to tell which record may follow it: the transaction table with the
 /// surviving updates, what each key has and who may hold it, the transactions that have committed,
 /// the greatest TransID and the open checkpoint. (Mohan et al., TODS 1992, sections 3 and 4.)
-#[derive(Drop)]
 pub struct Validator {
     table: TransTable,
     keys: Vec<KeyState>,
@@ -45,6 +44,23 @@ pub struct Validator {
     begun: Lsn,
     // What was read ahead, which says nothing: it is kept so that it is read.
     glanced: u64,
+}
+
+// Written out: a derived drop is proved wherever a validator is let go of, this one only here.
+impl Drop for Validator {
+    fn drop(self) {
+        let Validator {
+            table,
+            keys,
+            committed,
+            greatest: _,
+            begun: _,
+            glanced: _,
+        } = self;
+        drop(table);
+        drop(keys);
+        drop(committed);
+    }
 }
 
 /// The LSN of the open begin_chkpt after one more record.

@@ -25,7 +25,6 @@ pub struct Answer {
 
 /// What readers see: the published commits, as the image that each key has after them. Commits that
 /// are queued show at the next publishing.
-#[derive(Drop)]
 pub struct View {
     pages: u32,
     // Whether there is a list of published commits, if only the empty one.
@@ -37,6 +36,23 @@ pub struct View {
     queued: VecDeque<Commit, Global>,
     // The queue takes so many more commits without memory.
     room: usize,
+}
+
+// Written out: a derived drop is proved wherever a view is let go of, this one only here.
+impl Drop for View {
+    fn drop(self) {
+        let View {
+            pages: _,
+            listed: _,
+            images,
+            commits: _,
+            last: _,
+            queued,
+            room: _,
+        } = self;
+        drop(images);
+        drop(queued);
+    }
 }
 
 impl Model for View {
