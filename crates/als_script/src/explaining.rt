@@ -5,7 +5,7 @@ use std::fmt::{Formatter, Write};
 
 /// Why a line is bad: the first of its words, counted from 1, that no good line has there, and what
 /// a good line has.
-#[derive(Clone, Copy, Debug, PartialEq, Eq)]
+#[derive(Clone, Copy)]
 pub struct Explanation<'a> {
     pub word: usize,
     /// None: the line ends before it.
@@ -97,7 +97,7 @@ fn compare<'a>(line: &'a str, form: &'static str) -> Option<Explanation<'a>> {
 /// Whether a line ends well there, or leaves the form there; None where it goes on.
 fn is_met(found: Option<&str>, wanted: Wanted) -> Option<bool> {
     let Some(word) = found else {
-        return Some(wanted == Wanted::End);
+        return Some(matches!(wanted, Wanted::End));
     };
     let is_good = match wanted {
         Wanted::Command => true,

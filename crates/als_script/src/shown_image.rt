@@ -8,8 +8,8 @@ pub struct ShownImage<'a>(pub &'a Image);
 impl fmt::Display for ShownImage<'_> {
     fn fmt<W: fmt::Write>(&self, f: &mut fmt::Formatter<W>) -> fmt::Result {
         match self.0 {
-            None => write!(f, "-"),
-            Some(value) if value.is_empty() => write!(f, "."),
+            None => f.write_str("-"),
+            Some(value) if value.is_empty() => f.write_str("."),
             Some(value) => {
                 for byte in value.as_slice() {
                     write!(f, "{byte:02x}")?;

@@ -8,33 +8,47 @@ pub struct ShownRecord<'a>(pub &'a Record);
 
 impl fmt::Display for ShownRecord<'_> {
     fn fmt<W: fmt::Write>(&self, f: &mut fmt::Formatter<W>) -> fmt::Result {
-        let (lsn, prev, trans) = (self.0.lsn.0, self.0.prev.0, self.0.trans.0);
-        match &self.0.body {
+        let record = self.0;
+        write!(f, "{} {}", record.lsn.0, kind(&record.body))?;
+        if is_of_a_transaction(&record.body) {
+            write!(f, " trans={}", record.trans.0)?;
+        }
+        match &record.body {
             Body::Update { key, before, after } => {
                 let (before, after) = (ShownImage(before), ShownImage(after));
-                let (page, slot) = (key.page, key.slot);
-                write!(
-                    f,
-                    "{lsn} update trans={trans} {page}/{slot} {before} {after} prev={prev}"
-                )
+                write!(f, " {}/{} {before} {after}", key.page, key.slot)?;
             }
-            Body::Compensation {
-                undo_next,
-                key,
-                after,
-            } => {
-                let (after, next) = (ShownImage(after), undo_next.0);
-                let (page, slot) = (key.page, key.slot);
-                write!(
-                    f,
-                    "{lsn} clr trans={trans} {page}/{slot} {after} prev={prev} next={next}"
-                )
+            Body::Compensation { key, after, .. } => {
+                write!(f, " {}/{} {}", key.page, key.slot, ShownImage(after))?;
             }
-            Body::Commit => write!(f, "{lsn} commit trans={trans} prev={prev}"),
-            Body::Rollback => write!(f, "{lsn} rollback trans={trans} prev={prev}"),
-            Body::End => write!(f, "{lsn} end trans={trans} prev={prev}"),
-            Body::BeginCheckpoint => write!(f, "{lsn} begin_chkpt"),
-            Body::EndCheckpoint { .. } => write!(f, "{lsn} end_chkpt prev={prev}"),
+            Body::BeginCheckpoint => return Ok(()),
+            _ => {}
         }
+        write!(f, " prev={}", record.prev.0)?;
+        match &record.body {
+            Body::Compensation { undo_next, .. } => write!(f, " next={}", undo_next.0),
+            _ => Ok(()),
+        }
+    }
+}
+
+/// The word for a record's kind.
+fn kind(body: &Body) -> &'static str {
+    match body {
+        Body::Update { .. } => "update",
+        Body::Compensation { .. } => "clr",
+        Body::Commit => "commit",
+        Body::Rollback => "rollback",
+        Body::End => "end",
+        Body::BeginCheckpoint => "begin_chkpt",
+        Body::EndCheckpoint { .. } => "end_chkpt",
+    }
+}
+
+/// A checkpoint's records are of none.
+fn is_of_a_transaction(body: &Body) -> bool {
+    match body {
+        Body::BeginCheckpoint | Body::EndCheckpoint { .. } => false,
+        _ => true,
     }
 }

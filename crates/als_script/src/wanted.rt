@@ -1,8 +1,11 @@
 use std::fmt;
 use std::fmt::{Formatter, Write};
 
+const IMAGE: &str =
+    "1 to 254 bytes in lower case hexadecimal, `.` for the empty value, or `-` for absent";
+
 /// What stands at a word's place in a good line.
-#[derive(Clone, Copy, Debug, PartialEq, Eq)]
+#[derive(Clone, Copy, PartialEq)]
 pub enum Wanted {
     /// The first word of a line that the language has.
     Command,
@@ -19,20 +22,16 @@ pub enum Wanted {
 impl fmt::Display for Wanted {
     fn fmt<W: Write>(&self, f: &mut Formatter<W>) -> Result<(), fmt::Error> {
         match self {
-            Wanted::Command => write!(f, "the first word of a line that --help lists"),
+            Wanted::Command => f.write_str("the first word of a line that --help lists"),
             Wanted::Word(word) => write!(f, "`{word}`"),
-            Wanted::Number { label: "", bits } => write!(
-                f,
-                "a decimal number of at most {bits} bits"
-            ),
             Wanted::Number { label, bits } => {
-                write!(f, "`{label}` and a decimal number of at most {bits} bits")
+                if !label.is_empty() {
+                    write!(f, "`{label}` and ")?;
+                }
+                write!(f, "a decimal number of at most {bits} bits")
             }
-            Wanted::Image => write!(
-                f,
-                "1 to 254 bytes in lower case hexadecimal, `.` for the empty value, or `-` for absent"
-            ),
-            Wanted::End => write!(f, "the end of the line"),
+            Wanted::Image => f.write_str(IMAGE),
+            Wanted::End => f.write_str("the end of the line"),
         }
     }
 }

@@ -76,11 +76,8 @@ fn the_block_of_a_new_database(rt: HostRuntime) -> Result<(), Fail> {
     let mut block = [7; 512];
     disk.read(0, &mut block)?;
     let (front, rest) = block.split_at(24);
-    assert_eq!(rt;
-        front,
-        b"ALSCTL01\0\x01\x01\0\0\0\0\x04\0\0\0\0\0\0\0\x10".as_slice()
-    );
-    assert_eq!(rt; rest, [0; 488].as_slice());
+    assert!(rt; front == b"ALSCTL01\0\x01\x01\0\0\0\0\x04\0\0\0\0\0\0\0\x10".as_slice());
+    assert!(rt; rest == [0; 488].as_slice());
     Ok(())
 }
 
@@ -93,13 +90,13 @@ fn reads_what_the_format_admits(rt: HostRuntime) -> Result<(), Fail> {
         position: Lsn(100),
         seal: Lsn(150),
     };
-    assert_eq!(rt; read_with(rt.alloc(), &[]), Ok(state));
+    assert!(rt; read_with(rt.alloc(), &[]) == Ok(state));
     let primary = ControlState {
         phase: Phase::Primary,
         published: Some(Region::Second),
         ..state
     };
-    assert_eq!(rt; read_with(rt.alloc(), &[(10, 3), (11, 2)]), Ok(primary));
+    assert!(rt; read_with(rt.alloc(), &[(10, 3), (11, 2)]) == Ok(primary));
     // the mark at the log's end, and the least and greatest position and seal
     for edits in [
         [(22, 16), (23, 0)],
@@ -139,17 +136,16 @@ fn refuses_what_is_no_control_block(rt: HostRuntime) {
         ("the last byte", &[(511, 1)]),
     ];
     for (what, edits) in rows {
-        assert_eq!(rt;
-            read_with(rt.alloc(), edits),
-            Err(Fault::BadControl),
+        assert!(rt;
+            read_with(rt.alloc(), edits) == Err(Fault::BadControl),
             "{what}"
         );
     }
-    assert_eq!(rt; Fault::BadControl.number(), 34);
-    assert_eq!(rt; Fault::BadControl.name(), "BadControl");
-    assert_eq!(rt; Fault::Memory.number(), 32);
-    assert_eq!(rt; Fault::Device.number(), 30);
-    assert_eq!(rt; Fault::Device.name(), "Device");
+    assert!(rt; Fault::BadControl.number() == 34);
+    assert!(rt; Fault::BadControl.name() == "BadControl");
+    assert!(rt; Fault::Memory.number() == 32);
+    assert!(rt; Fault::Device.number() == 30);
+    assert!(rt; Fault::Device.name() == "Device");
 }
 
 fn fault_of<D>(refused: Refused<D>) -> Fault
@@ -221,11 +217,11 @@ fn left_by(rt: &impl Abort, alloc: Global, pick: u8) -> Option<Lsn> {
     control.write_mark(Lsn(100)).ok()?;
     control.sync().ok()?;
     fuse.fail_at(1);
-    assert_eq!(rt; control.write_mark(Lsn(200)), Err(Fault::Device));
-    assert_eq!(rt; control.newest().mark, Lsn(200));
-    assert_eq!(rt; control.acknowledged(), Lsn(100));
+    assert!(rt; control.write_mark(Lsn(200)) == Err(Fault::Device));
+    assert!(rt; control.newest().mark == Lsn(200));
+    assert!(rt; control.acknowledged() == Lsn(100));
     let (mut disk, used) = crashed(control, &[pick]);
-    assert_eq!(rt; used, 1);
+    assert!(rt; used == 1);
     let state = read_state(&mut disk, 4, 4096).ok()?;
     Some(state.mark)
 }
@@ -238,7 +234,7 @@ fn a_failed_write_may_be_left(rt: HostRuntime) {
             Some(left) => Some(left),
             None => left_by(&rt, alloc, pick),
         };
-        assert_eq!(rt; left, Some(Lsn(mark)));
+        assert!(rt; left == Some(Lsn(mark)));
     }
 }
 

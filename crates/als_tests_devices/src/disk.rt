@@ -78,12 +78,12 @@ fn crashes_so(
         return None;
     };
     let (mut disk, used) = disk.crash(picks);
-    assert_eq!(rt; used, count, "{picks:?}");
-    assert_eq!(rt; first(&mut disk, 0), Ok(left[0]), "{picks:?}");
-    assert_eq!(rt; first(&mut disk, 1), Ok(left[1]), "{picks:?}");
-    assert_eq!(rt; first(&mut disk, 2), Ok(left[2]), "{picks:?}");
+    assert!(rt; used == count, "{picks:?}");
+    assert!(rt; first(&mut disk, 0) == Ok(left[0]), "{picks:?}");
+    assert!(rt; first(&mut disk, 1) == Ok(left[1]), "{picks:?}");
+    assert!(rt; first(&mut disk, 2) == Ok(left[2]), "{picks:?}");
     let (_, used_again) = disk.crash(picks);
-    assert_eq!(rt; used_again, 0, "{picks:?}");
+    assert!(rt; used_again == 0, "{picks:?}");
     Some(())
 }
 
@@ -173,22 +173,22 @@ fn reaches_the_device(rt: &impl Abort, alloc: Global) -> Option<()> {
     fuse.fail_at(1);
     overwrite(&mut disk, 0, &filled(2));
     fuse.fail_at(1);
-    assert_eq!(rt; disk.sync(), Err(DeviceError));
+    assert!(rt; disk.sync() == Err(DeviceError));
     fuse.fail_at(1);
-    assert_eq!(rt; first(&mut disk, 0), Err(DeviceError));
+    assert!(rt; first(&mut disk, 0) == Err(DeviceError));
     let held = first(&mut disk, 0);
     if held == Ok(1) {
         return None;
     }
-    assert_eq!(rt; held, Ok(2));
+    assert!(rt; held == Ok(2));
 
     // The write is not synced, and the fuse stays that of the device after the crash.
     fuse.fail_at(2);
     let (mut disk, used) = disk.crash(&[0]);
-    assert_eq!(rt; used, 1);
-    assert_eq!(rt; first(&mut disk, 0), Ok(1));
-    assert_eq!(rt; disk.sync(), Err(DeviceError));
-    assert_eq!(rt; disk.sync(), Ok(()));
+    assert!(rt; used == 1);
+    assert!(rt; first(&mut disk, 0) == Ok(1));
+    assert!(rt; disk.sync() == Err(DeviceError));
+    assert!(rt; disk.sync() == Ok(()));
     Some(())
 }
 
@@ -204,13 +204,13 @@ fn a_failed_write_reaches_the_device(rt: HostRuntime) {
 /// refused.
 fn holds_zeros(rt: &impl Abort, alloc: Global) -> Option<()> {
     let mut disk = MemDisk::new(alloc, 4_194_304);
-    assert_eq!(rt; disk.blocks(), 4_194_304);
+    assert!(rt; disk.blocks() == 4_194_304);
     store(&mut disk, 4_194_303, &filled(7)).ok()?;
     disk.write(4_194_303, &filled(8)).ok()?;
     let (mut disk, used) = disk.crash(&[1]);
-    assert_eq!(rt; used, 1);
-    assert_eq!(rt; first(&mut disk, 4_194_303), Ok(8));
-    assert_eq!(rt; first(&mut disk, 1_000_000), Ok(0));
+    assert!(rt; used == 1);
+    assert!(rt; first(&mut disk, 4_194_303) == Ok(8));
+    assert!(rt; first(&mut disk, 1_000_000) == Ok(0));
     Some(())
 }
 
@@ -227,15 +227,15 @@ fn a_write_without_memory(rt: HostRuntime) -> Result<(), Fail> {
         assert!(rt; 1 < disk.blocks());
         let before = first(&mut disk, 1)?;
         if disk.write(1, &filled(byte)).is_err() {
-            assert_eq!(rt; first(&mut disk, 1)?, before);
+            assert!(rt; first(&mut disk, 1)? == before);
             disk.write(1, &filled(byte))?;
         }
-        assert_eq!(rt; first(&mut disk, 1)?, byte);
+        assert!(rt; first(&mut disk, 1)? == byte);
     }
     assert!(rt; 1 < disk.blocks());
     let (mut disk, used) = disk.crash(&[3]);
-    assert_eq!(rt; used, 1);
-    assert_eq!(rt; first(&mut disk, 1)?, 3);
+    assert!(rt; used == 1);
+    assert!(rt; first(&mut disk, 1)? == 3);
     Ok(())
 }
 
@@ -244,16 +244,16 @@ fn a_write_without_memory(rt: HostRuntime) -> Result<(), Fail> {
 fn keeps_in_a_file<R: Abort + AllocGlobal + Files<File = File>>(rt: &R) -> Option<()> {
     let path = "device.blk";
     let mut disk = FileDisk::create(rt, path, 3).ok()?;
-    assert_eq!(rt; disk.blocks(), 3);
+    assert!(rt; disk.blocks() == 3);
     store(&mut disk, 1, &filled(1)).ok()?;
     disk.write(2, &filled(2)).ok()?;
-    assert_eq!(rt; first(&mut disk, 2), Ok(2));
+    assert!(rt; first(&mut disk, 2) == Ok(2));
     drop(disk);
     let mut disk = FileDisk::open(rt, path).ok()?;
-    assert_eq!(rt; disk.blocks(), 3);
-    assert_eq!(rt; first(&mut disk, 0), Ok(0));
-    assert_eq!(rt; first(&mut disk, 1), Ok(1));
-    assert_eq!(rt; first(&mut disk, 2), Ok(2));
+    assert!(rt; disk.blocks() == 3);
+    assert!(rt; first(&mut disk, 0) == Ok(0));
+    assert!(rt; first(&mut disk, 1) == Ok(1));
+    assert!(rt; first(&mut disk, 2) == Ok(2));
     drop(disk);
     fs::remove_file(rt, path).ok()?;
     assert!(rt; FileDisk::open(rt, path).is_err());
@@ -272,15 +272,15 @@ fn stays_failed<R: Abort + AllocGlobal + Files<File = File>>(rt: &R) -> Option<(
     fs::write(rt, path, filled(0).as_slice()).ok()?;
     let file = OpenOptions::new().read(true).open(rt, path).ok()?;
     let mut disk = FileDisk::over(rt.alloc(), file).ok()?;
-    assert_eq!(rt; disk.blocks(), 1);
-    assert_eq!(rt; first(&mut disk, 0), Ok(0));
-    assert_eq!(rt; disk.sync(), Ok(()));
-    assert_eq!(rt; disk.write(0, &filled(1)), Err(DeviceError));
+    assert!(rt; disk.blocks() == 1);
+    assert!(rt; first(&mut disk, 0) == Ok(0));
+    assert!(rt; disk.sync() == Ok(()));
+    assert!(rt; disk.write(0, &filled(1)) == Err(DeviceError));
     if first(&mut disk, 0).is_ok() {
         return None;
     }
-    assert_eq!(rt; disk.sync(), Err(DeviceError));
-    assert_eq!(rt; disk.write(0, &filled(1)), Err(DeviceError));
+    assert!(rt; disk.sync() == Err(DeviceError));
+    assert!(rt; disk.write(0, &filled(1)) == Err(DeviceError));
     fs::remove_file(rt, path).ok()
 }
 

@@ -34,7 +34,7 @@ fn new_log(rt: &impl Abort, alloc: Global) -> NewLog {
     for _ in 0..2 {
         match NewLog::new(alloc, 4) {
             Ok(new) => return new,
-            Err(fault) => assert_eq!(rt; fault, Fault::Memory),
+            Err(fault) => assert!(rt; fault == Fault::Memory),
         }
     }
     panic!(rt; "memory is refused twice")
@@ -48,7 +48,7 @@ fn formatted<D: BlockDisk + Drop>(rt: &impl Abort, alloc: Global, mut disk: D) -
         match LocalLog::lay_out(disk, new_log(rt, alloc)) {
             Ok(log) => return log,
             Err(failed) => {
-                assert_eq!(rt; failed.blocks(), blocks);
+                assert!(rt; failed.blocks() == blocks);
                 disk = failed;
             }
         }
@@ -70,7 +70,7 @@ fn append<D: BlockDisk + Drop>(
         Ok(Some((logged, _))) => {
             let answer = log.append(&logged, reserve_after);
             if answer.is_err() {
-                assert_eq!(rt; log.end(), end);
+                assert!(rt; log.end() == end);
             }
             answer
         }
@@ -81,7 +81,7 @@ fn append<D: BlockDisk + Drop>(
 // Appends the record of these bytes, again where memory is refused once.
 fn put<D: BlockDisk + Drop>(rt: &impl Abort, alloc: Global, log: &mut LocalLog<D>, bytes: &[u8]) {
     if let Err(fault) = append(rt, alloc, log, bytes, 0) {
-        assert_eq!(rt; fault, Fault::Memory);
+        assert!(rt; fault == Fault::Memory);
         assert!(rt; append(rt, alloc, log, bytes, 0).is_ok());
     }
 }
@@ -93,8 +93,8 @@ fn write<D: BlockDisk + Drop>(rt: &impl Abort, log: &mut LocalLog<D>) {
         match log.write_block() {
             Ok(()) => return,
             Err(fault) => {
-                assert_eq!(rt; fault, Fault::Device);
-                assert_eq!(rt; log.written(), before);
+                assert!(rt; fault == Fault::Device);
+                assert!(rt; log.written() == before);
             }
         }
     }
@@ -108,8 +108,8 @@ fn sync<D: BlockDisk + Drop>(rt: &impl Abort, log: &mut LocalLog<D>) {
         match log.sync() {
             Ok(()) => return,
             Err(fault) => {
-                assert_eq!(rt; fault, Fault::Device);
-                assert_eq!(rt; log.synced(), before);
+                assert!(rt; fault == Fault::Device);
+                assert!(rt; log.synced() == before);
             }
         }
     }
@@ -128,28 +128,28 @@ fn first_block<D: BlockDisk + Drop>(rt: &impl Abort, mut disk: D) -> [u8; 512] {
 
 // One transaction is appended, written, and synced, the last record by itself.
 fn one_transaction<D: BlockDisk + Drop>(rt: &impl Abort, alloc: Global, mut log: LocalLog<D>) {
-    assert_eq!(rt; log.end(), Lsn(16));
-    assert_eq!(rt; log.written(), Lsn(16));
-    assert_eq!(rt; log.synced(), Lsn(16));
+    assert!(rt; log.end() == Lsn(16));
+    assert!(rt; log.written() == Lsn(16));
+    assert!(rt; log.synced() == Lsn(16));
     put(rt, alloc, &mut log, &UPDATE);
     put(rt, alloc, &mut log, &COMMIT);
-    assert_eq!(rt; log.end(), Lsn(80));
+    assert!(rt; log.end() == Lsn(80));
     write(rt, &mut log);
-    assert_eq!(rt; log.written(), Lsn(80));
-    assert_eq!(rt; log.synced(), Lsn(16));
+    assert!(rt; log.written() == Lsn(80));
+    assert!(rt; log.synced() == Lsn(16));
     put(rt, alloc, &mut log, &END);
     sync(rt, &mut log);
-    assert_eq!(rt; log.end(), Lsn(108));
-    assert_eq!(rt; log.synced(), Lsn(80));
+    assert!(rt; log.end() == Lsn(108));
+    assert!(rt; log.synced() == Lsn(80));
     write(rt, &mut log);
     sync(rt, &mut log);
-    assert_eq!(rt; log.synced(), Lsn(108));
-    assert_eq!(rt; log.write_block(), Err(Fault::NothingToDo));
+    assert!(rt; log.synced() == Lsn(108));
+    assert!(rt; log.write_block() == Err(Fault::NothingToDo));
     let block = first_block(rt, log.into_disk());
-    assert_eq!(rt; &block[..16], HEADER.as_slice());
-    assert_eq!(rt; &block[16..52], UPDATE.as_slice());
-    assert_eq!(rt; &block[52..80], COMMIT.as_slice());
-    assert_eq!(rt; &block[80..108], END.as_slice());
+    assert!(rt; (&block[..16]) == HEADER.as_slice());
+    assert!(rt; (&block[16..52]) == UPDATE.as_slice());
+    assert!(rt; (&block[52..80]) == COMMIT.as_slice());
+    assert!(rt; (&block[80..108]) == END.as_slice());
     assert!(rt; block[108..].iter().all(|b| *b == 0));
 }
 
@@ -199,37 +199,28 @@ fn commits(rt: &impl Abort, alloc: Global, blocks: u64, count: usize) -> LocalLo
 #[test]
 fn a_record_over_two_blocks_is_synced_when_it_is_whole(rt: HostRuntime) {
     let mut log = commits(&rt, rt.alloc(), 2, 18);
-    assert_eq!(rt; log.end(), Lsn(520));
+    assert!(rt; log.end() == Lsn(520));
     write(&rt, &mut log);
-    assert_eq!(rt; log.written(), Lsn(512));
+    assert!(rt; log.written() == Lsn(512));
     sync(&rt, &mut log);
-    assert_eq!(rt; log.synced(), Lsn(492));
+    assert!(rt; log.synced() == Lsn(492));
     write(&rt, &mut log);
-    assert_eq!(rt; log.written(), Lsn(520));
+    assert!(rt; log.written() == Lsn(520));
     sync(&rt, &mut log);
-    assert_eq!(rt; log.synced(), Lsn(520));
-    assert_eq!(rt; log.end(), Lsn(520));
+    assert!(rt; log.synced() == Lsn(520));
+    assert!(rt; log.end() == Lsn(520));
 }
 
 #[test]
 fn a_full_log_takes_no_record(rt: HostRuntime) {
     let mut log = commits(&rt, rt.alloc(), 1, 16);
     let bytes = commit_at(log.end());
-    assert_eq!(rt;
-        append(&rt, rt.alloc(), &mut log, &bytes, u64::MAX),
-        Err(Fault::LogFull)
-    );
-    assert_eq!(rt;
-        append(&rt, rt.alloc(), &mut log, &bytes, 21),
-        Err(Fault::LogFull)
-    );
+    assert!(rt; append(&rt, rt.alloc(), &mut log, &bytes, u64::MAX) == Err(Fault::LogFull));
+    assert!(rt; append(&rt, rt.alloc(), &mut log, &bytes, 21) == Err(Fault::LogFull));
     put(&rt, rt.alloc(), &mut log, &bytes);
     let bytes = commit_at(log.end());
-    assert_eq!(rt;
-        append(&rt, rt.alloc(), &mut log, &bytes, 0),
-        Err(Fault::LogFull)
-    );
-    assert_eq!(rt; log.end(), Lsn(492));
+    assert!(rt; append(&rt, rt.alloc(), &mut log, &bytes, 0) == Err(Fault::LogFull));
+    assert!(rt; log.end() == Lsn(492));
 }
 
 #[test]
@@ -240,8 +231,8 @@ fn what_is_reserved_takes_no_memory(rt: HostRuntime) {
         assert!(rt; log.reserve(28).is_ok());
     }
     assert!(rt; append(&rt, rt.alloc(), &mut log, &bytes, 0).is_ok());
-    assert_eq!(rt; Fault::LogFull.number(), 29);
-    assert_eq!(rt; Fault::LogFull.name(), "LogFull");
+    assert!(rt; Fault::LogFull.number() == 29);
+    assert!(rt; Fault::LogFull.name() == "LogFull");
 }
 
 // The record at an offset, again where the device fails. No record here takes memory to be read.
@@ -253,7 +244,7 @@ fn found_at<D: BlockDisk + Drop>(
     for _ in 0..3 {
         match log.read_at(Lsn(at)) {
             Ok(found) => return found,
-            Err(fault) => assert_eq!(rt; fault, Fault::Device),
+            Err(fault) => assert!(rt; fault == Fault::Device),
         }
     }
     panic!(rt; "the device fails each time")
@@ -273,7 +264,7 @@ fn expect_record<D: BlockDisk + Drop>(
             if encode(&found, &mut out).is_err() {
                 assert!(rt; encode(&found, &mut out).is_ok());
             }
-            assert_eq!(rt; out.as_slice(), bytes, "{at}");
+            assert!(rt; out.as_slice() == bytes, "{at}");
         }
         None => panic!(rt; "no record at {at}"),
     }
@@ -298,7 +289,7 @@ fn records_are_read_back(rt: HostRuntime) {
     }
     expect_commits(&rt, rt.alloc(), &mut log);
     sync(&rt, &mut log);
-    assert_eq!(rt; log.synced(), Lsn(1136));
+    assert!(rt; log.synced() == Lsn(1136));
     expect_commits(&rt, rt.alloc(), &mut log);
 }
 
@@ -316,14 +307,14 @@ fn a_record_is_read_with_no_walk(rt: HostRuntime) {
     let Some(found) = read_again(&mut log, 996) else {
         panic!(rt; "no record at 996")
     };
-    assert_eq!(rt; found.lsn, Lsn(996));
+    assert!(rt; found.lsn == Lsn(996));
     write(&rt, &mut log);
     write(&rt, &mut log);
     sync(&rt, &mut log);
     let Some(found) = read_again(&mut log, 492) else {
         panic!(rt; "no record at 492")
     };
-    assert_eq!(rt; found.lsn, Lsn(492));
+    assert!(rt; found.lsn == Lsn(492));
 }
 
 #[test]
@@ -348,7 +339,7 @@ fn a_reading_fails_with_the_device(rt: HostRuntime) -> Result<(), Fail> {
     }
     sync(&rt, &mut log);
     fuse.fail_at(1);
-    assert_eq!(rt; log.read_at(Lsn(16)).err(), Some(Fault::Device));
+    assert!(rt; log.read_at(Lsn(16)).err() == Some(Fault::Device));
     expect_commits(&rt, rt.alloc(), &mut log);
     Ok(())
 }

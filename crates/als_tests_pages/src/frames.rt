@@ -20,7 +20,7 @@ fn formatted<D: BlockDisk + Drop>(rt: &impl Abort, alloc: Global, disk: D, most:
         match Frames::format(alloc, disk, 4, most) {
             Ok(frames) => return frames,
             Err(unformatted) => {
-                assert_eq!(rt; unformatted.fault, Fault::Device);
+                assert!(rt; unformatted.fault == Fault::Device);
                 disk = unformatted.disk;
             }
         }
@@ -81,7 +81,7 @@ fn write<D: BlockDisk + Drop>(rt: &impl Abort, frames: &mut Frames<D>, page: u32
     for _ in 0..3 {
         match frames.write(page) {
             Ok(()) => return,
-            Err(fault) => assert_eq!(rt; fault, Fault::Device),
+            Err(fault) => assert!(rt; fault == Fault::Device),
         }
     }
     panic!(rt; "the device fails each time");
@@ -92,7 +92,7 @@ fn sync<D: BlockDisk + Drop>(rt: &impl Abort, frames: &mut Frames<D>) {
     for _ in 0..3 {
         match frames.sync() {
             Ok(()) => return,
-            Err(fault) => assert_eq!(rt; fault, Fault::Device),
+            Err(fault) => assert!(rt; fault == Fault::Device),
         }
     }
     panic!(rt; "the device fails each time");
@@ -135,9 +135,9 @@ fn expect_lsns<D: BlockDisk + Drop>(
 ) {
     match frames.lsns(page) {
         Some(lsns) => {
-            assert_eq!(rt; lsns.now, Lsn(now));
-            assert_eq!(rt; lsns.written, Lsn(written));
-            assert_eq!(rt; lsns.synced, Lsn(synced));
+            assert!(rt; lsns.now == Lsn(now));
+            assert!(rt; lsns.written == Lsn(written));
+            assert!(rt; lsns.synced == Lsn(synced));
         }
         None => panic!(rt; "page {page} is not resident"),
     }
@@ -149,7 +149,7 @@ fn stored<D: BlockDisk + Drop>(rt: &impl Abort, frames: &mut Frames<D>, page: u3
         assert!(rt; page < frames.pages());
         match frames.stored(page) {
             Ok(found) => return found,
-            Err(fault) => assert_eq!(rt; fault, Fault::Device),
+            Err(fault) => assert!(rt; fault == Fault::Device),
         }
     }
     panic!(rt; "the device fails each time");
@@ -160,29 +160,29 @@ fn expect_bad_page<D: BlockDisk + Drop>(rt: &impl Abort, frames: &mut Frames<D>,
     assert!(rt; page < frames.pages());
     match frames.stored(page) {
         Ok(_) => panic!(rt; "page {page} is taken"),
-        Err(fault) => assert_eq!(rt; fault, Fault::BadPage { page }),
+        Err(fault) => assert!(rt; fault == Fault::BadPage { page }),
     }
 }
 
 // Page 0 is changed, written and synced; with one frame it gives it to page 1, and gets it back.
 fn one_frame<D: BlockDisk + Drop>(rt: &impl Abort, mut frames: Frames<D>) {
-    assert_eq!(rt; frames.write(0), Err(Fault::NothingToDo));
+    assert!(rt; frames.write(0) == Err(Fault::NothingToDo));
     assert!(rt; load(rt, &mut frames, 0, 108).is_ok());
-    assert_eq!(rt; frames.write(0), Err(Fault::NothingToDo));
+    assert!(rt; frames.write(0) == Err(Fault::NothingToDo));
     redo(rt, &mut frames, 0, 16);
     expect_lsns(rt, &frames, 0, 16, 0, 0);
-    assert_eq!(rt; load(rt, &mut frames, 1, 108), Err(Fault::PoolFull));
+    assert!(rt; load(rt, &mut frames, 1, 108) == Err(Fault::PoolFull));
     write(rt, &mut frames, 0);
-    assert_eq!(rt; frames.write(0), Err(Fault::NothingToDo));
+    assert!(rt; frames.write(0) == Err(Fault::NothingToDo));
     expect_lsns(rt, &frames, 0, 16, 16, 0);
-    assert_eq!(rt; load(rt, &mut frames, 1, 108), Err(Fault::PoolFull));
+    assert!(rt; load(rt, &mut frames, 1, 108) == Err(Fault::PoolFull));
     sync(rt, &mut frames);
     expect_lsns(rt, &frames, 0, 16, 16, 16);
     assert!(rt; load(rt, &mut frames, 1, 108).is_ok());
     assert!(rt; frames.frame(0).is_none());
     expect_lsns(rt, &frames, 1, 0, 0, 0);
     let found = stored(rt, &mut frames, 0);
-    assert_eq!(rt; found.lsn(), Lsn(16));
+    assert!(rt; found.lsn() == Lsn(16));
     assert!(rt; found.image(0) == one_byte(0xaa));
     assert!(rt; frames.frame(0).is_none());
     assert!(rt; load(rt, &mut frames, 0, 108).is_ok());
@@ -241,20 +241,14 @@ fn a_block_that_is_no_page_of_the_log_is_refused(rt: HostRuntime) {
         assert!(rt; disk.write(1, &block).is_ok());
     }
     let mut frames = Frames::open(rt.alloc(), disk, 4, 1);
-    assert_eq!(rt;
-        load(&rt, &mut frames, 1, 108),
-        Err(Fault::BadPage { page: 1 })
-    );
+    assert!(rt; load(&rt, &mut frames, 1, 108) == Err(Fault::BadPage { page: 1 }));
     expect_bad_page(&rt, &mut frames, 1);
     assert!(rt; load(&rt, &mut frames, 0, 16).is_ok());
     redo(&rt, &mut frames, 0, 16);
     write(&rt, &mut frames, 0);
     sync(&rt, &mut frames);
     assert!(rt; load(&rt, &mut frames, 2, 16).is_ok());
-    assert_eq!(rt;
-        load(&rt, &mut frames, 0, 16),
-        Err(Fault::BadPage { page: 0 })
-    );
+    assert!(rt; load(&rt, &mut frames, 0, 16) == Err(Fault::BadPage { page: 0 }));
     expect_lsns(&rt, &frames, 2, 0, 0, 0);
     assert!(rt; load(&rt, &mut frames, 0, 17).is_ok());
 }
@@ -265,9 +259,9 @@ fn what_is_reserved_takes_no_memory(rt: HostRuntime) {
     let mut frames = formatted(&rt, rt.alloc(), disk, 1);
     reserve(&rt, &mut frames);
     assert!(rt; frames.reserve().is_ok());
-    assert_eq!(rt; Fault::PoolFull.number(), 24);
-    assert_eq!(rt; Fault::BadPage { page: 1 }.number(), 33);
-    assert_eq!(rt; Fault::PoolFull.name(), "PoolFull");
+    assert!(rt; Fault::PoolFull.number() == 24);
+    assert!(rt; Fault::BadPage { page: 1 }.number() == 33);
+    assert!(rt; Fault::PoolFull.name() == "PoolFull");
 }
 
 // What stands in a block.
@@ -286,11 +280,8 @@ fn a_page_is_written_to_its_block(rt: HostRuntime) {
     redo(&rt, &mut frames, 3, 16);
     write(&rt, &mut frames, 3);
     let block = block_of(&rt, frames.into_disk(), 3);
-    assert_eq!(rt;
-        &block[..14],
-        [0, 0, 0, 0, 0, 0, 0, 16, 0, 0, 0, 3, 0, 1].as_slice()
-    );
-    assert_eq!(rt; &block[32..34], [2, 0xaa].as_slice());
+    assert!(rt; (&block[..14]) == [0, 0, 0, 0, 0, 0, 0, 16, 0, 0, 0, 3, 0, 1].as_slice());
+    assert!(rt; (&block[32..34]) == [2, 0xaa].as_slice());
 }
 
 fn can_be_sent<T: Send + Drop>(_: T) {}

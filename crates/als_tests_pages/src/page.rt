@@ -39,10 +39,10 @@ fn writes_and_reads_a_block(rt: HostRuntime) {
     });
     let mut block = [7; BLOCK_LEN];
     page.write_block(&mut block);
-    assert_eq!(rt; block.as_slice(), block_of_first_update().as_slice());
+    assert!(rt; block.as_slice() == block_of_first_update().as_slice());
     let read = page_of(&rt, 0, &block);
-    assert_eq!(rt; read.id(), 0);
-    assert_eq!(rt; read.lsn(), Lsn(16));
+    assert!(rt; read.id() == 0);
+    assert!(rt; read.lsn() == Lsn(16));
     assert!(rt; read.image(0) == one_byte(0xaa));
     assert!(rt; read.image(14).is_none());
     let copy = page;
@@ -58,12 +58,12 @@ fn writes_and_reads_a_block(rt: HostRuntime) {
 #[test]
 fn an_untouched_page_is_zeros(rt: HostRuntime) {
     let read = page_of(&rt, 7, &[0; BLOCK_LEN]);
-    assert_eq!(rt; read.id(), 7);
-    assert_eq!(rt; read.lsn(), Lsn(0));
+    assert!(rt; read.id() == 7);
+    assert!(rt; read.lsn() == Lsn(0));
     assert!(rt; read.image(0).is_none());
     let mut block = [7; BLOCK_LEN];
     read.write_block(&mut block);
-    assert_eq!(rt; block.as_slice(), [0; BLOCK_LEN].as_slice());
+    assert!(rt; block.as_slice() == [0; BLOCK_LEN].as_slice());
 }
 
 #[test]
@@ -84,10 +84,10 @@ fn refuses_what_is_no_block(rt: HostRuntime) {
         block[at] = byte;
         match Page::read_block(0, &block) {
             Ok(_) => panic!(rt; "taken: {byte} at {at}"),
-            Err(fault) => assert_eq!(rt; fault, Fault::BadPage { page: 0 }),
+            Err(fault) => assert!(rt; fault == Fault::BadPage { page: 0 }),
         }
     }
     let fault = Fault::BadPage { page: 9 };
-    assert_eq!(rt; fault.number(), 33);
-    assert_eq!(rt; fault.name(), "BadPage");
+    assert!(rt; fault.number() == 33);
+    assert!(rt; fault.name() == "BadPage");
 }

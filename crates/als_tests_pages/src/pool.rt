@@ -125,61 +125,58 @@ fn row(page: u32, lsn: u64) -> LoggedPage {
 #[test]
 fn a_frame_is_free_for_another_page_after_the_sync(rt: HostRuntime) {
     let mut pool = in_memory(&rt, rt.alloc(), 1);
-    assert_eq!(rt; apply(&mut pool, 0), Ok(Lsn(16)));
-    assert_eq!(rt; apply(&mut pool, 1), Err(Fault::PoolFull));
-    assert_eq!(rt; flush(&mut pool, 0, 116), Ok(()));
-    assert_eq!(rt; apply(&mut pool, 1), Err(Fault::PoolFull));
+    assert!(rt; apply(&mut pool, 0) == Ok(Lsn(16)));
+    assert!(rt; apply(&mut pool, 1) == Err(Fault::PoolFull));
+    assert!(rt; flush(&mut pool, 0, 116) == Ok(()));
+    assert!(rt; apply(&mut pool, 1) == Err(Fault::PoolFull));
     assert!(rt; pool.sync_pages().is_ok());
-    assert_eq!(rt; apply(&mut pool, 1), Ok(Lsn(52)));
-    assert_eq!(rt; pool.waiting(), 0);
+    assert!(rt; apply(&mut pool, 1) == Ok(Lsn(52)));
+    assert!(rt; pool.waiting() == 0);
 }
 
 #[test]
 fn a_page_is_flushed_when_its_record_is_acknowledged(rt: HostRuntime) {
     let mut pool = in_memory(&rt, rt.alloc(), 2);
-    assert_eq!(rt; flush(&mut pool, 0, 116), Err(Fault::NothingToDo));
-    assert_eq!(rt; apply(&mut pool, 0), Ok(Lsn(16)));
-    assert_eq!(rt; flush(&mut pool, 0, 16), Err(Fault::LogBehind));
-    assert_eq!(rt; flush(&mut pool, 0, 17), Ok(()));
-    assert_eq!(rt; flush(&mut pool, 0, 17), Err(Fault::NothingToDo));
-    assert_eq!(rt; flush(&mut pool, 7, 17), Err(Fault::NothingToDo));
+    assert!(rt; flush(&mut pool, 0, 116) == Err(Fault::NothingToDo));
+    assert!(rt; apply(&mut pool, 0) == Ok(Lsn(16)));
+    assert!(rt; flush(&mut pool, 0, 16) == Err(Fault::LogBehind));
+    assert!(rt; flush(&mut pool, 0, 17) == Ok(()));
+    assert!(rt; flush(&mut pool, 0, 17) == Err(Fault::NothingToDo));
+    assert!(rt; flush(&mut pool, 7, 17) == Err(Fault::NothingToDo));
 }
 
 #[test]
 fn rows_move_at_the_sync(rt: HostRuntime) -> Result<(), Fail> {
     let mut pool = in_memory(&rt, rt.alloc(), 2);
-    assert_eq!(rt;
-        rows_of(&pool, rt.alloc())?.as_slice(),
-        [row(0, 16), row(1, 52)].as_slice()
-    );
-    assert_eq!(rt; apply(&mut pool, 0), Ok(Lsn(16)));
-    assert_eq!(rt; flush(&mut pool, 0, 116), Ok(()));
-    assert_eq!(rt; pool.next_row(0), Some(row(0, 16)));
+    assert!(rt; rows_of(&pool, rt.alloc())?.as_slice() == [row(0, 16), row(1, 52)].as_slice());
+    assert!(rt; apply(&mut pool, 0) == Ok(Lsn(16)));
+    assert!(rt; flush(&mut pool, 0, 116) == Ok(()));
+    assert!(rt; pool.next_row(0) == Some(row(0, 16)));
     assert!(rt; pool.sync_pages().is_ok());
-    assert_eq!(rt; pool.next_row(0), Some(row(1, 52)));
+    assert!(rt; pool.next_row(0) == Some(row(1, 52)));
     assert!(rt; 0 < pool.pages());
-    assert_eq!(rt; pool.rec_lsn(0), None);
+    assert!(rt; pool.rec_lsn(0) == None);
     Ok(())
 }
 
 #[test]
 fn a_page_past_the_end_is_refused(rt: HostRuntime) {
     let mut pool = in_memory(&rt, rt.alloc(), 2);
-    assert_eq!(rt; pool.apply(1, Lsn(0)), Err(Fault::BadPage { page: 1 }));
-    assert_eq!(rt; pool.waiting(), 2);
-    assert_eq!(rt; apply(&mut pool, 1), Ok(Lsn(52)));
+    assert!(rt; pool.apply(1, Lsn(0)) == Err(Fault::BadPage { page: 1 }));
+    assert!(rt; pool.waiting() == 2);
+    assert!(rt; apply(&mut pool, 1) == Ok(Lsn(52)));
 }
 
 #[test]
 fn what_waits_is_redone_once(rt: HostRuntime) {
     let mut pool = in_memory(&rt, rt.alloc(), 2);
-    assert_eq!(rt; pool.waiting(), 2);
-    assert_eq!(rt; pool.next_pending(0), Some(0));
-    assert_eq!(rt; apply(&mut pool, 0), Ok(Lsn(16)));
-    assert_eq!(rt; apply(&mut pool, 0), Err(Fault::NothingToDo));
-    assert_eq!(rt; apply(&mut pool, 2), Err(Fault::NothingToDo));
-    assert_eq!(rt; pool.next_pending(0), Some(1));
-    assert_eq!(rt; pool.waiting(), 1);
+    assert!(rt; pool.waiting() == 2);
+    assert!(rt; pool.next_pending(0) == Some(0));
+    assert!(rt; apply(&mut pool, 0) == Ok(Lsn(16)));
+    assert!(rt; apply(&mut pool, 0) == Err(Fault::NothingToDo));
+    assert!(rt; apply(&mut pool, 2) == Err(Fault::NothingToDo));
+    assert!(rt; pool.next_pending(0) == Some(1));
+    assert!(rt; pool.waiting() == 1);
 }
 
 // A page as it is now.
@@ -194,13 +191,13 @@ fn page_of<D: BlockDisk>(rt: &impl Abort, pool: &mut Pool<D>, page: u32) -> Page
 #[test]
 fn a_page_is_shown_from_its_frame_or_its_block(rt: HostRuntime) {
     let mut pool = in_memory(&rt, rt.alloc(), 1);
-    assert_eq!(rt; apply(&mut pool, 0), Ok(Lsn(16)));
+    assert!(rt; apply(&mut pool, 0) == Ok(Lsn(16)));
     let framed = page_of(&rt, &mut pool, 0);
-    assert_eq!(rt; framed.lsn(), Lsn(16));
+    assert!(rt; framed.lsn() == Lsn(16));
     assert!(rt; framed.image(0) == one_byte(0xaa));
     let stored = page_of(&rt, &mut pool, 1);
-    assert_eq!(rt; stored.lsn(), Lsn(0));
-    assert_eq!(rt; stored.id(), 1);
+    assert!(rt; stored.lsn() == Lsn(0));
+    assert!(rt; stored.id() == 1);
 }
 
 // What stands in a block.
@@ -214,14 +211,11 @@ fn block_of<D: BlockDisk + Drop>(rt: &impl Abort, mut disk: D, page: u64) -> [u8
 #[test]
 fn a_page_is_written_to_its_block(rt: HostRuntime) {
     let mut pool = in_memory(&rt, rt.alloc(), 2);
-    assert_eq!(rt; apply(&mut pool, 1), Ok(Lsn(52)));
-    assert_eq!(rt; flush(&mut pool, 1, 116), Ok(()));
+    assert!(rt; apply(&mut pool, 1) == Ok(Lsn(52)));
+    assert!(rt; flush(&mut pool, 1, 116) == Ok(()));
     let block = block_of(&rt, pool.into_disk(), 1);
-    assert_eq!(rt;
-        &block[..14],
-        [0, 0, 0, 0, 0, 0, 0, 52, 0, 0, 0, 1, 0, 1].as_slice()
-    );
-    assert_eq!(rt; &block[32..34], [2, 0xaa].as_slice());
+    assert!(rt; (&block[..14]) == [0, 0, 0, 0, 0, 0, 0, 52, 0, 0, 0, 1, 0, 1].as_slice());
+    assert!(rt; (&block[32..34]) == [2, 0xaa].as_slice());
 }
 
 // A fuse, again where memory is refused once.
@@ -238,23 +232,23 @@ fn a_failing_device_is_answered(rt: HostRuntime) -> Result<(), Fail> {
     let disk = FailingDisk::new(MemDisk::new(rt.alloc(), 2), fuse.clone()?);
     let mut pool = two_changes(&rt, rt.alloc(), disk, 1);
     fuse.fail_at(1);
-    assert_eq!(rt; apply(&mut pool, 0), Err(Fault::Device));
-    assert_eq!(rt; apply(&mut pool, 0), Ok(Lsn(16)));
-    assert_eq!(rt; pool.next_row(0), Some(row(0, 16)));
+    assert!(rt; apply(&mut pool, 0) == Err(Fault::Device));
+    assert!(rt; apply(&mut pool, 0) == Ok(Lsn(16)));
+    assert!(rt; pool.next_row(0) == Some(row(0, 16)));
     fuse.fail_at(1);
-    assert_eq!(rt; pool.flush_one(0, Lsn(116)), Err(Fault::Device));
-    assert_eq!(rt; flush(&mut pool, 0, 116), Ok(()));
+    assert!(rt; pool.flush_one(0, Lsn(116)) == Err(Fault::Device));
+    assert!(rt; flush(&mut pool, 0, 116) == Ok(()));
     fuse.fail_at(1);
-    assert_eq!(rt; pool.sync_pages(), Err(Fault::Device));
-    assert_eq!(rt; pool.next_row(0), Some(row(0, 16)));
+    assert!(rt; pool.sync_pages() == Err(Fault::Device));
+    assert!(rt; pool.next_row(0) == Some(row(0, 16)));
     Ok(())
 }
 
 #[test]
 fn faults_have_names(rt: HostRuntime) {
-    assert_eq!(rt; Fault::LogBehind.number(), 22);
-    assert_eq!(rt; Fault::BadPage { page: 1 }.number(), 33);
-    assert_eq!(rt; Fault::LogBehind.name(), "LogBehind");
+    assert!(rt; Fault::LogBehind.number() == 22);
+    assert!(rt; Fault::BadPage { page: 1 }.number() == 33);
+    assert!(rt; Fault::LogBehind.name() == "LogBehind");
 }
 
 #[test]
@@ -301,8 +295,8 @@ fn opened<D: BlockDisk + Drop>(
 // A device on which page 1 was stored with its change at 52.
 fn stored(rt: &impl Abort, alloc: Global) -> MemDisk {
     let mut pool = in_memory(rt, alloc, 2);
-    assert_eq!(rt; apply(&mut pool, 1), Ok(Lsn(52)));
-    assert_eq!(rt; flush(&mut pool, 1, 116), Ok(()));
+    assert!(rt; apply(&mut pool, 1) == Ok(Lsn(52)));
+    assert!(rt; flush(&mut pool, 1, 116) == Ok(()));
     assert!(rt; pool.sync_pages().is_ok());
     pool.into_disk()
 }
@@ -311,42 +305,42 @@ fn stored(rt: &impl Abort, alloc: Global) -> MemDisk {
 fn what_waits_begins_at_the_row_or_the_position(rt: HostRuntime) {
     let rows = [row(1, 30), row(1, 52), row(7, 40)];
     let pool = opened(&rt, rt.alloc(), stored(&rt, rt.alloc()), 60, &rows);
-    assert_eq!(rt; pool.waits_from(0), Some(Lsn(60)));
-    assert_eq!(rt; pool.waits_from(1), Some(Lsn(52)));
-    assert_eq!(rt; pool.waits_from(2), None);
-    assert_eq!(rt; pool.next_row(0), Some(row(1, 52)));
-    assert_eq!(rt; pool.waiting(), 0);
+    assert!(rt; pool.waits_from(0) == Some(Lsn(60)));
+    assert!(rt; pool.waits_from(1) == Some(Lsn(52)));
+    assert!(rt; pool.waits_from(2) == None);
+    assert!(rt; pool.next_row(0) == Some(row(1, 52)));
+    assert!(rt; pool.waiting() == 0);
 }
 
 #[test]
 fn nothing_waits_from_below_the_first_record(rt: HostRuntime) {
     let pool = opened(&rt, rt.alloc(), stored(&rt, rt.alloc()), 0, &[row(0, 3)]);
-    assert_eq!(rt; pool.waits_from(0), Some(Lsn(16)));
-    assert_eq!(rt; pool.waits_from(1), Some(Lsn(16)));
-    assert_eq!(rt; pool.next_row(0), Some(row(0, 16)));
-    assert_eq!(rt; pool.next_row(1), None);
+    assert!(rt; pool.waits_from(0) == Some(Lsn(16)));
+    assert!(rt; pool.waits_from(1) == Some(Lsn(16)));
+    assert!(rt; pool.next_row(0) == Some(row(0, 16)));
+    assert!(rt; pool.next_row(1) == None);
 }
 
 #[test]
 fn the_first_change_from_the_position_on_is_the_row(rt: HostRuntime) {
     let mut pool = opened(&rt, rt.alloc(), stored(&rt, rt.alloc()), 60, &[]);
     route(&rt, &mut pool, 0, 80);
-    assert_eq!(rt; pool.next_row(0), Some(row(0, 80)));
-    assert_eq!(rt; pool.waits_from(0), Some(Lsn(60)));
-    assert_eq!(rt; apply(&mut pool, 0), Ok(Lsn(80)));
-    assert_eq!(rt; pool.waits_from(0), None);
-    assert_eq!(rt; pool.next_row(0), Some(row(0, 80)));
+    assert!(rt; pool.next_row(0) == Some(row(0, 80)));
+    assert!(rt; pool.waits_from(0) == Some(Lsn(60)));
+    assert!(rt; apply(&mut pool, 0) == Ok(Lsn(80)));
+    assert!(rt; pool.waits_from(0) == None);
+    assert!(rt; pool.next_row(0) == Some(row(0, 80)));
 }
 
 #[test]
 fn a_row_of_the_checkpoint_goes_when_the_page_has_all(rt: HostRuntime) {
     let mut pool = opened(&rt, rt.alloc(), stored(&rt, rt.alloc()), 60, &[row(1, 16)]);
     route(&rt, &mut pool, 1, 52);
-    assert_eq!(rt; pool.next_row(0), Some(row(1, 16)));
-    assert_eq!(rt; apply(&mut pool, 1), Err(Fault::NothingToDo));
-    assert_eq!(rt; pool.next_row(0), None);
-    assert_eq!(rt; pool.waits_from(1), None);
-    assert_eq!(rt; pool.waiting(), 0);
+    assert!(rt; pool.next_row(0) == Some(row(1, 16)));
+    assert!(rt; apply(&mut pool, 1) == Err(Fault::NothingToDo));
+    assert!(rt; pool.next_row(0) == None);
+    assert!(rt; pool.waits_from(1) == None);
+    assert!(rt; pool.waiting() == 0);
 }
 
 fn can_be_sent<T: Send + Drop>(_: T) {}

@@ -59,32 +59,32 @@ fn note(rt: &impl Abort, table: &mut TransTable, logged: &Record) {
     let reserve = table.reserve_bytes();
     let after = table.reserve_after(&logged.view());
     if let Err(fault) = table.note(&logged.view()) {
-        assert_eq!(rt; fault, Fault::Memory);
-        assert_eq!(rt; fault.number(), 32);
-        assert_eq!(rt; fault.name(), "Memory");
-        assert_eq!(rt; table.rows().len(), open);
-        assert_eq!(rt; table.reserve_bytes(), reserve);
+        assert!(rt; fault == Fault::Memory);
+        assert!(rt; fault.number() == 32);
+        assert!(rt; fault.name() == "Memory");
+        assert!(rt; table.rows().len() == open);
+        assert!(rt; table.reserve_bytes() == reserve);
         assert!(rt; table.note(&logged.view()).is_ok());
     }
-    assert_eq!(rt; table.reserve_bytes(), after);
+    assert!(rt; table.reserve_bytes() == after);
 }
 
 fn expect_row(rt: &impl Abort, table: &TransTable, place: usize, row: TransactionRow) {
     match table.rows().get(place) {
         None => panic!(rt; "no row at {place}"),
         Some(open) => {
-            assert_eq!(rt; open.row(), row);
-            assert_eq!(rt; table.undo_next_of(row.trans), Some(row.undo_next));
-            assert_eq!(rt; table.survivors_of(row.trans).len(), open.survivors().len());
+            assert!(rt; open.row() == row);
+            assert!(rt; table.undo_next_of(row.trans) == Some(row.undo_next));
+            assert!(rt; table.survivors_of(row.trans).len() == open.survivors().len());
         }
     }
 }
 
 fn expect_survivors(rt: &impl Abort, table: &TransTable, trans: u32, lsns: &[u64]) {
     let left = table.survivors_of(TransId(trans));
-    assert_eq!(rt; left.len(), lsns.len(), "of {trans}");
+    assert!(rt; left.len() == lsns.len(), "of {trans}");
     for (update, lsn) in left.iter().zip(lsns) {
-        assert_eq!(rt; update.lsn.0, *lsn, "of {trans}");
+        assert!(rt; update.lsn.0 == *lsn, "of {trans}");
     }
 }
 
@@ -92,24 +92,24 @@ fn expect_survivors(rt: &impl Abort, table: &TransTable, trans: u32, lsns: &[u64
 fn a_committed_and_an_active_transaction(rt: HostRuntime) {
     let mut table = TransTable::new(rt.alloc());
     note(&rt, &mut table, &update(16, 0, 1, 0, None));
-    assert_eq!(rt; table.reserve_bytes(), 70);
+    assert!(rt; table.reserve_bytes() == 70);
     let commit = record(52, 16, 1, Body::Commit);
-    assert_eq!(rt; table.reserve_after(&commit.view()), 28);
+    assert!(rt; table.reserve_after(&commit.view()) == 28);
     note(&rt, &mut table, &commit);
-    assert_eq!(rt; table.reserve_bytes(), 28);
+    assert!(rt; table.reserve_bytes() == 28);
     note(&rt, &mut table, &update(80, 0, 2, 1, None));
     note(&rt, &mut table, &update(116, 80, 2, 0, byte(0xaa)));
-    assert_eq!(rt; table.rows().len(), 2);
+    assert!(rt; table.rows().len() == 2);
     expect_row(&rt, &table, 0, row(1, TransactionState::Committed, 52, 16));
     expect_row(&rt, &table, 1, row(2, TransactionState::Active, 116, 116));
     expect_survivors(&rt, &table, 1, &[16]);
     expect_survivors(&rt, &table, 2, &[80, 116]);
-    assert_eq!(rt; table.reserve_bytes(), 294 - 153);
+    assert!(rt; table.reserve_bytes() == 294 - 153);
     note(&rt, &mut table, &record(153, 52, 1, Body::End));
-    assert_eq!(rt; table.rows().len(), 1);
-    assert_eq!(rt; table.undo_next_of(TransId(1)), None);
+    assert!(rt; table.rows().len() == 1);
+    assert!(rt; table.undo_next_of(TransId(1)) == None);
     expect_survivors(&rt, &table, 1, &[]);
-    assert_eq!(rt; table.reserve_bytes(), 294 - 181);
+    assert!(rt; table.reserve_bytes() == 294 - 181);
 }
 
 #[test]
@@ -122,7 +122,7 @@ fn a_transaction_rolled_back_to_its_start(rt: HostRuntime) {
     expect_row(&rt, &table, 0, row(1, TransactionState::Active, 52, 0));
     expect_row(&rt, &table, 1, row(2, TransactionState::Committed, 130, 94));
     expect_survivors(&rt, &table, 1, &[]);
-    assert_eq!(rt; table.reserve_bytes(), 214 - 158);
+    assert!(rt; table.reserve_bytes() == 214 - 158);
 }
 
 #[test]
@@ -133,11 +133,11 @@ fn a_compensation_takes_its_own_bytes(rt: HostRuntime) {
     note(&rt, &mut table, &record(80, 52, 1, Body::End));
     note(&rt, &mut table, &update(108, 0, 2, 0, byte(1)));
     note(&rt, &mut table, &update(145, 108, 2, 1, None));
-    assert_eq!(rt; table.reserve_bytes(), 28 + 43 + 42);
+    assert!(rt; table.reserve_bytes() == 28 + 43 + 42);
     note(&rt, &mut table, &undo(181, 145, 2, 1, 108, None));
-    assert_eq!(rt; table.reserve_bytes(), 28 + 43);
+    assert!(rt; table.reserve_bytes() == 28 + 43);
     note(&rt, &mut table, &undo(223, 181, 2, 0, 0, byte(1)));
-    assert_eq!(rt; table.reserve_bytes(), 28);
+    assert!(rt; table.reserve_bytes() == 28);
     expect_survivors(&rt, &table, 2, &[]);
 }
 
@@ -150,7 +150,7 @@ fn a_partial_rollback(rt: HostRuntime) {
     note(&rt, &mut table, &update(130, 88, 1, 2, None));
     expect_row(&rt, &table, 0, row(1, TransactionState::Active, 130, 130));
     expect_survivors(&rt, &table, 1, &[16, 130]);
-    assert_eq!(rt; table.reserve_bytes(), 278 - 166);
+    assert!(rt; table.reserve_bytes() == 278 - 166);
     note(&rt, &mut table, &record(166, 130, 1, Body::Rollback));
     expect_row(
         &rt,
@@ -159,7 +159,7 @@ fn a_partial_rollback(rt: HostRuntime) {
         row(1, TransactionState::RollingBack, 166, 130),
     );
     note(&rt, &mut table, &record(194, 0, 0, Body::BeginCheckpoint));
-    assert_eq!(rt; table.rows().len(), 1);
+    assert!(rt; table.rows().len() == 1);
 }
 
 #[test]
@@ -172,6 +172,6 @@ fn room_once_made_is_enough(rt: HostRuntime) {
         let logged = update(16, 0, 1 + k % 4, 0, None);
         assert!(rt; table.note(&logged.view()).is_ok());
     }
-    assert_eq!(rt; table.rows().len(), 4);
-    assert_eq!(rt; table.reserve_bytes(), 4 * 28 + 40 * 42);
+    assert!(rt; table.rows().len() == 4);
+    assert!(rt; table.reserve_bytes() == 4 * 28 + 40 * 42);
 }

@@ -50,11 +50,11 @@ fn push(rt: &impl Abort, receiver: &mut Receiver, piece: &[u8]) {
     let position = receiver.position();
     assert!(rt; position < 1000 && piece.len() < 1000);
     if receiver.push(piece).is_err() {
-        assert_eq!(rt; receiver.partial(), before);
-        assert_eq!(rt; receiver.position(), position);
+        assert!(rt; receiver.partial() == before);
+        assert!(rt; receiver.position() == position);
         assert!(rt; receiver.push(piece).is_ok());
     }
-    assert_eq!(rt; receiver.position(), position + piece.len() as u64);
+    assert!(rt; receiver.position() == position + piece.len() as u64);
 }
 
 // Pushes a piece, and notes where the records stand that are whole then.
@@ -75,11 +75,11 @@ fn each_cut_gives_the_records(rt: HostRuntime) {
         let mut receiver = Receiver::new(rt.alloc(), Lsn(16), 4);
         let mut found = NONE;
         feed(&rt, &mut receiver, &LOG[..cut], &mut found);
-        assert_eq!(rt; receiver.position(), 16 + cut as u64);
+        assert!(rt; receiver.position() == 16 + cut as u64);
         feed(&rt, &mut receiver, &LOG[cut..], &mut found);
-        assert_eq!(rt; found, ALL);
-        assert_eq!(rt; receiver.partial(), 0);
-        assert_eq!(rt; receiver.next_lsn(), Lsn(108));
+        assert!(rt; found == ALL);
+        assert!(rt; receiver.partial() == 0);
+        assert!(rt; receiver.next_lsn() == Lsn(108));
     }
 }
 
@@ -90,8 +90,8 @@ fn single_bytes_give_the_records(rt: HostRuntime) {
     for byte in LOG {
         feed(&rt, &mut receiver, &[byte], &mut found);
     }
-    assert_eq!(rt; found, ALL);
-    assert_eq!(rt; receiver.partial(), 0);
+    assert!(rt; found == ALL);
+    assert!(rt; receiver.partial() == 0);
 }
 
 #[test]
@@ -109,8 +109,8 @@ fn a_refusal_stays(rt: HostRuntime) {
         assert!(rt; receiver.next().err() == Some(refusal));
     }
     receiver.drop_partial();
-    assert_eq!(rt; receiver.partial(), 0);
-    assert_eq!(rt; receiver.next_lsn(), Lsn(52));
+    assert!(rt; receiver.partial() == 0);
+    assert!(rt; receiver.next_lsn() == Lsn(52));
     assert!(rt; receiver.next().err() == Some(refusal));
 }
 
@@ -127,11 +127,11 @@ fn want_of_memory_is_not_kept(rt: HostRuntime) {
                     fault: Fault::Memory
                 }
         );
-        assert_eq!(rt; receiver.partial(), CHECKPOINT.len());
+        assert!(rt; receiver.partial() == CHECKPOINT.len());
         answer = receiver.next();
     }
     assert!(rt; matches!(answer, Ok(Some(_))));
-    assert_eq!(rt; receiver.next_lsn(), Lsn(69));
+    assert!(rt; receiver.next_lsn() == Lsn(69));
 }
 
 #[test]
@@ -141,12 +141,12 @@ fn room_that_was_made_takes_the_pieces(rt: HostRuntime) {
     if receiver.reserve(LOG.len()).is_err() {
         assert!(rt; receiver.reserve(LOG.len()).is_ok());
     }
-    assert_eq!(rt; receiver.partial(), 0);
+    assert!(rt; receiver.partial() == 0);
     assert!(rt; receiver.push(&LOG[..40]).is_ok());
     assert!(rt; matches!(receiver.next(), Ok(Some(_))));
-    assert_eq!(rt; receiver.position(), 56);
+    assert!(rt; receiver.position() == 56);
     assert!(rt; receiver.push(&LOG[40..]).is_ok());
-    assert_eq!(rt; receiver.position(), 108);
+    assert!(rt; receiver.position() == 108);
 }
 
 #[test]
@@ -155,19 +155,19 @@ fn what_is_shown_is_taken(rt: HostRuntime) {
     push(&rt, &mut receiver, &LOG[..60]);
     assert!(rt; matches!(receiver.peek(), Ok(Some((view, 36))) if view.lsn == Lsn(16)));
     assert!(rt; take(&rt, &mut receiver, &LOG[..36]));
-    assert_eq!(rt; receiver.next_lsn(), Lsn(52));
+    assert!(rt; receiver.next_lsn() == Lsn(52));
     assert!(rt; matches!(receiver.peek(), Ok(None)));
     push(&rt, &mut receiver, &LOG[60..]);
     assert!(rt; take(&rt, &mut receiver, &LOG[36..64]));
     assert!(rt; take(&rt, &mut receiver, &LOG[64..]));
-    assert_eq!(rt; receiver.partial(), 0);
+    assert!(rt; receiver.partial() == 0);
 }
 
 // Takes the record that is shown, whose bytes are these.
 fn take(rt: &impl Abort, receiver: &mut Receiver, bytes: &[u8]) -> bool {
     match receiver.peek() {
         Ok(Some((_, len))) => {
-            assert_eq!(rt; receiver.front(len), bytes);
+            assert!(rt; receiver.front(len) == bytes);
             receiver.advance(len);
             true
         }

@@ -50,14 +50,14 @@ fn spelled(rt: &impl Abort, alloc: Global, bytes: &[u8], at: u64) -> Result<Reco
         other => other?,
     };
     let (found, len) = first.ok_or("a record is there")?;
-    assert_eq!(rt; len, bytes.len());
-    assert_eq!(rt; encoded_len(&found), len);
+    assert!(rt; len == bytes.len());
+    assert!(rt; encoded_len(&found) == len);
     let mut out = Vec::new(alloc);
     if encode(&found, &mut out).is_err() {
         assert!(rt; out.is_empty());
         encode(&found, &mut out)?;
     }
-    assert_eq!(rt; out.as_slice(), bytes);
+    assert!(rt; out.as_slice() == bytes);
     let copy = match found.view().to_record(alloc) {
         Err(_) => found.view().to_record(alloc)?,
         Ok(copy) => copy,
@@ -66,7 +66,7 @@ fn spelled(rt: &impl Abort, alloc: Global, bytes: &[u8], at: u64) -> Result<Reco
     if encode(&copy, &mut again).is_err() {
         encode(&copy, &mut again)?;
     }
-    assert_eq!(rt; again.as_slice(), bytes);
+    assert!(rt; again.as_slice() == bytes);
     Ok(found)
 }
 
@@ -84,11 +84,11 @@ fn fault_with(alloc: Global, changes: [(usize, u8); 2]) -> Option<Fault> {
 #[test]
 fn a_view_shows_the_bytes(rt: HostRuntime) -> Result<(), Fail> {
     let (view, len) = view_record(&UPDATE, Lsn(16), 4)?.ok_or("a record is there")?;
-    assert_eq!(rt; len, UPDATE.len());
-    assert_eq!(rt; view.trans, TransId(1));
+    assert!(rt; len == UPDATE.len());
+    assert!(rt; view.trans == TransId(1));
     match view.body {
         BodyView::Update { key, before, after } => {
-            assert_eq!(rt; key, Key { page: 0, slot: 0 });
+            assert!(rt; key == Key { page: 0, slot: 0 });
             assert!(rt; before.bytes.is_none());
             assert!(rt; after.bytes == Some(&[0xaa]));
             assert!(rt; !before.is_same(&after) && after.is_same(&after));
@@ -104,10 +104,10 @@ fn a_view_shows_the_bytes(rt: HostRuntime) -> Result<(), Fail> {
 #[test]
 fn header_line(rt: HostRuntime) -> Result<(), Fail> {
     let header = LogHeader::decode(&HEADER)?.ok_or("a header is there")?;
-    assert_eq!(rt; header, LogHeader { pages: 4 });
-    assert_eq!(rt; header.encode(), HEADER);
-    assert_eq!(rt; LogHeader::decode(&HEADER[..15])?, None);
-    assert_eq!(rt; LogHeader::decode(&UPDATE), Err(Fault::BadHeader));
+    assert!(rt; header == LogHeader { pages: 4 });
+    assert!(rt; header.encode() == HEADER);
+    assert!(rt; LogHeader::decode(&HEADER[..15])? == None);
+    assert!(rt; LogHeader::decode(&UPDATE) == Err(Fault::BadHeader));
     Ok(())
 }
 
@@ -115,16 +115,16 @@ fn header_line(rt: HostRuntime) -> Result<(), Fail> {
 fn text_of_one_transaction(rt: HostRuntime) -> Result<(), Fail> {
     let update = spelled(&rt, rt.alloc(), &UPDATE, 16)?;
     let change = update.change().ok_or("an update changes its key")?;
-    assert_eq!(rt; change.lsn, Lsn(16));
-    assert_eq!(rt; change.key, Key { page: 0, slot: 0 });
+    assert!(rt; change.lsn == Lsn(16));
+    assert!(rt; change.key == Key { page: 0, slot: 0 });
     let value = change.after.image().ok_or("it writes a value")?;
-    assert_eq!(rt; value.as_slice(), [0xaa].as_slice());
+    assert!(rt; value.as_slice() == [0xaa].as_slice());
     let commit = spelled(&rt, rt.alloc(), &COMMIT, 52)?;
-    assert_eq!(rt; commit.prev, Lsn(16));
+    assert!(rt; commit.prev == Lsn(16));
     assert!(rt; matches!(commit.body, Body::Commit));
     assert!(rt; commit.change().is_none());
     let end = spelled(&rt, rt.alloc(), &END, 80)?;
-    assert_eq!(rt; end.trans, TransId(1));
+    assert!(rt; end.trans == TransId(1));
     assert!(rt; matches!(end.body, Body::End));
     Ok(())
 }
@@ -136,18 +136,18 @@ fn compensation_and_checkpoint(rt: HostRuntime) -> Result<(), Fail> {
     let Body::Compensation { undo_next, .. } = undone.body else {
         return Err("a compensation".into());
     };
-    assert_eq!(rt; undo_next, Lsn(80));
+    assert!(rt; undo_next == Lsn(80));
     let ended = spelled(&rt, rt.alloc(), &CHECKPOINT, 16)?;
     let Body::EndCheckpoint { pages, .. } = &ended.body else {
         return Err("an end of a checkpoint".into());
     };
-    assert_eq!(rt;
-        pages.as_slice(),
-        [LoggedPage {
-            page: 3,
-            rec_lsn: Lsn(0x202)
-        }]
-        .as_slice()
+    assert!(rt;
+        pages.as_slice()
+            == [LoggedPage {
+                page: 3,
+                rec_lsn: Lsn(0x202)
+            }]
+            .as_slice()
     );
     Ok(())
 }
@@ -156,41 +156,20 @@ fn compensation_and_checkpoint(rt: HostRuntime) -> Result<(), Fail> {
 fn faults_in_order(rt: HostRuntime) -> Result<(), Fail> {
     let alloc = rt.alloc();
     // each alone, and beside one that comes later
-    assert_eq!(rt;
-        fault_with(alloc, [(3, 34), (4, 1)]),
-        Some(Fault::BadLength)
-    );
-    assert_eq!(rt; fault_with(alloc, [(4, 8), (5, 1)]), Some(Fault::BadType));
-    assert_eq!(rt;
-        fault_with(alloc, [(7, 1), (15, 17)]),
-        Some(Fault::BadReserved)
-    );
-    assert_eq!(rt;
-        fault_with(alloc, [(15, 17), (32, 15)]),
-        Some(Fault::WrongLsn)
-    );
-    assert_eq!(rt; fault_with(alloc, [(31, 4), (33, 32)]), Some(Fault::BadKey));
-    assert_eq!(rt;
-        fault_with(alloc, [(32, 15), (33, 32)]),
-        Some(Fault::BadKey)
-    );
-    assert_eq!(rt;
-        fault_with(alloc, [(33, 254), (34, 0)]),
-        Some(Fault::BadValue)
-    );
-    assert_eq!(rt;
-        fault_with(alloc, [(34, 0), (35, 0)]),
-        Some(Fault::BadLength)
-    );
+    assert!(rt; fault_with(alloc, [(3, 34), (4, 1)]) == Some(Fault::BadLength));
+    assert!(rt; fault_with(alloc, [(4, 8), (5, 1)]) == Some(Fault::BadType));
+    assert!(rt; fault_with(alloc, [(7, 1), (15, 17)]) == Some(Fault::BadReserved));
+    assert!(rt; fault_with(alloc, [(15, 17), (32, 15)]) == Some(Fault::WrongLsn));
+    assert!(rt; fault_with(alloc, [(31, 4), (33, 32)]) == Some(Fault::BadKey));
+    assert!(rt; fault_with(alloc, [(32, 15), (33, 32)]) == Some(Fault::BadKey));
+    assert!(rt; fault_with(alloc, [(33, 254), (34, 0)]) == Some(Fault::BadValue));
+    assert!(rt; fault_with(alloc, [(34, 0), (35, 0)]) == Some(Fault::BadLength));
     // a record of which bytes are missing waits for them
     assert!(rt; decode(alloc, &UPDATE[..27], Lsn(17), 4)?.is_none());
     assert!(rt; decode(alloc, &UPDATE[..35], Lsn(16), 0)?.is_none());
     // a checkpoint whose counts are not those of its length
     let mut counted = CHECKPOINT;
     counted[31] = 2;
-    assert_eq!(rt;
-        decode(alloc, &counted, Lsn(16), 4).err(),
-        Some(Fault::BadLength)
-    );
+    assert!(rt; decode(alloc, &counted, Lsn(16), 4).err() == Some(Fault::BadLength));
     Ok(())
 }

@@ -68,7 +68,7 @@ fn spelled(rt: &impl Abort, alloc: Global, logged: &Record) -> Vec<u8> {
 fn put(rt: &impl Abort, alloc: Global, held: &mut Held, made: &Record) {
     let bytes = spelled(rt, alloc, made);
     let end = held.log.end();
-    assert_eq!(rt; made.lsn, end);
+    assert!(rt; made.lsn == end);
     match decode(alloc, bytes.as_slice(), end, held.log.pages()) {
         Ok(Some((logged, _))) => {
             if held.log.append(&logged, 0).is_err() {
@@ -106,11 +106,11 @@ fn next(
 ) {
     match next_undo(&held.table, &mut held.log) {
         Ok(Some(made)) => {
-            assert_eq!(rt; made.lsn, Lsn(lsn));
-            assert_eq!(rt; made.trans, TransId(trans));
-            assert_eq!(rt; made.prev, Lsn(prev));
+            assert!(rt; made.lsn == Lsn(lsn));
+            assert!(rt; made.trans == TransId(trans));
+            assert!(rt; made.prev == Lsn(prev));
             match &made.body {
-                Body::Compensation { undo_next: to, .. } => assert_eq!(rt; Some(to.0), undo_next),
+                Body::Compensation { undo_next: to, .. } => assert!(rt; Some(to.0) == undo_next),
                 Body::End => assert!(rt; undo_next.is_none()),
                 _ => panic!(rt; "another kind of record"),
             }
@@ -122,7 +122,7 @@ fn next(
 
 // The tail is at its end, and the log ends here.
 fn is_over(rt: &impl Abort, held: &mut Held, end: u64) {
-    assert_eq!(rt; held.log.end(), Lsn(end));
+    assert!(rt; held.log.end() == Lsn(end));
     match next_undo(&held.table, &mut held.log) {
         Ok(None) => {}
         _ => panic!(rt; "one more record"),
@@ -134,7 +134,7 @@ fn gives_back(rt: &impl Abort, held: &mut Held, slot: u8, image: Image) {
     match next_undo(&held.table, &mut held.log) {
         Ok(Some(made)) => match &made.body {
             Body::Compensation { key, after, .. } => {
-                assert_eq!(rt; *key, Key { page: 0, slot });
+                assert!(rt; *key == Key { page: 0, slot });
                 assert!(rt; *after == image);
             }
             _ => panic!(rt; "another kind of record"),

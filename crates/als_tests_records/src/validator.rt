@@ -73,9 +73,9 @@ fn fresh(rt: &impl Abort, alloc: Global) -> Validator {
     match Validator::new(alloc, 4) {
         Ok(validator) => validator,
         Err(fault) => {
-            assert_eq!(rt; fault, Fault::Memory);
-            assert_eq!(rt; fault.number(), 32);
-            assert_eq!(rt; fault.name(), "Memory");
+            assert!(rt; fault == Fault::Memory);
+            assert!(rt; fault.number() == 32);
+            assert!(rt; fault.name() == "Memory");
             match Validator::new(alloc, 4) {
                 Ok(validator) => validator,
                 Err(_) => panic!(rt; "refused twice"),
@@ -92,8 +92,8 @@ fn make_room(rt: &impl Abort, validator: &mut Validator)
     match validator.reserve() {
         Ok(()) => {}
         Err(fault) => {
-            assert_eq!(rt; fault, Fault::Memory);
-            assert_eq!(rt; validator.rows().len(), rows);
+            assert!(rt; fault == Fault::Memory);
+            assert!(rt; validator.rows().len() == rows);
             match validator.reserve() {
                 Ok(()) => {}
                 Err(_) => panic!(rt; "refused twice"),
@@ -104,18 +104,18 @@ fn make_room(rt: &impl Abort, validator: &mut Validator)
 
 // Takes a record that may follow. What a takeover would append then was told before.
 fn admit(rt: &impl Abort, validator: &mut Validator, logged: &Record) {
-    assert_eq!(rt; validator.check(&logged.view()), Ok(()));
+    assert!(rt; validator.check(&logged.view()) == Ok(()));
     make_room(rt, validator);
-    assert_eq!(rt; validator.check(&logged.view()), Ok(()));
+    assert!(rt; validator.check(&logged.view()) == Ok(()));
     let after = validator.reserve_after(&logged.view());
     validator.admit(&logged.view());
-    assert_eq!(rt; validator.reserve_bytes(), after);
+    assert!(rt; validator.reserve_bytes() == after);
 }
 
 // Refuses a record, and again.
 fn refuse(rt: &impl Abort, validator: &mut Validator, logged: &Record, cause: Cause) {
-    assert_eq!(rt; validator.check(&logged.view()), Err(Fault::Invalid(cause)));
-    assert_eq!(rt; validator.check(&logged.view()), Err(Fault::Invalid(cause)));
+    assert!(rt; validator.check(&logged.view()) == Err(Fault::Invalid(cause)));
+    assert!(rt; validator.check(&logged.view()) == Err(Fault::Invalid(cause)));
 }
 
 #[test]
@@ -178,11 +178,8 @@ fn transactions_rise(rt: HostRuntime) {
         &update_beside(52, 0, 1),
         Cause::OldTransaction,
     );
-    assert_eq!(rt; Fault::Invalid(Cause::OldTransaction).number(), 9);
-    assert_eq!(rt;
-        Fault::Invalid(Cause::OldTransaction).name(),
-        "OldTransaction"
-    );
+    assert!(rt; Fault::Invalid(Cause::OldTransaction).number() == 9);
+    assert!(rt; Fault::Invalid(Cause::OldTransaction).name() == "OldTransaction");
 }
 
 #[test]
@@ -201,8 +198,8 @@ fn a_transaction_too_many(rt: HostRuntime) {
         &record(7184, 0, 257, Body::Rollback),
         Cause::TooManyTransactions,
     );
-    assert_eq!(rt; one.rows().len(), 256);
-    assert_eq!(rt; one.reserve_bytes(), 256 * 28);
+    assert!(rt; one.rows().len() == 256);
+    assert!(rt; one.reserve_bytes() == 256 * 28);
 }
 
 #[test]
@@ -259,10 +256,10 @@ fn a_partial_rollback_goes_on(rt: HostRuntime) {
         &update(246, 174, 1, byte(0x33), 0x44),
         Cause::RecordHeld { by: TransId(2) },
     );
-    assert_eq!(rt; one.table().survivors_of(TransId(1)).len(), 1);
+    assert!(rt; one.table().survivors_of(TransId(1)).len() == 1);
     let commit = record(246, 174, 1, Body::Commit);
-    assert_eq!(rt; one.check(&commit.view()), Ok(()));
-    assert_eq!(rt; one.reserve_after(&commit.view()), 28 + 28 + 42);
+    assert!(rt; one.check(&commit.view()) == Ok(()));
+    assert!(rt; one.reserve_after(&commit.view()) == 28 + 28 + 42);
 }
 
 // T1 writes (0,0), (0,1) and (0,0) again, and undoes the last write: its commit has the first two.
@@ -274,10 +271,10 @@ fn commits(rt: &impl Abort, alloc: Global) -> Option<()> {
     admit(rt, &mut validator, &undo(125, 88, 1, byte(1), 52));
     let commit = record(168, 125, 1, Body::Commit);
     let made = validator.commit_of(alloc, &commit.view()).ok()??;
-    assert_eq!(rt; (made.trans.0, made.lsn.0, made.writes.len()), (1, 168, 2));
+    assert!(rt; (made.trans.0, made.lsn.0, made.writes.len()) == (1, 168, 2));
     admit(rt, &mut validator, &commit);
     let made = validator.commit_made(alloc, &commit).ok()??;
-    assert_eq!(rt; (made.trans.0, made.lsn.0, made.writes.len()), (1, 168, 2));
+    assert!(rt; (made.trans.0, made.lsn.0, made.writes.len()) == (1, 168, 2));
     Some(())
 }
 

@@ -56,25 +56,25 @@ fn fill(alloc: Global, view: &mut View) -> Option<()> {
 // at once.
 fn shows_in_parts(rt: &impl Abort, alloc: Global) -> Option<()> {
     let mut view = View::new(alloc, 2, true).ok()?;
-    assert_eq!(rt; said(&view, 0, 0), Some((None, 0, 0)));
+    assert!(rt; said(&view, 0, 0) == Some((None, 0, 0)));
     fill(alloc, &mut view)?;
-    assert_eq!(rt; said(&view, 0, 0), Some((None, 0, 0)));
-    assert_eq!(rt; view.count_below(Lsn(52)), 0);
-    assert_eq!(rt; view.count_below(Lsn(53)), 1);
-    assert_eq!(rt; view.count_below(Lsn(201)), 3);
+    assert!(rt; said(&view, 0, 0) == Some((None, 0, 0)));
+    assert!(rt; view.count_below(Lsn(52)) == 0);
+    assert!(rt; view.count_below(Lsn(53)) == 1);
+    assert!(rt; view.count_below(Lsn(201)) == 3);
     assert!(rt; 1 <= view.queued());
     view.publish_first(1);
-    assert_eq!(rt; said(&view, 0, 0), Some((byte(0xaa), 1, 52)));
-    assert_eq!(rt; said(&view, 1, 14), Some((None, 1, 52)));
+    assert!(rt; said(&view, 0, 0) == Some((byte(0xaa), 1, 52)));
+    assert!(rt; said(&view, 1, 14) == Some((None, 1, 52)));
     assert!(rt; 1 <= view.queued());
     view.publish_first(1);
-    assert_eq!(rt; said(&view, 0, 0), Some((byte(0xbb), 2, 116)));
-    assert_eq!(rt; said(&view, 0, 1), Some((byte(1), 2, 116)));
-    assert_eq!(rt; said(&view, 7, 0), Some((None, 2, 116)));
-    assert_eq!(rt; said(&view, 0, 15), Some((None, 2, 116)));
+    assert!(rt; said(&view, 0, 0) == Some((byte(0xbb), 2, 116)));
+    assert!(rt; said(&view, 0, 1) == Some((byte(1), 2, 116)));
+    assert!(rt; said(&view, 7, 0) == Some((None, 2, 116)));
+    assert!(rt; said(&view, 0, 15) == Some((None, 2, 116)));
     view.publish();
-    assert_eq!(rt; said(&view, 0, 0), Some((None, 3, 200)));
-    assert_eq!(rt; said(&view, 1, 14), Some((byte(3), 3, 200)));
+    assert!(rt; said(&view, 0, 0) == Some((None, 3, 200)));
+    assert!(rt; said(&view, 1, 14) == Some((byte(3), 3, 200)));
     Some(())
 }
 
@@ -88,12 +88,12 @@ fn a_view_shows_what_is_published(rt: HostRuntime) {
 fn shows_at_once(rt: &impl Abort, alloc: Global) -> Option<()> {
     let mut view = View::new(alloc, 2, false).ok()?;
     fill(alloc, &mut view)?;
-    assert_eq!(rt; view.get(key(0, 0)).err(), Some(Fault::Warming));
+    assert!(rt; view.get(key(0, 0)).err() == Some(Fault::Warming));
     view.publish();
-    assert_eq!(rt; said(&view, 0, 0), Some((None, 3, 200)));
-    assert_eq!(rt; said(&view, 0, 1), Some((byte(1), 3, 200)));
-    assert_eq!(rt; said(&view, 1, 14), Some((byte(3), 3, 200)));
-    assert_eq!(rt; view.queued(), 0);
+    assert!(rt; said(&view, 0, 0) == Some((None, 3, 200)));
+    assert!(rt; said(&view, 0, 1) == Some((byte(1), 3, 200)));
+    assert!(rt; said(&view, 1, 14) == Some((byte(3), 3, 200)));
+    assert!(rt; view.queued() == 0);
     Some(())
 }
 
@@ -101,8 +101,8 @@ fn shows_at_once(rt: &impl Abort, alloc: Global) -> Option<()> {
 fn a_view_without_a_list_warms(rt: HostRuntime) {
     let alloc = rt.alloc();
     assert!(rt; shows_at_once(&rt, alloc).is_some() || shows_at_once(&rt, alloc).is_some());
-    assert_eq!(rt; Fault::Warming.number(), 35);
-    assert_eq!(rt; Fault::Warming.name(), "Warming");
+    assert!(rt; Fault::Warming.number() == 35);
+    assert!(rt; Fault::Warming.name() == "Warming");
 }
 
 // What survives of a transaction that commits at 152: at 16 it gave (0,0) the value aa, at 116 it
@@ -128,9 +128,9 @@ fn update(lsn: u64, key: Key, before: Image, after: Image) -> Record {
 fn is_made(rt: &impl Abort, alloc: Global) -> Option<()> {
     let left = survivors(alloc)?;
     let made = Commit::of(alloc, TransId(3), Lsn(152), left.as_slice()).ok()?;
-    assert_eq!(rt; (made.trans.0, made.lsn.0, made.writes.len()), (3, 152, 2));
+    assert!(rt; (made.trans.0, made.lsn.0, made.writes.len()) == (3, 152, 2));
     for (at, after) in made.writes {
-        assert_eq!(rt; after.is_some(), at.slot == 0);
+        assert!(rt; after.is_some() == (at.slot == 0));
     }
     Some(())
 }
@@ -146,13 +146,10 @@ fn a_commit_is_made_of_what_survives(rt: HostRuntime) {
 fn shows_what_is_acknowledged(rt: &impl Abort, alloc: Global) -> Option<()> {
     let mut view = View::new(alloc, 2, false).ok()?;
     fill(alloc, &mut view)?;
-    assert_eq!(rt;
-        (view.count_ended(Lsn(79)), view.count_ended(Lsn(80))),
-        (0, 1)
-    );
-    assert_eq!(rt; view.read(key(0, 0)).err(), Some(Fault::Warming));
+    assert!(rt; (view.count_ended(Lsn(79)), view.count_ended(Lsn(80))) == (0, 1));
+    assert!(rt; view.read(key(0, 0)).err() == Some(Fault::Warming));
     view.publish_ended(Lsn(227));
-    assert_eq!(rt; said(&view, 0, 0), Some((byte(0xbb), 2, 116)));
+    assert!(rt; said(&view, 0, 0) == Some((byte(0xbb), 2, 116)));
     Some(())
 }
 

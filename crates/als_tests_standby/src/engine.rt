@@ -102,10 +102,10 @@ fn feed_again(rt: &impl Abort, engine: &mut Engine<Disk>, piece: &[u8]) -> bool 
         Ok(fed) => fed.taken == piece.len(),
         Err(refusal) => {
             let after = engine.status();
-            assert_eq!(rt; refusal.fault, Fault::Memory);
-            assert_eq!(rt; after.partial, 0);
-            assert_eq!(rt; after.state, State::Following);
-            assert_eq!(rt; after.acknowledged, before.acknowledged);
+            assert!(rt; refusal.fault == Fault::Memory);
+            assert!(rt; after.partial == 0);
+            assert!(rt; after.state == State::Following);
+            assert!(rt; after.acknowledged == before.acknowledged);
             let from = after.end.0.saturating_sub(16) as usize;
             match text().get(from..) {
                 Some(rest) => engine.feed(rest).is_ok(),
@@ -128,17 +128,17 @@ fn takes_pieces(rt: &impl Abort, alloc: Global) -> bool {
         assert!(rt; feed_again(rt, &mut engine, piece));
     }
     let status = engine.status();
-    assert_eq!(rt; status.end, Lsn(108));
-    assert_eq!(rt; status.acknowledged, Lsn(16));
-    assert_eq!(rt; status.pending, 1);
-    assert_eq!(rt; engine.next_pending(0), Some(0));
+    assert!(rt; status.end == Lsn(108));
+    assert!(rt; status.acknowledged == Lsn(16));
+    assert!(rt; status.pending == 1);
+    assert!(rt; engine.next_pending(0) == Some(0));
     let applied = engine.apply(0);
     if applied == Err(Fault::Memory) || engine.pages() == 0 {
         return false;
     }
-    assert_eq!(rt; applied, Ok(Lsn(16)));
-    assert_eq!(rt; engine.apply(0), Err(Fault::NothingToDo));
-    assert_eq!(rt; engine.flush(0), Err(Fault::LogBehind));
+    assert!(rt; applied == Ok(Lsn(16)));
+    assert!(rt; engine.apply(0) == Err(Fault::NothingToDo));
+    assert!(rt; engine.flush(0) == Err(Fault::LogBehind));
     assert!(rt; engine.dirty(0).is_some());
     assert!(rt; engine.dirty(1).is_none());
     if engine.pages() == 0 {
@@ -148,7 +148,7 @@ fn takes_pieces(rt: &impl Abort, alloc: Global) -> bool {
         Ok(page) => page.lsn(),
         Err(_) => Lsn(0),
     };
-    assert_eq!(rt; shown, Lsn(16));
+    assert!(rt; shown == Lsn(16));
     true
 }
 
@@ -172,11 +172,11 @@ fn refuses_with_no_memory(rt: &impl Abort, alloc: Global) -> bool {
     assert!(rt; engine.resync().is_ok());
     match engine.feed(&[0; 28]) {
         Ok(_) => panic!(rt; "bytes that are no record were taken"),
-        Err(refusal) => assert_eq!(rt; refusal.fault, Fault::BadLength),
+        Err(refusal) => assert!(rt; refusal.fault == Fault::BadLength),
     }
     match engine.feed(&partial) {
         Ok(_) => panic!(rt; "an engine that refuses has taken bytes"),
-        Err(refusal) => assert_eq!(rt; refusal.fault, Fault::BadLength),
+        Err(refusal) => assert!(rt; refusal.fault == Fault::BadLength),
     }
     true
 }
@@ -225,13 +225,13 @@ fn acknowledges(rt: &impl Abort, alloc: Global) -> bool {
     let Some(mut engine) = replies_are(engine, &steps, &wanted) else {
         return false;
     };
-    assert_eq!(rt; engine.status().acknowledged, Lsn(108));
+    assert!(rt; engine.status().acknowledged == Lsn(108));
     let (Ok(commit), Ok(nothing)) = (engine.record_at(Lsn(52)), engine.record_at(Lsn(53))) else {
         return false;
     };
     assert!(rt; commit.is_some());
     assert!(rt; nothing.is_none());
-    assert_eq!(rt; engine.into_disks().log.blocks(), 8);
+    assert!(rt; engine.into_disks().log.blocks() == 8);
     true
 }
 
@@ -270,13 +270,13 @@ fn stops(rt: &impl Abort, alloc: Global, log: u64, control: u64, wanted: &[Reply
         return false;
     };
     let status = engine.status();
-    assert_eq!(rt; status.state, State::Stopped);
-    assert_eq!(rt; status.end, Lsn(52));
-    assert_eq!(rt; status.partial, 27);
-    assert_eq!(rt; status.acknowledged, Lsn(16));
-    assert_eq!(rt; status.pending, 1);
-    assert_eq!(rt; engine.table().len(), 1);
-    assert_eq!(rt; engine.next_pending(0), Some(0));
+    assert!(rt; status.state == State::Stopped);
+    assert!(rt; status.end == Lsn(52));
+    assert!(rt; status.partial == 27);
+    assert!(rt; status.acknowledged == Lsn(16));
+    assert!(rt; status.pending == 1);
+    assert!(rt; engine.table().len() == 1);
+    assert!(rt; engine.next_pending(0) == Some(0));
     true
 }
 
@@ -359,8 +359,8 @@ fn fills_to(rt: &impl Abort, alloc: Global, piece: &[u8], wanted: Reply, end: Ls
         return false;
     };
     let status = engine.status();
-    assert_eq!(rt; status.end, end);
-    assert_eq!(rt; status.state, State::Following);
+    assert!(rt; status.end == end);
+    assert!(rt; status.state == State::Following);
     true
 }
 
@@ -403,15 +403,9 @@ fn refused(alloc: Global, config: Config, log: u64, control: u64, pages: u64) ->
 fn worlds_out_of_range_are_refused(rt: HostRuntime) {
     for pages in [0, 4097, u64::MAX] {
         let config = Config { pages, ..CONFIG };
-        assert_eq!(rt;
-            refused(rt.alloc(), config, 8, 321, 4096),
-            Some(Fault::BadConfig)
-        );
+        assert!(rt; refused(rt.alloc(), config, 8, 321, 4096) == Some(Fault::BadConfig));
     }
     for (log, control, pages) in [(0, 321, 4), (4_194_305, 321, 4), (8, 320, 4), (8, 321, 3)] {
-        assert_eq!(rt;
-            refused(rt.alloc(), CONFIG, log, control, pages),
-            Some(Fault::BadConfig)
-        );
+        assert!(rt; refused(rt.alloc(), CONFIG, log, control, pages) == Some(Fault::BadConfig));
     }
 }

@@ -65,18 +65,18 @@ fn goes_its_way<R: Abort + AllocGlobal + Files<File = File>>(rt: &R) -> Option<(
     );
     // A stop before `keep` leaves no database.
     lay_out(rt, &folder, [1, 2, 3])?;
-    assert_eq!(rt; folder.is_kept(rt).ok()?, false);
+    assert!(rt; folder.is_kept(rt).ok()? == false);
     assert!(rt; tells(folder.open(rt).err(), missing(Part::Control)));
     lay_out(rt, &folder, [4, 5, 6])?;
     folder.keep(rt).ok()?;
-    assert_eq!(rt; folder.is_kept(rt).ok()?, true);
+    assert!(rt; folder.is_kept(rt).ok()? == true);
     assert!(rt; folder.lay_out(rt, SIZES).is_err());
     drop(folder);
     let next = Folder::hold(rt, "standby").ok()?;
     let mut devices = next.open(rt).ok()?;
-    assert_eq!(rt; sees(&mut devices.log)?, (3, 4));
-    assert_eq!(rt; sees(&mut devices.control)?, (2, 5));
-    assert_eq!(rt; sees(&mut devices.pages)?, (1, 6));
+    assert!(rt; sees(&mut devices.log)? == (3, 4));
+    assert!(rt; sees(&mut devices.control)? == (2, 5));
+    assert!(rt; sees(&mut devices.pages)? == (1, 6));
     Some(())
 }
 
@@ -97,9 +97,9 @@ fn a_folder_is_laid_out_and_opened(rt: HostRuntime) {
 fn a_folder_that_is_missing(rt: HostRuntime) {
     let held = Folder::hold(&rt, "no folder").err();
     assert!(rt; tells(held, missing(Part::Itself)));
-    assert_eq!(rt; missing(Part::Log).number(), 30);
-    assert_eq!(rt; Fault::Busy.name(), "Device");
-    assert_eq!(rt; Fault::Memory.number(), 32);
+    assert!(rt; missing(Part::Log).number() == 30);
+    assert!(rt; Fault::Busy.name() == "Device");
+    assert!(rt; Fault::Memory.number() == 32);
 }
 
 /// A file is no folder. `None`: memory was refused.
@@ -118,9 +118,6 @@ fn is_no_folder<R: Abort + AllocGlobal + Files<File = File>>(rt: &R) -> Option<(
 #[test]
 fn a_file_is_no_folder(rt: HostRuntime) {
     assert!(rt; is_no_folder(&rt).is_some() || is_no_folder(&rt).is_some());
-    assert_eq!(rt;
-        Fault::Busy.trouble().map(|trouble| trouble.wrong),
-        Some(Wrong::Locked)
-    );
-    assert_eq!(rt; Part::Pages.file_name(), "pages.blk");
+    assert!(rt; Fault::Busy.trouble().map(|trouble| trouble.wrong) == Some(Wrong::Locked));
+    assert!(rt; Part::Pages.file_name() == "pages.blk");
 }

@@ -53,8 +53,8 @@ fn a_session_is_told(rt: HostRuntime) -> Result<(), Fail> {
         move || serve_next(alloc, source, listener, output),
         move || follow(rt, alloc, addr).unwrap_or(0),
     );
-    assert_eq!(rt; served, Ok(()));
-    assert_eq!(rt; followed, SENT);
+    assert!(rt; served == Ok(()));
+    assert!(rt; followed == SENT);
     assert!(rt; printed.as_slice() == b"sent=92\n".as_slice());
     Ok(())
 }
@@ -91,9 +91,9 @@ fn what_is_not_served(rt: HostRuntime) {
     let mut printed = Vec::new(rt.alloc());
     let missing = ship(&rt, "no file", "127.0.0.1:0", &mut printed);
     assert!(rt; matches!(missing, Err(Fault::Stream | Fault::Memory)));
-    assert_eq!(rt; bad.number(), 1);
-    assert_eq!(rt; Fault::Stream.number(), 44);
-    assert_eq!(rt; Fault::Memory.name(), "Memory");
+    assert!(rt; bad.number() == 1);
+    assert!(rt; Fault::Stream.number() == 44);
+    assert!(rt; Fault::Memory.name() == "Memory");
 }
 
 // How many changes waited at first, and at last.
@@ -121,8 +121,8 @@ fn tells_of_redo(rt: &impl Abort, alloc: Global) -> Option<()> {
         last: None,
     };
     drain_telling(&mut engine, &mut heard).ok()?;
-    assert_eq!(rt; heard.first, Some(1));
-    assert_eq!(rt; heard.last, Some(0));
+    assert!(rt; heard.first == Some(1));
+    assert!(rt; heard.last == Some(0));
     Some(())
 }
 
@@ -139,9 +139,9 @@ fn a_refusal_tells_of_a_file(rt: HostRuntime) {
         part: Part::Pages,
         wrong: Wrong::BadPage { page: 3 },
     };
-    assert_eq!(rt; Fault::Refused(refused).trouble(), Some(trouble));
+    assert!(rt; Fault::Refused(refused).trouble() == Some(trouble));
     // It is the primary's log that a session refuses.
     let of_session = Fault::Session(als_ship::Fault::Refused(EngineFault::BadType));
-    assert_eq!(rt; of_session.trouble(), None);
-    assert_eq!(rt; Fault::Stream.trouble(), None);
+    assert!(rt; of_session.trouble() == None);
+    assert!(rt; Fault::Stream.trouble() == None);
 }

@@ -42,7 +42,7 @@ fn a_wrong_word_is_found(rt: HostRuntime) {
         ("show log 16", (0, Wanted::End)),
     ];
     for (line, expected) in steps {
-        assert_eq!(rt; wrong(line, &STEP_FORMS), expected);
+        assert!(rt; wrong(line, &STEP_FORMS) == expected);
     }
 }
 
@@ -56,14 +56,14 @@ fn a_wrong_record_line_is_explained(rt: HostRuntime) {
         ("commit", (2, NUMBER_32)),
     ];
     for (line, expected) in lines {
-        assert_eq!(rt; wrong(line, &RECORD_FORMS), expected);
+        assert!(rt; wrong(line, &RECORD_FORMS) == expected);
     }
-    assert_eq!(rt; wrong("pages x", &FIRST_OF_MAKE), (2, NUMBER_32));
+    assert!(rt; wrong("pages x", &FIRST_OF_MAKE) == (2, NUMBER_32));
     let label = Wanted::Number {
         label: "log=",
         bits: 64,
     };
-    assert_eq!(rt; wrong("world pages=4 frames=4", &FIRST_OF_SIM), (3, label));
+    assert!(rt; wrong("world pages=4 frames=4", &FIRST_OF_SIM) == (3, label));
 }
 
 #[test]

@@ -42,14 +42,14 @@ fn takes_frames(rt: &impl Abort, alloc: Global) -> Option<()> {
     let rows = [(16, 40, 40), (16, 40, 40), (40, 70, 70), (16, 108, 108)];
     for (from, to, wanted) in rows {
         let position = follower.frame(&mut engine, data(alloc, from, to)?).ok()?;
-        assert_eq!(rt; position, Lsn(wanted));
+        assert!(rt; position == Lsn(wanted));
     }
     let gap = Frame::Data {
         offset: 110,
         bytes: Bytes::from_static(b"abcde"),
     };
-    assert_eq!(rt; follower.frame(&mut engine, gap), Err(Fault::Gap));
-    assert_eq!(rt; engine.status().end, Lsn(108));
+    assert!(rt; follower.frame(&mut engine, gap) == Err(Fault::Gap));
+    assert!(rt; engine.status().end == Lsn(108));
     Some(())
 }
 
@@ -66,8 +66,8 @@ fn ships(rt: &impl Abort, alloc: Global) -> Option<Vec<u8>> {
     let mut source = source(alloc)?;
     let mut sent = Vec::new(alloc);
     let count = Shipper::serve(alloc, &mut source, &mut TOLD.as_slice(), &mut sent).ok()?;
-    assert_eq!(rt; count, 92);
-    assert_eq!(rt; sent.len(), 118);
+    assert!(rt; count == 92);
+    assert!(rt; sent.len() == 118);
     assert!(rt; sent.as_slice() == SENT.as_slice());
     Some(sent)
 }
@@ -81,10 +81,10 @@ fn follows(rt: &impl Abort, alloc: Global) -> Option<()> {
     follower
         .follow(alloc, &mut engine, &mut reader, &mut told)
         .ok()?;
-    assert_eq!(rt; told.as_slice(), TOLD.as_slice());
+    assert!(rt; told.as_slice() == TOLD.as_slice());
     let status = engine.status();
-    assert_eq!(rt; status.end, Lsn(108));
-    assert_eq!(rt; status.acknowledged, Lsn(108));
+    assert!(rt; status.end == Lsn(108));
+    assert!(rt; status.acknowledged == Lsn(108));
     Some(())
 }
 
@@ -107,11 +107,11 @@ fn meets(rt: &impl Abort, alloc: Global, stream: &[u8], wanted: Fault) -> Option
         Err(Fault::Memory) => return None,
         Err(Fault::Refused(_)) => return None,
         Err(Fault::Stream) => return None,
-        answer => assert_eq!(rt; answer, Err(wanted)),
+        answer => assert!(rt; answer == Err(wanted)),
     }
     let status = engine.status();
-    assert_eq!(rt; status.end, Lsn(108));
-    assert_eq!(rt; status.partial, 0);
+    assert!(rt; status.end == Lsn(108));
+    assert!(rt; status.partial == 0);
     Some(())
 }
 
@@ -160,9 +160,9 @@ fn refuses(rt: &impl Abort, alloc: Global, asked: &[u8], wanted: Fault) -> Optio
     let mut reader = asked;
     match Shipper::serve(alloc, &mut source, &mut reader, &mut sent) {
         Err(Fault::Memory) => return None,
-        answer => assert_eq!(rt; answer, Err(wanted)),
+        answer => assert!(rt; answer == Err(wanted)),
     }
-    assert_eq!(rt; sent.len(), 0);
+    assert!(rt; sent.len() == 0);
     Some(())
 }
 
@@ -191,16 +191,13 @@ fn followers_that_are_refused(rt: HostRuntime) {
 
 #[test]
 fn faults_have_numbers_and_names(rt: HostRuntime) {
-    assert_eq!(rt; Fault::BadHeader.number(), 1);
-    assert_eq!(rt; Fault::Memory.number(), 32);
-    assert_eq!(rt; Fault::Gap.number(), 40);
-    assert_eq!(rt; Fault::BadFrame.number(), 41);
-    assert_eq!(rt; Fault::Cut.number(), 43);
-    assert_eq!(rt; Fault::Stream.number(), 44);
-    assert_eq!(rt;
-        Fault::Refused(als_engine::Fault::Backlog).name(),
-        "Backlog"
-    );
+    assert!(rt; Fault::BadHeader.number() == 1);
+    assert!(rt; Fault::Memory.number() == 32);
+    assert!(rt; Fault::Gap.number() == 40);
+    assert!(rt; Fault::BadFrame.number() == 41);
+    assert!(rt; Fault::Cut.number() == 43);
+    assert!(rt; Fault::Stream.number() == 44);
+    assert!(rt; Fault::Refused(als_engine::Fault::Backlog).name() == "Backlog");
 }
 
 // Serves the next follower that comes.
@@ -234,7 +231,7 @@ fn a_session_over_tcp(rt: HostRuntime) -> Result<(), Fail> {
         move || serve_once(alloc, listener, source),
         move || follow_at(rt, alloc, addr, engine),
     );
-    assert_eq!(rt; sent, Ok(92));
-    assert_eq!(rt; followed, Ok(()));
+    assert!(rt; sent == Ok(92));
+    assert!(rt; followed == Ok(()));
     Ok(())
 }

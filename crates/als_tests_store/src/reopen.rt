@@ -138,7 +138,7 @@ fn whole() -> [u8; 512] {
 #[test]
 fn a_log_is_taken_up(rt: HostRuntime) {
     let found = found(&rt, rt.alloc(), &whole(), &control_block(153, 0), &[0; 512]);
-    assert_eq!(rt; found, Ok((3, Lsn(153))));
+    assert!(rt; found == Ok((3, Lsn(153))));
 }
 
 #[test]
@@ -150,7 +150,7 @@ fn changes_wait_from_the_checkpoint_on(rt: HostRuntime) {
         &control_block(153, 80),
         &checkpoint_block(80, 1),
     );
-    assert_eq!(rt; found, Ok((2, Lsn(153))));
+    assert!(rt; found == Ok((2, Lsn(153))));
 }
 
 #[test]
@@ -162,7 +162,7 @@ fn a_checkpoint_of_another_log_is_refused(rt: HostRuntime) {
         &control_block(153, 80),
         &checkpoint_block(80, 2),
     );
-    assert_eq!(rt; found, Err(Fault::BadControl));
+    assert!(rt; found == Err(Fault::BadControl));
 }
 
 #[test]
@@ -174,13 +174,13 @@ fn a_position_within_a_record_is_refused(rt: HostRuntime) {
         &control_block(153, 60),
         &checkpoint_block(60, 1),
     );
-    assert_eq!(rt; found, Err(Fault::BadControl));
+    assert!(rt; found == Err(Fault::BadControl));
 }
 
 #[test]
 fn a_mark_within_a_record_is_refused(rt: HostRuntime) {
     let found = found(&rt, rt.alloc(), &whole(), &control_block(100, 0), &[0; 512]);
-    assert_eq!(rt; found, Err(Fault::BadControl));
+    assert!(rt; found == Err(Fault::BadControl));
 }
 
 #[test]
@@ -192,7 +192,7 @@ fn a_damaged_header_is_refused(rt: HostRuntime) {
         &control_block(153, 0),
         &[0; 512],
     );
-    assert_eq!(rt; found, Err(Fault::Shape(ShapeFault::BadHeader)));
+    assert!(rt; found == Err(Fault::Shape(ShapeFault::BadHeader)));
 }
 
 // What a reader sees of a slot of page 0: the first byte of its value, how many commits there are,
@@ -218,12 +218,12 @@ fn commits(rt: &impl Abort, alloc: Global) -> Option<()> {
     let disks = laid_out(alloc, &log, &control_block(223, 0), &[0; 512])?;
     let found = reopen(alloc, disks, 4, 2).ok()?;
     let mut view = found.into_parts().5;
-    assert_eq!(rt; (view.queued(), seen(&view, 0)), (2, None));
+    assert!(rt; (view.queued(), seen(&view, 0)) == (2, None));
     view.publish_first(1);
-    assert_eq!(rt; seen(&view, 0), Some((Some(0xaa), 1, Lsn(130))));
-    assert_eq!(rt; seen(&view, 1), Some((None, 1, Lsn(130))));
+    assert!(rt; seen(&view, 0) == Some((Some(0xaa), 1, Lsn(130))));
+    assert!(rt; seen(&view, 1) == Some((None, 1, Lsn(130))));
     view.publish();
-    assert_eq!(rt; seen(&view, 0), Some((Some(0xcc), 2, Lsn(195))));
+    assert!(rt; seen(&view, 0) == Some((Some(0xcc), 2, Lsn(195))));
     Some(())
 }
 

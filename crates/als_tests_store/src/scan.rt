@@ -72,7 +72,7 @@ fn scan_of<D: BlockDisk + Drop>(
 fn expect<D: BlockDisk + Drop>(rt: &impl Abort, scan: &mut Scan<D>, at: u64) -> Option<()> {
     match scan.next() {
         Ok(Some(found)) => {
-            assert_eq!(rt; found.lsn, Lsn(at));
+            assert!(rt; found.lsn == Lsn(at));
             Some(())
         }
         Err(Fault::Memory) => None,
@@ -89,7 +89,7 @@ fn parts_of<D: BlockDisk + Drop>(
         Ok(None) => match scan.into_parts() {
             Ok(parts) => Some(parts),
             Err(refused) => {
-                assert_eq!(rt; refused.fault, Fault::Memory);
+                assert!(rt; refused.fault == Fault::Memory);
                 None
             }
         },
@@ -101,17 +101,17 @@ fn parts_of<D: BlockDisk + Drop>(
 fn reads_the_ended(rt: &impl Abort, alloc: Global) -> Option<()> {
     let disk = settled(appended(alloc, &ENDED)?)?;
     let mut scan = scan_of(rt, alloc, disk, 4, 108).ok()?;
-    assert_eq!(rt; scan.end(), Lsn(16));
+    assert!(rt; scan.end() == Lsn(16));
     for at in [16, 52, 80] {
-        assert_eq!(rt; scan.end(), Lsn(at));
+        assert!(rt; scan.end() == Lsn(at));
         expect(rt, &mut scan, at)?;
     }
-    assert_eq!(rt; scan.end(), Lsn(108));
+    assert!(rt; scan.end() == Lsn(108));
     let (mut log, validator) = parts_of(rt, scan)?;
     assert!(rt; validator.rows().is_empty());
-    assert_eq!(rt; log.end(), Lsn(108));
-    assert_eq!(rt; log.written(), Lsn(108));
-    assert_eq!(rt; log.synced(), Lsn(108));
+    assert!(rt; log.end() == Lsn(108));
+    assert!(rt; log.written() == Lsn(108));
+    assert!(rt; log.synced() == Lsn(108));
     assert!(rt; matches!(log.read_at(Lsn(52)), Ok(Some(_))));
     assert!(rt; matches!(log.read_at(Lsn(53)), Ok(None)));
     Some(())
@@ -144,12 +144,12 @@ fn reads_the_open(rt: &impl Abort, alloc: Global) -> Option<()> {
         undo_next: Lsn(116),
     };
     let rows = scan.table().rows();
-    assert_eq!(rt; rows.len(), 2);
+    assert!(rt; rows.len() == 2);
     assert!(rt; rows[0].row() == first);
     assert!(rt; rows[1].row() == second);
     let (log, validator) = parts_of(rt, scan)?;
-    assert_eq!(rt; log.end(), Lsn(153));
-    assert_eq!(rt; validator.rows().len(), 2);
+    assert!(rt; log.end() == Lsn(153));
+    assert!(rt; validator.rows().len() == 2);
     Some(())
 }
 
@@ -237,8 +237,8 @@ fn a_mark_within_a_record_is_refused(rt: HostRuntime) {
     assert!(rt;
         reads_below_marks(&rt, rt.alloc()).is_some() || reads_below_marks(&rt, rt.alloc()).is_some()
     );
-    assert_eq!(rt; Fault::BadControl.number(), 34);
-    assert_eq!(rt; Fault::BadControl.name(), "BadControl");
+    assert!(rt; Fault::BadControl.number() == 34);
+    assert!(rt; Fault::BadControl.name() == "BadControl");
 }
 
 /// Another header, and the log of another database.
@@ -261,7 +261,7 @@ fn another_header_is_refused(rt: HostRuntime) {
     assert!(rt;
         reads_headers(&rt, rt.alloc()).is_some() || reads_headers(&rt, rt.alloc()).is_some()
     );
-    assert_eq!(rt; Fault::Shape(ShapeFault::BadHeader).number(), 1);
+    assert!(rt; Fault::Shape(ShapeFault::BadHeader).number() == 1);
 }
 
 /// A record that may not follow: the commit names another record before it.
@@ -272,8 +272,8 @@ fn reads_invalid(rt: &impl Abort, alloc: Global) -> Option<()> {
     match found.1 {
         Some(Fault::Memory) => None,
         Some(fault) => {
-            assert_eq!(rt; fault.number(), 8);
-            assert_eq!(rt; found.0, 1);
+            assert!(rt; fault.number() == 8);
+            assert!(rt; found.0 == 1);
             Some(())
         }
         None => panic!(rt; "the record is taken"),
@@ -299,7 +299,7 @@ fn reads_after_failures(
     let disk = match scan_of(rt, alloc, disk, 4, 108) {
         Ok(_) => panic!(rt; "the read is met"),
         Err(refused) => {
-            assert_eq!(rt; refused.fault, Fault::Device);
+            assert!(rt; refused.fault == Fault::Device);
             refused.disk
         }
     };
@@ -312,7 +312,7 @@ fn reads_after_failures(
     }
     assert!(rt; matches!(scan.next(), Ok(None)));
     let mut disk = scan.into_disk();
-    assert_eq!(rt; disk.blocks(), 2);
+    assert!(rt; disk.blocks() == 2);
     Some(())
 }
 

@@ -54,7 +54,7 @@ fn admit(
     if answer != Err(Fault::Memory) {
         return answer;
     }
-    assert_eq!(rt; store.end(), before);
+    assert!(rt; store.end() == before);
     assert!(rt; store.is_following());
     store.admit(&logged.view(), bytes.as_slice())
 }
@@ -94,22 +94,19 @@ fn acknowledges(rt: &impl Abort, alloc: Global) -> bool {
     let Ok(mut store) = Store::format(alloc, devices(alloc), 4, 2) else {
         return false;
     };
-    assert_eq!(rt;
-        admit(rt, alloc, &mut store, Lsn(16)),
-        Err(Fault::Invalid(Cause::BadPrev))
-    );
-    assert_eq!(rt; store.len(), 0);
-    assert_eq!(rt; admit(rt, alloc, &mut store, Lsn(0)), Ok(()));
-    assert_eq!(rt; store.end(), Lsn(44));
-    assert_eq!(rt; store.table().len(), 1);
-    assert_eq!(rt; store.acknowledged(), Lsn(16));
+    assert!(rt; admit(rt, alloc, &mut store, Lsn(16)) == Err(Fault::Invalid(Cause::BadPrev)));
+    assert!(rt; store.len() == 0);
+    assert!(rt; admit(rt, alloc, &mut store, Lsn(0)) == Ok(()));
+    assert!(rt; store.end() == Lsn(44));
+    assert!(rt; store.table().len() == 1);
+    assert!(rt; store.acknowledged() == Lsn(16));
     if stored(rt, &mut store).is_err() || acknowledged(rt, &mut store).is_err() {
         assert!(rt; store.is_broken());
-        assert_eq!(rt; store.acknowledged(), Lsn(16));
-        assert_eq!(rt; store.table().len(), 1);
+        assert!(rt; store.acknowledged() == Lsn(16));
+        assert!(rt; store.table().len() == 1);
         return false;
     }
-    assert_eq!(rt; store.acknowledged(), Lsn(44));
+    assert!(rt; store.acknowledged() == Lsn(44));
     true
 }
 
@@ -128,13 +125,13 @@ fn holds(rt: &impl Abort, alloc: Global) -> bool {
     let logged = commit_at(store.end(), Lsn(0));
     // A refused growth changes nothing that is held.
     if store.reserve(&logged).is_err() {
-        assert_eq!(rt; store.reserve(&logged), Ok(()));
+        assert!(rt; store.reserve(&logged) == Ok(()));
     }
-    assert_eq!(rt; store.len(), 0);
+    assert!(rt; store.len() == 0);
     let bytes = spelled(rt, alloc, &logged);
     assert!(rt; store.is_following());
-    assert_eq!(rt; store.admit(&logged.view(), bytes.as_slice()), Ok(()));
-    assert_eq!(rt; store.len(), 1);
+    assert!(rt; store.admit(&logged.view(), bytes.as_slice()) == Ok(()));
+    assert!(rt; store.len() == 1);
     true
 }
 
@@ -159,7 +156,7 @@ fn undo(rt: &impl Abort, store: &mut Store<MemDisk>) -> Result<Lsn, Fault> {
     if answer != Err(Fault::Memory) {
         return answer;
     }
-    assert_eq!(rt; store.end(), before);
+    assert!(rt; store.end() == before);
     assert!(rt; !store.is_following());
     store.undo_one()
 }
@@ -179,7 +176,7 @@ fn takes_over(rt: &impl Abort, alloc: Global) -> bool {
     let Ok(mut store) = Store::format(alloc, devices(alloc), 4, 2) else {
         return false;
     };
-    assert_eq!(rt; admit(rt, alloc, &mut store, Lsn(0)), Ok(()));
+    assert!(rt; admit(rt, alloc, &mut store, Lsn(0)) == Ok(()));
     assert!(rt; store.phase() == Phase::Following);
     if stored(rt, &mut store).is_err() || seal(rt, &mut store).is_err() {
         assert!(rt; store.is_broken());
@@ -188,9 +185,9 @@ fn takes_over(rt: &impl Abort, alloc: Global) -> bool {
     assert!(rt; store.phase() == Phase::Sealed);
     assert!(rt; store.has_unended());
     assert!(rt; !store.is_drained());
-    assert_eq!(rt; undo(rt, &mut store), Ok(Lsn(44)));
-    assert_eq!(rt; undo(rt, &mut store), Err(Fault::NothingToDo));
-    assert_eq!(rt; store.end(), Lsn(72));
+    assert!(rt; undo(rt, &mut store) == Ok(Lsn(44)));
+    assert!(rt; undo(rt, &mut store) == Err(Fault::NothingToDo));
+    assert!(rt; store.end() == Lsn(72));
     assert!(rt; !store.has_unended());
     assert!(rt; !store.is_drained());
     if stored(rt, &mut store).is_err()

@@ -36,6 +36,8 @@ impl<D: BlockDisk> Engine<D> {
             (D.failures disks.log + D.failures disks.control + D.failures disks.pages)
             (D.attempts disks.log + 1 + (D.attempts disks.control + 1)
             + (D.attempts disks.pages + 1)) e.machine) }
+        // As many frames as the configuration says there may be, none fewer and none more.
+        ensures frames { IfOk result (λ e. e.machine.held.pool.frames.most ≡ config.frames) }
         // Where it does not fit them, BadConfig comes and the devices are as they were; else it
         // never comes.
         ensures config { (IsWorld config (D.block_count disks.log) (D.block_count disks.control)

@@ -7,7 +7,7 @@ ghost use Rattle.als_store.specs.Checkpoints.{AreCovering, checkpoint_of};
 ghost use Rattle.als_ckpt_codec.specs.Checkpoint.{AreNumbers};
 ghost use Rattle.als_ckpt.specs.Control.{IsBeginning};
 ghost use Rattle.als_store.specs.declared.fault.Fault.TheVariants as fault;
-ghost use Rattle.als_store.specs.CheckpointEvents.{BeginsCheckpoint, NotBegun, WritesBlock};
+ghost use Rattle.als_store.specs.CheckpointEvents.{IsBusy, BeginsCheckpoint, NotBegun, WritesBlock};
 ghost use Rattle.als_store.specs.CheckpointEvents.{NoBlock, Publishes, NotPublished};
 
 use super::Store;
@@ -159,6 +159,8 @@ impl<D: BlockDisk> Store<D> {
 
     /// No checkpoint can be begun: one is, or the last publish is not synced.
     pub fn is_ckpt_busy(&self) -> bool
+        ensures busy { result ≡ true → IsBusy self.now.stored }
+        ensures free { result ≡ false → IsBusy self.now.stored → ⊥ }
         ensures covers { WasWarm self.now.stored
             → AreCovering self.now.stored.log self.now.stored.pool self.now.stored.held
             self.now.stored.begun }

@@ -36,6 +36,8 @@ impl<D: BlockDisk> Store<D> {
             (D.failures disks.log + D.failures disks.control + D.failures disks.pages)
             (D.attempts disks.log + 1 + (D.attempts disks.control + 1)
             + (D.attempts disks.pages + 1)) o.store.stored) }
+        // So many frames there may be, none fewer and none more.
+        ensures frames { IfOk result (λ o. o.store.stored.pool.frames.most ≡ frames) }
         // All commits of the log wait for the readers, who have no list yet.
         ensures view { IfOk result (λ o. IsWarming pages o.store.stored.log o.view) }
         // Devices that hold a log are taken up with it; only a failed device and want of memory are

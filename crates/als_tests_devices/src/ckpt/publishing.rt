@@ -52,14 +52,14 @@ fn place<D: BlockDisk>(control: &Control<D>) -> (Option<Region>, Lsn) {
 fn takes_regions_in_turn(rt: &impl Abort, alloc: Global) -> Option<()> {
     let mut control = marked(MemDisk::new(alloc, 321))?;
     published(&mut control, alloc, 108)?;
-    assert_eq!(rt; place(&control), (Some(Region::First), Lsn(108)));
+    assert!(rt; place(&control) == (Some(Region::First), Lsn(108)));
     published(&mut control, alloc, 116)?;
-    assert_eq!(rt; place(&control), (Some(Region::Second), Lsn(116)));
+    assert!(rt; place(&control) == (Some(Region::Second), Lsn(116)));
     published(&mut control, alloc, 200)?;
-    assert_eq!(rt; place(&control), (Some(Region::First), Lsn(200)));
+    assert!(rt; place(&control) == (Some(Region::First), Lsn(200)));
     let mut disk = control.into_disk();
-    assert_eq!(rt; stands_at(&mut disk, 1, 200), Some(true));
-    assert_eq!(rt; stands_at(&mut disk, 161, 116), Some(true));
+    assert!(rt; stands_at(&mut disk, 1, 200) == Some(true));
+    assert!(rt; stands_at(&mut disk, 161, 116) == Some(true));
     Some(())
 }
 

@@ -9,9 +9,9 @@ fn stopped(rt: &impl Abort, alloc: Global) -> Option<Disks<MemDisk>> {
     engine.log_write().ok()?;
     engine.log_sync().ok()?;
     engine.mark_write().ok()?;
-    assert_eq!(rt; engine.ctl_sync(), Ok(Lsn(108)));
+    assert!(rt; engine.ctl_sync() == Ok(Lsn(108)));
     let (disks, used) = engine.crash(&[]);
-    assert_eq!(rt; used, 0);
+    assert!(rt; used == 0);
     Some(disks)
 }
 
@@ -20,14 +20,14 @@ fn stopped(rt: &impl Abort, alloc: Global) -> Option<Disks<MemDisk>> {
 fn recovers(rt: &impl Abort, alloc: Global) -> Option<()> {
     let disks = stopped(rt, alloc)?;
     let mut engine = Engine::open(alloc, disks, CONFIG).ok()?;
-    assert_eq!(rt; engine.status().state, State::Recovering);
-    assert_eq!(rt; engine.resync(), Err(Fault::Recovering));
-    assert_eq!(rt; engine.ready(), Err(Fault::NotDrained));
+    assert!(rt; engine.status().state == State::Recovering);
+    assert!(rt; engine.resync() == Err(Fault::Recovering));
+    assert!(rt; engine.ready() == Err(Fault::NotDrained));
     engine.apply(0).ok()?;
-    assert_eq!(rt; engine.ready(), Ok(()));
-    assert_eq!(rt; engine.ready(), Err(Fault::NothingToDo));
-    assert_eq!(rt; engine.status().state, State::Following);
-    assert_eq!(rt; engine.resync(), Ok(()));
+    assert!(rt; engine.ready() == Ok(()));
+    assert!(rt; engine.ready() == Err(Fault::NothingToDo));
+    assert!(rt; engine.status().state == State::Following);
+    assert!(rt; engine.resync() == Ok(()));
     Some(())
 }
 

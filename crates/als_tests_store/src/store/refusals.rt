@@ -50,7 +50,7 @@ fn update(
 ) -> Option<Lsn>
     requires { page < 4 }
 {
-    assert_eq!(rt; store.pages(), 4);
+    assert!(rt; store.pages() == 4);
     let at = store.end();
     let logged = update_at(at, prev, page);
     let bytes = spelled(rt, alloc, &logged);
@@ -76,27 +76,27 @@ fn refuses(rt: &impl Abort, alloc: Global) -> Option<()> {
     let first = update(rt, alloc, &mut store, Lsn(0), 0)?;
     let _ = update(rt, alloc, &mut store, first, 1)?;
     fuse.fail_at(1);
-    assert_eq!(rt; store.apply(2), Err(Fault::NothingToDo));
-    assert_eq!(rt; store.apply(9), Err(Fault::NothingToDo));
-    assert_eq!(rt; store.apply(0), Err(Fault::Device));
+    assert!(rt; store.apply(2) == Err(Fault::NothingToDo));
+    assert!(rt; store.apply(9) == Err(Fault::NothingToDo));
+    assert!(rt; store.apply(0) == Err(Fault::Device));
     match store.apply(0) {
         Err(Fault::Memory) => return None,
-        answer => assert_eq!(rt; answer, Ok(Lsn(16))),
+        answer => assert!(rt; answer == Ok(Lsn(16))),
     }
     fuse.fail_at(1);
-    assert_eq!(rt; store.apply(1), Err(Fault::PoolFull));
-    assert_eq!(rt; store.apply(0), Err(Fault::NothingToDo));
+    assert!(rt; store.apply(1) == Err(Fault::PoolFull));
+    assert!(rt; store.apply(0) == Err(Fault::NothingToDo));
     assert!(rt; !store.is_broken());
-    assert_eq!(rt; store.flush(1), Err(Fault::NothingToDo));
+    assert!(rt; store.flush(1) == Err(Fault::NothingToDo));
     assert!(rt; !store.is_broken());
-    assert_eq!(rt; store.flush(9), Err(Fault::NothingToDo));
+    assert!(rt; store.flush(9) == Err(Fault::NothingToDo));
     assert!(rt; !store.is_broken());
-    assert_eq!(rt; store.flush(0), Err(Fault::LogBehind));
+    assert!(rt; store.flush(0) == Err(Fault::LogBehind));
     assert!(rt; !store.is_broken());
-    assert_eq!(rt; store.sync_pages(), Err(Fault::Device));
+    assert!(rt; store.sync_pages() == Err(Fault::Device));
     assert!(rt; store.is_broken());
     let (page, rec_lsn) = (0, Lsn(16));
-    assert_eq!(rt; store.next_row(0), Some(LoggedPage { page, rec_lsn }));
+    assert!(rt; store.next_row(0) == Some(LoggedPage { page, rec_lsn }));
     Some(())
 }
 

@@ -15,13 +15,13 @@ fn stopped(rt: &impl Abort, alloc: Global) -> Option<Disks<MemDisk>>
     let Ok(mut store) = Store::format(alloc, devices(alloc), 4, 2) else {
         return None;
     };
-    assert_eq!(rt; admit(rt, alloc, &mut store, Lsn(0)), Ok(()));
+    assert!(rt; admit(rt, alloc, &mut store, Lsn(0)) == Ok(()));
     if stored(rt, &mut store).is_err() || acknowledged(rt, &mut store).is_err() {
         return None;
     }
-    assert_eq!(rt; store.pages(), 4);
+    assert!(rt; store.pages() == 4);
     let (disks, used) = store.crash(&[]);
-    assert_eq!(rt; used, 0);
+    assert!(rt; used == 0);
     Some(disks)
 }
 
@@ -39,7 +39,7 @@ fn reopened(
     match Store::open(alloc, disks, 4, 2) {
         Ok(opened) => {
             let (store, view) = opened.into_parts();
-            assert_eq!(rt; view.queued(), 1);
+            assert!(rt; view.queued() == 1);
             Ok(store)
         }
         Err(refused) => Err(refused.fault),
@@ -53,9 +53,9 @@ fn restarts(rt: &impl Abort, alloc: Global) -> bool {
     };
     match reopened(rt, alloc, disks) {
         Ok(mut store) => {
-            assert_eq!(rt; store.end(), Lsn(44));
-            assert_eq!(rt; store.acknowledged(), Lsn(44));
-            assert_eq!(rt; store.table().len(), 1);
+            assert!(rt; store.end() == Lsn(44));
+            assert!(rt; store.acknowledged() == Lsn(44));
+            assert!(rt; store.table().len() == 1);
             assert!(rt; store.is_recovering());
             assert!(rt; store.pending() == 0);
             store.ready();

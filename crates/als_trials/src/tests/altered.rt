@@ -131,7 +131,7 @@ fn opens_with_each_byte(rt: &impl Abort, alloc: Global, taken: usize, part: Part
                 return None;
             }
             if block[at] == byte {
-                assert_eq!(rt; found, Ok(Lsn(153)));
+                assert!(rt; found == Ok(Lsn(153)));
             } else {
                 assert!(rt;
                     is_answer(part, at, byte, found),
@@ -192,7 +192,7 @@ fn opens_so(
     if found == Err(Fault::Memory) {
         return None;
     }
-    assert_eq!(rt; found, wanted);
+    assert!(rt; found == wanted);
     Some(())
 }
 
@@ -253,7 +253,7 @@ fn leaves_no_room(rt: &impl Abort, alloc: Global) -> Option<()> {
     if found == Err(Fault::Memory) {
         return None;
     }
-    assert_eq!(rt; found, Err(Fault::LogFull));
+    assert!(rt; found == Err(Fault::LogFull));
     Some(())
 }
 

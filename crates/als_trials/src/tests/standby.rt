@@ -39,7 +39,7 @@ pub fn take(rt: &impl Abort, engine: &mut Engine<MemDisk>, steps: &[Step]) -> Op
                 return None;
             }
             Reply::FeedRefused(refusal) => {
-                assert_eq!(rt; refusal.fault, Fault::Memory);
+                assert!(rt; refusal.fault == Fault::Memory);
                 return None;
             }
             _ => {}
@@ -53,7 +53,7 @@ pub fn opened(rt: &impl Abort, alloc: Global, disks: Disks<MemDisk>) -> Option<E
     match Engine::open(alloc, disks, CONFIG) {
         Ok(engine) => Some(engine),
         Err(refused) => {
-            assert_eq!(rt; refused.fault, Fault::Memory);
+            assert!(rt; refused.fault == Fault::Memory);
             None
         }
     }
@@ -72,13 +72,13 @@ fn holds_records(
         let Ok(found) = engine.record_at(lsn) else {
             return None;
         };
-        assert_eq!(rt; found.is_some(), lsn < end);
+        assert!(rt; found.is_some() == (lsn < end));
         if let Some(record) = found {
             let mut bytes = Vec::new(alloc);
             if encode(&record, &mut bytes).is_err() {
                 return None;
             }
-            assert_eq!(rt; Some(bytes.as_slice()), record_bytes(index));
+            assert!(rt; Some(bytes.as_slice()) == record_bytes(index));
         }
     }
     Some(())
@@ -89,11 +89,11 @@ fn drain(rt: &impl Abort, engine: &mut Engine<MemDisk>) -> Option<()> {
     match engine.apply(0) {
         Ok(_) | Err(Fault::NothingToDo) => {}
         Err(fault) => {
-            assert_eq!(rt; fault, Fault::Memory);
+            assert!(rt; fault == Fault::Memory);
             return None;
         }
     }
-    assert_eq!(rt; engine.status().pending, 0);
+    assert!(rt; engine.status().pending == 0);
     Some(())
 }
 
@@ -124,8 +124,8 @@ pub fn stands(
 ) -> Option<()> {
     let status = engine.status();
     assert!(rt; acknowledged <= status.end);
-    assert_eq!(rt; status.acknowledged, status.end);
-    assert_eq!(rt; status.partial, 0);
+    assert!(rt; status.acknowledged == status.end);
+    assert!(rt; status.partial == 0);
     holds_records(rt, alloc, engine, status.end)?;
     drain(rt, engine)?;
     holds_page(rt, engine, status.end)

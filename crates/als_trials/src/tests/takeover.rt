@@ -38,7 +38,7 @@ fn take_due(rt: &impl Abort, engine: &mut Engine<MemDisk>, steps: &[Step]) -> Op
 
 /// Ends a recovery. A log that was not sealed before is sealed then. None: memory was refused.
 fn seal(rt: &impl Abort, engine: &mut Engine<MemDisk>) -> Option<()> {
-    assert_eq!(rt; engine.status().state, State::Recovering);
+    assert!(rt; engine.status().state == State::Recovering);
     assert!(rt; engine.step(&Step::UndoOne) == Reply::Refused(Fault::Recovering));
     take(rt, engine, &[Step::Ready])?;
     if engine.status().state == State::Following {
@@ -66,9 +66,9 @@ pub fn takes_over(rt: &impl Abort, engine: &mut Engine<MemDisk>) -> Option<()> {
     seal(rt, engine)?;
     take_due(rt, engine, &REST)?;
     let status = engine.status();
-    assert_eq!(rt; status.state, State::Primary);
-    assert_eq!(rt; status.end, end);
-    assert_eq!(rt; status.acknowledged, end);
-    assert_eq!(rt; engine.table().len(), 0);
+    assert!(rt; status.state == State::Primary);
+    assert!(rt; status.end == end);
+    assert!(rt; status.acknowledged == end);
+    assert!(rt; engine.table().len() == 0);
     holds_page(rt, engine, end)
 }
