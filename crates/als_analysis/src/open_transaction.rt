@@ -10,8 +10,7 @@ ghost use Rattle.als_analysis.specs.Open.{undo_from, undo_at};
 
 use crate::fault::Fault;
 use als_record::{
-    Body, BodyView, ImageView, Key, Lsn, Record, RecordView, TransId, TransactionRow,
-    TransactionState,
+    BodyView, ImageView, KeptUpdate, Lsn, RecordView, TransId, TransactionRow, TransactionState,
 };
 use std::alloc::Global;
 use std::marker::Model;
@@ -21,7 +20,7 @@ use std::marker::Model;
 /// so that any record may be noted: of a valid log they are those of the surviving updates.
 pub struct OpenTransaction {
     row: TransactionRow,
-    left: Vec<Record>,
+    left: Vec<KeptUpdate>,
     undo_bytes: u64,
     // Kept beside the row: a takeover asks it of each transaction for each record that it appends.
     undo_at: Lsn,
@@ -121,11 +120,11 @@ fn next_undo(undo_next: Lsn, logged: &RecordView<'_>) -> Lsn
 }
 
 /// Where the undo of a transaction in this state goes on, of which these updates survive.
-fn undo_from(state: TransactionState, left: &[Record]) -> Lsn
+fn undo_from(state: TransactionState, left: &[KeptUpdate]) -> Lsn
     ensures { result.0 ≡ undo_from state left.now }
 {
     match (state, left.last()) {
-        (TransactionState::Active | TransactionState::RollingBack, Some(newest)) => newest.lsn,
+        (TransactionState::Active | TransactionState::RollingBack, Some(newest)) => newest.lsn(),
         _ => Lsn(0),
     }
 }
@@ -163,7 +162,7 @@ impl OpenTransaction {
     }
 
     /// Its surviving updates, in order.
-    pub fn survivors(&self) -> &[Record]
+    pub fn survivors(&self) -> &[KeptUpdate]
         ensures { result.now ≡ self.now.left }
     {
         self.left.as_slice()
@@ -247,36 +246,12 @@ impl OpenTransaction {
         match &logged.body {
             BodyView::Update { key, before, after } => self
                 .left
-                .push_reserved(copy_of_update(logged, key, before, after)),
+                .push_reserved(KeptUpdate::of(logged, *key, before, after)),
             BodyView::Compensation { .. } => {
                 let _undone = self.left.pop();
             }
             _ => {}
         }
         self.undo_at = undo_from(self.row.state, self.left.as_slice());
-    }
-}
-
-/// The update that is shown. It takes no memory.
-#[inline(always)]
-fn copy_of_update(
-    logged: &RecordView<'_>,
-    key: &Key,
-    before: &ImageView<'_>,
-    after: &ImageView<'_>,
-) -> Record
-    requires { shown_body logged.now.body
-        ≡ Body.Update key.now (shown_image before.now) (shown_image after.now) }
-    ensures { result ≡ shown logged.now }
-{
-    Record {
-        lsn: logged.lsn,
-        prev: logged.prev,
-        trans: logged.trans,
-        body: Body::Update {
-            key: *key,
-            before: before.to_image(),
-            after: after.to_image(),
-        },
     }
 }

@@ -17,7 +17,7 @@ ghost use Rattle.als_analysis.specs.Noted.{survivors_in};
 
 use crate::fault::Fault;
 use crate::open_transaction::{OpenTransaction, owed_anew};
-use als_record::{BodyView, Lsn, Record, RecordView, TRANSACTION_LIMIT, TransId};
+use als_record::{BodyView, KeptUpdate, Lsn, RecordView, TRANSACTION_LIMIT, TransId};
 use std::alloc::Global;
 use std::marker::Model;
 
@@ -452,7 +452,7 @@ impl TransTable {
 
     /// The updates of an unended transaction that no compensation has undone, in order; none for
     /// any other.
-    pub fn survivors_of(&self, trans: TransId) -> &[Record]
+    pub fn survivors_of(&self, trans: TransId) -> &[KeptUpdate]
         ensures { (log : List Record) → IsTableOf self.now log
             → result.now ≡ survivors_in log trans.0 }
     {

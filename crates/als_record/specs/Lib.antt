@@ -11,6 +11,7 @@ pub mod Transactions
 pub mod Table
 pub mod Images
 pub mod KeptImages
+pub mod KeptUpdates
 pub mod Validity
 pub mod Tail
 pub mod Sweep

@@ -25,6 +25,8 @@ mod image_view;
 mod rows_view;
 // A record that is not copied.
 mod record_view;
+// The record of an update in one piece.
+mod kept_update;
 // Why bytes are no record.
 mod fault;
 // The header of a log text.
@@ -69,6 +71,7 @@ pub use header::LogHeader;
 pub use image::{Image, Value};
 pub use image_view::ImageView;
 pub use kept_image::KeptImage;
+pub use kept_update::KeptUpdate;
 pub use key::Key;
 pub use laws::{one_log, one_spelling};
 pub use lengths::encoded_len;

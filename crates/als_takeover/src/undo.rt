@@ -9,7 +9,7 @@ ghost use Rattle.als_takeover.specs.Next.{first_of, is_over, AreOf, undo_of};
 use als_analysis::{OpenTransaction, TransTable};
 use als_disk::BlockDisk;
 use als_log::{Fault, LocalLog};
-use als_record::{Body, ImageView, Lsn, Record, TransactionState};
+use als_record::{Body, BodyView, KeptUpdate, Lsn, Record, TransactionState};
 
 /// Whether nothing of a transaction is to be undone, by its state and its updates.
 fn has_nothing_left(kept: &OpenTransaction) -> bool
@@ -30,7 +30,7 @@ fn is_finished(kept: &OpenTransaction) -> bool
 }
 
 /// The newest surviving update of a transaction.
-fn newest_of(kept: &OpenTransaction) -> Option<&Record>
+fn newest_of(kept: &OpenTransaction) -> Option<&KeptUpdate>
     ensures { option_copied result ≡ newest_of kept.now }
 {
     kept.survivors().last()
@@ -38,14 +38,15 @@ fn newest_of(kept: &OpenTransaction) -> Option<&Record>
 
 /// What undoes an update: its key gets its before image back, and undo goes on at the record before
 /// it.
-fn undone_by(update: &Record) -> Body
+fn undone_by(update: &KeptUpdate) -> Body
     ensures { result ≡ undone update.now.prev update.now.body }
 {
+    let update = update.view();
     match &update.body {
-        Body::Update { key, before, .. } => Body::Compensation {
+        BodyView::Update { key, before, .. } => Body::Compensation {
             undo_next: update.prev,
             key: *key,
-            after: ImageView::of(before).to_image(),
+            after: before.to_image(),
         },
         _ => Body::End,
     }

@@ -84,7 +84,7 @@ fn expect_survivors(rt: &impl Abort, table: &TransTable, trans: u32, lsns: &[u64
     let left = table.survivors_of(TransId(trans));
     assert!(rt; left.len() == lsns.len(), "of {trans}");
     for (update, lsn) in left.iter().zip(lsns) {
-        assert!(rt; update.lsn.0 == *lsn, "of {trans}");
+        assert!(rt; update.lsn().0 == *lsn, "of {trans}");
     }
 }
 

@@ -22,7 +22,7 @@ use crate::keys::place;
 use crate::past::Past;
 use als_analysis::TransTable;
 use als_record::{
-    Body, BodyView, ImageView, Key, Lsn, Record, RecordView, TRANSACTION_LIMIT, TransId,
+    BodyView, ImageView, KeptUpdate, Key, Lsn, RecordView, TRANSACTION_LIMIT, TransId,
     TransactionRow, TransactionState,
 };
 
@@ -80,36 +80,32 @@ fn is_barred(state: TransactionState, left: bool, body: &BodyView<'_>) -> bool
 }
 
 /// Whether this is an update of the key with this before image.
-fn is_undone_by(update: &Record, key: Key, after: &ImageView<'_>) -> bool
+fn is_undone_by(update: &KeptUpdate, key: Key, after: &ImageView<'_>) -> bool
     ensures { result ≡ (is_update_at key update.now.body
         && same_image (shown_image after.now) (image_before update.now.body)) }
 {
-    match &update.body {
-        Body::Update {
+    match &update.view().body {
+        BodyView::Update {
             key: written,
             before,
             ..
-        } => {
-            written.page == key.page
-                && written.slot == key.slot
-                && after.is_same(&ImageView::of(before))
-        }
+        } => { written.page == key.page && written.slot == key.slot && after.is_same(before) }
         _ => false,
     }
 }
 
 /// Whether a compensation does not go on where the newest surviving update says.
-fn does_skip(newest: Option<&Record>, body: &BodyView<'_>) -> bool
+fn does_skip(newest: Option<&KeptUpdate>, body: &BodyView<'_>) -> bool
     ensures { result ≡ skips (option_copied newest.entry) (shown_body body.now) }
 {
     match (newest, body) {
-        (Some(update), BodyView::Compensation { undo_next, .. }) => undo_next.0 != update.prev.0,
+        (Some(update), BodyView::Compensation { undo_next, .. }) => undo_next.0 != update.prev().0,
         _ => false,
     }
 }
 
 /// Whether a compensation does not undo the newest surviving update.
-fn does_miss(newest: Option<&Record>, body: &BodyView<'_>) -> bool
+fn does_miss(newest: Option<&KeptUpdate>, body: &BodyView<'_>) -> bool
     ensures { result ≡ misses (option_copied newest.entry) (shown_body body.now) }
 {
     match (newest, body) {

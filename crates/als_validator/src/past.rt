@@ -4,14 +4,14 @@ ghost use Rattle.als_analysis.specs.Noted.{IsTableOf};
 ghost use Rattle.als_validator.specs.Seen.{IsPastOf};
 
 use als_analysis::TransTable;
-use als_record::{Record, TransId, TransactionRow};
+use als_record::{KeptUpdate, TransId, TransactionRow};
 
 /// What the causes ask of a record's transaction: its row of the transaction table, and its newest
 /// surviving update.
 #[derive(Clone, Copy)]
 pub(crate) struct Past<'a> {
     pub(crate) row: Option<TransactionRow>,
-    pub(crate) newest: Option<&'a Record>,
+    pub(crate) newest: Option<&'a KeptUpdate>,
 }
 
 /// The past of a transaction.

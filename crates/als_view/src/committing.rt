@@ -5,7 +5,7 @@ ghost use Rattle.als_view.specs.Fronts.{write_of};
 
 use crate::commit::Commit;
 use crate::fault::Fault;
-use als_record::{Body, Image, ImageView, Key, Lsn, Record, TransId};
+use als_record::{BodyView, Image, KeptUpdate, Key, Lsn, TransId};
 use std::alloc::Global;
 
 impl Commit {
@@ -16,7 +16,7 @@ impl Commit {
         alloc: Global,
         trans: TransId,
         lsn: Lsn,
-        survivors: &[Record],
+        survivors: &[KeptUpdate],
     ) -> Result<Commit, Fault>
         ensures ok { IfOk result (λ c. c ≡ commit_with trans lsn survivors.now) }
         ensures err { IfErr result (λ e. e ≡ Memory) }
@@ -31,15 +31,15 @@ impl Commit {
 }
 
 /// What updates write, in order.
-fn writes_of(alloc: Global, updates: &[Record]) -> Result<Vec<(Key, Image)>, Fault>
+fn writes_of(alloc: Global, updates: &[KeptUpdate]) -> Result<Vec<(Key, Image)>, Fault>
     ensures ok { IfOk result (λ writes. map write_of writes.items ≡ writes_in updates.now) }
     ensures err { IfErr result (λ e. e ≡ Memory) }
     ensures reserved { updates.now ≡ [] → IsOk result }
 {
     let mut writes = Vec::with_capacity(alloc, updates.len())?;
     for update in updates {
-        if let Body::Update { key, after, .. } = &update.body {
-            writes.push((*key, ImageView::of(after).to_image()))?;
+        if let BodyView::Update { key, after, .. } = &update.view().body {
+            writes.push((*key, after.to_image()))?;
         }
     }
     Ok(writes)
