@@ -1,5 +1,5 @@
 use crate::devices::{Size, drain, in_memory, standby, write_all};
-use crate::measure::{FIRST, tell};
+use als_bench_logs::{FIRST, tell};
 use als_disk::{BlockDisk, MemDisk};
 use als_engine::{Engine, Fault};
 use std::io;

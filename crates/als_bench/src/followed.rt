@@ -1,7 +1,7 @@
 use crate::devices::{Size, in_folder, in_memory, standby};
-use crate::measure::{FIRST, tell};
 use crate::split::Split;
 use crate::turn::{feed, force, settle, store};
+use als_bench_logs::{FIRST, tell};
 use als_disk::{BlockDisk, FileDisk, MemDisk};
 use als_engine::{Engine, Fault};
 use std::fs::File;

@@ -1,9 +1,6 @@
-//! Measures what the standby does with a primary's log: decoding, judging, receiving, and whole
-//! feeds.
+//! Measures what the standby does with a primary's log: whole feeds, and all that follows them.
 #![tactic(auto)]
 
-// Over the bytes alone: decoding, judging, receiving.
-mod reading;
 // The devices of a standby.
 mod devices;
 // Whole feeds.

@@ -1,5 +1,5 @@
 use crate::devices::{Size, in_folder, in_memory, standby, write_all};
-use crate::measure::FIRST;
+use als_bench_logs::FIRST;
 use als_disk::{BlockDisk, FileDisk, MemDisk};
 use als_engine::{Engine, Fault};
 use std::fs::File;

@@ -1,7 +1,7 @@
 use crate::checkpointed::{publish, write_blocks};
 use crate::devices::{Size, config, in_memory, standby};
-use crate::measure::FIRST;
 use crate::redone::{flush_rows, hold, redo_some};
+use als_bench_logs::FIRST;
 use als_disk::{BlockDisk, MemDisk};
 use als_engine::{Engine, Fault};
 use std::io;

@@ -1,7 +1,6 @@
 use crate::devices::{Size, in_memory, standby};
-use crate::measure::FIRST;
 use crate::redone::hold;
-use als_bench_logs::write_losers;
+use als_bench_logs::{FIRST, write_losers};
 use als_disk::{BlockDisk, MemDisk};
 use als_engine::{Engine, Fault};
 use std::io;

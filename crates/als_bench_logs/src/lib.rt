@@ -11,7 +11,10 @@ mod writer;
 mod primary;
 // Logs of transactions that do not end.
 mod losers;
+// How a figure is told.
+mod told;
 
 pub use dice::Dice;
 pub use losers::write_losers;
-pub use primary::{PAGES, Primary, SLOTS};
+pub use primary::{FIRST, PAGES, Primary, SLOTS};
+pub use told::tell;

@@ -98,6 +98,8 @@ impl PageQueue {
     }
 
     /// Makes room for one more change: the next `push` takes no memory. An `Err` changes nothing.
+    // Nearly always there is room: that much is inlined where a record is fed, and no more.
+    #[inline(always)]
     pub fn reserve(&mut self) -> Result<(), AllocError>
         ensures ok { OnOk result (self.new ≡ record self.old { has_room = true }) }
         ensures err { OnErr result (self.new ≡ self.old) }
@@ -106,6 +108,20 @@ impl PageQueue {
         if self.has_room {
             return Ok(());
         }
+        if self.changes.len() < self.changes.capacity() {
+            self.has_room = true;
+            return Ok(());
+        }
+        self.grow()
+    }
+
+    // The same where no place is left.
+    #[inline(never)]
+    fn grow(&mut self) -> Result<(), AllocError>
+        requires { self.old.has_room ≡ false }
+        ensures ok { OnOk result (self.new ≡ record self.old { has_room = true }) }
+        ensures err { OnErr result (self.new ≡ self.old) }
+    {
         let taken = self.taken;
         self.taken = close_up(&mut self.changes, taken);
         self.changes.reserve(1)?;

@@ -114,6 +114,7 @@ impl Queues {
     }
 
     /// Makes room for one more change of a page. An `Err` changes nothing.
+    #[inline(always)]
     pub fn reserve(&mut self, page: u32) -> Result<(), AllocError>
         requires { page < length self.old.waits }
         ensures ok { OnOk result (self.new

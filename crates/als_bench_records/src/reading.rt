@@ -1,5 +1,4 @@
-use crate::measure::FIRST;
-use als_bench_logs::PAGES;
+use als_bench_logs::{FIRST, PAGES};
 use als_receiver::Receiver;
 use als_record::{BodyView, Lsn, RecordView, decode, view_record};
 use als_validator::Validator;
