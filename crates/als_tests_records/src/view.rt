@@ -1,4 +1,4 @@
-use als_record::{Body, Image, Key, Lsn, Record, TransId, Value};
+use als_record::{BodyView, Image, ImageView, KeptUpdate, Key, Lsn, RecordView, TransId, Value};
 use als_view::{Answer, Commit, Fault, View};
 use std::alloc::Global;
 use std::process::Abort;
@@ -107,20 +107,22 @@ fn a_view_without_a_list_warms(rt: HostRuntime) {
 
 // What survives of a transaction that commits at 152: at 16 it gave (0,0) the value aa, at 116 it
 // gave (0,1) nothing.
-fn survivors(alloc: Global) -> Option<Vec<Record>> {
+fn survivors(alloc: Global) -> Option<Vec<KeptUpdate>> {
     let mut left = Vec::with_capacity(alloc, 2).ok()?;
-    left.push(update(16, key(0, 0), None, byte(0xaa))).ok()?;
-    left.push(update(116, key(0, 1), byte(1), None)).ok()?;
+    left.push(update(16, key(0, 0), &None, &byte(0xaa))).ok()?;
+    left.push(update(116, key(0, 1), &byte(1), &None)).ok()?;
     Some(left)
 }
 
-fn update(lsn: u64, key: Key, before: Image, after: Image) -> Record {
-    Record {
+fn update(lsn: u64, key: Key, before: &Image, after: &Image) -> KeptUpdate {
+    let (before, after) = (ImageView::of(before), ImageView::of(after));
+    let logged = RecordView {
         lsn: Lsn(lsn),
         prev: Lsn(0),
         trans: TransId(3),
-        body: Body::Update { key, before, after },
-    }
+        body: BodyView::Update { key, before, after },
+    };
+    KeptUpdate::of(&logged, key, &before, &after)
 }
 
 // The commit has the keys and after images of its survivors, in order, and the LSN of its own
