@@ -67,8 +67,15 @@ module _ (xs ys : List Open) (reserve tight capacity : ℕ) (k : IsKept xs ys re
       | inr n ↦ ap (λ (p : Open). p.row.trans.0) (get_or-set_other xs i x o e n)
     ]
 
-    pub kept-set : IsKept (set xs i o) ys (((reserve + (2 ^ 64 - owed (get_or xs i d) % 2 ^ 64)) % 2 ^ 64 + owed o % 2 ^ 64) % 2 ^ 64) i false capacity
-    kept-set = record {
+    roomy-set : 0 < o.room → (x : ℕ) (e : Open) → x < length xs → 0 < (get_or (set xs i o) x e).room
+    roomy-set room x e l = elim (cases_eq x i) [
+      | inl q ↦ subst (λ (p : Open). 0 < p.room) (sym (ap (λ x. get_or (set xs i o) x e) q ∙ get_or-set_same xs i o e lt)) room
+      | inr n ↦ subst (λ (p : Open). 0 < p.room) (sym (get_or-set_other xs i x o e n)) (here.each x e l)
+    ]
+
+    -- there is room for one more record where the transaction has room for one more update
+    pub kept-set : (roomy : Bool) → (roomy ≡ true → 0 < o.room) → IsKept (set xs i o) ys (((reserve + (2 ^ 64 - owed (get_or xs i d) % 2 ^ 64)) % 2 ^ 64 + owed o % 2 ^ 64) % 2 ^ 64) i roomy capacity
+    kept-set roomy room = record {
       rising = λ a b e l m. let n : length (set xs i o) ≡ length xs = length-set xs i o in let h : (get_or xs a e).row.trans.0 < (get_or xs b e).row.trans.0 = k.rising a b e l (omega arith) in let p : (get_or (set xs i o) a e).row.trans.0 ≡ (get_or xs a e).row.trans.0 = trans-set a e in let q : (get_or (set xs i o) b e).row.trans.0 ≡ (get_or xs b e).row.trans.0 = trans-set b e in omega arith;
       few = let n : length (set xs i o) ≡ length xs = length-set xs i o in omega (arith, k.few);
       counted =
@@ -77,7 +84,7 @@ module _ (xs ys : List Open) (reserve tight capacity : ℕ) (k : IsKept xs ys re
           replaced (sum_by owed xs - owed (get_or xs i d)) (sum_by owed xs) (sum_by owed (set xs i o)) (owed (get_or xs i d)) (owed o) reserve (omega arith) (omega arith) k.counted;
       spared = k.spared;
       but_one = λ x e l n. let m : length (set xs i o) ≡ length xs = length-set xs i o in rw (get_or-set_other xs i x o e n) (here.each x e (omega arith));
-      room = λ f. absurd (false≢true f);
+      room = λ f. let n : length (set xs i o) ≡ length xs = length-set xs i o in record { each = λ x e l. roomy-set (room f) x e (subst (λ m. x < m) n l); place = subst (λ m. m < capacity) (sym n) here.place; spare = here.spare };
     }
 
   pub kept-push : (ys' : List Open) (o : Open) → All (λ x. x.row.trans.0 < o.row.trans.0) xs → length xs < 256 → All (λ o. 0 < o.room) ys' → IsKept (xs ++ o ∷ []) ys' ((reserve + owed o % 2 ^ 64) % 2 ^ 64) (length xs) false capacity

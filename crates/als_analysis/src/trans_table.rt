@@ -266,9 +266,10 @@ impl TransTable {
         let before = entry.owed();
         entry.extend(logged);
         let after = entry.owed();
+        // The one thing that the record may have used up is the room of its transaction.
+        self.has_room = entry.has_room();
         self.reserve = self.reserve.wrapping_sub(before).wrapping_add(after);
         self.tight = at;
-        self.has_room = false;
     }
 
     /// The end of the transaction at this place.

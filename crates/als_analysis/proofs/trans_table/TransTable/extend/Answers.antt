@@ -22,7 +22,7 @@ invariant_of-self c =
     let k = subst (λ b. IsKept xs c.self.inside.spares.items c.self.inside.reserve c.self.inside.tight b c.self.inside.entries.cap) ready c.self.invariant in
     let same : o.row.trans.0 ≡ (get_or xs c.args.at e).row.trans.0 = ap (λ (r : TransactionRow). r.trans.0) c.extend.ensures.row ∙ ap (λ (p : Open). p.row.trans.0) here in
     let was : c.owed-before.result ≡ owed (get_or xs c.args.at e) % 2 ^ 64 = c.owed-before.ensures ∙ ap (λ p. owed p % 2 ^ 64) here in
-    rw (was, c.owed-after.ensures) (kept-set xs c.self.inside.spares.items c.self.inside.reserve c.self.inside.tight c.self.inside.entries.cap k c.args.at e o lt same)
+    rw (was, c.owed-after.ensures) (kept-set xs c.self.inside.spares.items c.self.inside.reserve c.self.inside.tight c.self.inside.entries.cap k c.args.at e o lt same c.has_room-self-inside.result (λ f. c.has_room-self-inside.ensures.0 f))
 
 pub returns-clause-rows : goal.returns-clause-rows
 returns-clause-rows c d =
