@@ -241,6 +241,16 @@ impl TransTable {
         if self.has_room {
             return Ok(());
         }
+        self.grow()
+    }
+
+    // The same where there may be no room. It is not inlined where a record is fed.
+    #[inline(never)]
+    fn grow(&mut self) -> Result<(), Fault>
+        requires { self.old.has_room ≡ false }
+        ensures ok { OnOk result (self.new ≡ record self.old { has_room = true }) }
+        ensures err { OnErr result (self.new ≡ self.old) }
+    {
         self.entries.reserve(1)?;
         make_spare(&mut self.spares, self.alloc)?;
         make_room(&mut self.entries, self.tight)?;

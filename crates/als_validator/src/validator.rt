@@ -97,6 +97,7 @@ fn note_commit(committed: &mut Vec<TransId>, logged: &RecordView<'_>)
 }
 
 /// Room for one more commit. An `Err` changes nothing.
+#[inline(always)]
 fn reserve_one(committed: &mut Vec<TransId>) -> Result<(), Fault>
     ensures items { committed.new.items ≡ committed.old.items }
     ensures ok { OnOk result (vec_len committed.new < vec_capacity committed.new) }
@@ -183,6 +184,7 @@ impl Validator {
 
     /// Makes room for one more record, whatever it is: the next `admit` takes no memory. What is
     /// kept stays as it is.
+    #[inline(always)]
     pub fn reserve(&mut self) -> Result<(), Fault>
         ensures ok { OnOk result (HasRoom self.new) }
         ensures err { IfErr result (λ e. e ≡ Memory) }

@@ -3,7 +3,7 @@ use Rattle.als_analysis.specs.Open.{Open, rows_of, left_of, bytes_of}
 use Rattle.als_analysis.specs.Kept.{MakesRoom}
 use Rattle.als_analysis.specs.Noted.{Table}
 use Rattle.als_analysis.proofs.KeptSteps.{kept-made, map-made}
-use Rattle.als_analysis.proofs.trans_table.TransTable.reserve.Goals as goal
+use Rattle.als_analysis.proofs.trans_table.TransTable.grow.Goals as goal
 
 pub invariant_of-self-2 : goal.invariant_of-self-2
 invariant_of-self-2 c =
