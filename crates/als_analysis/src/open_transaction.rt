@@ -4,7 +4,6 @@ ghost use Rattle.als_record.specs.declared.transaction_state.TransactionState.Th
 ghost use Rattle.als_record.specs.Spelling.{image_len};
 ghost use Rattle.als_record.specs.Shown.{shown, shown_body, shown_image};
 ghost use Rattle.als_record.specs.Table.{row_after, state_after, state_after_rollback, fresh_row};
-ghost use Rattle.als_record.specs.Transactions.{undo_next_after};
 ghost use Rattle.als_analysis.specs.Open.{left_after, bytes_after, undo_owed, owed, owed_after};
 ghost use Rattle.als_analysis.specs.Open.{undo_from, undo_at};
 
@@ -105,17 +104,6 @@ fn next_state(state: TransactionState, body: &BodyView<'_>) -> TransactionState
             TransactionState::RollingBack
         }
         _ => state,
-    }
-}
-
-/// UndoNxtLSN after one more record of the transaction.
-fn next_undo(undo_next: Lsn, logged: &RecordView<'_>) -> Lsn
-    ensures { result.0 ≡ undo_next_after undo_next.0 logged.now.lsn.0 (shown_body logged.now.body) }
-{
-    match &logged.body {
-        BodyView::Update { .. } => logged.lsn,
-        BodyView::Compensation { undo_next, .. } => *undo_next,
-        _ => undo_next,
     }
 }
 
@@ -236,21 +224,24 @@ impl OpenTransaction {
             (shown_body logged.now.body) }
         ensures bytes { self.new.bytes ≡ bytes_after self.old.bytes (shown_body logged.now.body) }
     {
-        self.row = TransactionRow {
-            trans: self.row.trans,
-            state: next_state(self.row.state, &logged.body),
-            last: logged.lsn,
-            undo_next: next_undo(self.row.undo_next, logged),
-        };
-        self.undo_bytes = undo_bytes_after(self.undo_bytes, &logged.body);
+        self.row.last = logged.lsn;
         match &logged.body {
-            BodyView::Update { key, before, after } => self
-                .left
-                .push_reserved(KeptUpdate::of(logged, *key, before, after)),
-            BodyView::Compensation { .. } => {
+            BodyView::Update { key, before, after } => {
+                self.row.undo_next = logged.lsn;
+                self.undo_bytes = self.undo_bytes.wrapping_add(compensation_len(before));
+                self.left
+                    .push_reserved(KeptUpdate::of(logged, *key, before, after));
+            }
+            BodyView::Compensation {
+                undo_next,
+                after,
+                ..
+            } => {
+                self.row.undo_next = *undo_next;
+                self.undo_bytes = self.undo_bytes.wrapping_sub(compensation_len(after));
                 let _undone = self.left.pop();
             }
-            _ => {}
+            body => self.row.state = next_state(self.row.state, body),
         }
         self.undo_at = undo_from(self.row.state, self.left.as_slice());
     }
