@@ -1,3 +1,4 @@
 pub mod Devices
 pub mod FaultNames
 pub mod Parts
+pub mod Troubles

@@ -7,7 +7,7 @@ use Rattle.als_folder.specs.FaultNames.{kind_of as folder_kind_of, trouble_of as
 use Rattle.als_folder.specs.declared.part.Part.TheVariants as part
 use Rattle.als_folder.specs.declared.trouble.Trouble.{Trouble}
 use Rattle.als_folder.specs.declared.trouble.Wrong.TheVariants as wrong
-use Rattle.als_operate.specs.Troubles.{told, trouble_of_kind}
+use Rattle.als_folder.specs.Troubles.{told, trouble_of_kind}
 use Rattle.als_scan.specs.FaultNames.{kind_of as scan_kind_of}
 use Rattle.als_inspect.specs.declared.fault.Fault.{Fault}
 use Rattle.als_inspect.specs.declared.fault.Fault.TheVariants.{Memory, Stream, BadHeader, BadControl, Cut, Folder, Log, Standby}

@@ -8,8 +8,7 @@ ghost use Rattle.als_inspect.specs.FaultNames.{kind_of, trouble_of};
 
 use als_engine::Fault as EngineFault;
 use als_fault::FaultKind;
-use als_folder::{Fault as FolderFault, Part, Trouble, Wrong};
-use als_operate::trouble_of;
+use als_folder::{Fault as FolderFault, Part, Trouble, Wrong, trouble_of};
 use als_scan::Fault as ScanFault;
 use std::alloc::AllocError;
 use std::io::ErrorKind;

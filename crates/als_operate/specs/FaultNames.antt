@@ -6,7 +6,7 @@ use Rattle.als_engine.specs.Faults.{kind_of as engine_kind_of}
 use Rattle.als_folder.specs.FaultNames.{kind_of as folder_kind_of, trouble_of as folder_trouble_of}
 use Rattle.als_folder.specs.declared.trouble.Trouble.{Trouble}
 use Rattle.als_ship.specs.Faults.{kind_of as session_kind_of}
-use Rattle.als_operate.specs.Troubles.{trouble_of_kind}
+use Rattle.als_folder.specs.Troubles.{trouble_of_kind}
 use Rattle.als_operate.specs.declared.fault.Fault.{Fault}
 use Rattle.als_operate.specs.declared.fault.Fault.TheVariants.{Memory, Stream, Folder, Session, Refused}
 

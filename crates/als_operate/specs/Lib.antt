@@ -1,4 +1,2 @@
-pub mod Driving
 pub mod FaultNames
 pub mod Lines
-pub mod Troubles

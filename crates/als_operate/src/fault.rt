@@ -7,10 +7,9 @@ ghost use Rattle.als_operate.specs.declared.fault.Fault.TheVariants.{Session as 
 ghost use Rattle.als_operate.specs.declared.fault.Fault.TheVariants.{Refused as OfStandby};
 ghost use Rattle.als_operate.specs.FaultNames.{kind_of, trouble_of};
 
-use crate::trouble::trouble_of;
 use als_engine::Fault as EngineFault;
 use als_fault::FaultKind;
-use als_folder::{Fault as FolderFault, Trouble};
+use als_folder::{Fault as FolderFault, Trouble, trouble_of};
 use als_ship::Fault as SessionFault;
 use std::alloc::AllocError;
 use std::io::ErrorKind;

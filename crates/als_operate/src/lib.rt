@@ -2,8 +2,6 @@
 //! and makes a primary of a standby.
 #![tactic(auto)]
 
-// Which file of a folder is wrong, where its standby is refused.
-mod trouble;
 // Why a command is refused.
 mod fault;
 // A reader, whole.
@@ -12,12 +10,6 @@ mod whole;
 mod shipping;
 // The answer of an event that may have nothing to do.
 mod passing;
-// Who is told how a long redo goes on.
-mod progress;
-// All that waits for redo.
-mod draining;
-// A standby back to where it was left.
-mod recovering;
 // One checkpoint.
 mod checkpointing;
 // All that is held onto the devices.
@@ -28,24 +20,17 @@ mod taking_over;
 mod warm;
 // The engine of a folder.
 mod opening;
-// The records of a database as lines.
-mod database;
 // A standby that follows one session.
 mod standby_command;
 // A standby that becomes a primary.
 mod takeover_command;
 
 pub use checkpointing::checkpoint;
-pub use database::listing;
-pub use draining::{drain, drain_telling};
 pub use fault::Fault;
-pub use progress::{Progress, Silent};
-pub use recovering::{recover, recover_telling};
 pub use settling::settle;
-pub use shipping::{LOG_LIMIT, serve, ship};
+pub use shipping::{serve, ship};
 pub use standby_command::{Following, follow, standby};
 pub use takeover_command::takeover;
 pub use taking_over::{take_over, take_over_telling};
-pub use trouble::trouble_of;
 pub use warm::Warm;
 pub use whole::read_whole;

@@ -1,7 +1,7 @@
 use crate::checkpointing::checkpoint;
-use crate::draining::drain;
 use crate::fault::Fault;
 use crate::passing::passed_over;
+use als_drive::drain;
 use als_engine::{Events, Fault as EngineFault};
 use als_ship::force;
 

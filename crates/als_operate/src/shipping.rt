@@ -7,15 +7,13 @@ ghost use Rattle.als_operate.specs.Lines.{sent_line, Tells};
 
 use crate::fault::Fault;
 use crate::whole::read_whole;
+use als_folder::LOG_LIMIT;
 use als_ship::{LogBytes, Shipper, Source};
 use std::alloc::Global;
 use std::fs::File;
 use std::io::{Read, Write};
 use std::net::{Net, OpenListener, OpenStream, TcpListener};
 use std::rt::Files;
-
-/// The most bytes of a log that are shipped: those of the largest log device.
-pub const LOG_LIMIT: u64 = 2_147_483_648;
 
 /// Serves the log text of a file to the first follower that comes to the address, and then prints
 /// `sent=N`, the log bytes that it sent. Nothing of the text is checked but its header.

@@ -5,10 +5,9 @@ ghost use Rattle.als_operate.specs.declared.fault.Fault.TheVariants.{Refused};
 
 use crate::fault::Fault;
 use crate::opening::start;
-use crate::progress::Progress;
-use crate::recovering::recover_telling;
 use crate::settling::settle;
 use crate::warm::Warm;
+use als_drive::{Progress, recover_telling};
 use als_engine::{Config, Events, Fault as EngineFault, LOG_BLOCK_LIMIT};
 use als_folder::Folder;
 use als_record::LogHeader;

@@ -1,10 +1,9 @@
-use crate::database::listing;
 use crate::fault::Fault;
 use crate::opening::open;
-use crate::progress::Progress;
 use crate::standby_command::PENDING;
 use crate::taking_over::take_over_telling;
 use als_disk::BlockDisk;
+use als_drive::{Progress, listing};
 use als_engine::Config;
 use als_folder::Folder;
 use std::fs::File;

@@ -2,10 +2,8 @@ ghost use Rattle.std.specs.Prelude.{◌≡◌, OnOk};
 ghost use Rattle.als_engine.specs.declared.status.State.TheVariants.{Primary};
 ghost use Rattle.als_engine.specs.Machine.{state_of};
 
-use crate::draining::drain;
 use crate::fault::Fault;
-use crate::progress::{Progress, Silent};
-use crate::recovering::recover_telling;
+use als_drive::{Progress, Silent, drain, recover_telling};
 use als_engine::{Events, Fault as EngineFault, State};
 use als_ship::force;
 

@@ -1,6 +1,6 @@
 ghost use Rattle.std.specs.Prelude.{◌≡◌};
 
-use crate::draining::drain;
+use als_drive::drain;
 use als_engine::{Answer, Events, Fault, Fed, FeedFault, Status};
 use als_page::Page;
 use als_record::{Key, LoggedPage, Lsn, Record, TransactionRow};

@@ -1,4 +1,4 @@
-use als_operate::Progress;
+use als_drive::Progress;
 use std::io::Write;
 
 /// Nothing is said of a redo of fewer changes.

@@ -1,7 +1,8 @@
 use crate::common::{CONFIG, TEXT, TOLD, devices_in_memory, listen, source};
+use als_drive::{Progress, drain_telling};
 use als_engine::{Engine, Fault as EngineFault};
 use als_folder::{Part, Trouble, Wrong};
-use als_operate::{Fault, Progress, drain_telling, serve, ship};
+use als_operate::{Fault, serve, ship};
 use als_ship::LogBytes;
 use std::alloc::Global;
 use std::io::{Read, Write};

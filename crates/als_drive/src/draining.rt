@@ -1,5 +1,5 @@
 ghost use Rattle.std.specs.Prelude.{OnOk};
-ghost use Rattle.als_operate.specs.Driving.{IsDrained};
+ghost use Rattle.als_drive.specs.Driving.{IsDrained};
 
 use crate::progress::{Progress, Silent};
 use als_engine::{Events, Fault};

@@ -1,8 +1,9 @@
 ghost use Rattle.std.specs.Prelude.{◌≡◌};
-ghost use Rattle.als_operate.specs.Troubles.{trouble_of_kind};
+ghost use Rattle.als_folder.specs.Troubles.{trouble_of_kind};
 
+use crate::part::Part;
+use crate::trouble::{Trouble, Wrong};
 use als_fault::FaultKind;
-use als_folder::{Part, Trouble, Wrong};
 
 /// What of a folder is wrong, where its standby is refused so. None: nothing is, or no file of it
 /// alone.
