@@ -8,7 +8,8 @@ set -euo pipefail
 top=$(dirname "$(readlink -f "${BASH_SOURCE[0]}")")
 crate="$top/crates/als_cli"
 program="$crate/out/als_cli"
-words="$top/crates/als_program/src/command.rt" # the command line, with its help
+texts="$top/crates/als_command/src/texts.rt" # the pages of help
+words="$top/crates/als_command/src/language.rt" # the words of the command line, with their help
 stamp="$crate/out/als.built" # as old as the start of the last build that succeeded
 
 is_stale() {
@@ -19,17 +20,17 @@ is_stale() {
 
 # ---- help and version, with no build
 
-# The text that the program's constant of this name has: it stands in command.rt alone.
+# The text that the program's constant of this name has: it stands in texts.rt alone.
 text() {
-    awk -v start="const $1: &str =" '
+    awk -v start="pub const $1: &str =" '
         index($0, start) == 1 { found = 1; $0 = substr($0, length(start) + 1) }
         !found { next }
         !begun { if (!sub(/^ *"/, "")) next; begun = 1 }
         { last = sub(/";$/, ""); gsub(/\\\\/, "\\"); print }
-        last { exit }' "$words"
+        last { exit }' "$texts"
 }
 
-# What the program says of a word of the command line $1: it stands in command.rt alone, between the heads of that function and the next.
+# What the program says of a word of the command line $1: it stands in language.rt alone, between the heads of that function and the next.
 option_help() {
     awk -v head="fn $1<" -v name="\"$2\"" '
         /^fn / { inside = index($0, head) == 1 }
@@ -79,7 +80,7 @@ help_page() {
         make)
             text MAKE_ABOUT
             printf '\nUsage: als make [OPTIONS]\n\nOptions:\n'
-            printf '      --hex      %s\n' "$(sed -n 's/^ *\.help("\(.*\)");$/\1/p' "$words")"
+            printf '      --hex      %s\n' "$(word_help hex)"
             printf '      --explain  %s\n' "$(word_help explain)"
             printf '  -h, --help     Print help\n\n'
             text MAKE_HELP
@@ -94,8 +95,8 @@ help_page() {
         ship)
             text SHIP_ABOUT
             printf '\nUsage: als ship --log <FILE> --listen <ADDR>\n\nOptions:\n'
-            option_row language 13 log FILE
-            option_row language 13 listen ADDR
+            option_row ship 13 log FILE
+            option_row ship 13 listen ADDR
             help_row 13
             text SHIP_HELP
             ;;

@@ -15,8 +15,8 @@ use thiserror::Error;
 #[derive(Debug, Drop, Error)]
 pub enum Failure {
     /// The words of the command line are none that the program knows.
-    #[error(transparent)]
-    Usage(clap::Error),
+    #[error("{0}")]
+    Usage(String),
     /// The line of this number, counted from 1, is none of the script language, or it is missing.
     #[error("line {0}: bad line")]
     BadLine(u64),
@@ -61,7 +61,7 @@ impl Failure {
         ensures { result ≡ status_of self.now }
     {
         let written = match self {
-            Failure::Usage(error) => write!(errors, "{error}"),
+            Failure::Usage(text) => write!(errors, "{text}"),
             _ => writeln!(errors, "{self}"),
         };
         let _ = written.and_then(|_| errors.flush());
@@ -116,15 +116,6 @@ impl From<SimFailure> for Failure {
             SimFailure::BadLine(number) => Failure::BadLine(number),
             SimFailure::Memory => Failure::Memory,
             SimFailure::Stream => Failure::Stream,
-        }
-    }
-}
-
-impl From<clap::Error> for Failure {
-    fn from(e: clap::Error) -> Failure {
-        match e.kind() {
-            clap::error::ErrorKind::OutOfMemory => Failure::Memory,
-            _ => Failure::Usage(e),
         }
     }
 }

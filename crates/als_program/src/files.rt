@@ -1,15 +1,16 @@
 ghost use Rattle.std.specs.Prelude.{IfOk};
 ghost use Rattle.als_program.specs.Status.{IsStatus};
 
-use crate::command::Command;
 use crate::failure::Failure;
 use crate::redo_lines::RedoLines;
 use crate::refusal::Refusal;
 use crate::terminals::Terminals;
 use crate::troubles;
+use als_command::Command;
 use als_folder::Trouble;
-use als_inspect::{dump, verify};
-use als_operate::{ship, standby, takeover};
+use als_inspect::{Wanted, dump, verify};
+use als_operate::{Following, ship, standby, takeover};
+use als_record::{Lsn, TransId};
 use std::fs;
 use std::fs::File;
 use std::io::Write;
@@ -59,19 +60,48 @@ fn attempt<R: AllocGlobal + Files<File = File> + Net, O: Write, E: Write>(
     match command {
         Command::Make { .. } | Command::Sim { .. } => {}
         Command::Ship { log, listen } => ship(rt, log, listen, output)?,
-        Command::Standby { following, .. } => standby(rt, following, &mut lines, output)?,
+        Command::Standby {
+            dir,
+            from,
+            pages,
+            log_blocks,
+            ..
+        } => {
+            let following = Following {
+                dir,
+                from,
+                pages,
+                log_blocks,
+            };
+            standby(rt, following, &mut lines, output)?
+        }
         Command::Takeover { dir, .. } => takeover(rt, dir, &mut lines, output)?,
-        Command::Dump { path, wanted, .. } => dump(rt, path, wanted, output)?,
+        Command::Dump {
+            path,
+            from,
+            trans,
+            page,
+            ..
+        } => dump(rt, path, wanted(from, trans, page), output)?,
         Command::Verify { path, .. } => verify(rt, path, output)?,
     }
     Ok(())
+}
+
+/// Which records are printed.
+fn wanted(from: u64, trans: Option<u32>, page: Option<u32>) -> Wanted {
+    Wanted {
+        from: Lsn(from),
+        trans: trans.map(TransId),
+        page,
+    }
 }
 
 /// The path that more is told of where the command is refused, if anything is.
 fn told_of(command: Command<'_>, seen: bool) -> Option<&str> {
     let (path, explain) = match command {
         Command::Make { .. } | Command::Sim { .. } | Command::Ship { .. } => return None,
-        Command::Standby { following, explain } => (following.dir, explain),
+        Command::Standby { dir, explain, .. } => (dir, explain),
         Command::Takeover { dir, explain } => (dir, explain),
         Command::Dump { path, explain, .. } => (path, explain),
         Command::Verify { path, explain } => (path, explain),

@@ -5,8 +5,6 @@
 mod terminals;
 // What the program says beside what it answers.
 mod remarks;
-// What the command line asks for.
-mod command;
 // Why a command on files is refused.
 mod refusal;
 // Which file is wrong, in plain words.

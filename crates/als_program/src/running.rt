@@ -1,12 +1,12 @@
 ghost use Rattle.std.specs.Prelude.{IfOk};
 ghost use Rattle.als_program.specs.Status.{IsStatus};
 
-use crate::command::{Command, args};
 use crate::failure::Failure;
 use crate::files::operate;
 use crate::lines::{Telling, make_lines, run_script};
 use crate::remarks::Language;
 use crate::terminals::Terminals;
+use als_command::{Command, NoCommand, args};
 use std::convert::AsStr;
 use std::fs::File;
 use std::io::{BufWriter, Read, Write};
@@ -86,11 +86,12 @@ fn obey<R: AllocGlobal + Files<File = File> + Net, S: AsStr, I: Read + Drop, O: 
     let alloc = rt.alloc();
     let command = match args(alloc, words) {
         Ok(command) => command,
-        Err(help) if !help.use_stderr() => {
-            write!(output, "{help}")?;
+        Err(NoCommand::Help(text)) => {
+            write!(output, "{text}")?;
             return Ok(0);
         }
-        Err(error) => return Err(Failure::from(error)),
+        Err(NoCommand::Mistake(text)) => return Err(Failure::Usage(text)),
+        Err(NoCommand::Memory) => return Err(Failure::Memory),
     };
     match command {
         Command::Make { hex, explain } => {

@@ -1,0 +1,45 @@
+/// What the command line asks for.
+#[derive(Clone, Copy)]
+pub enum Command<'a> {
+    /// Record lines to a log text: its bytes, or lines of hexadecimal digits.
+    Make {
+        hex: bool,
+        explain: bool,
+    },
+    /// A script to what its lines print.
+    Sim {
+        explain: bool,
+    },
+    /// A log file to one follower.
+    Ship {
+        log: &'a str,
+        listen: &'a str,
+    },
+    /// One session as the standby of a folder.
+    Standby {
+        dir: &'a str,
+        from: &'a str,
+        pages: u64,
+        log_blocks: u64,
+        explain: bool,
+    },
+    /// A standby to a primary.
+    Takeover {
+        dir: &'a str,
+        explain: bool,
+    },
+    /// The records of a log file or of a standby's log: from an LSN on, of one transaction, of one
+    /// page.
+    Dump {
+        path: &'a str,
+        from: u64,
+        trans: Option<u32>,
+        page: Option<u32>,
+        explain: bool,
+    },
+    /// Whether a log file or a standby is sound.
+    Verify {
+        path: &'a str,
+        explain: bool,
+    },
+}

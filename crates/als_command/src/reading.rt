@@ -1,0 +1,106 @@
+use crate::command::Command;
+use crate::language::language;
+use crate::no_command::NoCommand;
+use clap::error::ErrorKind;
+use clap::{ArgMatches, Error};
+use std::alloc::{AllocError, Global};
+use std::convert::AsStr;
+
+/// The log blocks of a new database, where the command line does not say.
+const LOG_BLOCKS: u64 = 2_048;
+
+/// What the words ask for, of which the first is the program's name.
+pub fn args<'a, S: AsStr>(alloc: Global, words: &'a [S]) -> Result<Command<'a>, NoCommand> {
+    match parsed(alloc, words) {
+        Ok(command) => Ok(command),
+        Err(error) => Err(told(alloc, &error)?),
+    }
+}
+
+/// What the words ask for. An error is a mistake in the words, a request for help, or want of
+/// memory; its text says which.
+fn parsed<'a, S: AsStr>(alloc: Global, words: &'a [S]) -> Result<Command<'a>, Error> {
+    let mut als = language(alloc)?;
+    let matches = als.try_get_matches_from_mut(words)?;
+    let Some((name, matches)) = matches.subcommand() else {
+        return Err(als.error(ErrorKind::MissingSubcommand, "a subcommand is wanted")?);
+    };
+    match asked(name, matches) {
+        Some(command) => Ok(command),
+        None => Err(als.error(ErrorKind::MissingRequiredArgument, "an argument is wanted")?),
+    }
+}
+
+/// What is said of words that are no command.
+fn told(alloc: Global, error: &Error) -> Result<NoCommand, AllocError> {
+    if matches!(error.kind(), ErrorKind::OutOfMemory) {
+        return Ok(NoCommand::Memory);
+    }
+    let text = format!(in alloc; "{error}")?;
+    if error.use_stderr() {
+        Ok(NoCommand::Mistake(text))
+    } else {
+        Ok(NoCommand::Help(text))
+    }
+}
+
+/// The command of this name. None: an argument that has to be given is missing, which the parser
+/// has told by then.
+fn asked<'a>(name: &str, matches: &ArgMatches<'a>) -> Option<Command<'a>> {
+    match name {
+        "make" => Some(Command::Make {
+            hex: matches.get_flag("hex"),
+            explain: matches.get_flag("explain"),
+        }),
+        "sim" => Some(Command::Sim {
+            explain: matches.get_flag("explain"),
+        }),
+        "ship" => ship(matches),
+        "standby" => standby(matches),
+        "takeover" => takeover(matches),
+        "dump" => dump(matches),
+        "verify" => verify(matches),
+        _ => None,
+    }
+}
+
+fn ship<'a>(matches: &ArgMatches<'a>) -> Option<Command<'a>> {
+    Some(Command::Ship {
+        log: matches.get_str("log")?,
+        listen: matches.get_str("listen")?,
+    })
+}
+
+fn standby<'a>(matches: &ArgMatches<'a>) -> Option<Command<'a>> {
+    Some(Command::Standby {
+        dir: matches.get_str("dir")?,
+        from: matches.get_str("from")?,
+        pages: matches.get_one("pages")?,
+        log_blocks: matches.get_one("log-blocks").unwrap_or(LOG_BLOCKS),
+        explain: matches.get_flag("explain"),
+    })
+}
+
+fn takeover<'a>(matches: &ArgMatches<'a>) -> Option<Command<'a>> {
+    Some(Command::Takeover {
+        dir: matches.get_str("dir")?,
+        explain: matches.get_flag("explain"),
+    })
+}
+
+fn dump<'a>(matches: &ArgMatches<'a>) -> Option<Command<'a>> {
+    Some(Command::Dump {
+        path: matches.get_str("path")?,
+        from: matches.get_one("from").unwrap_or(0),
+        trans: matches.get_one("trans"),
+        page: matches.get_one("page"),
+        explain: matches.get_flag("explain"),
+    })
+}
+
+fn verify<'a>(matches: &ArgMatches<'a>) -> Option<Command<'a>> {
+    Some(Command::Verify {
+        path: matches.get_str("path")?,
+        explain: matches.get_flag("explain"),
+    })
+}

@@ -1,0 +1,165 @@
+// The pages of help. `./als` prints them from here where the program is not built.
+
+pub const ABOUT: &str =
+    "A hot standby that redoes the log which its primary ships (ARIES, continuous redo).";
+
+pub const STATUSES: &str = "Exit statuses:
+  0  done (in sim also where a step was refused: its line says so)
+  2  a fault of the command line, or `line N: bad line`
+  3  `als: refused N Name`, or a world line that was refused";
+
+pub const MAKE_ABOUT: &str = "Makes a log text from record lines";
+
+pub const MAKE_HELP: &str = "Reads standard input: a line `pages N`, and then record lines
+  u T P S BEFORE AFTER    update of slot S of page P by transaction T
+  c T P S AFTER NEXT      compensation with UndoNxtLSN NEXT
+  commit T, rollback T, end T
+  ckpt, ckptend           begin_chkpt, and end_chkpt with empty tables
+each with an optional ` prev=N` in place of its own PrevLSN. A value is lower
+case hexadecimal, `.` for the empty value, `-` for absent. Empty lines and lines
+that begin with # are passed over.
+Writes standard output: the log's header and its records.
+
+Example:
+  printf 'pages 4\\nu 1 0 0 - aa\\ncommit 1\\nend 1\\n' | als make --hex
+
+Exit statuses: 0 done, 2 a fault of the command line or `line N: bad line` (then
+nothing is written), 3 `als: refused N Name`.";
+
+pub const SIM_ABOUT: &str = "Runs a script on a standby in memory";
+
+pub const SIM_HELP: &str = "Reads standard input: first a line
+  world pages=P log=B frames=F workers=W pending=Q
+and then record lines as `als make` reads them, which make the primary's log
+text, and
+  feed A B                give the standby bytes A to B-1 of the text
+  resync                  drop the partial record, follow again
+  apply P                 redo the first pending changes of page P
+  drain                   redo until nothing is pending
+  log-write, log-sync     write the log's first unwritten block, sync the log
+  flush P, sync-pages     write page P to its block, sync the pages
+  mark-write, ctl-sync    write the log's synced end as its mark, sync the mark
+  ckpt-begin, ckpt-block  begin a checkpoint, write its next block
+  ckpt-publish            publish it once it is synced and acknowledged
+  force                   log-write until all is written, and then those three
+  crash old|new, crash N N ..
+                          stop the standby and begin it again, over what its
+                          devices keep: what was synced, what was written, or
+                          these candidates of the blocks that have more
+  ready                   end the recovery that a crash began
+  publish, read P S       show readers what is acknowledged; what the published
+                          commits left at slot S of page P
+  seal, undo, finish      seal the log, hold the next record of its tail, end
+                          the takeover
+  takeover                drain, ready, force, seal, undo, force, drain and
+                          finish
+  fail log|control|pages K
+                          make the K-th next call of that device fail
+  show status|table|dirty|db, show page P, show log A
+Writes standard output: for each line that is no record line what it answers.
+
+Example:
+  als sim < examples/first-path.als
+
+Exit statuses: 0 done (a refused step is a line `refused N Name`, and the script
+goes on), 2 a fault of the command line or `line N: bad line`, 3 a refused world
+line or `als: refused N Name`.";
+
+pub const SHIP_ABOUT: &str = "Serves a log file to one follower";
+
+pub const SHIP_HELP: &str =
+    "Reads FILE whole, at most 2,147,483,648 bytes: a log text as `als make` writes it, of
+which nothing is checked but its header. Waits at ADDR, a host and a port, for a
+follower, and sends it the log from where it goes on to the end of FILE.
+Writes standard output: `sent=B`, the log bytes that it sent.
+
+Example:
+  printf 'pages 4\\nu 1 0 0 - aa\\ncommit 1\\nend 1\\n' | als make > primary.log
+  als ship --log primary.log --listen 127.0.0.1:7070
+
+Exit statuses: 0 done, 2 a fault of the command line, 3 `als: refused N Name`:
+  1   FILE has no header, or the follower has another database
+  32  there was no memory for FILE
+  40  the follower holds more than FILE has
+  41  what came is no frame of a follower
+  43  the follower went away before the end
+  44  FILE, ADDR, the network or standard output failed, or FILE is too long";
+
+pub const STANDBY_ABOUT: &str = "Follows a primary's log as the standby of a folder";
+
+pub const STANDBY_HELP: &str =
+    "Needs DIR, a folder that is there, for itself alone. Opens the database in it: log.blk,
+control.blk and pages.blk. Where there is no control.blk, it first lays out an empty
+database of N pages with a log of B blocks of 512 bytes.
+Redoes what was not redone, connects to ADDR, where `als ship` serves the primary's log,
+and follows it: each piece is stored, synced, redone and then acknowledged, up to the end
+of the log. However the session ends, the pages and a checkpoint are put on the files.
+Writes standard output: `end=E ack=A`, where the held log ends, and up to where no crash
+can lose it.
+To follow on, run it again: it goes on where it was left, also after a crash.
+
+Example:
+  mkdir standby
+  als standby --dir standby --from 127.0.0.1:7070 --pages 4
+
+Exit statuses: 0 done, 2 a fault of the command line, 3 `als: refused N Name`:
+  2 to 16 a record of the primary may not follow: it is not held
+  21  the database was taken over, and follows no more
+  29  the log has no room for more: B is too small
+  30  DIR or a file of it failed, or another program has DIR
+  34  DIR has a database of another number of pages, or a damaged one (1, 33 too)
+  37  N is not 1 to 4,096, or B not 1 to 4,194,304; no file was touched
+  40, 41 what came is no frame that may come
+  43  the primary went away; it does so too where its log is another or a shorter one
+  44  nobody serves at ADDR, or the network or standard output failed: run it again";
+
+pub const TAKEOVER_ABOUT: &str = "Makes a primary of the standby of a folder";
+
+pub const TAKEOVER_HELP: &str =
+    "Needs DIR, the folder of a standby that does not run. See first that the old primary
+writes no more: nothing here can do that.
+Redoes what was not redone, seals the log at its end, undoes each transaction that was not
+committed, and ends the takeover. From then on the folder follows no primary.
+Writes standard output: `end=E`, where the log ends, and a line `P/S VALUE` for each record
+of the database, or `empty`.
+It may be run again after a crash: it goes on, and ends with the same log.
+
+Example:
+  als takeover --dir standby
+
+Exit statuses: 0 done, 2 a fault of the command line, 3 `als: refused N Name`:
+  30  DIR or a file of it failed, it has no database, or another program has DIR
+  33, 34, 1 to 16 a file of it is damaged
+  37  pages.blk has more than 4,096 blocks, or none";
+
+pub const DUMP_ABOUT: &str = "Prints the records of a log file or of a standby";
+
+pub const DUMP_HELP: &str =
+    "Reads PATH and changes nothing: a log file as `als ship` serves it, or the folder of a
+standby that does not run, of which the log is read as far as it is acknowledged.
+Writes standard output: a line for each record that all options admit.
+  L update trans=T P/S BEFORE AFTER prev=V
+  L clr trans=T P/S AFTER prev=V next=N
+  L commit trans=T prev=V         (also rollback, end)
+  L begin_chkpt, L end_chkpt prev=V
+Where a record is not sound, the lines of those in front of it are written, and then it is
+refused: `als verify` tells where.
+
+Example:
+  als dump standby --trans 2 --from 1024
+
+Exit statuses: 0 done, 2 a fault of the command line, 3 `als: refused N Name`.";
+
+pub const VERIFY_ABOUT: &str = "Tells whether a log file or a standby is sound";
+
+pub const VERIFY_HELP: &str =
+    "Reads PATH and changes nothing: a log file, or the folder of a standby that does not run.
+Of a log each record has to be one, and has to follow those in front of it. Of a folder the
+control block, the checkpoint and the pages are read too, as a restart does.
+Writes standard output: `sound records=R end=E`, or `unsound lsn=L N Name`: where the first
+record that is not sound begins, and why. What is wrong in no record has lsn=0.
+
+Example:
+  als verify primary.log
+
+Exit statuses: 0 sound, 2 a fault of the command line, 3 unsound, or `als: refused N Name`.";
