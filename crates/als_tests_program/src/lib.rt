@@ -1,5 +1,5 @@
-//! Tests of the program `als`: scripts and command lines, with what it prints. They use public
-//! names alone.
+//! Tests of the program `als`: record lines and scripts, with what it prints. They use public names
+//! alone.
 #![tactic(auto)]
 
 // A growth is refused once at most: a test that meets one is run once more.
@@ -22,12 +22,6 @@ mod redoing;
 // What is acknowledged, and devices that fail.
 #[cfg(test)]
 mod acknowledging;
-// The command line.
-#[cfg(test)]
-mod asking;
-// Streams that fail or are too long.
-#[cfg(test)]
-mod streams;
 // What is said beside what a command answers.
 #[cfg(test)]
 mod explaining;
@@ -58,21 +52,6 @@ mod crashing;
 // The scripts of the folder of examples.
 #[cfg(test)]
 mod examples;
-// `als ship`.
-#[cfg(test)]
-mod shipping;
-// `als standby`, `als takeover`, `als verify` and `als dump`.
-#[cfg(test)]
-mod following;
-// The files of a standby's folder.
-#[cfg(test)]
-mod folder;
-// A folder of which a file is damaged: which one that is.
-#[cfg(test)]
-mod damaging;
-// A redo that takes long.
-#[cfg(test)]
-mod progressing;
 // Requests that want memory.
 #[cfg(test)]
 mod memory;

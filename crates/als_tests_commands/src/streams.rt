@@ -1,4 +1,3 @@
-use crate::row::WORLD;
 use als_program::program;
 use std::fs::File;
 use std::io;
@@ -6,6 +5,9 @@ use std::io::{Read, Write};
 use std::net::Net;
 use std::process::Abort;
 use std::rt::Files;
+
+/// A world for a script.
+const WORLD: &str = "world pages=4 log=8 frames=4 workers=2 pending=1000\n";
 
 /// What a failing stream ends with.
 const REFUSED: &[u8] = b"als: refused 44 Stream\n";
