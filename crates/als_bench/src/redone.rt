@@ -184,20 +184,29 @@ fn redo_waiting<R: Clock, D: BlockDisk + Drop>(
     Ok(Ok(()))
 }
 
-/// Redoes what waits, page by page.
+/// Redoes what waits, page by page, as als_drive does: the search for the next page goes on behind
+/// the one that was redone.
 pub fn redo_some<D: BlockDisk + Drop>(engine: &mut Engine<D>) -> Result<(), Fault> {
     let mut from = 0;
     for _ in 0..u64::MAX {
-        let Some(page) = engine.next_pending(from) else {
-            break;
-        };
-        match engine.apply(page) {
-            Ok(_) | Err(Fault::NothingToDo) => {}
-            Err(fault) => return Err(fault),
+        match engine.next_pending(from) {
+            Some(page) => {
+                redo_page(engine, page)?;
+                from = page.saturating_add(1);
+            }
+            None if from == 0 => break,
+            None => from = 0,
         }
-        from = page;
     }
     Ok(())
+}
+
+/// Redoes the first changes that wait for a page, if it lacks one of them.
+fn redo_page<D: BlockDisk + Drop>(engine: &mut Engine<D>, page: u32) -> Result<(), Fault> {
+    match engine.apply(page) {
+        Ok(_) | Err(Fault::NothingToDo) => Ok(()),
+        Err(fault) => Err(fault),
+    }
 }
 
 /// Writes the pages that have a row, and syncs them.
