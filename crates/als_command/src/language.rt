@@ -4,18 +4,23 @@ use std::alloc::{AllocError, Global};
 
 /// The command lines that the program knows.
 pub fn language<'a>(alloc: Global) -> Result<Command<'a>, AllocError> {
-    Command::new(alloc, "als")
+    let als = Command::new(alloc, "als")
         .bin_name("als")?
         .about(texts::ABOUT)
         .after_help(texts::STATUSES)
-        .subcommand_required(true)
-        .subcommand(make(alloc)?)?
-        .subcommand(sim(alloc)?)?
-        .subcommand(ship(alloc)?)?
-        .subcommand(standby(alloc)?)?
-        .subcommand(takeover(alloc)?)?
-        .subcommand(dump(alloc)?)?
-        .subcommand(verify(alloc)?)
+        .subcommand_required(true);
+    let als = with(with(als, make(alloc))?, sim(alloc))?;
+    let als = with(with(als, ship(alloc))?, standby(alloc))?;
+    let als = with(als, takeover(alloc))?;
+    with(with(als, dump(alloc))?, verify(alloc))
+}
+
+/// A program that knows this command line too.
+fn with<'a>(
+    als: Command<'a>,
+    line: Result<Command<'a>, AllocError>,
+) -> Result<Command<'a>, AllocError> {
+    als.subcommand(line?)
 }
 
 /// The command line of `als make`.

@@ -2,7 +2,7 @@ use crate::command::Command;
 use crate::language::language;
 use crate::no_command::NoCommand;
 use clap::error::ErrorKind;
-use clap::{ArgMatches, Error};
+use clap::{ArgMatches, Command as Language, Error};
 use std::alloc::{AllocError, Global};
 use std::convert::AsStr;
 
@@ -21,14 +21,22 @@ pub fn args<'a, S: AsStr>(alloc: Global, words: &'a [S]) -> Result<Command<'a>, 
 /// memory; its text says which.
 fn parsed<'a, S: AsStr>(alloc: Global, words: &'a [S]) -> Result<Command<'a>, Error> {
     let mut als = language(alloc)?;
+    matched(&mut als, words)
+}
+
+/// What the words ask a program for that knows these command lines.
+fn matched<'a, S: AsStr>(als: &mut Language<'a>, words: &'a [S]) -> Result<Command<'a>, Error> {
     let matches = als.try_get_matches_from_mut(words)?;
-    let Some((name, matches)) = matches.subcommand() else {
-        return Err(als.error(ErrorKind::MissingSubcommand, "a subcommand is wanted")?);
-    };
-    match asked(name, matches) {
-        Some(command) => Ok(command),
-        None => Err(als.error(ErrorKind::MissingRequiredArgument, "an argument is wanted")?),
+    match found(&matches) {
+        Ok(command) => Ok(command),
+        Err(lack) => Err(als.error(lack, "an argument is wanted")?),
     }
+}
+
+/// The command that was found. An error is what was not, which the parser has told by then.
+fn found<'a>(matches: &ArgMatches<'a>) -> Result<Command<'a>, ErrorKind> {
+    let (name, matches) = matches.subcommand().ok_or(ErrorKind::MissingSubcommand)?;
+    asked(name, matches).ok_or(ErrorKind::MissingRequiredArgument)
 }
 
 /// What is said of words that are no command.

@@ -41,28 +41,35 @@ impl StepLine {
                 from: words.number()?,
                 to: words.number()?,
             },
-            "resync" => StepLine::Resync,
             "apply" => StepLine::Apply {
                 page: words.number()?,
             },
             "flush" => StepLine::Flush {
                 page: words.number()?,
             },
-            "sync-pages" => StepLine::SyncPages,
-            "log-write" => StepLine::LogWrite,
-            "log-sync" => StepLine::LogSync,
-            "mark-write" => StepLine::MarkWrite,
-            "ctl-sync" => StepLine::ControlSync,
-            "ckpt-begin" => StepLine::CkptBegin,
-            "ckpt-block" => StepLine::CkptBlock,
-            "ckpt-publish" => StepLine::CkptPublish,
-            "publish" => StepLine::PublishView,
-            "ready" => StepLine::Ready,
-            "seal" => StepLine::Seal,
-            "undo" => StepLine::UndoOne,
-            "finish" => StepLine::Finish,
-            _ => return None,
+            word => StepLine::named(word)?,
         };
         words.ending(step)
+    }
+
+    /// The step that is its name alone.
+    fn named(word: &str) -> Option<StepLine> {
+        match word {
+            "resync" => Some(StepLine::Resync),
+            "sync-pages" => Some(StepLine::SyncPages),
+            "log-write" => Some(StepLine::LogWrite),
+            "log-sync" => Some(StepLine::LogSync),
+            "mark-write" => Some(StepLine::MarkWrite),
+            "ctl-sync" => Some(StepLine::ControlSync),
+            "ckpt-begin" => Some(StepLine::CkptBegin),
+            "ckpt-block" => Some(StepLine::CkptBlock),
+            "ckpt-publish" => Some(StepLine::CkptPublish),
+            "publish" => Some(StepLine::PublishView),
+            "ready" => Some(StepLine::Ready),
+            "seal" => Some(StepLine::Seal),
+            "undo" => Some(StepLine::UndoOne),
+            "finish" => Some(StepLine::Finish),
+            _ => None,
+        }
     }
 }

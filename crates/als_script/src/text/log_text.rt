@@ -90,6 +90,13 @@ impl LogText {
             None => self.prev_of(line),
         };
         append_record(&mut self.bytes, lsn, prev, line.trans, &line.body)?;
+        self.note(line, lsn)
+    }
+
+    /// Keeps where the last record begins and ends.
+    fn note(&mut self, line: &RecordLine, lsn: u64) -> Result<(), AllocError>
+        ensures { self.new ≡ self.old }
+    {
         self.ends.push(self.bytes.len())?;
         self.last_of.insert(line.trans, lsn)?;
         if let RawBody::BeginCheckpoint = line.body {
