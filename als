@@ -9,7 +9,7 @@ top=$(dirname "$(readlink -f "${BASH_SOURCE[0]}")")
 crate="$top/crates/als_cli"
 program="$crate/out/als_cli"
 texts="$top/crates/als_command/src/texts.rt" # the pages of help
-words="$top/crates/als_command/src/language.rt" # the words of the command line, with their help
+words="$top/crates/als_command/src/line.rt" # the words of the command lines, with their help
 stamp="$crate/out/als.built" # as old as the start of the last build that succeeded
 
 is_stale() {
@@ -30,24 +30,18 @@ text() {
         last { exit }' "$texts"
 }
 
-# What the program says of a word of the command line $1: it stands in language.rt alone, between the heads of that function and the next.
-option_help() {
-    awk -v head="fn $1<" -v name="\"$2\"" '
-        /^fn / { inside = index($0, head) == 1 }
-        inside { text = text " " $0 }
-        END {
-            at = index(text, name)
-            if (!at) exit
-            text = substr(text, at + length(name))
-            sub(/^, *"[A-Z]*", *"/, "", text)
-            sub(/".*/, "", text)
-            print text
-        }' "$words"
+# What the program says of the word $1, which is one of the command line $2 or of several: it stands in line.rt alone.
+word_help() {
+    awk -v word="name: \"$1\"," -v line="        name: \"${2-}\"," '
+        /^const / { inside = 1 }
+        /^        name: / { inside = $0 == line; next }
+        inside && index($0, word) { found = 1 }
+        found && sub(/^ *help: "/, "") { sub(/",$/, ""); print; exit }' "$words"
 }
 
-# A row of the options of a page, so wide: a word with its value, and the help that the function $1 has for it.
+# A row of the options of the page $1, so wide: a word with its value, and its help.
 option_row() {
-    printf '      --%-*s  %s\n' "$2" "$3 <$4>" "$(option_help "$1" "$3")"
+    printf '      --%-*s  %s\n' "$2" "$3 <$4>" "$(word_help "$3" "$1")"
 }
 
 # The row of the word that asks for remarks, so wide.
@@ -58,11 +52,6 @@ explain_row() {
 # The last row of the options of a page, so wide.
 help_row() {
     printf '  %-*s  Print help\n\n' "$(($1 + 6))" '-h, --help'
-}
-
-# What the program says of the word that the function $1 makes: of the word without a name, or of that which asks for remarks.
-word_help() {
-    sed -n "/^fn $1</,/^}/s/^ *\.help(\"\(.*\)\")\$/\1/p" "$words"
 }
 
 # The pages as clap lays them out.

@@ -7,7 +7,11 @@ mod command;
 mod no_command;
 // The pages of help.
 mod texts;
-// The command lines that the program knows.
+// A word of a command line.
+mod word;
+// The command lines, each with its words.
+mod line;
+// What the program's parser knows.
 mod language;
 // What the words ask for.
 mod reading;

@@ -1,7 +1,8 @@
 ghost use Rattle.std.specs.Prelude.{◌≡◌, ℕ, ◌≤◌, ◌<◌, ◌++◌, List, length, take, Some, None, Ok};
-ghost use Rattle.std.specs.Prelude.{IfOk, MatchOption};
+ghost use Rattle.std.specs.Prelude.{IfOk, MatchOption, ◌==◌};
 ghost use Rattle.als_record.specs.LogText.{header_bytes};
 ghost use Rattle.als_record.specs.HeaderReading.{is_magic, read_header};
+ghost use Rattle.als_record.specs.Reading.{word_at};
 
 use crate::fault::Fault;
 use crate::fields::word;
@@ -14,6 +15,14 @@ fn begins_log(front: &[u8]) -> bool
     ensures { result ≡ is_magic front.now }
 {
     front == b"ALSLOG01".as_slice()
+}
+
+/// Are the last four of a header's bytes zero?
+fn ends_in_zeros(bytes: &[u8]) -> bool
+    requires { 16 ≤ length bytes.now }
+    ensures { result ≡ (word_at 12 bytes.now == 0) }
+{
+    word(bytes, 12) == 0
 }
 
 /// The steps of reading a header.
@@ -29,7 +38,7 @@ fn read(bytes: &[u8]) -> Result<Option<LogHeader>, Fault>
     let is_header = begins_log(front)
         && 1 <= pages
         && pages as usize <= PAGE_LIMIT
-        && word(bytes, 12) == 0;
+        && ends_in_zeros(bytes);
     if !is_header {
         return Err(Fault::BadHeader);
     }

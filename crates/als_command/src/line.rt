@@ -1,0 +1,147 @@
+use crate::texts;
+use crate::word::Word;
+use clap::{Arg, Command};
+use std::alloc::{AllocError, Global};
+
+/// A command line: the word that it begins with, and those that may follow.
+#[derive(Clone, Copy)]
+pub(crate) struct Line {
+    name: &'static str,
+    about: &'static str,
+    help: &'static str,
+    words: &'static [Word],
+}
+
+/// The command lines that the program knows, in the order of its help.
+pub(crate) const LINES: [Line; 7] = [
+    Line {
+        name: "make",
+        about: texts::MAKE_ABOUT,
+        help: texts::MAKE_HELP,
+        words: &[HEX, EXPLAIN],
+    },
+    Line {
+        name: "sim",
+        about: texts::SIM_ABOUT,
+        help: texts::SIM_HELP,
+        words: &[EXPLAIN],
+    },
+    Line {
+        name: "ship",
+        about: texts::SHIP_ABOUT,
+        help: texts::SHIP_HELP,
+        words: &[
+            Word::Text {
+                name: "log",
+                value: "FILE",
+                help: "The log text that is served",
+            },
+            Word::Text {
+                name: "listen",
+                value: "ADDR",
+                help: "Where the follower comes to",
+            },
+        ],
+    },
+    Line {
+        name: "standby",
+        about: texts::STANDBY_ABOUT,
+        help: texts::STANDBY_HELP,
+        words: &[
+            DIR,
+            Word::Text {
+                name: "from",
+                value: "ADDR",
+                help: "Where the primary's log is served",
+            },
+            Word::Long {
+                name: "pages",
+                value: "N",
+                help: "How many pages the database has",
+                is_wanted: true,
+            },
+            Word::Long {
+                name: "log-blocks",
+                value: "B",
+                help: "Blocks of the log of a new database [default: 2048]",
+                is_wanted: false,
+            },
+            EXPLAIN,
+        ],
+    },
+    Line {
+        name: "takeover",
+        about: texts::TAKEOVER_ABOUT,
+        help: texts::TAKEOVER_HELP,
+        words: &[DIR, EXPLAIN],
+    },
+    Line {
+        name: "dump",
+        about: texts::DUMP_ABOUT,
+        help: texts::DUMP_HELP,
+        words: &[
+            PATH,
+            Word::Long {
+                name: "from",
+                value: "LSN",
+                help: "Only records from this LSN on",
+                is_wanted: false,
+            },
+            Word::Short {
+                name: "trans",
+                value: "T",
+                help: "Only records of this transaction",
+            },
+            Word::Short {
+                name: "page",
+                value: "P",
+                help: "Only records that change this page",
+            },
+            EXPLAIN,
+        ],
+    },
+    Line {
+        name: "verify",
+        about: texts::VERIFY_ABOUT,
+        help: texts::VERIFY_HELP,
+        words: &[PATH, EXPLAIN],
+    },
+];
+
+/// Asks for digits.
+const HEX: Word = Word::Flag {
+    name: "hex",
+    help: "Write lower case hexadecimal, the header and each record on a line",
+};
+
+/// Asks for remarks.
+const EXPLAIN: Word = Word::Flag {
+    name: "explain",
+    help: "Say more on standard error of what is wrong (so it is on a terminal)",
+};
+
+const PATH: Word = Word::Place {
+    name: "path",
+    value: "PATH",
+    help: "A log file, or the folder of a standby",
+};
+
+const DIR: Word = Word::Text {
+    name: "dir",
+    value: "DIR",
+    help: "The folder of the database",
+};
+
+impl Line {
+    /// The command line as the parser takes it.
+    pub(crate) fn command<'a>(self, alloc: Global) -> Result<Command<'a>, AllocError> {
+        let mut words: Vec<Arg<'a>> = Vec::new(alloc);
+        for word in self.words {
+            words.push(word.arg(alloc))?;
+        }
+        Command::new(alloc, self.name)
+            .about(self.about)
+            .after_help(self.help)
+            .args(words)
+    }
+}
