@@ -1,5 +1,5 @@
-//! Tests of the devices, and of the log and the control block with its checkpoints on them. They
-//! use public names alone.
+//! Tests of the devices, and of what lies on them: the log, the control block with its checkpoints,
+//! and the pages. They use public names alone.
 #![tactic(auto)]
 
 // als_ckpt.
@@ -8,9 +8,21 @@ mod ckpt;
 // als_ckpt_codec.
 #[cfg(test)]
 mod ckpt_codec;
+// als_dirty.
+#[cfg(test)]
+mod dirty;
 // als_disk.
 #[cfg(test)]
 mod disk;
+// als_frames.
+#[cfg(test)]
+mod frames;
 // als_log.
 #[cfg(test)]
 mod log;
+// als_page.
+#[cfg(test)]
+mod page;
+// als_pool.
+#[cfg(test)]
+mod pool;
