@@ -1,5 +1,6 @@
 use crate::failure::Failure;
-use als_script::{LogText, RecordLine, Words, is_command, line_number, number_past};
+use als_script::{Words, is_command, line_number, number_past, parse_record};
+use als_text::LogText;
 use std::alloc::Global;
 use std::io::Write;
 use std::str;
@@ -34,7 +35,7 @@ fn log_text(alloc: Global, script: &[u8]) -> Result<LogText, Failure> {
                     made = Some(LogText::new(alloc, pages)?);
                 }
                 Some(text) => {
-                    let record = RecordLine::parse(line).ok_or(Failure::BadLine(number))?;
+                    let record = parse_record(line).ok_or(Failure::BadLine(number))?;
                     text.push(&record)?;
                 }
             }

@@ -1,4 +1,4 @@
-//! What scripts and record lines say, and the log text that record lines make.
+//! What scripts and record lines say, and how a held record is shown.
 #![tactic(auto)]
 
 // A line's words.
@@ -25,8 +25,6 @@ mod show_line;
 mod line;
 // Which lines of a text are commands.
 mod commands;
-// Log texts made from record lines.
-mod text;
 // The forms of all lines.
 mod forms;
 // What stands at a word's place.
@@ -47,12 +45,11 @@ pub use fail_line::FailLine;
 pub use forms::{FIRST_OF_MAKE, FIRST_OF_SIM, RECORD_FORMS, STEP_FORMS};
 pub use line::Line;
 pub use read_line::ReadLine;
-pub use record_line::RecordLine;
+pub use record_line::parse_record;
 pub use show_line::ShowLine;
 pub use shown_image::ShownImage;
 pub use shown_record::ShownRecord;
 pub use step_line::StepLine;
-pub use text::{LogText, RawBody, RawImage};
 pub use wanted::Wanted;
 pub use words::Words;
 pub use world_line::WorldLine;

@@ -2,14 +2,15 @@ use crate::combined_line::CombinedLine;
 use crate::crash_line::CrashLine;
 use crate::fail_line::FailLine;
 use crate::read_line::ReadLine;
-use crate::record_line::RecordLine;
+use crate::record_line::parse_record;
 use crate::show_line::ShowLine;
 use crate::step_line::StepLine;
+use als_text::RawRecord;
 
 /// A line of a simulation behind its first.
 #[derive(Drop)]
 pub enum Line<'a> {
-    Record(RecordLine),
+    Record(RawRecord),
     Step(StepLine),
     Read(ReadLine),
     Crash(CrashLine<'a>),
@@ -21,7 +22,7 @@ pub enum Line<'a> {
 impl<'a> Line<'a> {
     /// What a line says; None where it is none of the language.
     pub fn parse(line: &'a str) -> Option<Line<'a>> {
-        if let Some(record) = RecordLine::parse(line) {
+        if let Some(record) = parse_record(line) {
             return Some(Line::Record(record));
         }
         if let Some(step) = StepLine::parse(line) {

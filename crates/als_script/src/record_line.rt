@@ -1,46 +1,35 @@
-use crate::text::RawBody;
 use crate::words::Words;
+use als_text::{RawBody, RawRecord};
 
-/// A line of a record.
-#[derive(Drop)]
-pub struct RecordLine {
-    /// 0 where the line has none.
-    pub trans: u32,
-    /// The PrevLSN that the line gives itself.
-    pub prev: Option<u64>,
-    pub body: RawBody,
+/// The record of a line; None where it is no record line.
+pub fn parse_record(line: &str) -> Option<RawRecord> {
+    let mut words = Words::of(line);
+    let record = match words.next()? {
+        "u" => raw_record(words.number()?, update(&mut words)?),
+        "c" => raw_record(words.number()?, compensation(&mut words)?),
+        "commit" => raw_record(words.number()?, RawBody::Commit),
+        "rollback" => raw_record(words.number()?, RawBody::Rollback),
+        "end" => raw_record(words.number()?, RawBody::End),
+        "ckpt" => raw_record(0, RawBody::BeginCheckpoint),
+        "ckptend" => raw_record(0, RawBody::EndCheckpoint),
+        _ => return None,
+    };
+    if words.is_at_end() {
+        return Some(record);
+    }
+    let prev = words.labelled("prev=")?;
+    words.ending(RawRecord {
+        prev: Some(prev),
+        ..record
+    })
 }
 
-impl RecordLine {
-    /// The record of a line; None where it is no record line.
-    pub fn parse(line: &str) -> Option<RecordLine> {
-        let mut words = Words::of(line);
-        let record = match words.next()? {
-            "u" => RecordLine::new(words.number()?, update(&mut words)?),
-            "c" => RecordLine::new(words.number()?, compensation(&mut words)?),
-            "commit" => RecordLine::new(words.number()?, RawBody::Commit),
-            "rollback" => RecordLine::new(words.number()?, RawBody::Rollback),
-            "end" => RecordLine::new(words.number()?, RawBody::End),
-            "ckpt" => RecordLine::new(0, RawBody::BeginCheckpoint),
-            "ckptend" => RecordLine::new(0, RawBody::EndCheckpoint),
-            _ => return None,
-        };
-        if words.is_at_end() {
-            return Some(record);
-        }
-        let prev = words.labelled("prev=")?;
-        words.ending(RecordLine {
-            prev: Some(prev),
-            ..record
-        })
-    }
-
-    fn new(trans: u32, body: RawBody) -> RecordLine {
-        RecordLine {
-            trans,
-            prev: None,
-            body,
-        }
+/// A record of a transaction, with no PrevLSN of its own.
+fn raw_record(trans: u32, body: RawBody) -> RawRecord {
+    RawRecord {
+        trans,
+        prev: None,
+        body,
     }
 }
 

@@ -1,6 +1,6 @@
 ghost use Rattle.std.specs.Prelude.{◌<◌, IfSome};
 
-use crate::text::RawImage;
+use als_text::RawImage;
 use arrayvec::ArrayVec;
 use std::str::FromStr;
 

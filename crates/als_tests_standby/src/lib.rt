@@ -1,5 +1,5 @@
-//! Tests of the engine, of a folder, of sessions, of scripts, and of what an operator asks for. They
-//! use public names alone.
+//! Tests of the engine, of restarts, of a folder, of sessions, of scripts, and of what an operator
+//! asks for. They use public names alone.
 #![tactic(auto)]
 
 // What several of these tests use.
@@ -23,3 +23,6 @@ mod script;
 // als_ship.
 #[cfg(test)]
 mod ship;
+// als_engine and als_world, crashed and begun again, and opened over altered devices.
+#[cfg(test)]
+mod trials;

@@ -1,8 +1,8 @@
 ghost use Rattle.std.specs.Prelude.{◌≡◌, ◌++◌, OnOk};
 ghost use Rattle.als_record.specs.Spelling.{head, spelling};
-ghost use Rattle.als_script.specs.RawRecord.{record_of};
+ghost use Rattle.als_text.specs.RawRecord.{record_of};
 
-use super::raw_body::{RawBody, kind_of, spell, spelled_len};
+use crate::raw_body::{RawBody, kind_of, spell, spelled_len};
 use std::alloc::AllocError;
 
 /// Appends the one spelling of a record, whether or not a log may hold it.

@@ -1,13 +1,12 @@
 ghost use Rattle.std.specs.Prelude.{◌≡◌, ◌≤◌, ◌++◌, ◌∷◌, [], OnOk};
 ghost use Rattle.std.specs.Int.{w32, w64, to_be_bytes};
 ghost use Rattle.als_record.specs.Spelling.{type_byte, body_len, body_bytes};
-ghost use Rattle.als_script.specs.RawRecord.{body_of};
+ghost use Rattle.als_text.specs.RawRecord.{body_of};
 
-use super::raw_image::{RawImage, image_bytes, length_byte};
+use crate::raw_image::{RawImage, image_bytes, length_byte};
 use std::alloc::AllocError;
 
-/// What a record line says, with numbers and values that need not be those of a record that is
-/// held.
+/// What a raw record says, with numbers and values that need not be those of a record that is held.
 #[derive(Drop)]
 pub enum RawBody {
     Update {

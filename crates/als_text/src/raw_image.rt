@@ -3,8 +3,8 @@ ghost use Rattle.als_record.specs.Spelling as spelling;
 
 use arrayvec::ArrayVec;
 
-/// An image as a record line has it: absent, or a value of up to 254 bytes, which may be too long
-/// for a record that is held.
+/// An image of a raw record: absent, or a value of up to 254 bytes, which may be too long for a
+/// record that is held.
 pub type RawImage = Option<ArrayVec<u8, 254>>;
 
 /// The byte of a record that says how long the image is; 255 says that it is absent.

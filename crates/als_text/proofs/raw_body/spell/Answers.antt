@@ -1,9 +1,9 @@
 use Rattle.std.proofs.Common.{◌∙◌, ap, sym, append_assoc, List, ℕ, [], ◌∷◌, ◌++◌}
 use Rattle.std.specs.Int.{w32, w64, to_be_bytes}
 use Rattle.als_record.specs.Spelling.{body_bytes, image_bytes}
-use Rattle.als_script.specs.RawRecord.{body_of}
-use Rattle.als_script.specs.declared.text.raw_body.RawBody.{RawBody}
-use Rattle.als_script.proofs.text.raw_body.spell.Goals as goal
+use Rattle.als_text.specs.RawRecord.{body_of}
+use Rattle.als_text.specs.declared.raw_body.RawBody.{RawBody}
+use Rattle.als_text.proofs.raw_body.spell.Goals as goal
 
 pub returns-in_ok-extend_from_slice-in-Compensation-2 :
     goal.returns-in_ok-extend_from_slice-in-Compensation-2

@@ -1,18 +1,17 @@
 ghost use Rattle.std.specs.Prelude.{◌≡◌, ◌++◌, length, IfOk, OnOk, Some};
 ghost use Rattle.als_record.specs.LogText.{header_bytes};
 ghost use Rattle.als_record.specs.Spelling.{spelling};
-ghost use Rattle.als_script.specs.RawRecord.{record_of};
+ghost use Rattle.als_text.specs.RawRecord.{record_of};
 
-use super::raw_body::RawBody;
-use super::raw_record::append_record;
-use crate::record_line::RecordLine;
+use crate::appending::append_record;
+use crate::raw_body::RawBody;
+use crate::raw_record::RawRecord;
 use als_record::LogHeader;
 use std::alloc::{AllocError, Global};
 use std::collections::HashMap;
 use std::marker::Model;
 
-/// The log text of record lines: a header, and a record for each line, with its place and its
-/// PrevLSN filled in.
+/// The log text of raw records: a header, and each record with its place and its PrevLSN filled in.
 pub struct LogText {
     bytes: Vec<u8>,
     /// Where the header and then each record ends.
@@ -76,42 +75,42 @@ impl LogText {
         self.ends.as_slice()
     }
 
-    /// Appends the record of a line: it stands where the text ends, and has the line's PrevLSN
-    /// where the line has one.
-    pub fn push(&mut self, line: &RecordLine) -> Result<(), AllocError>
+    /// Appends a record: it stands where the text ends, and has its own PrevLSN where it gives itself
+    /// one.
+    pub fn push(&mut self, raw: &RawRecord) -> Result<(), AllocError>
         ensures { OnOk result ((prev : _)
             × (self.new ≡ self.old ++ spelling
-            (record_of (length self.old) prev line.now.trans line.now.body))
-            × ((own : _) → line.now.prev ≡ Some own → prev ≡ own)) }
+            (record_of (length self.old) prev raw.now.trans raw.now.body))
+            × ((own : _) → raw.now.prev ≡ Some own → prev ≡ own)) }
     {
         let lsn = self.bytes.len() as u64;
-        let prev = match line.prev {
+        let prev = match raw.prev {
             Some(prev) => prev,
-            None => self.prev_of(line),
+            None => self.prev_of(raw),
         };
-        append_record(&mut self.bytes, lsn, prev, line.trans, &line.body)?;
-        self.note(line, lsn)
+        append_record(&mut self.bytes, lsn, prev, raw.trans, &raw.body)?;
+        self.note(raw, lsn)
     }
 
     /// Keeps where the last record begins and ends.
-    fn note(&mut self, line: &RecordLine, lsn: u64) -> Result<(), AllocError>
+    fn note(&mut self, raw: &RawRecord, lsn: u64) -> Result<(), AllocError>
         ensures { self.new ≡ self.old }
     {
         self.ends.push(self.bytes.len())?;
-        self.last_of.insert(line.trans, lsn)?;
-        if let RawBody::BeginCheckpoint = line.body {
+        self.last_of.insert(raw.trans, lsn)?;
+        if let RawBody::BeginCheckpoint = raw.body {
             self.last_checkpoint = lsn;
         }
         Ok(())
     }
 
-    /// The PrevLSN of a line's record where the line has none: the last record of the same TransID;
+    /// The PrevLSN of a record that gives itself none: the last record of the same TransID;
     /// for an end_chkpt the last begin_chkpt, and none for a begin_chkpt.
-    fn prev_of(&self, line: &RecordLine) -> u64 {
-        match &line.body {
+    fn prev_of(&self, raw: &RawRecord) -> u64 {
+        match &raw.body {
             RawBody::BeginCheckpoint => 0,
             RawBody::EndCheckpoint => self.last_checkpoint,
-            _ => self.last_of.get(&line.trans).copied().unwrap_or(0),
+            _ => self.last_of.get(&raw.trans).copied().unwrap_or(0),
         }
     }
 }
