@@ -1,2 +1,1 @@
 pub mod FaultNames
-pub mod Wanted

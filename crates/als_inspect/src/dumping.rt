@@ -1,10 +1,9 @@
 use crate::fault::Fault;
 use crate::log_text::{text_of_file, text_of_folder};
-use crate::reading::told;
-use crate::wanted::Wanted;
+use crate::telling::told;
 use als_disk::BlockDisk;
 use als_folder::Folder;
-use als_scan::Scan;
+use als_scan::{Scan, Wanted};
 use als_script::ShownRecord;
 use std::fs;
 use std::fs::File;

@@ -8,10 +8,8 @@ mod fault;
 mod copying;
 // The log text of a file, or of a folder.
 mod log_text;
-// Its records, read and judged.
-mod reading;
-// Which records are printed.
-mod wanted;
+// Why a record is refused.
+mod telling;
 // The records as lines.
 mod dumping;
 // What is not sound.
@@ -19,7 +17,7 @@ mod unsound;
 // Whether all is sound.
 mod verifying;
 
+pub use als_scan::Wanted;
 pub use dumping::dump;
 pub use fault::Fault;
 pub use verifying::verify;
-pub use wanted::Wanted;

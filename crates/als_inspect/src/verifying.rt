@@ -1,13 +1,14 @@
 use crate::copying::copy;
 use crate::fault::Fault;
 use crate::log_text::{LogText, text_of_file, text_of_folder};
-use crate::reading::{read_all, told};
+use crate::telling::told;
 use crate::unsound::Unsound;
 use als_disk::MemDisk;
 use als_drive::{listing, recover};
 use als_engine::{Config, Disks, Engine};
 use als_fault::FaultKind;
 use als_folder::{Fault as FolderFault, Folder, Part};
+use als_scan::read_all;
 use std::alloc::Global;
 use std::fs::File;
 use std::io::Write;

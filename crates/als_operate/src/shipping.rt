@@ -83,6 +83,15 @@ pub fn serve<S: Source, R: Read, W: Write, O: Write>(
         (W.contents writer.new) }
 {
     let sent = Shipper::serve(alloc, source, reader, writer)?;
+    tell_sent(sent, output)?;
+    Ok(())
+}
+
+/// Prints how many log bytes a session sent.
+fn tell_sent<O: Write>(sent: u64, output: &mut O) -> Result<(), Fault>
+    ensures { OnOk result (Appends (O.contents output.old) (O.contents output.new)
+        (sent_line sent)) }
+{
     writeln!(output, "sent={sent}")?;
     Ok(())
 }

@@ -31,9 +31,17 @@ pub fn take_over_telling<E: Events, P: Progress>(
     force(events)?;
     drain(events)?;
     finish(events)?;
+    check_primary(events)?;
+    Ok(())
+}
+
+/// Refused as NotDrained, unless it is a primary.
+fn check_primary<E: Events>(events: &E) -> Result<(), EngineFault>
+    ensures { OnOk result (E.alone → state_of (E.machine events.now) ≡ Primary) }
+{
     match events.status().state {
         State::Primary => Ok(()),
-        _ => Err(Fault::Refused(EngineFault::NotDrained)),
+        _ => Err(EngineFault::NotDrained),
     }
 }
 

@@ -11,7 +11,13 @@ mod reading;
 mod unread;
 // The records one by one.
 mod scan;
+// All records, counted.
+mod counting;
+// Which records are asked for.
+mod wanted;
 
+pub use counting::read_all;
 pub use fault::Fault;
 pub use scan::Scan;
 pub use unread::Unread;
+pub use wanted::Wanted;

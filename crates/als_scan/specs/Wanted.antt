@@ -1,9 +1,9 @@
--- Which records of a log are printed.
+-- Which records of a log are asked for.
 use Rattle.std.specs.Prelude.{◌≡◌, ◌≤◌, ℕ, Option, Some, None, IfSome}
 use Rattle.als_record.specs.declared.record.Record.{Record}
 use Rattle.als_record.specs.declared.record.Body.{Body}
 use Rattle.als_record.specs.declared.record.Body.TheVariants.{Update, Compensation, Commit, Rollback, End, BeginCheckpoint, EndCheckpoint}
-use Rattle.als_inspect.specs.declared.wanted.Wanted.{Wanted}
+use Rattle.als_scan.specs.declared.wanted.Wanted.{Wanted}
 
 -- the page that a record with this body writes
 abbrev pub page_of : Body → Option ℕ

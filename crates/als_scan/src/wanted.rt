@@ -1,9 +1,9 @@
 ghost use Rattle.std.specs.Prelude.{◌≡◌, Some, IsTrue, IfSome, ◌↔◌};
-ghost use Rattle.als_inspect.specs.Wanted.{IsWanted, page_of};
+ghost use Rattle.als_scan.specs.Wanted.{IsWanted, page_of};
 
 use als_record::{Body, Lsn, Record, TransId};
 
-/// Which records are printed: those that meet all of it.
+/// Which records are asked for: those that meet all of it.
 #[derive(Clone, Copy, Debug)]
 pub struct Wanted {
     /// From there on.
@@ -15,7 +15,7 @@ pub struct Wanted {
 }
 
 impl Wanted {
-    /// Whether the record is printed.
+    /// Whether the record is asked for.
     pub fn admits(&self, logged: &Record) -> bool
         ensures { IsTrue result ↔ IsWanted self.now logged.now }
     {
@@ -24,7 +24,7 @@ impl Wanted {
             && self.admits_page(&logged.body)
     }
 
-    /// Whether records of the transaction are printed.
+    /// Whether records of the transaction are asked for.
     fn admits_trans(&self, trans: TransId) -> bool
         ensures { IsTrue result ↔ IfSome self.now.trans (λ t. trans ≡ t) }
     {
@@ -34,7 +34,7 @@ impl Wanted {
         }
     }
 
-    /// Whether records with this body are printed.
+    /// Whether records with this body are asked for.
     fn admits_page(&self, body: &Body) -> bool
         ensures { IsTrue result ↔ IfSome self.now.page (λ p. page_of body.now ≡ Some p) }
     {

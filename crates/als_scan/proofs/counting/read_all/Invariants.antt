@@ -1,5 +1,5 @@
 use Rattle.als_scan.specs.Scanned.{IsScanned}
-use Rattle.als_inspect.proofs.reading.read_all.Given as goal
+use Rattle.als_scan.proofs.counting.read_all.Given as goal
 
 abbrev pub invariant-loop-count : goal.invariant-loop-count
 invariant-loop-count g l = record {
