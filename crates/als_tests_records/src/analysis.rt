@@ -1,47 +1,7 @@
+use crate::made::{Said, record, undo, update};
 use als_analysis::{Fault, TransTable};
-use als_record::{Body, Image, Key, Lsn, Record, TransId, TransactionRow, TransactionState, Value};
+use als_record::{Lsn, Record, TransId, TransactionRow, TransactionState};
 use std::process::Abort;
-
-// A value of one byte.
-fn byte(value: u8) -> Image {
-    let mut bytes = Value::new();
-    match bytes.try_push(value) {
-        Ok(()) => Some(bytes),
-        Err(_) => None,
-    }
-}
-
-fn record(lsn: u64, prev: u64, trans: u32, body: Body) -> Record {
-    Record {
-        lsn: Lsn(lsn),
-        prev: Lsn(prev),
-        trans: TransId(trans),
-        body,
-    }
-}
-
-// An update of a slot of page 0.
-fn update(lsn: u64, prev: u64, trans: u32, slot: u8, before: Image) -> Record {
-    let key = Key { page: 0, slot };
-    let after = byte(1);
-    record(lsn, prev, trans, Body::Update { key, before, after })
-}
-
-// A compensation at a slot of page 0.
-fn undo(lsn: u64, prev: u64, trans: u32, slot: u8, next: u64, after: Image) -> Record {
-    let key = Key { page: 0, slot };
-    let undo_next = Lsn(next);
-    record(
-        lsn,
-        prev,
-        trans,
-        Body::Compensation {
-            undo_next,
-            key,
-            after,
-        },
-    )
-}
 
 fn row(trans: u32, state: TransactionState, last: u64, undo_next: u64) -> TransactionRow {
     TransactionRow {
@@ -52,9 +12,14 @@ fn row(trans: u32, state: TransactionState, last: u64, undo_next: u64) -> Transa
     }
 }
 
+// Notes a record that says this.
+fn note(rt: &impl Abort, table: &mut TransTable, lsn: u64, prev: u64, trans: u32, said: Said) {
+    note_record(rt, table, &record(lsn, prev, trans, said));
+}
+
 // Notes a record. A refused growth changes nothing, and is met once at most: the record is noted at
 // the next try. What a takeover would append then was told before.
-fn note(rt: &impl Abort, table: &mut TransTable, logged: &Record) {
+fn note_record(rt: &impl Abort, table: &mut TransTable, logged: &Record) {
     let open = table.rows().len();
     let reserve = table.reserve_bytes();
     let after = table.reserve_after(&logged.view());
@@ -67,6 +32,12 @@ fn note(rt: &impl Abort, table: &mut TransTable, logged: &Record) {
         assert!(rt; table.note(&logged.view()).is_ok());
     }
     assert!(rt; table.reserve_bytes() == after);
+}
+
+// What a takeover would append behind a record that says this.
+fn reserve_after(table: &TransTable, lsn: u64, prev: u64, trans: u32, said: Said) -> u64 {
+    let logged = record(lsn, prev, trans, said);
+    table.reserve_after(&logged.view())
 }
 
 fn expect_row(rt: &impl Abort, table: &TransTable, place: usize, row: TransactionRow) {
@@ -91,21 +62,20 @@ fn expect_survivors(rt: &impl Abort, table: &TransTable, trans: u32, lsns: &[u64
 #[test]
 fn a_committed_and_an_active_transaction(rt: HostRuntime) {
     let mut table = TransTable::new(rt.alloc());
-    note(&rt, &mut table, &update(16, 0, 1, 0, None));
+    note(&rt, &mut table, 16, 0, 1, update(0, None, 1));
     assert!(rt; table.reserve_bytes() == 70);
-    let commit = record(52, 16, 1, Body::Commit);
-    assert!(rt; table.reserve_after(&commit.view()) == 28);
-    note(&rt, &mut table, &commit);
+    assert!(rt; reserve_after(&table, 52, 16, 1, Said::Commit) == 28);
+    note(&rt, &mut table, 52, 16, 1, Said::Commit);
     assert!(rt; table.reserve_bytes() == 28);
-    note(&rt, &mut table, &update(80, 0, 2, 1, None));
-    note(&rt, &mut table, &update(116, 80, 2, 0, byte(0xaa)));
+    note(&rt, &mut table, 80, 0, 2, update(1, None, 1));
+    note(&rt, &mut table, 116, 80, 2, update(0, Some(0xaa), 1));
     assert!(rt; table.rows().len() == 2);
     expect_row(&rt, &table, 0, row(1, TransactionState::Committed, 52, 16));
     expect_row(&rt, &table, 1, row(2, TransactionState::Active, 116, 116));
     expect_survivors(&rt, &table, 1, &[16]);
     expect_survivors(&rt, &table, 2, &[80, 116]);
     assert!(rt; table.reserve_bytes() == 294 - 153);
-    note(&rt, &mut table, &record(153, 52, 1, Body::End));
+    note(&rt, &mut table, 153, 52, 1, Said::End);
     assert!(rt; table.rows().len() == 1);
     assert!(rt; table.undo_next_of(TransId(1)) == None);
     expect_survivors(&rt, &table, 1, &[]);
@@ -115,10 +85,10 @@ fn a_committed_and_an_active_transaction(rt: HostRuntime) {
 #[test]
 fn a_transaction_rolled_back_to_its_start(rt: HostRuntime) {
     let mut table = TransTable::new(rt.alloc());
-    note(&rt, &mut table, &update(16, 0, 1, 0, None));
-    note(&rt, &mut table, &undo(52, 16, 1, 0, 0, None));
-    note(&rt, &mut table, &update(94, 0, 2, 0, None));
-    note(&rt, &mut table, &record(130, 94, 2, Body::Commit));
+    note(&rt, &mut table, 16, 0, 1, update(0, None, 1));
+    note(&rt, &mut table, 52, 16, 1, undo(0, None, 0));
+    note(&rt, &mut table, 94, 0, 2, update(0, None, 1));
+    note(&rt, &mut table, 130, 94, 2, Said::Commit);
     expect_row(&rt, &table, 0, row(1, TransactionState::Active, 52, 0));
     expect_row(&rt, &table, 1, row(2, TransactionState::Committed, 130, 94));
     expect_survivors(&rt, &table, 1, &[]);
@@ -128,15 +98,15 @@ fn a_transaction_rolled_back_to_its_start(rt: HostRuntime) {
 #[test]
 fn a_compensation_takes_its_own_bytes(rt: HostRuntime) {
     let mut table = TransTable::new(rt.alloc());
-    note(&rt, &mut table, &update(16, 0, 1, 0, None));
-    note(&rt, &mut table, &record(52, 16, 1, Body::Commit));
-    note(&rt, &mut table, &record(80, 52, 1, Body::End));
-    note(&rt, &mut table, &update(108, 0, 2, 0, byte(1)));
-    note(&rt, &mut table, &update(145, 108, 2, 1, None));
+    note(&rt, &mut table, 16, 0, 1, update(0, None, 1));
+    note(&rt, &mut table, 52, 16, 1, Said::Commit);
+    note(&rt, &mut table, 80, 52, 1, Said::End);
+    note(&rt, &mut table, 108, 0, 2, update(0, Some(1), 1));
+    note(&rt, &mut table, 145, 108, 2, update(1, None, 1));
     assert!(rt; table.reserve_bytes() == 28 + 43 + 42);
-    note(&rt, &mut table, &undo(181, 145, 2, 1, 108, None));
+    note(&rt, &mut table, 181, 145, 2, undo(1, None, 108));
     assert!(rt; table.reserve_bytes() == 28 + 43);
-    note(&rt, &mut table, &undo(223, 181, 2, 0, 0, byte(1)));
+    note(&rt, &mut table, 223, 181, 2, undo(0, Some(1), 0));
     assert!(rt; table.reserve_bytes() == 28);
     expect_survivors(&rt, &table, 2, &[]);
 }
@@ -144,21 +114,21 @@ fn a_compensation_takes_its_own_bytes(rt: HostRuntime) {
 #[test]
 fn a_partial_rollback(rt: HostRuntime) {
     let mut table = TransTable::new(rt.alloc());
-    note(&rt, &mut table, &update(16, 0, 1, 0, None));
-    note(&rt, &mut table, &update(52, 16, 1, 1, None));
-    note(&rt, &mut table, &undo(88, 52, 1, 1, 16, None));
-    note(&rt, &mut table, &update(130, 88, 1, 2, None));
+    note(&rt, &mut table, 16, 0, 1, update(0, None, 1));
+    note(&rt, &mut table, 52, 16, 1, update(1, None, 1));
+    note(&rt, &mut table, 88, 52, 1, undo(1, None, 16));
+    note(&rt, &mut table, 130, 88, 1, update(2, None, 1));
     expect_row(&rt, &table, 0, row(1, TransactionState::Active, 130, 130));
     expect_survivors(&rt, &table, 1, &[16, 130]);
     assert!(rt; table.reserve_bytes() == 278 - 166);
-    note(&rt, &mut table, &record(166, 130, 1, Body::Rollback));
+    note(&rt, &mut table, 166, 130, 1, Said::Rollback);
     expect_row(
         &rt,
         &table,
         0,
         row(1, TransactionState::RollingBack, 166, 130),
     );
-    note(&rt, &mut table, &record(194, 0, 0, Body::BeginCheckpoint));
+    note(&rt, &mut table, 194, 0, 0, Said::BeginCheckpoint);
     assert!(rt; table.rows().len() == 1);
 }
 
@@ -169,7 +139,7 @@ fn room_once_made_is_enough(rt: HostRuntime) {
         if table.reserve().is_err() {
             assert!(rt; table.reserve().is_ok());
         }
-        let logged = update(16, 0, 1 + k % 4, 0, None);
+        let logged = record(16, 0, 1 + k % 4, update(0, None, 1));
         assert!(rt; table.note(&logged.view()).is_ok());
     }
     assert!(rt; table.rows().len() == 4);

@@ -4,6 +4,8 @@
 #[cfg(test)]
 mod analysis;
 #[cfg(test)]
+mod made;
+#[cfg(test)]
 mod receiver;
 #[cfg(test)]
 mod record;

@@ -51,34 +51,36 @@ fn spelled(rt: &impl Abort, alloc: Global, bytes: &[u8], at: u64) -> Result<Reco
     };
     let (found, len) = first.ok_or("a record is there")?;
     assert!(rt; len == bytes.len());
-    assert!(rt; encoded_len(&found) == len);
-    let mut out = Vec::new(alloc);
-    if encode(&found, &mut out).is_err() {
-        assert!(rt; out.is_empty());
-        encode(&found, &mut out)?;
-    }
-    assert!(rt; out.as_slice() == bytes);
+    is_spelled(rt, alloc, &found, bytes)?;
     let copy = match found.view().to_record(alloc) {
         Err(_) => found.view().to_record(alloc)?,
         Ok(copy) => copy,
     };
-    let mut again = Vec::new(alloc);
-    if encode(&copy, &mut again).is_err() {
-        encode(&copy, &mut again)?;
-    }
-    assert!(rt; again.as_slice() == bytes);
+    is_spelled(rt, alloc, &copy, bytes)?;
     Ok(found)
 }
 
-// What decode answers of the update with other bytes at two places.
-fn fault_with(alloc: Global, changes: [(usize, u8); 2]) -> Option<Fault> {
+// These bytes are the record's spelling.
+fn is_spelled(rt: &impl Abort, alloc: Global, found: &Record, bytes: &[u8]) -> Result<(), Fail> {
+    assert!(rt; encoded_len(found) == bytes.len());
+    let mut out = Vec::new(alloc);
+    if encode(found, &mut out).is_err() {
+        assert!(rt; out.is_empty());
+        encode(found, &mut out)?;
+    }
+    assert!(rt; out.as_slice() == bytes);
+    Ok(())
+}
+
+// Decode refuses the update with other bytes at two places.
+fn expect_fault<R: Abort + AllocGlobal>(rt: &R, changes: [(usize, u8); 2], fault: Fault) {
     let mut bytes = UPDATE;
     for (place, value) in changes {
         if let Some(byte) = bytes.get_mut(place) {
             *byte = value;
         }
     }
-    decode(alloc, &bytes, Lsn(16), 4).err()
+    assert!(rt; decode(rt.alloc(), &bytes, Lsn(16), 4).err() == Some(fault));
 }
 
 #[test]
@@ -95,6 +97,11 @@ fn a_view_shows_the_bytes(rt: HostRuntime) -> Result<(), Fail> {
         }
         _ => panic!(rt; "an update is there"),
     }
+    Ok(())
+}
+
+#[test]
+fn what_is_no_record_has_no_view(rt: HostRuntime) -> Result<(), Fail> {
     assert!(rt; view_record(&UPDATE[..35], Lsn(16), 4)?.is_none());
     assert!(rt; view_record(&CHECKPOINT, Lsn(16), 4)?.is_some());
     assert!(rt; view_record(&UPDATE, Lsn(17), 4).err() == Some(Fault::WrongLsn));
@@ -156,14 +163,14 @@ fn compensation_and_checkpoint(rt: HostRuntime) -> Result<(), Fail> {
 fn faults_in_order(rt: HostRuntime) -> Result<(), Fail> {
     let alloc = rt.alloc();
     // each alone, and beside one that comes later
-    assert!(rt; fault_with(alloc, [(3, 34), (4, 1)]) == Some(Fault::BadLength));
-    assert!(rt; fault_with(alloc, [(4, 8), (5, 1)]) == Some(Fault::BadType));
-    assert!(rt; fault_with(alloc, [(7, 1), (15, 17)]) == Some(Fault::BadReserved));
-    assert!(rt; fault_with(alloc, [(15, 17), (32, 15)]) == Some(Fault::WrongLsn));
-    assert!(rt; fault_with(alloc, [(31, 4), (33, 32)]) == Some(Fault::BadKey));
-    assert!(rt; fault_with(alloc, [(32, 15), (33, 32)]) == Some(Fault::BadKey));
-    assert!(rt; fault_with(alloc, [(33, 254), (34, 0)]) == Some(Fault::BadValue));
-    assert!(rt; fault_with(alloc, [(34, 0), (35, 0)]) == Some(Fault::BadLength));
+    expect_fault(&rt, [(3, 34), (4, 1)], Fault::BadLength);
+    expect_fault(&rt, [(4, 8), (5, 1)], Fault::BadType);
+    expect_fault(&rt, [(7, 1), (15, 17)], Fault::BadReserved);
+    expect_fault(&rt, [(15, 17), (32, 15)], Fault::WrongLsn);
+    expect_fault(&rt, [(31, 4), (33, 32)], Fault::BadKey);
+    expect_fault(&rt, [(32, 15), (33, 32)], Fault::BadKey);
+    expect_fault(&rt, [(33, 254), (34, 0)], Fault::BadValue);
+    expect_fault(&rt, [(34, 0), (35, 0)], Fault::BadLength);
     // a record of which bytes are missing waits for them
     assert!(rt; decode(alloc, &UPDATE[..27], Lsn(17), 4)?.is_none());
     assert!(rt; decode(alloc, &UPDATE[..35], Lsn(16), 0)?.is_none());

@@ -1,7 +1,8 @@
+use crate::made::{Said, image, record, undo, update};
 use als_analysis::TransTable;
 use als_disk::MemDisk;
 use als_log::{LocalLog, NewLog};
-use als_record::{Body, Image, Key, Lsn, Record, TransId, Value, decode, encode};
+use als_record::{Body, Key, Lsn, Record, TransId, decode, encode};
 use als_takeover::next_undo;
 use std::alloc::Global;
 use std::process::Abort;
@@ -11,24 +12,6 @@ use std::process::Abort;
 struct Held {
     table: TransTable,
     log: LocalLog<MemDisk>,
-}
-
-// A value of one byte.
-fn byte(value: u8) -> Image {
-    let mut bytes = Value::new();
-    match bytes.try_push(value) {
-        Ok(()) => Some(bytes),
-        Err(_) => None,
-    }
-}
-
-// An update of a key of page 0.
-fn update(slot: u8, before: Image, after: u8) -> Body {
-    Body::Update {
-        key: Key { page: 0, slot },
-        before,
-        after: byte(after),
-    }
 }
 
 // The memory of an empty log of a database of four pages, made again where memory is refused once.
@@ -83,13 +66,8 @@ fn put(rt: &impl Abort, alloc: Global, held: &mut Held, made: &Record) {
 }
 
 // Appends a record of a transaction.
-fn log(rt: &impl Abort, alloc: Global, held: &mut Held, prev: u64, trans: u32, body: Body) {
-    let logged = Record {
-        lsn: held.log.end(),
-        prev: Lsn(prev),
-        trans: TransId(trans),
-        body,
-    };
+fn log(rt: &impl Abort, alloc: Global, held: &mut Held, prev: u64, trans: u32, said: Said) {
+    let logged = record(held.log.end().0, prev, trans, said);
     put(rt, alloc, held, &logged);
 }
 
@@ -130,12 +108,12 @@ fn is_over(rt: &impl Abort, held: &mut Held, end: u64) {
 }
 
 // The key's image after the next compensation.
-fn gives_back(rt: &impl Abort, held: &mut Held, slot: u8, image: Image) {
+fn gives_back(rt: &impl Abort, held: &mut Held, slot: u8, value: Option<u8>) {
     match next_undo(&held.table, &mut held.log) {
         Ok(Some(made)) => match &made.body {
             Body::Compensation { key, after, .. } => {
                 assert!(rt; *key == Key { page: 0, slot });
-                assert!(rt; *after == image);
+                assert!(rt; *after == image(value));
             }
             _ => panic!(rt; "another kind of record"),
         },
@@ -150,12 +128,12 @@ fn two_losers_are_undone_in_one_sweep(rt: HostRuntime) {
     is_over(&rt, &mut held, 16);
     log(&rt, a, &mut held, 0, 1, update(0, None, 0x11));
     log(&rt, a, &mut held, 0, 2, update(1, None, 0x22));
-    log(&rt, a, &mut held, 16, 1, update(0, byte(0x11), 0x33));
+    log(&rt, a, &mut held, 16, 1, update(0, Some(0x11), 0x33));
     log(&rt, a, &mut held, 52, 2, update(3, None, 0x44));
     log(&rt, a, &mut held, 88, 1, update(2, None, 0x55));
     next(&rt, a, &mut held, 197, 1, 161, Some(88));
     next(&rt, a, &mut held, 239, 2, 125, Some(52));
-    gives_back(&rt, &mut held, 0, byte(0x11));
+    gives_back(&rt, &mut held, 0, Some(0x11));
     next(&rt, a, &mut held, 281, 1, 197, Some(16));
     next(&rt, a, &mut held, 324, 2, 239, Some(0));
     next(&rt, a, &mut held, 366, 2, 324, None);
@@ -171,8 +149,8 @@ fn three_losers_are_undone_in_one_sweep_behind_the_ends(rt: HostRuntime) {
     log(&rt, a, &mut held, 0, 1, update(0, None, 0x11));
     log(&rt, a, &mut held, 0, 2, update(1, None, 0x22));
     log(&rt, a, &mut held, 0, 3, update(2, None, 0x33));
-    log(&rt, a, &mut held, 0, 4, Body::Commit);
-    log(&rt, a, &mut held, 0, 5, Body::Rollback);
+    log(&rt, a, &mut held, 0, 4, Said::Commit);
+    log(&rt, a, &mut held, 0, 5, Said::Rollback);
     log(&rt, a, &mut held, 52, 2, update(3, None, 0x44));
     log(&rt, a, &mut held, 16, 1, update(4, None, 0x55));
     next(&rt, a, &mut held, 252, 4, 124, None);
@@ -193,11 +171,11 @@ fn a_committed_transaction_ends_and_a_loser_is_undone(rt: HostRuntime) {
     let a = rt.alloc();
     let mut held = empty(&rt, a);
     log(&rt, a, &mut held, 0, 1, update(0, None, 0xaa));
-    log(&rt, a, &mut held, 16, 1, Body::Commit);
+    log(&rt, a, &mut held, 16, 1, Said::Commit);
     log(&rt, a, &mut held, 0, 2, update(1, None, 0xbb));
-    log(&rt, a, &mut held, 80, 2, update(0, byte(0xaa), 0xcc));
+    log(&rt, a, &mut held, 80, 2, update(0, Some(0xaa), 0xcc));
     next(&rt, a, &mut held, 153, 1, 52, None);
-    gives_back(&rt, &mut held, 0, byte(0xaa));
+    gives_back(&rt, &mut held, 0, Some(0xaa));
     next(&rt, a, &mut held, 181, 2, 116, Some(80));
     gives_back(&rt, &mut held, 1, None);
     next(&rt, a, &mut held, 224, 2, 181, Some(0));
@@ -211,12 +189,7 @@ fn what_a_compensation_has_undone_is_passed_over(rt: HostRuntime) {
     let mut held = empty(&rt, a);
     log(&rt, a, &mut held, 0, 1, update(0, None, 0x11));
     log(&rt, a, &mut held, 16, 1, update(1, None, 0x22));
-    let undone = Body::Compensation {
-        undo_next: Lsn(16),
-        key: Key { page: 0, slot: 1 },
-        after: None,
-    };
-    log(&rt, a, &mut held, 52, 1, undone);
+    log(&rt, a, &mut held, 52, 1, undo(1, None, 16));
     log(&rt, a, &mut held, 88, 1, update(2, None, 0x33));
     next(&rt, a, &mut held, 166, 1, 130, Some(88));
     next(&rt, a, &mut held, 208, 1, 166, Some(0));

@@ -1,71 +1,24 @@
 ghost use Rattle.als_validator.specs.Validated.{HasRoom};
 
-use als_record::{Body, Cause, Image, Key, Lsn, PageRows, Record, TransId, TransactionRows, Value};
+use crate::made::{Said, record, undo, update};
+use als_record::{Body, Cause, Lsn, PageRows, Record, TransId, TransactionRows};
 use als_validator::{Fault, Validator};
+use als_view::Commit;
 use std::alloc::Global;
 use std::process::Abort;
-
-// A value of one byte.
-fn byte(value: u8) -> Image {
-    let mut bytes = Value::new();
-    match bytes.try_push(value) {
-        Ok(()) => Some(bytes),
-        Err(_) => None,
-    }
-}
-
-fn record(lsn: u64, prev: u64, trans: u32, body: Body) -> Record {
-    Record {
-        lsn: Lsn(lsn),
-        prev: Lsn(prev),
-        trans: TransId(trans),
-        body,
-    }
-}
-
-// An update of slot 0 of page 0.
-fn update(lsn: u64, prev: u64, trans: u32, before: Image, after: u8) -> Record {
-    let key = Key { page: 0, slot: 0 };
-    let after = byte(after);
-    record(lsn, prev, trans, Body::Update { key, before, after })
-}
-
-// An update of slot 1 of page 0, which nobody has written.
-fn update_beside(lsn: u64, prev: u64, trans: u32) -> Record {
-    let key = Key { page: 0, slot: 1 };
-    let after = byte(0xbb);
-    let before = None;
-    record(lsn, prev, trans, Body::Update { key, before, after })
-}
-
-// A compensation at slot 0 of page 0.
-fn undo(lsn: u64, prev: u64, trans: u32, after: Image, next: u64) -> Record {
-    let key = Key { page: 0, slot: 0 };
-    let undo_next = Lsn(next);
-    record(
-        lsn,
-        prev,
-        trans,
-        Body::Compensation {
-            undo_next,
-            key,
-            after,
-        },
-    )
-}
 
 fn end_of_checkpoint(alloc: Global, lsn: u64, prev: u64, trans: u32) -> Record {
     let transactions = TransactionRows::new(alloc);
     let pages = PageRows::new(alloc);
-    record(
-        lsn,
-        prev,
-        trans,
-        Body::EndCheckpoint {
+    Record {
+        lsn: Lsn(lsn),
+        prev: Lsn(prev),
+        trans: TransId(trans),
+        body: Body::EndCheckpoint {
             transactions,
             pages,
         },
-    )
+    }
 }
 
 // A validator of no record. A refused growth is met once at most: it is made at the next try.
@@ -102,8 +55,13 @@ fn make_room(rt: &impl Abort, validator: &mut Validator)
     }
 }
 
+// Takes a record that says this and may follow.
+fn admit(rt: &impl Abort, one: &mut Validator, lsn: u64, prev: u64, trans: u32, said: Said) {
+    admit_record(rt, one, &record(lsn, prev, trans, said));
+}
+
 // Takes a record that may follow. What a takeover would append then was told before.
-fn admit(rt: &impl Abort, validator: &mut Validator, logged: &Record) {
+fn admit_record(rt: &impl Abort, validator: &mut Validator, logged: &Record) {
     assert!(rt; validator.check(&logged.view()) == Ok(()));
     make_room(rt, validator);
     assert!(rt; validator.check(&logged.view()) == Ok(()));
@@ -112,8 +70,18 @@ fn admit(rt: &impl Abort, validator: &mut Validator, logged: &Record) {
     assert!(rt; validator.reserve_bytes() == after);
 }
 
+// A record that is refused: its LSN, PrevLSN and TransID, what it says, and the cause.
+type Refused = (u64, u64, u32, Said, Cause);
+
+// Refuses each record.
+fn refuse(rt: &impl Abort, one: &mut Validator, records: &[Refused]) {
+    for (lsn, prev, trans, said, cause) in records {
+        refuse_record(rt, one, &record(*lsn, *prev, *trans, *said), *cause);
+    }
+}
+
 // Refuses a record, and again.
-fn refuse(rt: &impl Abort, validator: &mut Validator, logged: &Record, cause: Cause) {
+fn refuse_record(rt: &impl Abort, validator: &mut Validator, logged: &Record, cause: Cause) {
     assert!(rt; validator.check(&logged.view()) == Err(Fault::Invalid(cause)));
     assert!(rt; validator.check(&logged.view()) == Err(Fault::Invalid(cause)));
 }
@@ -121,62 +89,44 @@ fn refuse(rt: &impl Abort, validator: &mut Validator, logged: &Record, cause: Ca
 #[test]
 fn records_that_may_not_follow(rt: HostRuntime) {
     let mut one = fresh(&rt, rt.alloc());
-    admit(&rt, &mut one, &update(16, 0, 1, None, 0xaa));
+    admit(&rt, &mut one, 16, 0, 1, update(0, None, 0xaa));
     refuse(
         &rt,
         &mut one,
-        &record(52, 0, 1, Body::Commit),
-        Cause::BadPrev,
+        &[
+            (52, 0, 1, Said::Commit, Cause::BadPrev),
+            (52, 16, 1, Said::End, Cause::WrongState),
+            (52, 16, 1, undo(0, None, 16), Cause::WrongUndoNext),
+            (52, 16, 1, undo(0, Some(0x22), 0), Cause::WrongCompensation),
+            (
+                52,
+                0,
+                2,
+                update(0, Some(0xaa), 0x22),
+                Cause::RecordHeld { by: TransId(1) },
+            ),
+        ],
     );
+    admit(&rt, &mut one, 52, 16, 1, Said::Commit);
     refuse(
         &rt,
         &mut one,
-        &record(52, 16, 1, Body::End),
-        Cause::WrongState,
+        &[
+            (80, 0, 2, update(0, Some(0xab), 0xcc), Cause::BeforeImage),
+            (80, 0, 0, update(0, Some(0xaa), 0xcc), Cause::OldTransaction),
+        ],
     );
-    refuse(
-        &rt,
-        &mut one,
-        &undo(52, 16, 1, None, 16),
-        Cause::WrongUndoNext,
-    );
-    refuse(
-        &rt,
-        &mut one,
-        &undo(52, 16, 1, byte(0x22), 0),
-        Cause::WrongCompensation,
-    );
-    refuse(
-        &rt,
-        &mut one,
-        &update(52, 0, 2, byte(0xaa), 0x22),
-        Cause::RecordHeld { by: TransId(1) },
-    );
-    admit(&rt, &mut one, &record(52, 16, 1, Body::Commit));
-    refuse(
-        &rt,
-        &mut one,
-        &update(80, 0, 2, byte(0xab), 0xcc),
-        Cause::BeforeImage,
-    );
-    refuse(
-        &rt,
-        &mut one,
-        &update(80, 0, 0, byte(0xaa), 0xcc),
-        Cause::OldTransaction,
-    );
-    admit(&rt, &mut one, &update(80, 0, 2, byte(0xaa), 0xcc));
+    admit(&rt, &mut one, 80, 0, 2, update(0, Some(0xaa), 0xcc));
 }
 
 #[test]
 fn transactions_rise(rt: HostRuntime) {
     let mut one = fresh(&rt, rt.alloc());
-    admit(&rt, &mut one, &update(16, 0, 2, None, 0xaa));
+    admit(&rt, &mut one, 16, 0, 2, update(0, None, 0xaa));
     refuse(
         &rt,
         &mut one,
-        &update_beside(52, 0, 1),
-        Cause::OldTransaction,
+        &[(52, 0, 1, update(1, None, 0xbb), Cause::OldTransaction)],
     );
     assert!(rt; Fault::Invalid(Cause::OldTransaction).number() == 9);
     assert!(rt; Fault::Invalid(Cause::OldTransaction).name() == "OldTransaction");
@@ -186,17 +136,12 @@ fn transactions_rise(rt: HostRuntime) {
 fn a_transaction_too_many(rt: HostRuntime) {
     let mut one = fresh(&rt, rt.alloc());
     for k in 0..256u32 {
-        admit(
-            &rt,
-            &mut one,
-            &record(16 + 28 * k as u64, 0, k + 1, Body::Rollback),
-        );
+        admit(&rt, &mut one, 16 + 28 * k as u64, 0, k + 1, Said::Rollback);
     }
     refuse(
         &rt,
         &mut one,
-        &record(7184, 0, 257, Body::Rollback),
-        Cause::TooManyTransactions,
+        &[(7184, 0, 257, Said::Rollback, Cause::TooManyTransactions)],
     );
     assert!(rt; one.rows().len() == 256);
     assert!(rt; one.reserve_bytes() == 256 * 28);
@@ -205,76 +150,98 @@ fn a_transaction_too_many(rt: HostRuntime) {
 #[test]
 fn checkpoints_come_in_pairs(rt: HostRuntime) {
     let mut one = fresh(&rt, rt.alloc());
-    refuse(
+    refuse_record(
         &rt,
         &mut one,
         &end_of_checkpoint(rt.alloc(), 16, 0, 0),
         Cause::BadCheckpoint,
     );
-    admit(&rt, &mut one, &record(16, 0, 0, Body::BeginCheckpoint));
-    admit(&rt, &mut one, &end_of_checkpoint(rt.alloc(), 44, 16, 0));
-    refuse(
+    admit(&rt, &mut one, 16, 0, 0, Said::BeginCheckpoint);
+    admit_record(&rt, &mut one, &end_of_checkpoint(rt.alloc(), 44, 16, 0));
+    refuse_record(
         &rt,
         &mut one,
         &end_of_checkpoint(rt.alloc(), 76, 16, 0),
         Cause::BadCheckpoint,
     );
-    admit(&rt, &mut one, &record(76, 0, 1, Body::Commit));
-    admit(&rt, &mut one, &record(104, 76, 1, Body::End));
+    admit(&rt, &mut one, 76, 0, 1, Said::Commit);
+    admit(&rt, &mut one, 104, 76, 1, Said::End);
     refuse(
         &rt,
         &mut one,
-        &record(132, 0, 1, Body::BeginCheckpoint),
-        Cause::WrongState,
-    );
-    refuse(
-        &rt,
-        &mut one,
-        &record(132, 0, 2, Body::BeginCheckpoint),
-        Cause::BadCheckpoint,
+        &[
+            (132, 0, 1, Said::BeginCheckpoint, Cause::WrongState),
+            (132, 0, 2, Said::BeginCheckpoint, Cause::BadCheckpoint),
+        ],
     );
 }
 
 #[test]
 fn a_partial_rollback_goes_on(rt: HostRuntime) {
     let mut one = fresh(&rt, rt.alloc());
-    admit(&rt, &mut one, &update(16, 0, 1, None, 0x11));
-    admit(&rt, &mut one, &update(52, 16, 1, byte(0x11), 0x22));
-    admit(&rt, &mut one, &undo(89, 52, 1, byte(0x11), 16));
+    admit(&rt, &mut one, 16, 0, 1, update(0, None, 0x11));
+    admit(&rt, &mut one, 52, 16, 1, update(0, Some(0x11), 0x22));
+    admit(&rt, &mut one, 89, 52, 1, undo(0, Some(0x11), 16));
     refuse(
         &rt,
         &mut one,
-        &update(132, 0, 2, byte(0x11), 0x33),
-        Cause::RecordHeld { by: TransId(1) },
+        &[(
+            132,
+            0,
+            2,
+            update(0, Some(0x11), 0x33),
+            Cause::RecordHeld { by: TransId(1) },
+        )],
     );
-    admit(&rt, &mut one, &undo(132, 89, 1, None, 0));
-    admit(&rt, &mut one, &update_beside(174, 132, 1));
-    admit(&rt, &mut one, &update(210, 0, 2, None, 0x33));
+    admit(&rt, &mut one, 132, 89, 1, undo(0, None, 0));
+    admit(&rt, &mut one, 174, 132, 1, update(1, None, 0xbb));
+    admit(&rt, &mut one, 210, 0, 2, update(0, None, 0x33));
     refuse(
         &rt,
         &mut one,
-        &update(246, 174, 1, byte(0x33), 0x44),
-        Cause::RecordHeld { by: TransId(2) },
+        &[(
+            246,
+            174,
+            1,
+            update(0, Some(0x33), 0x44),
+            Cause::RecordHeld { by: TransId(2) },
+        )],
     );
     assert!(rt; one.table().survivors_of(TransId(1)).len() == 1);
-    let commit = record(246, 174, 1, Body::Commit);
+    let commit = record(246, 174, 1, Said::Commit);
     assert!(rt; one.check(&commit.view()) == Ok(()));
     assert!(rt; one.reserve_after(&commit.view()) == 28 + 28 + 42);
+}
+
+fn has_two_writes(rt: &impl Abort, made: &Commit) {
+    assert!(rt; (made.trans.0, made.lsn.0, made.writes.len()) == (1, 168, 2));
 }
 
 // T1 writes (0,0), (0,1) and (0,0) again, and undoes the last write: its commit has the first two.
 fn commits(rt: &impl Abort, alloc: Global) -> Option<()> {
     let mut validator = fresh(rt, alloc);
-    admit(rt, &mut validator, &update(16, 0, 1, None, 1));
-    admit(rt, &mut validator, &update_beside(52, 16, 1));
-    admit(rt, &mut validator, &update(88, 52, 1, byte(1), 2));
-    admit(rt, &mut validator, &undo(125, 88, 1, byte(1), 52));
-    let commit = record(168, 125, 1, Body::Commit);
-    let made = validator.commit_of(alloc, &commit.view()).ok()??;
-    assert!(rt; (made.trans.0, made.lsn.0, made.writes.len()) == (1, 168, 2));
-    admit(rt, &mut validator, &commit);
-    let made = validator.commit_made(alloc, &commit).ok()??;
-    assert!(rt; (made.trans.0, made.lsn.0, made.writes.len()) == (1, 168, 2));
+    admit(rt, &mut validator, 16, 0, 1, update(0, None, 1));
+    admit(rt, &mut validator, 52, 16, 1, update(1, None, 0xbb));
+    admit(rt, &mut validator, 88, 52, 1, update(0, Some(1), 2));
+    admit(rt, &mut validator, 125, 88, 1, undo(0, Some(1), 52));
+    makes_a_commit(
+        rt,
+        alloc,
+        &mut validator,
+        &record(168, 125, 1, Said::Commit),
+    )
+}
+
+// The record makes the same commit of two writes before it is taken and after.
+fn makes_a_commit(
+    rt: &impl Abort,
+    alloc: Global,
+    validator: &mut Validator,
+    commit: &Record,
+) -> Option<()> {
+    has_two_writes(rt, &validator.commit_of(alloc, &commit.view()).ok()??);
+    admit_record(rt, validator, commit);
+    has_two_writes(rt, &validator.commit_made(alloc, commit).ok()??);
     Some(())
 }
 

@@ -1,26 +1,21 @@
-use als_record::{BodyView, Image, ImageView, KeptUpdate, Key, Lsn, RecordView, TransId, Value};
+use crate::made::image;
+use als_record::{BodyView, Image, ImageView, KeptUpdate, Key, Lsn, RecordView, TransId};
 use als_view::{Answer, Commit, Fault, View};
 use std::alloc::Global;
 use std::process::Abort;
-
-// A value of one byte.
-fn byte(value: u8) -> Image {
-    let mut bytes = Value::new();
-    match bytes.try_push(value) {
-        Ok(()) => Some(bytes),
-        Err(_) => None,
-    }
-}
 
 fn key(page: u32, slot: u8) -> Key {
     Key { page, slot }
 }
 
+// A key, and the byte that it gets.
+type Write = (Key, Option<u8>);
+
 // A commit of two writes, none where memory is refused.
-fn commit_of(alloc: Global, lsn: u64, first: (Key, Image), second: (Key, Image)) -> Option<Commit> {
+fn commit_of(alloc: Global, lsn: u64, first: Write, second: Write) -> Option<Commit> {
     let mut writes = Vec::with_capacity(alloc, 2).ok()?;
-    writes.push(first).ok()?;
-    writes.push(second).ok()?;
+    writes.push((first.0, image(first.1))).ok()?;
+    writes.push((second.0, image(second.1))).ok()?;
     Some(Commit {
         trans: TransId(1),
         lsn: Lsn(lsn),
@@ -39,42 +34,49 @@ fn said(view: &View, page: u32, slot: u8) -> Option<(Image, u64, u64)> {
     Some((value, commits, lsn.0))
 }
 
+// A key shows this byte, or none, after so many commits, the last of which ended at this LSN.
+fn shows(rt: &impl Abort, view: &View, at: Key, value: Option<u8>, commits: u64, lsn: u64) {
+    assert!(rt; said(view, at.page, at.slot) == Some((image(value), commits, lsn)));
+}
+
+// A commit of two writes waits.
+fn queue(alloc: Global, view: &mut View, lsn: u64, first: Write, second: Write) -> Option<()> {
+    view.queue(commit_of(alloc, lsn, first, second)?).ok()
+}
+
 // Three commits wait: at 52 (0,0) gets aa and (0,1) gets 01, at 116 (0,0) gets bb and (7,0) of
 // another database gets 02, at 200 (0,0) gets nothing and (1,14) gets 03.
 fn fill(alloc: Global, view: &mut View) -> Option<()> {
     view.reserve(3).ok()?;
-    let first = commit_of(alloc, 52, (key(0, 0), byte(0xaa)), (key(0, 1), byte(1)))?;
-    view.queue(first).ok()?;
-    let second = commit_of(alloc, 116, (key(0, 0), byte(0xbb)), (key(7, 0), byte(2)))?;
-    view.queue(second).ok()?;
-    let third = commit_of(alloc, 200, (key(0, 0), None), (key(1, 14), byte(3)))?;
-    view.queue(third).ok()?;
-    Some(())
+    let (first, other) = (key(0, 0), key(7, 0));
+    queue(alloc, view, 52, (first, Some(0xaa)), (key(0, 1), Some(1)))?;
+    queue(alloc, view, 116, (first, Some(0xbb)), (other, Some(2)))?;
+    queue(alloc, view, 200, (first, None), (key(1, 14), Some(3)))
 }
 
 // What waits does not show; of the first two commits the last write of a key is seen, in parts as
 // at once.
 fn shows_in_parts(rt: &impl Abort, alloc: Global) -> Option<()> {
     let mut view = View::new(alloc, 2, true).ok()?;
-    assert!(rt; said(&view, 0, 0) == Some((None, 0, 0)));
+    shows(rt, &view, key(0, 0), None, 0, 0);
     fill(alloc, &mut view)?;
-    assert!(rt; said(&view, 0, 0) == Some((None, 0, 0)));
+    shows(rt, &view, key(0, 0), None, 0, 0);
     assert!(rt; view.count_below(Lsn(52)) == 0);
     assert!(rt; view.count_below(Lsn(53)) == 1);
     assert!(rt; view.count_below(Lsn(201)) == 3);
     assert!(rt; 1 <= view.queued());
     view.publish_first(1);
-    assert!(rt; said(&view, 0, 0) == Some((byte(0xaa), 1, 52)));
-    assert!(rt; said(&view, 1, 14) == Some((None, 1, 52)));
+    shows(rt, &view, key(0, 0), Some(0xaa), 1, 52);
+    shows(rt, &view, key(1, 14), None, 1, 52);
     assert!(rt; 1 <= view.queued());
     view.publish_first(1);
-    assert!(rt; said(&view, 0, 0) == Some((byte(0xbb), 2, 116)));
-    assert!(rt; said(&view, 0, 1) == Some((byte(1), 2, 116)));
-    assert!(rt; said(&view, 7, 0) == Some((None, 2, 116)));
-    assert!(rt; said(&view, 0, 15) == Some((None, 2, 116)));
+    shows(rt, &view, key(0, 0), Some(0xbb), 2, 116);
+    shows(rt, &view, key(0, 1), Some(1), 2, 116);
+    shows(rt, &view, key(7, 0), None, 2, 116);
+    shows(rt, &view, key(0, 15), None, 2, 116);
     view.publish();
-    assert!(rt; said(&view, 0, 0) == Some((None, 3, 200)));
-    assert!(rt; said(&view, 1, 14) == Some((byte(3), 3, 200)));
+    shows(rt, &view, key(0, 0), None, 3, 200);
+    shows(rt, &view, key(1, 14), Some(3), 3, 200);
     Some(())
 }
 
@@ -90,9 +92,9 @@ fn shows_at_once(rt: &impl Abort, alloc: Global) -> Option<()> {
     fill(alloc, &mut view)?;
     assert!(rt; view.get(key(0, 0)).err() == Some(Fault::Warming));
     view.publish();
-    assert!(rt; said(&view, 0, 0) == Some((None, 3, 200)));
-    assert!(rt; said(&view, 0, 1) == Some((byte(1), 3, 200)));
-    assert!(rt; said(&view, 1, 14) == Some((byte(3), 3, 200)));
+    shows(rt, &view, key(0, 0), None, 3, 200);
+    shows(rt, &view, key(0, 1), Some(1), 3, 200);
+    shows(rt, &view, key(1, 14), Some(3), 3, 200);
     assert!(rt; view.queued() == 0);
     Some(())
 }
@@ -109,8 +111,10 @@ fn a_view_without_a_list_warms(rt: HostRuntime) {
 // gave (0,1) nothing.
 fn survivors(alloc: Global) -> Option<Vec<KeptUpdate>> {
     let mut left = Vec::with_capacity(alloc, 2).ok()?;
-    left.push(update(16, key(0, 0), &None, &byte(0xaa))).ok()?;
-    left.push(update(116, key(0, 1), &byte(1), &None)).ok()?;
+    left.push(update(16, key(0, 0), &None, &image(Some(0xaa))))
+        .ok()?;
+    left.push(update(116, key(0, 1), &image(Some(1)), &None))
+        .ok()?;
     Some(left)
 }
 
@@ -151,7 +155,7 @@ fn shows_what_is_acknowledged(rt: &impl Abort, alloc: Global) -> Option<()> {
     assert!(rt; (view.count_ended(Lsn(79)), view.count_ended(Lsn(80))) == (0, 1));
     assert!(rt; view.read(key(0, 0)).err() == Some(Fault::Warming));
     view.publish_ended(Lsn(227));
-    assert!(rt; said(&view, 0, 0) == Some((byte(0xbb), 2, 116)));
+    shows(rt, &view, key(0, 0), Some(0xbb), 2, 116);
     Some(())
 }
 
