@@ -75,6 +75,11 @@ fn acknowledged(rt: &impl Abort, store: &mut Store<MemDisk>) -> Result<Lsn, Faul
     store.ctl_sync()
 }
 
+/// Stores what is held and acknowledges it. False: a device call has failed.
+fn acknowledges_all(rt: &impl Abort, store: &mut Store<MemDisk>) -> bool {
+    stored(rt, store).is_ok() && acknowledged(rt, store).is_ok()
+}
+
 /// New devices in memory, of which the log's has eight blocks.
 fn devices(alloc: Global) -> Disks<MemDisk>
     ensures log { ⟦<MemDisk as BlockDisk>⟧.block_count result.log ≡ 8 }
@@ -88,25 +93,39 @@ fn devices(alloc: Global) -> Disks<MemDisk>
     }
 }
 
+/// Admits a first commit.
+fn hold_first(rt: &impl Abort, alloc: Global, store: &mut Store<MemDisk>) {
+    assert!(rt; admit(rt, alloc, store, Lsn(0)).is_ok());
+}
+
+/// A commit that names a record before it is refused, and the first one is held.
+fn holds_the_first(rt: &impl Abort, alloc: Global, store: &mut Store<MemDisk>) {
+    assert!(rt; admit(rt, alloc, store, Lsn(16)) == Err(Fault::Invalid(Cause::BadPrev)));
+    assert!(rt; store.len() == 0);
+    hold_first(rt, alloc, store);
+    assert!(rt; store.end().0 == 44);
+}
+
+/// One transaction is not ended, and the log is acknowledged up to here.
+fn expect_one(rt: &impl Abort, store: &Store<MemDisk>, acknowledged: u64) {
+    assert!(rt; store.table().len() == 1);
+    assert!(rt; store.acknowledged().0 == acknowledged);
+}
+
 /// A record is held and acknowledged. False: memory was refused, and where that failed a write the
 /// store is broken.
 fn acknowledges(rt: &impl Abort, alloc: Global) -> bool {
     let Ok(mut store) = Store::format(alloc, devices(alloc), 4, 2) else {
         return false;
     };
-    assert!(rt; admit(rt, alloc, &mut store, Lsn(16)) == Err(Fault::Invalid(Cause::BadPrev)));
-    assert!(rt; store.len() == 0);
-    assert!(rt; admit(rt, alloc, &mut store, Lsn(0)) == Ok(()));
-    assert!(rt; store.end() == Lsn(44));
-    assert!(rt; store.table().len() == 1);
-    assert!(rt; store.acknowledged() == Lsn(16));
-    if stored(rt, &mut store).is_err() || acknowledged(rt, &mut store).is_err() {
+    holds_the_first(rt, alloc, &mut store);
+    expect_one(rt, &store, 16);
+    if !acknowledges_all(rt, &mut store) {
         assert!(rt; store.is_broken());
-        assert!(rt; store.acknowledged() == Lsn(16));
-        assert!(rt; store.table().len() == 1);
+        expect_one(rt, &store, 16);
         return false;
     }
-    assert!(rt; store.acknowledged() == Lsn(44));
+    expect_one(rt, &store, 44);
     true
 }
 
@@ -170,30 +189,41 @@ fn finish(rt: &impl Abort, store: &mut Store<MemDisk>) -> Result<(), Fault> {
     store.finish()
 }
 
+/// Stores the log, and seals it. False: a device call has failed.
+fn seals(rt: &impl Abort, store: &mut Store<MemDisk>) -> bool {
+    stored(rt, store).is_ok() && seal(rt, store).is_ok()
+}
+
+/// A transaction is not ended, or none is; and the tail is not stored.
+fn expect_tail(rt: &impl Abort, store: &Store<MemDisk>, has_unended: bool) {
+    assert!(rt; store.has_unended() == has_unended);
+    assert!(rt; !store.is_drained());
+}
+
+/// The tail of a sealed log is one record, which is held.
+fn holds_the_tail(rt: &impl Abort, store: &mut Store<MemDisk>) {
+    expect_tail(rt, store, true);
+    assert!(rt; matches!(undo(rt, store), Ok(Lsn(44))));
+    assert!(rt; matches!(undo(rt, store), Err(Fault::NothingToDo)));
+    assert!(rt; store.end().0 == 72);
+    expect_tail(rt, store, false);
+}
+
 /// A log with a committed transaction is sealed, its tail is held, and the takeover ends. False:
 /// memory was refused, and where that failed a write the store is broken.
 fn takes_over(rt: &impl Abort, alloc: Global) -> bool {
     let Ok(mut store) = Store::format(alloc, devices(alloc), 4, 2) else {
         return false;
     };
-    assert!(rt; admit(rt, alloc, &mut store, Lsn(0)) == Ok(()));
+    hold_first(rt, alloc, &mut store);
     assert!(rt; store.phase() == Phase::Following);
-    if stored(rt, &mut store).is_err() || seal(rt, &mut store).is_err() {
+    if !seals(rt, &mut store) {
         assert!(rt; store.is_broken());
         return false;
     }
     assert!(rt; store.phase() == Phase::Sealed);
-    assert!(rt; store.has_unended());
-    assert!(rt; !store.is_drained());
-    assert!(rt; undo(rt, &mut store) == Ok(Lsn(44)));
-    assert!(rt; undo(rt, &mut store) == Err(Fault::NothingToDo));
-    assert!(rt; store.end() == Lsn(72));
-    assert!(rt; !store.has_unended());
-    assert!(rt; !store.is_drained());
-    if stored(rt, &mut store).is_err()
-        || acknowledged(rt, &mut store).is_err()
-        || finish(rt, &mut store).is_err()
-    {
+    holds_the_tail(rt, &mut store);
+    if !acknowledges_all(rt, &mut store) || finish(rt, &mut store).is_err() {
         assert!(rt; store.is_broken());
         return false;
     }
