@@ -38,6 +38,21 @@ fn spelled(rt: &impl Abort, alloc: Global, logged: &Record) -> Vec<u8>
     panic!(rt; "memory is refused twice")
 }
 
+/// Admits a record that stands where the log ends.
+fn offer(
+    rt: &impl Abort,
+    store: &mut Store<MemDisk>,
+    logged: &Record,
+    bytes: &[u8],
+) -> Result<(), Fault>
+    requires fits { (pages : ℕ) → IsRecord pages logged.now }
+    requires spelled { bytes.now ≡ spelling logged.now }
+{
+    assert!(rt; store.end() == logged.lsn);
+    assert!(rt; store.is_following());
+    store.admit(&logged.view(), bytes)
+}
+
 /// Admits a commit that names this record before it, again where memory is refused once: then
 /// nothing has changed.
 fn admit(
@@ -46,17 +61,13 @@ fn admit(
     store: &mut Store<MemDisk>,
     prev: Lsn,
 ) -> Result<(), Fault> {
-    let before = store.end();
-    let logged = commit_at(before, prev);
+    let logged = commit_at(store.end(), prev);
     let bytes = spelled(rt, alloc, &logged);
-    assert!(rt; store.is_following());
-    let answer = store.admit(&logged.view(), bytes.as_slice());
+    let answer = offer(rt, store, &logged, bytes.as_slice());
     if answer != Err(Fault::Memory) {
         return answer;
     }
-    assert!(rt; store.end() == before);
-    assert!(rt; store.is_following());
-    store.admit(&logged.view(), bytes.as_slice())
+    offer(rt, store, &logged, bytes.as_slice())
 }
 
 /// Writes the log's block, and syncs it.
@@ -144,12 +155,11 @@ fn holds(rt: &impl Abort, alloc: Global) -> bool {
     let logged = commit_at(store.end(), Lsn(0));
     // A refused growth changes nothing that is held.
     if store.reserve(&logged).is_err() {
-        assert!(rt; store.reserve(&logged) == Ok(()));
+        assert!(rt; store.reserve(&logged).is_ok());
     }
     assert!(rt; store.len() == 0);
     let bytes = spelled(rt, alloc, &logged);
-    assert!(rt; store.is_following());
-    assert!(rt; store.admit(&logged.view(), bytes.as_slice()) == Ok(()));
+    assert!(rt; offer(rt, &mut store, &logged, bytes.as_slice()).is_ok());
     assert!(rt; store.len() == 1);
     true
 }
@@ -209,6 +219,22 @@ fn holds_the_tail(rt: &impl Abort, store: &mut Store<MemDisk>) {
     expect_tail(rt, store, false);
 }
 
+/// The store is in this phase.
+fn expect_phase(rt: &impl Abort, store: &Store<MemDisk>, phase: Phase) {
+    assert!(rt; store.phase() == phase);
+}
+
+/// Seals the log, holds its tail, and ends the takeover. False: a device call has failed.
+fn take_over(rt: &impl Abort, store: &mut Store<MemDisk>) -> bool {
+    expect_phase(rt, store, Phase::Following);
+    if !seals(rt, store) {
+        return false;
+    }
+    expect_phase(rt, store, Phase::Sealed);
+    holds_the_tail(rt, store);
+    acknowledges_all(rt, store) && finish(rt, store).is_ok()
+}
+
 /// A log with a committed transaction is sealed, its tail is held, and the takeover ends. False:
 /// memory was refused, and where that failed a write the store is broken.
 fn takes_over(rt: &impl Abort, alloc: Global) -> bool {
@@ -216,18 +242,11 @@ fn takes_over(rt: &impl Abort, alloc: Global) -> bool {
         return false;
     };
     hold_first(rt, alloc, &mut store);
-    assert!(rt; store.phase() == Phase::Following);
-    if !seals(rt, &mut store) {
+    if !take_over(rt, &mut store) {
         assert!(rt; store.is_broken());
         return false;
     }
-    assert!(rt; store.phase() == Phase::Sealed);
-    holds_the_tail(rt, &mut store);
-    if !acknowledges_all(rt, &mut store) || finish(rt, &mut store).is_err() {
-        assert!(rt; store.is_broken());
-        return false;
-    }
-    assert!(rt; store.phase() == Phase::Primary);
+    expect_phase(rt, &store, Phase::Primary);
     true
 }
 

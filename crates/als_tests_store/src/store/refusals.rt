@@ -123,17 +123,22 @@ fn expect_no_write<D: BlockDisk + Drop>(
     assert!(rt; store.flush(page) == Err(fault));
 }
 
+/// A sync fails, which breaks the store; the first page still waits for its write.
+fn fails_a_sync<D: BlockDisk + Drop>(rt: &impl Abort, store: &mut Store<D>) {
+    assert!(rt; !store.is_broken());
+    assert!(rt; store.sync_pages() == Err(Fault::Device));
+    assert!(rt; store.is_broken());
+    let (page, rec_lsn) = (0, Lsn(16));
+    assert!(rt; store.next_row(0) == Some(LoggedPage { page, rec_lsn }));
+}
+
 /// Writes are refused in the order of their causes, though the device would fail, and then a sync
 /// fails.
 fn refuses_writes<D: BlockDisk + Drop>(rt: &impl Abort, store: &mut Store<D>) {
     expect_no_write(rt, store, 1, Fault::NothingToDo);
     expect_no_write(rt, store, 9, Fault::NothingToDo);
     expect_no_write(rt, store, 0, Fault::LogBehind);
-    assert!(rt; !store.is_broken());
-    assert!(rt; matches!(store.sync_pages(), Err(Fault::Device)));
-    assert!(rt; store.is_broken());
-    let (page, rec_lsn) = (0, Lsn(16));
-    assert!(rt; store.next_row(0) == Some(LoggedPage { page, rec_lsn }));
+    fails_a_sync(rt, store);
 }
 
 /// Redo, a write and a sync are refused in the order of their causes, though the device would fail.
