@@ -71,7 +71,7 @@ fn admit(
 }
 
 /// Writes the log's block, and syncs it.
-fn stored(rt: &impl Abort, store: &mut Store<MemDisk>) -> Result<(), Fault> {
+fn stored<D: BlockDisk + Drop>(rt: &impl Abort, store: &mut Store<D>) -> Result<(), Fault> {
     assert!(rt; !store.is_broken());
     store.log_write()?;
     assert!(rt; !store.is_broken());
@@ -79,7 +79,7 @@ fn stored(rt: &impl Abort, store: &mut Store<MemDisk>) -> Result<(), Fault> {
 }
 
 /// Writes the mark, and syncs it.
-fn acknowledged(rt: &impl Abort, store: &mut Store<MemDisk>) -> Result<Lsn, Fault> {
+fn acknowledged<D: BlockDisk + Drop>(rt: &impl Abort, store: &mut Store<D>) -> Result<Lsn, Fault> {
     assert!(rt; !store.is_broken());
     store.mark_write()?;
     assert!(rt; !store.is_broken());
@@ -87,7 +87,7 @@ fn acknowledged(rt: &impl Abort, store: &mut Store<MemDisk>) -> Result<Lsn, Faul
 }
 
 /// Stores what is held and acknowledges it. False: a device call has failed.
-fn acknowledges_all(rt: &impl Abort, store: &mut Store<MemDisk>) -> bool {
+fn acknowledges_all<D: BlockDisk + Drop>(rt: &impl Abort, store: &mut Store<D>) -> bool {
     stored(rt, store).is_ok() && acknowledged(rt, store).is_ok()
 }
 
@@ -118,7 +118,7 @@ fn holds_the_first(rt: &impl Abort, alloc: Global, store: &mut Store<MemDisk>) {
 }
 
 /// One transaction is not ended, and the log is acknowledged up to here.
-fn expect_one(rt: &impl Abort, store: &Store<MemDisk>, acknowledged: u64) {
+fn expect_one<D: BlockDisk + Drop>(rt: &impl Abort, store: &Store<D>, acknowledged: u64) {
     assert!(rt; store.table().len() == 1);
     assert!(rt; store.acknowledged().0 == acknowledged);
 }
@@ -170,7 +170,7 @@ fn a_record_is_held_in_the_room_that_was_made(rt: HostRuntime) {
 }
 
 /// Seals the log.
-fn seal(rt: &impl Abort, store: &mut Store<MemDisk>) -> Result<(), Fault> {
+fn seal<D: BlockDisk + Drop>(rt: &impl Abort, store: &mut Store<D>) -> Result<(), Fault> {
     assert!(rt; !store.is_broken());
     assert!(rt; store.is_following());
     assert!(rt; store.end().0 <= store.synced().0);
@@ -178,7 +178,7 @@ fn seal(rt: &impl Abort, store: &mut Store<MemDisk>) -> Result<(), Fault> {
 }
 
 /// Holds the next record of the tail, again where memory is refused once: then nothing has changed.
-fn undo(rt: &impl Abort, store: &mut Store<MemDisk>) -> Result<Lsn, Fault> {
+fn undo<D: BlockDisk + Drop>(rt: &impl Abort, store: &mut Store<D>) -> Result<Lsn, Fault> {
     let before = store.end();
     assert!(rt; !store.is_following());
     let answer = store.undo_one();
@@ -191,7 +191,7 @@ fn undo(rt: &impl Abort, store: &mut Store<MemDisk>) -> Result<Lsn, Fault> {
 }
 
 /// Ends the takeover.
-fn finish(rt: &impl Abort, store: &mut Store<MemDisk>) -> Result<(), Fault> {
+fn finish<D: BlockDisk + Drop>(rt: &impl Abort, store: &mut Store<D>) -> Result<(), Fault> {
     assert!(rt; !store.is_broken());
     assert!(rt; !store.is_following());
     assert!(rt; !store.is_primary());
@@ -200,18 +200,18 @@ fn finish(rt: &impl Abort, store: &mut Store<MemDisk>) -> Result<(), Fault> {
 }
 
 /// Stores the log, and seals it. False: a device call has failed.
-fn seals(rt: &impl Abort, store: &mut Store<MemDisk>) -> bool {
+fn seals<D: BlockDisk + Drop>(rt: &impl Abort, store: &mut Store<D>) -> bool {
     stored(rt, store).is_ok() && seal(rt, store).is_ok()
 }
 
 /// A transaction is not ended, or none is; and the tail is not stored.
-fn expect_tail(rt: &impl Abort, store: &Store<MemDisk>, has_unended: bool) {
+fn expect_tail<D: BlockDisk + Drop>(rt: &impl Abort, store: &Store<D>, has_unended: bool) {
     assert!(rt; store.has_unended() == has_unended);
     assert!(rt; !store.is_drained());
 }
 
 /// The tail of a sealed log is one record, which is held.
-fn holds_the_tail(rt: &impl Abort, store: &mut Store<MemDisk>) {
+fn holds_the_tail<D: BlockDisk + Drop>(rt: &impl Abort, store: &mut Store<D>) {
     expect_tail(rt, store, true);
     assert!(rt; matches!(undo(rt, store), Ok(Lsn(44))));
     assert!(rt; matches!(undo(rt, store), Err(Fault::NothingToDo)));
@@ -220,12 +220,12 @@ fn holds_the_tail(rt: &impl Abort, store: &mut Store<MemDisk>) {
 }
 
 /// The store is in this phase.
-fn expect_phase(rt: &impl Abort, store: &Store<MemDisk>, phase: Phase) {
+fn expect_phase<D: BlockDisk + Drop>(rt: &impl Abort, store: &Store<D>, phase: Phase) {
     assert!(rt; store.phase() == phase);
 }
 
 /// Seals the log, holds its tail, and ends the takeover. False: a device call has failed.
-fn take_over(rt: &impl Abort, store: &mut Store<MemDisk>) -> bool {
+fn take_over<D: BlockDisk + Drop>(rt: &impl Abort, store: &mut Store<D>) -> bool {
     expect_phase(rt, store, Phase::Following);
     if !seals(rt, store) {
         return false;
