@@ -86,7 +86,7 @@ fn acknowledged<D: BlockDisk + Drop>(rt: &impl Abort, store: &mut Store<D>) -> R
     store.ctl_sync()
 }
 
-/// Stores what is held and acknowledges it. False: a device call has failed.
+/// Stores what is held and acknowledges it. False: a call has failed.
 fn acknowledges_all<D: BlockDisk + Drop>(rt: &impl Abort, store: &mut Store<D>) -> bool {
     stored(rt, store).is_ok() && acknowledged(rt, store).is_ok()
 }
@@ -199,7 +199,7 @@ fn finish<D: BlockDisk + Drop>(rt: &impl Abort, store: &mut Store<D>) -> Result<
     store.finish()
 }
 
-/// Stores the log, and seals it. False: a device call has failed.
+/// Stores the log, and seals it. False: a call has failed.
 fn seals<D: BlockDisk + Drop>(rt: &impl Abort, store: &mut Store<D>) -> bool {
     stored(rt, store).is_ok() && seal(rt, store).is_ok()
 }
@@ -224,7 +224,7 @@ fn expect_phase<D: BlockDisk + Drop>(rt: &impl Abort, store: &Store<D>, phase: P
     assert!(rt; store.phase() == phase);
 }
 
-/// Seals the log, holds its tail, and ends the takeover. False: a device call has failed.
+/// Seals the log, holds its tail, and ends the takeover. False: a call has failed.
 fn take_over<D: BlockDisk + Drop>(rt: &impl Abort, store: &mut Store<D>) -> bool {
     expect_phase(rt, store, Phase::Following);
     if !seals(rt, store) {
