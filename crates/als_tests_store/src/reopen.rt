@@ -210,20 +210,32 @@ fn seen(view: &View, slot: u8) -> Option<(Option<u8>, u64, Lsn)> {
     Some((bytes.as_slice().first().copied(), commits, lsn))
 }
 
-// The commits of the log wait, and readers see them once they are published. `None`: a growth was
-// refused.
-fn commits(rt: &impl Abort, alloc: Global) -> Option<()> {
+// A reader sees this of a slot: the first byte of its value, so many commits, and the last one's
+// LSN.
+fn expect_seen(rt: &impl Abort, view: &View, slot: u8, first: Option<u8>, commits: u64, lsn: u64) {
+    assert!(rt; seen(view, slot) == Some((first, commits, Lsn(lsn))));
+}
+
+// What readers have of the log with two commits. `None`: a growth was refused.
+fn two_commits(alloc: Global) -> Option<View> {
     let mut log = [0; 512];
     log[..223].copy_from_slice(&COMMITS);
     let disks = laid_out(alloc, &log, &control_block(223, 0), &[0; 512])?;
     let found = reopen(alloc, disks, 4, 2).ok()?;
-    let mut view = found.into_parts().5;
-    assert!(rt; (view.queued(), seen(&view, 0)) == (2, None));
+    Some(found.into_parts().5)
+}
+
+// The commits of the log wait, and readers see them once they are published. `None`: a growth was
+// refused.
+fn commits(rt: &impl Abort, alloc: Global) -> Option<()> {
+    let mut view = two_commits(alloc)?;
+    assert!(rt; view.queued() == 2);
+    assert!(rt; seen(&view, 0).is_none());
     view.publish_first(1);
-    assert!(rt; seen(&view, 0) == Some((Some(0xaa), 1, Lsn(130))));
-    assert!(rt; seen(&view, 1) == Some((None, 1, Lsn(130))));
+    expect_seen(rt, &view, 0, Some(0xaa), 1, 130);
+    expect_seen(rt, &view, 1, None, 1, 130);
     view.publish();
-    assert!(rt; seen(&view, 0) == Some((Some(0xcc), 2, Lsn(195))));
+    expect_seen(rt, &view, 0, Some(0xcc), 2, 195);
     Some(())
 }
 

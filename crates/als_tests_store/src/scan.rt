@@ -31,12 +31,18 @@ fn appended(alloc: Global, text: &[u8]) -> Option<MemDisk> {
     Some(log.into_disk())
 }
 
-/// A device of two blocks that begins with these bytes. `None`: a growth was refused.
-fn disk_of(alloc: Global, bytes: &[u8]) -> Option<MemDisk> {
+/// A block that begins with these bytes.
+fn block_of(bytes: &[u8]) -> [u8; 512] {
     let mut block = [0; 512];
     for (place, byte) in block.iter_mut().zip(bytes.iter()) {
         *place = *byte;
     }
+    block
+}
+
+/// A device of two blocks that begins with these bytes. `None`: a growth was refused.
+fn disk_of(alloc: Global, bytes: &[u8]) -> Option<MemDisk> {
+    let block = block_of(bytes);
     let mut disk = MemDisk::new(alloc, 2);
     disk.write(0, &block).ok()?;
     Some(disk)
@@ -68,16 +74,43 @@ fn scan_of<D: BlockDisk + Drop>(
     Scan::new(alloc, disk, pages, mark)
 }
 
-/// The next record stands there. `None`: a growth was refused.
+/// A scan of a log with the records of a text. `None`: a growth was refused.
+fn scan_of_text(rt: &impl Abort, alloc: Global, text: &[u8], mark: u64) -> Option<Scan<MemDisk>> {
+    let disk = settled(appended(alloc, text)?)?;
+    scan_of(rt, alloc, disk, 4, mark).ok()
+}
+
+/// Where the next record stands, if there is one.
+fn next_at<D: BlockDisk + Drop>(scan: &mut Scan<D>) -> Result<Option<u64>, Fault> {
+    match scan.next()? {
+        Some(found) => Ok(Some(found.lsn.0)),
+        None => Ok(None),
+    }
+}
+
+/// The scan is there, and there stands the next record. `None`: a growth was refused.
 fn expect<D: BlockDisk + Drop>(rt: &impl Abort, scan: &mut Scan<D>, at: u64) -> Option<()> {
-    match scan.next() {
-        Ok(Some(found)) => {
-            assert!(rt; found.lsn == Lsn(at));
+    assert!(rt; scan.end().0 == at);
+    match next_at(scan) {
+        Ok(found) => {
+            assert!(rt; found == Some(at), "no record at {at}");
             Some(())
         }
-        Err(Fault::Memory) => None,
-        _ => panic!(rt; "no record at {at}"),
+        Err(fault) => {
+            assert!(rt; fault == Fault::Memory);
+            None
+        }
     }
+}
+
+/// The next three records are those of the log of one ended transaction. `None`: a growth was
+/// refused.
+fn expect_the_ended<D: BlockDisk + Drop>(rt: &impl Abort, scan: &mut Scan<D>) -> Option<()> {
+    expect(rt, scan, 16)?;
+    expect(rt, scan, 52)?;
+    expect(rt, scan, 80)?;
+    assert!(rt; scan.end().0 == 108);
+    Some(())
 }
 
 /// The log and its validator, behind the last record. `None`: a growth was refused.
@@ -97,23 +130,30 @@ fn parts_of<D: BlockDisk + Drop>(
     }
 }
 
+/// Whether a record of the log stands there. `None`: the read has failed.
+fn stands<D: BlockDisk + Drop>(log: &mut LocalLog<D>, at: u64) -> Option<bool> {
+    match log.read_at(Lsn(at)) {
+        Ok(found) => Some(found.is_some()),
+        Err(_) => None,
+    }
+}
+
+/// The log ends at 108, synced, and its records can be read.
+fn expect_taken_up<D: BlockDisk + Drop>(rt: &impl Abort, mut log: LocalLog<D>) {
+    assert!(rt; log.end().0 == 108);
+    assert!(rt; log.written().0 == 108);
+    assert!(rt; log.synced().0 == 108);
+    assert!(rt; stands(&mut log, 52) == Some(true));
+    assert!(rt; stands(&mut log, 53) == Some(false));
+}
+
 /// The log of one ended transaction is read back, and taken up again.
 fn reads_the_ended(rt: &impl Abort, alloc: Global) -> Option<()> {
-    let disk = settled(appended(alloc, &ENDED)?)?;
-    let mut scan = scan_of(rt, alloc, disk, 4, 108).ok()?;
-    assert!(rt; scan.end() == Lsn(16));
-    for at in [16, 52, 80] {
-        assert!(rt; scan.end() == Lsn(at));
-        expect(rt, &mut scan, at)?;
-    }
-    assert!(rt; scan.end() == Lsn(108));
-    let (mut log, validator) = parts_of(rt, scan)?;
+    let mut scan = scan_of_text(rt, alloc, &ENDED, 108)?;
+    expect_the_ended(rt, &mut scan)?;
+    let (log, validator) = parts_of(rt, scan)?;
     assert!(rt; validator.rows().is_empty());
-    assert!(rt; log.end() == Lsn(108));
-    assert!(rt; log.written() == Lsn(108));
-    assert!(rt; log.synced() == Lsn(108));
-    assert!(rt; matches!(log.read_at(Lsn(52)), Ok(Some(_))));
-    assert!(rt; matches!(log.read_at(Lsn(53)), Ok(None)));
+    expect_taken_up(rt, log);
     Some(())
 }
 
@@ -124,13 +164,19 @@ fn a_log_is_read_back(rt: HostRuntime) {
     );
 }
 
-/// The log of an open transaction is read back, with its table.
-fn reads_the_open(rt: &impl Abort, alloc: Global) -> Option<()> {
-    let disk = settled(appended(alloc, &OPEN)?)?;
-    let mut scan = scan_of(rt, alloc, disk, 4, 153).ok()?;
-    for at in [16, 52, 80, 116] {
-        expect(rt, &mut scan, at)?;
-    }
+/// The next four records are those of the log of an open transaction, which is in the table beside
+/// the one that has committed. `None`: a growth was refused.
+fn expect_the_open<D: BlockDisk + Drop>(rt: &impl Abort, scan: &mut Scan<D>) -> Option<()> {
+    expect(rt, scan, 16)?;
+    expect(rt, scan, 52)?;
+    expect(rt, scan, 80)?;
+    expect(rt, scan, 116)?;
+    expect_two_rows(rt, scan);
+    Some(())
+}
+
+/// The table of that log: one transaction has committed, the other is active.
+fn expect_two_rows<D: BlockDisk + Drop>(rt: &impl Abort, scan: &Scan<D>) {
     let first = TransactionRow {
         trans: TransId(1),
         state: TransactionState::Committed,
@@ -147,8 +193,14 @@ fn reads_the_open(rt: &impl Abort, alloc: Global) -> Option<()> {
     assert!(rt; rows.len() == 2);
     assert!(rt; rows[0].row() == first);
     assert!(rt; rows[1].row() == second);
+}
+
+/// The log of an open transaction is read back, with its table.
+fn reads_the_open(rt: &impl Abort, alloc: Global) -> Option<()> {
+    let mut scan = scan_of_text(rt, alloc, &OPEN, 153)?;
+    expect_the_open(rt, &mut scan)?;
     let (log, validator) = parts_of(rt, scan)?;
-    assert!(rt; log.end() == Lsn(153));
+    assert!(rt; log.end().0 == 153);
     assert!(rt; validator.rows().len() == 2);
     Some(())
 }
@@ -160,7 +212,23 @@ fn an_open_transaction_is_read_back(rt: HostRuntime) {
     );
 }
 
-/// What is read below a mark: how many records, and then what.
+/// How many records a scan reads, and then what. `None`: a growth was refused.
+fn counted<D: BlockDisk + Drop>(
+    rt: &impl Abort,
+    scan: &mut Scan<D>,
+) -> Option<(u64, Option<Fault>)> {
+    for count in 0..5 {
+        match next_at(scan) {
+            Ok(Some(_)) => {}
+            Ok(None) => return Some((count, None)),
+            Err(Fault::Memory) => return None,
+            Err(fault) => return Some((count, Some(fault))),
+        }
+    }
+    panic!(rt; "too many records")
+}
+
+/// What is read below a mark: how many records, and then what. `None`: a growth was refused.
 fn read_below(
     rt: &impl Abort,
     alloc: Global,
@@ -169,18 +237,13 @@ fn read_below(
     mark: u64,
 ) -> Option<(u64, Option<Fault>)> {
     let disk = settled(disk_of(alloc, bytes)?)?;
-    let mut scan = match scan_of(rt, alloc, disk, pages, mark) {
-        Ok(scan) => scan,
-        Err(refused) => return Some((0, Some(refused.fault))),
-    };
-    for count in 0..5 {
-        match scan.next() {
-            Ok(Some(_)) => {}
-            Ok(None) => return Some((count, None)),
-            Err(fault) => return Some((count, Some(fault))),
-        }
+    match scan_of(rt, alloc, disk, pages, mark) {
+        Ok(mut scan) => counted(rt, &mut scan),
+        Err(refused) => match refused.fault {
+            Fault::Memory => None,
+            fault => Some((0, Some(fault))),
+        },
     }
-    panic!(rt; "too many records")
 }
 
 /// Each byte of the log, set to another, gives a log or a numbered refusal.
@@ -192,9 +255,6 @@ fn reads_altered(rt: &impl Abort, alloc: Global) -> Option<()> {
                 *place = byte;
             }
             if let (_, Some(fault)) = read_below(rt, alloc, &bytes, 4, 108)? {
-                if fault == Fault::Memory {
-                    return None;
-                }
                 let number = fault.number();
                 assert!(rt; number <= 16 || number == 34, "{at} {byte}: {fault}");
             }
@@ -210,26 +270,30 @@ fn altered_bytes_are_a_log_or_are_refused(rt: HostRuntime) {
     );
 }
 
-/// What a mark makes of the log.
-fn reads_below_marks(rt: &impl Abort, alloc: Global) -> Option<()> {
-    let rows = [
-        (16, 0, None),
-        (17, 0, Some(Fault::BadControl)),
-        (51, 0, Some(Fault::BadControl)),
-        (52, 1, None),
-        (79, 1, Some(Fault::BadControl)),
-        (108, 3, None),
-        (109, 3, Some(Fault::BadControl)),
-        (136, 3, Some(Fault::Shape(ShapeFault::BadLength))),
-    ];
-    for (mark, count, fault) in rows {
-        let found = read_below(rt, alloc, &ENDED, 4, mark)?;
-        if found.1 == Some(Fault::Memory) {
-            return None;
-        }
-        assert!(rt; found.0 == count && found.1 == fault, "{mark}");
-    }
+/// Below a mark so many records are read, and then this is met, or nothing. `None`: a growth was
+/// refused.
+fn expect_below(
+    rt: &impl Abort,
+    alloc: Global,
+    mark: u64,
+    count: u64,
+    fault: Option<Fault>,
+) -> Option<()> {
+    let found = read_below(rt, alloc, &ENDED, 4, mark)?;
+    assert!(rt; found == (count, fault), "{mark}");
     Some(())
+}
+
+/// What a mark makes of the log: between records, within one, and beyond the bytes.
+fn reads_below_marks(rt: &impl Abort, alloc: Global) -> Option<()> {
+    for (mark, count) in [(16, 0), (52, 1), (108, 3)] {
+        expect_below(rt, alloc, mark, count, None)?;
+    }
+    for (mark, count) in [(17, 0), (51, 0), (79, 1), (109, 3)] {
+        expect_below(rt, alloc, mark, count, Some(Fault::BadControl))?;
+    }
+    let beyond = Fault::Shape(ShapeFault::BadLength);
+    expect_below(rt, alloc, 136, 3, Some(beyond))
 }
 
 #[test]
@@ -241,19 +305,19 @@ fn a_mark_within_a_record_is_refused(rt: HostRuntime) {
     assert!(rt; Fault::BadControl.name() == "BadControl");
 }
 
+/// The header is refused. `None`: a growth was refused.
+fn expect_bad_header(rt: &impl Abort, alloc: Global, bytes: &[u8], pages: u32) -> Option<()> {
+    let found = read_below(rt, alloc, bytes, pages, 108)?;
+    assert!(rt; found.1 == Some(Fault::Shape(ShapeFault::BadHeader)));
+    Some(())
+}
+
 /// Another header, and the log of another database.
 fn reads_headers(rt: &impl Abort, alloc: Global) -> Option<()> {
-    let bad = Some(Fault::Shape(ShapeFault::BadHeader));
     let mut bytes = ENDED;
     bytes[7] = 0x32;
-    for (bytes, pages) in [(&bytes, 4), (&ENDED, 5)] {
-        let found = read_below(rt, alloc, bytes, pages, 108)?;
-        if found.1 == Some(Fault::Memory) {
-            return None;
-        }
-        assert!(rt; found.1 == bad);
-    }
-    Some(())
+    expect_bad_header(rt, alloc, &bytes, 4)?;
+    expect_bad_header(rt, alloc, &ENDED, 5)
 }
 
 #[test]
@@ -270,7 +334,6 @@ fn reads_invalid(rt: &impl Abort, alloc: Global) -> Option<()> {
     bytes[75] = 0x11;
     let found = read_below(rt, alloc, &bytes, 4, 108)?;
     match found.1 {
-        Some(Fault::Memory) => None,
         Some(fault) => {
             assert!(rt; fault.number() == 8);
             assert!(rt; found.0 == 1);
@@ -287,30 +350,41 @@ fn a_record_that_may_not_follow_is_refused(rt: HostRuntime) {
     );
 }
 
-/// A read that fails is met once: the header's, and then that of the first record.
-fn reads_after_failures(
-    rt: &impl Abort,
-    alloc: Global,
-    fuse: &Fuse,
-    disk: FailingDisk<MemDisk>,
-) -> Option<()> {
-    let disk = settled(disk)?;
-    fuse.fail_at(1);
-    let disk = match scan_of(rt, alloc, disk, 4, 108) {
+/// The read of the header fails, and is met. The device again.
+fn expect_no_header<D: BlockDisk + Drop>(rt: &impl Abort, alloc: Global, disk: D) -> D
+    requires { (k : ℕ) → IsSettled (D.slot disk k) }
+{
+    match scan_of(rt, alloc, disk, 4, 108) {
         Ok(_) => panic!(rt; "the read is met"),
         Err(refused) => {
             assert!(rt; refused.fault == Fault::Device);
             refused.disk
         }
-    };
-    let disk = settled(disk)?;
-    let mut scan = scan_of(rt, alloc, disk, 4, 108).ok()?;
-    fuse.fail_at(1);
-    assert!(rt; matches!(scan.next(), Err(Fault::Device)));
-    for at in [16, 52, 80] {
-        expect(rt, &mut scan, at)?;
     }
-    assert!(rt; matches!(scan.next(), Ok(None)));
+}
+
+/// The read of the first record fails, is met once, and the scan goes on. `None`: a growth was
+/// refused.
+fn goes_on<D: BlockDisk + Drop>(rt: &impl Abort, fuse: &Fuse, scan: &mut Scan<D>) -> Option<()> {
+    fuse.fail_at(1);
+    assert!(rt; next_at(scan) == Err(Fault::Device));
+    expect_the_ended(rt, scan)?;
+    assert!(rt; next_at(scan) == Ok(None));
+    Some(())
+}
+
+/// A read that fails is met once: the header's, and then that of the first record.
+fn reads_after_failures<D: BlockDisk + Drop>(
+    rt: &impl Abort,
+    alloc: Global,
+    fuse: &Fuse,
+    disk: D,
+) -> Option<()> {
+    let disk = settled(disk)?;
+    fuse.fail_at(1);
+    let disk = settled(expect_no_header(rt, alloc, disk))?;
+    let mut scan = scan_of(rt, alloc, disk, 4, 108).ok()?;
+    goes_on(rt, fuse, &mut scan)?;
     let mut disk = scan.into_disk();
     assert!(rt; disk.blocks() == 2);
     Some(())

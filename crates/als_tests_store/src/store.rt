@@ -38,6 +38,21 @@ fn spelled(rt: &impl Abort, alloc: Global, logged: &Record) -> Vec<u8>
     panic!(rt; "memory is refused twice")
 }
 
+/// Admits a record that stands where the log ends.
+fn offer(
+    rt: &impl Abort,
+    store: &mut Store<MemDisk>,
+    logged: &Record,
+    bytes: &[u8],
+) -> Result<(), Fault>
+    requires fits { (pages : ℕ) → IsRecord pages logged.now }
+    requires spelled { bytes.now ≡ spelling logged.now }
+{
+    assert!(rt; store.end() == logged.lsn);
+    assert!(rt; store.is_following());
+    store.admit(&logged.view(), bytes)
+}
+
 /// Admits a commit that names this record before it, again where memory is refused once: then
 /// nothing has changed.
 fn admit(
@@ -46,21 +61,17 @@ fn admit(
     store: &mut Store<MemDisk>,
     prev: Lsn,
 ) -> Result<(), Fault> {
-    let before = store.end();
-    let logged = commit_at(before, prev);
+    let logged = commit_at(store.end(), prev);
     let bytes = spelled(rt, alloc, &logged);
-    assert!(rt; store.is_following());
-    let answer = store.admit(&logged.view(), bytes.as_slice());
+    let answer = offer(rt, store, &logged, bytes.as_slice());
     if answer != Err(Fault::Memory) {
         return answer;
     }
-    assert!(rt; store.end() == before);
-    assert!(rt; store.is_following());
-    store.admit(&logged.view(), bytes.as_slice())
+    offer(rt, store, &logged, bytes.as_slice())
 }
 
 /// Writes the log's block, and syncs it.
-fn stored(rt: &impl Abort, store: &mut Store<MemDisk>) -> Result<(), Fault> {
+fn stored<D: BlockDisk + Drop>(rt: &impl Abort, store: &mut Store<D>) -> Result<(), Fault> {
     assert!(rt; !store.is_broken());
     store.log_write()?;
     assert!(rt; !store.is_broken());
@@ -68,11 +79,16 @@ fn stored(rt: &impl Abort, store: &mut Store<MemDisk>) -> Result<(), Fault> {
 }
 
 /// Writes the mark, and syncs it.
-fn acknowledged(rt: &impl Abort, store: &mut Store<MemDisk>) -> Result<Lsn, Fault> {
+fn acknowledged<D: BlockDisk + Drop>(rt: &impl Abort, store: &mut Store<D>) -> Result<Lsn, Fault> {
     assert!(rt; !store.is_broken());
     store.mark_write()?;
     assert!(rt; !store.is_broken());
     store.ctl_sync()
+}
+
+/// Stores what is held and acknowledges it. False: a call has failed.
+fn acknowledges_all<D: BlockDisk + Drop>(rt: &impl Abort, store: &mut Store<D>) -> bool {
+    stored(rt, store).is_ok() && acknowledged(rt, store).is_ok()
 }
 
 /// New devices in memory, of which the log's has eight blocks.
@@ -88,25 +104,39 @@ fn devices(alloc: Global) -> Disks<MemDisk>
     }
 }
 
+/// Admits a first commit.
+fn hold_first(rt: &impl Abort, alloc: Global, store: &mut Store<MemDisk>) {
+    assert!(rt; admit(rt, alloc, store, Lsn(0)).is_ok());
+}
+
+/// A commit that names a record before it is refused, and the first one is held.
+fn holds_the_first(rt: &impl Abort, alloc: Global, store: &mut Store<MemDisk>) {
+    assert!(rt; admit(rt, alloc, store, Lsn(16)) == Err(Fault::Invalid(Cause::BadPrev)));
+    assert!(rt; store.len() == 0);
+    hold_first(rt, alloc, store);
+    assert!(rt; store.end().0 == 44);
+}
+
+/// One transaction is not ended, and the log is acknowledged up to here.
+fn expect_one<D: BlockDisk + Drop>(rt: &impl Abort, store: &Store<D>, acknowledged: u64) {
+    assert!(rt; store.table().len() == 1);
+    assert!(rt; store.acknowledged().0 == acknowledged);
+}
+
 /// A record is held and acknowledged. False: memory was refused, and where that failed a write the
 /// store is broken.
 fn acknowledges(rt: &impl Abort, alloc: Global) -> bool {
     let Ok(mut store) = Store::format(alloc, devices(alloc), 4, 2) else {
         return false;
     };
-    assert!(rt; admit(rt, alloc, &mut store, Lsn(16)) == Err(Fault::Invalid(Cause::BadPrev)));
-    assert!(rt; store.len() == 0);
-    assert!(rt; admit(rt, alloc, &mut store, Lsn(0)) == Ok(()));
-    assert!(rt; store.end() == Lsn(44));
-    assert!(rt; store.table().len() == 1);
-    assert!(rt; store.acknowledged() == Lsn(16));
-    if stored(rt, &mut store).is_err() || acknowledged(rt, &mut store).is_err() {
+    holds_the_first(rt, alloc, &mut store);
+    expect_one(rt, &store, 16);
+    if !acknowledges_all(rt, &mut store) {
         assert!(rt; store.is_broken());
-        assert!(rt; store.acknowledged() == Lsn(16));
-        assert!(rt; store.table().len() == 1);
+        expect_one(rt, &store, 16);
         return false;
     }
-    assert!(rt; store.acknowledged() == Lsn(44));
+    expect_one(rt, &store, 44);
     true
 }
 
@@ -125,12 +155,11 @@ fn holds(rt: &impl Abort, alloc: Global) -> bool {
     let logged = commit_at(store.end(), Lsn(0));
     // A refused growth changes nothing that is held.
     if store.reserve(&logged).is_err() {
-        assert!(rt; store.reserve(&logged) == Ok(()));
+        assert!(rt; store.reserve(&logged).is_ok());
     }
     assert!(rt; store.len() == 0);
     let bytes = spelled(rt, alloc, &logged);
-    assert!(rt; store.is_following());
-    assert!(rt; store.admit(&logged.view(), bytes.as_slice()) == Ok(()));
+    assert!(rt; offer(rt, &mut store, &logged, bytes.as_slice()).is_ok());
     assert!(rt; store.len() == 1);
     true
 }
@@ -141,7 +170,7 @@ fn a_record_is_held_in_the_room_that_was_made(rt: HostRuntime) {
 }
 
 /// Seals the log.
-fn seal(rt: &impl Abort, store: &mut Store<MemDisk>) -> Result<(), Fault> {
+fn seal<D: BlockDisk + Drop>(rt: &impl Abort, store: &mut Store<D>) -> Result<(), Fault> {
     assert!(rt; !store.is_broken());
     assert!(rt; store.is_following());
     assert!(rt; store.end().0 <= store.synced().0);
@@ -149,7 +178,7 @@ fn seal(rt: &impl Abort, store: &mut Store<MemDisk>) -> Result<(), Fault> {
 }
 
 /// Holds the next record of the tail, again where memory is refused once: then nothing has changed.
-fn undo(rt: &impl Abort, store: &mut Store<MemDisk>) -> Result<Lsn, Fault> {
+fn undo<D: BlockDisk + Drop>(rt: &impl Abort, store: &mut Store<D>) -> Result<Lsn, Fault> {
     let before = store.end();
     assert!(rt; !store.is_following());
     let answer = store.undo_one();
@@ -162,12 +191,48 @@ fn undo(rt: &impl Abort, store: &mut Store<MemDisk>) -> Result<Lsn, Fault> {
 }
 
 /// Ends the takeover.
-fn finish(rt: &impl Abort, store: &mut Store<MemDisk>) -> Result<(), Fault> {
+fn finish<D: BlockDisk + Drop>(rt: &impl Abort, store: &mut Store<D>) -> Result<(), Fault> {
     assert!(rt; !store.is_broken());
     assert!(rt; !store.is_following());
     assert!(rt; !store.is_primary());
     assert!(rt; store.is_drained());
     store.finish()
+}
+
+/// Stores the log, and seals it. False: a call has failed.
+fn seals<D: BlockDisk + Drop>(rt: &impl Abort, store: &mut Store<D>) -> bool {
+    stored(rt, store).is_ok() && seal(rt, store).is_ok()
+}
+
+/// A transaction is not ended, or none is; and the tail is not stored.
+fn expect_tail<D: BlockDisk + Drop>(rt: &impl Abort, store: &Store<D>, has_unended: bool) {
+    assert!(rt; store.has_unended() == has_unended);
+    assert!(rt; !store.is_drained());
+}
+
+/// The tail of a sealed log is one record, which is held.
+fn holds_the_tail<D: BlockDisk + Drop>(rt: &impl Abort, store: &mut Store<D>) {
+    expect_tail(rt, store, true);
+    assert!(rt; matches!(undo(rt, store), Ok(Lsn(44))));
+    assert!(rt; matches!(undo(rt, store), Err(Fault::NothingToDo)));
+    assert!(rt; store.end().0 == 72);
+    expect_tail(rt, store, false);
+}
+
+/// The store is in this phase.
+fn expect_phase<D: BlockDisk + Drop>(rt: &impl Abort, store: &Store<D>, phase: Phase) {
+    assert!(rt; store.phase() == phase);
+}
+
+/// Seals the log, holds its tail, and ends the takeover. False: a call has failed.
+fn take_over<D: BlockDisk + Drop>(rt: &impl Abort, store: &mut Store<D>) -> bool {
+    expect_phase(rt, store, Phase::Following);
+    if !seals(rt, store) {
+        return false;
+    }
+    expect_phase(rt, store, Phase::Sealed);
+    holds_the_tail(rt, store);
+    acknowledges_all(rt, store) && finish(rt, store).is_ok()
 }
 
 /// A log with a committed transaction is sealed, its tail is held, and the takeover ends. False:
@@ -176,28 +241,12 @@ fn takes_over(rt: &impl Abort, alloc: Global) -> bool {
     let Ok(mut store) = Store::format(alloc, devices(alloc), 4, 2) else {
         return false;
     };
-    assert!(rt; admit(rt, alloc, &mut store, Lsn(0)) == Ok(()));
-    assert!(rt; store.phase() == Phase::Following);
-    if stored(rt, &mut store).is_err() || seal(rt, &mut store).is_err() {
+    hold_first(rt, alloc, &mut store);
+    if !take_over(rt, &mut store) {
         assert!(rt; store.is_broken());
         return false;
     }
-    assert!(rt; store.phase() == Phase::Sealed);
-    assert!(rt; store.has_unended());
-    assert!(rt; !store.is_drained());
-    assert!(rt; undo(rt, &mut store) == Ok(Lsn(44)));
-    assert!(rt; undo(rt, &mut store) == Err(Fault::NothingToDo));
-    assert!(rt; store.end() == Lsn(72));
-    assert!(rt; !store.has_unended());
-    assert!(rt; !store.is_drained());
-    if stored(rt, &mut store).is_err()
-        || acknowledged(rt, &mut store).is_err()
-        || finish(rt, &mut store).is_err()
-    {
-        assert!(rt; store.is_broken());
-        return false;
-    }
-    assert!(rt; store.phase() == Phase::Primary);
+    expect_phase(rt, &store, Phase::Primary);
     true
 }
 

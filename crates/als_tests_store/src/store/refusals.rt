@@ -61,13 +61,10 @@ fn update(
     }
 }
 
-/// Redo, a write and a sync are refused in the order of their causes, though the device would fail.
-/// None: memory was refused.
-fn refuses(rt: &impl Abort, alloc: Global) -> Option<()> {
-    let Ok(fuse) = Fuse::new(alloc) else {
-        return None;
-    };
-    let Ok(disks) = failing(alloc, &fuse) else {
+/// A store over failing devices that holds an update of page 0 and one of page 1. None: memory was
+/// refused.
+fn updated(rt: &impl Abort, alloc: Global, fuse: &Fuse) -> Option<Store<FailingDisk<MemDisk>>> {
+    let Ok(disks) = failing(alloc, fuse) else {
         return None;
     };
     let Ok(mut store) = Store::format(alloc, disks, 4, 1) else {
@@ -75,28 +72,84 @@ fn refuses(rt: &impl Abort, alloc: Global) -> Option<()> {
     };
     let first = update(rt, alloc, &mut store, Lsn(0), 0)?;
     let _ = update(rt, alloc, &mut store, first, 1)?;
-    fuse.fail_at(1);
-    assert!(rt; store.apply(2) == Err(Fault::NothingToDo));
-    assert!(rt; store.apply(9) == Err(Fault::NothingToDo));
-    assert!(rt; store.apply(0) == Err(Fault::Device));
-    match store.apply(0) {
-        Err(Fault::Memory) => return None,
-        answer => assert!(rt; answer == Ok(Lsn(16))),
+    Some(store)
+}
+
+/// Redo of a page is refused.
+fn expect_no_redo<D: BlockDisk + Drop>(
+    rt: &impl Abort,
+    store: &mut Store<D>,
+    page: u32,
+    fault: Fault,
+) {
+    assert!(rt; store.apply(page) == Err(fault));
+}
+
+/// Redo of a page changes it. None: memory was refused.
+fn redone<D: BlockDisk + Drop>(rt: &impl Abort, store: &mut Store<D>, page: u32) -> Option<Lsn> {
+    match store.apply(page) {
+        Ok(lsn) => Some(lsn),
+        Err(Fault::Memory) => None,
+        Err(fault) => panic!(rt; "redo: {fault}"),
     }
+}
+
+/// Redo is refused in the order of its causes, though the device would fail. None: memory was
+/// refused.
+fn refuses_redo<D: BlockDisk + Drop>(
+    rt: &impl Abort,
+    fuse: &Fuse,
+    store: &mut Store<D>,
+) -> Option<()> {
     fuse.fail_at(1);
-    assert!(rt; store.apply(1) == Err(Fault::PoolFull));
-    assert!(rt; store.apply(0) == Err(Fault::NothingToDo));
+    expect_no_redo(rt, store, 2, Fault::NothingToDo);
+    expect_no_redo(rt, store, 9, Fault::NothingToDo);
+    expect_no_redo(rt, store, 0, Fault::Device);
+    assert!(rt; redone(rt, store, 0)?.0 == 16);
+    fuse.fail_at(1);
+    expect_no_redo(rt, store, 1, Fault::PoolFull);
+    expect_no_redo(rt, store, 0, Fault::NothingToDo);
+    Some(())
+}
+
+/// A write of a page is refused, and the store was not broken before it.
+fn expect_no_write<D: BlockDisk + Drop>(
+    rt: &impl Abort,
+    store: &mut Store<D>,
+    page: u32,
+    fault: Fault,
+) {
     assert!(rt; !store.is_broken());
-    assert!(rt; store.flush(1) == Err(Fault::NothingToDo));
-    assert!(rt; !store.is_broken());
-    assert!(rt; store.flush(9) == Err(Fault::NothingToDo));
-    assert!(rt; !store.is_broken());
-    assert!(rt; store.flush(0) == Err(Fault::LogBehind));
+    assert!(rt; store.flush(page) == Err(fault));
+}
+
+/// A sync fails, which breaks the store; the first page still waits for its write.
+fn fails_a_sync<D: BlockDisk + Drop>(rt: &impl Abort, store: &mut Store<D>) {
     assert!(rt; !store.is_broken());
     assert!(rt; store.sync_pages() == Err(Fault::Device));
     assert!(rt; store.is_broken());
     let (page, rec_lsn) = (0, Lsn(16));
     assert!(rt; store.next_row(0) == Some(LoggedPage { page, rec_lsn }));
+}
+
+/// Writes are refused in the order of their causes, though the device would fail, and then a sync
+/// fails.
+fn refuses_writes<D: BlockDisk + Drop>(rt: &impl Abort, store: &mut Store<D>) {
+    expect_no_write(rt, store, 1, Fault::NothingToDo);
+    expect_no_write(rt, store, 9, Fault::NothingToDo);
+    expect_no_write(rt, store, 0, Fault::LogBehind);
+    fails_a_sync(rt, store);
+}
+
+/// Redo, a write and a sync are refused in the order of their causes, though the device would fail.
+/// None: memory was refused.
+fn refuses(rt: &impl Abort, alloc: Global) -> Option<()> {
+    let Ok(fuse) = Fuse::new(alloc) else {
+        return None;
+    };
+    let mut store = updated(rt, alloc, &fuse)?;
+    refuses_redo(rt, &fuse, &mut store)?;
+    refuses_writes(rt, &mut store);
     Some(())
 }
 

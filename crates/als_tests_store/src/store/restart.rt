@@ -15,8 +15,8 @@ fn stopped(rt: &impl Abort, alloc: Global) -> Option<Disks<MemDisk>>
     let Ok(mut store) = Store::format(alloc, devices(alloc), 4, 2) else {
         return None;
     };
-    assert!(rt; admit(rt, alloc, &mut store, Lsn(0)) == Ok(()));
-    if stored(rt, &mut store).is_err() || acknowledged(rt, &mut store).is_err() {
+    hold_first(rt, alloc, &mut store);
+    if !acknowledges_all(rt, &mut store) {
         return None;
     }
     assert!(rt; store.pages() == 4);
@@ -46,6 +46,16 @@ fn reopened(
     }
 }
 
+/// What was acknowledged stands, no change of a page waits, and recovery can end.
+fn recovers(rt: &impl Abort, store: &mut Store<MemDisk>) {
+    assert!(rt; store.end().0 == 44);
+    expect_one(rt, store, 44);
+    assert!(rt; store.is_recovering());
+    assert!(rt; store.pending() == 0);
+    store.ready();
+    assert!(rt; !store.is_recovering());
+}
+
 /// What was acknowledged stands after a crash. False: memory was refused.
 fn restarts(rt: &impl Abort, alloc: Global) -> bool {
     let Some(disks) = stopped(rt, alloc) else {
@@ -53,13 +63,7 @@ fn restarts(rt: &impl Abort, alloc: Global) -> bool {
     };
     match reopened(rt, alloc, disks) {
         Ok(mut store) => {
-            assert!(rt; store.end() == Lsn(44));
-            assert!(rt; store.acknowledged() == Lsn(44));
-            assert!(rt; store.table().len() == 1);
-            assert!(rt; store.is_recovering());
-            assert!(rt; store.pending() == 0);
-            store.ready();
-            assert!(rt; !store.is_recovering());
+            recovers(rt, &mut store);
             true
         }
         Err(fault) => {

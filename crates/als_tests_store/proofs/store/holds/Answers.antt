@@ -6,7 +6,3 @@ reserve-requires-clause-fits g c = c.commit_at-logged.ensures.fits c.in-Ok.store
 pub reserve-requires-then-is_err-clause-fits : goal.reserve-requires-then-is_err-clause-fits
 reserve-requires-then-is_err-clause-fits g c =
     c.commit_at-logged.ensures.fits c.reserve.new.self.stored.pages
-
-pub admit-requires-clause-fits : goal.admit-requires-clause-fits
-admit-requires-clause-fits g c =
-    rw c.view.ensures (c.commit_at-logged.ensures.fits c.if-is_err.store.stored.pages)
