@@ -111,6 +111,11 @@ fn reads_what_the_format_admits(rt: HostRuntime) -> Result<(), Fail> {
     Ok(())
 }
 
+/// With other bytes at some places the sealed block is refused.
+fn expect_refused(rt: &impl Abort, alloc: Global, what: &str, edits: &[(u16, u8)]) {
+    assert!(rt; read_with(alloc, edits) == Err(Fault::BadControl), "{what}");
+}
+
 #[test]
 fn refuses_what_is_no_control_block(rt: HostRuntime) {
     let rows: [(&str, &[(u16, u8)]); 17] = [
@@ -136,11 +141,12 @@ fn refuses_what_is_no_control_block(rt: HostRuntime) {
         ("the last byte", &[(511, 1)]),
     ];
     for (what, edits) in rows {
-        assert!(rt;
-            read_with(rt.alloc(), edits) == Err(Fault::BadControl),
-            "{what}"
-        );
+        expect_refused(&rt, rt.alloc(), what, edits);
     }
+}
+
+#[test]
+fn faults_have_names(rt: HostRuntime) {
     assert!(rt; Fault::BadControl.number() == 34);
     assert!(rt; Fault::BadControl.name() == "BadControl");
     assert!(rt; Fault::Memory.number() == 32);
@@ -208,18 +214,32 @@ fn each_call_of_the_device_fails_in_turn(rt: HostRuntime) {
     }
 }
 
-/// What is acknowledged after a crash with this pick, where the write of a mark has failed. `None`:
+/// A new control block that acknowledges 100, where the write of the mark 200 has failed. `None`:
 /// memory was refused.
-fn left_by(rt: &impl Abort, alloc: Global, pick: u8) -> Option<Lsn> {
-    let fuse = Fuse::new(alloc).ok()?;
-    let disk = FailingDisk::new(MemDisk::new(alloc, 321), fuse.clone().ok()?);
+fn with_a_failed_mark<D: BlockDisk + Drop>(
+    rt: &impl Abort,
+    disk: D,
+    fuse: &Fuse,
+) -> Option<Control<D>>
+    requires { 321 ≤ D.block_count disk }
+    ensures { IfSome result (λ c. c.blocks ≡ D.block_count disk) }
+{
     let mut control = created(disk)?;
     control.write_mark(Lsn(100)).ok()?;
     control.sync().ok()?;
     fuse.fail_at(1);
     assert!(rt; control.write_mark(Lsn(200)) == Err(Fault::Device));
-    assert!(rt; control.newest().mark == Lsn(200));
-    assert!(rt; control.acknowledged() == Lsn(100));
+    assert!(rt; control.newest().mark.0 == 200);
+    assert!(rt; control.acknowledged().0 == 100);
+    Some(control)
+}
+
+/// What is acknowledged after a crash with this pick, where the write of a mark has failed. `None`:
+/// memory was refused.
+fn left_by(rt: &impl Abort, alloc: Global, pick: u8) -> Option<Lsn> {
+    let fuse = Fuse::new(alloc).ok()?;
+    let disk = FailingDisk::new(MemDisk::new(alloc, 321), fuse.clone().ok()?);
+    let control = with_a_failed_mark(rt, disk, &fuse)?;
     let (mut disk, used) = crashed(control, &[pick]);
     assert!(rt; used == 1);
     let state = read_state(&mut disk, 4, 4096).ok()?;

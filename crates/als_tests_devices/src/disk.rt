@@ -50,6 +50,29 @@ fn first<D: BlockDisk>(disk: &mut D, i: u64) -> Result<u8, DeviceError>
     Ok(block[0])
 }
 
+/// The first byte of a block is this one.
+fn expect_first<D: BlockDisk>(rt: &impl Abort, disk: &mut D, i: u64, byte: u8)
+    requires { i < D.block_count disk.old }
+    ensures count { D.block_count disk.new ≡ D.block_count disk.old }
+{
+    assert!(rt; first(disk, i) == Ok(byte));
+}
+
+/// The first bytes of three blocks.
+fn firsts<D: BlockDisk>(disk: &mut D) -> Result<[u8; 3], DeviceError>
+    requires { D.block_count disk.old ≡ 3 }
+{
+    let (zeroth, one, two) = (first(disk, 0)?, first(disk, 1)?, first(disk, 2)?);
+    Ok([zeroth, one, two])
+}
+
+/// A sync is answered as failed.
+fn expect_no_sync<D: BlockDisk>(rt: &impl Abort, disk: &mut D)
+    ensures count { D.block_count disk.new ≡ D.block_count disk.old }
+{
+    assert!(rt; disk.sync() == Err(DeviceError));
+}
+
 /// Three blocks, of which the first was written three times since the last sync, the second not,
 /// and the third once.
 fn three(alloc: Global) -> Result<MemDisk, DeviceError>
@@ -79,9 +102,7 @@ fn crashes_so(
     };
     let (mut disk, used) = disk.crash(picks);
     assert!(rt; used == count, "{picks:?}");
-    assert!(rt; first(&mut disk, 0) == Ok(left[0]), "{picks:?}");
-    assert!(rt; first(&mut disk, 1) == Ok(left[1]), "{picks:?}");
-    assert!(rt; first(&mut disk, 2) == Ok(left[2]), "{picks:?}");
+    assert!(rt; firsts(&mut disk) == Ok(left), "{picks:?}");
     let (_, used_again) = disk.crash(picks);
     assert!(rt; used_again == 0, "{picks:?}");
     Some(())
@@ -164,31 +185,46 @@ fn a_fuse_fails_one_call(rt: HostRuntime) {
     }
 }
 
-/// A write that is answered as failed is read, and a crash may leave what stood before it. `None`:
-/// memory was refused, and where that was for this write it changed nothing.
-fn reaches_the_device(rt: &impl Abort, alloc: Global) -> Option<()> {
-    let fuse = Fuse::new(alloc).ok()?;
-    let mut disk = FailingDisk::new(MemDisk::new(alloc, 1), fuse.clone().ok()?);
-    store(&mut disk, 0, &filled(1)).ok()?;
+/// A write over 1 that is answered as failed is read, unless the next call fails. `None`: memory
+/// was refused, and where that was for this write it changed nothing.
+fn is_read_though_failed<D: BlockDisk>(rt: &impl Abort, disk: &mut D, fuse: &Fuse) -> Option<()>
+    requires { 0 < D.block_count disk.old }
+    ensures count { D.block_count disk.new ≡ D.block_count disk.old }
+{
+    store(disk, 0, &filled(1)).ok()?;
     fuse.fail_at(1);
-    overwrite(&mut disk, 0, &filled(2));
+    overwrite(disk, 0, &filled(2));
     fuse.fail_at(1);
-    assert!(rt; disk.sync() == Err(DeviceError));
+    expect_no_sync(rt, disk);
     fuse.fail_at(1);
-    assert!(rt; first(&mut disk, 0) == Err(DeviceError));
-    let held = first(&mut disk, 0);
+    assert!(rt; first(disk, 0) == Err(DeviceError));
+    let held = first(disk, 0);
     if held == Ok(1) {
         return None;
     }
     assert!(rt; held == Ok(2));
+    Some(())
+}
 
-    // The write is not synced, and the fuse stays that of the device after the crash.
+/// The write is not synced, so a crash may leave what stood before it, and the fuse stays that of
+/// the device after the crash.
+fn is_lost_by_a_crash<D: Restart + Drop>(rt: &impl Abort, disk: D, fuse: &Fuse)
+    requires { 0 < D.block_count disk }
+{
     fuse.fail_at(2);
     let (mut disk, used) = disk.crash(&[0]);
     assert!(rt; used == 1);
-    assert!(rt; first(&mut disk, 0) == Ok(1));
-    assert!(rt; disk.sync() == Err(DeviceError));
+    expect_first(rt, &mut disk, 0, 1);
+    expect_no_sync(rt, &mut disk);
     assert!(rt; disk.sync() == Ok(()));
+}
+
+/// Both, over a device in memory.
+fn reaches_the_device(rt: &impl Abort, alloc: Global) -> Option<()> {
+    let fuse = Fuse::new(alloc).ok()?;
+    let mut disk = FailingDisk::new(MemDisk::new(alloc, 1), fuse.clone().ok()?);
+    is_read_though_failed(rt, &mut disk, &fuse)?;
+    is_lost_by_a_crash(rt, disk, &fuse);
     Some(())
 }
 
@@ -209,8 +245,8 @@ fn holds_zeros(rt: &impl Abort, alloc: Global) -> Option<()> {
     disk.write(4_194_303, &filled(8)).ok()?;
     let (mut disk, used) = disk.crash(&[1]);
     assert!(rt; used == 1);
-    assert!(rt; first(&mut disk, 4_194_303) == Ok(8));
-    assert!(rt; first(&mut disk, 1_000_000) == Ok(0));
+    expect_first(rt, &mut disk, 4_194_303, 8);
+    expect_first(rt, &mut disk, 1_000_000, 0);
     Some(())
 }
 
@@ -219,24 +255,46 @@ fn zeros_take_no_room(rt: HostRuntime) {
     assert!(rt; holds_zeros(&rt, rt.alloc()).is_some() || holds_zeros(&rt, rt.alloc()).is_some());
 }
 
-/// Each write that finds no memory changes nothing, and the next one is taken.
+/// A write of block 1 that finds no memory changes nothing, and the next one is taken.
+fn is_taken_again<D: BlockDisk>(rt: &impl Abort, disk: &mut D, byte: u8) -> Result<(), DeviceError>
+    requires { 1 < D.block_count disk.old }
+{
+    let before = first(disk, 1)?;
+    if disk.write(1, &filled(byte)).is_err() {
+        expect_first(rt, disk, 1, before);
+        disk.write(1, &filled(byte))?;
+    }
+    expect_first(rt, disk, 1, byte);
+    Ok(())
+}
+
 #[test]
 fn a_write_without_memory(rt: HostRuntime) -> Result<(), Fail> {
     let mut disk = MemDisk::new(rt.alloc(), 2);
     for byte in 1..9 {
         assert!(rt; 1 < disk.blocks());
-        let before = first(&mut disk, 1)?;
-        if disk.write(1, &filled(byte)).is_err() {
-            assert!(rt; first(&mut disk, 1)? == before);
-            disk.write(1, &filled(byte))?;
-        }
-        assert!(rt; first(&mut disk, 1)? == byte);
+        is_taken_again(&rt, &mut disk, byte)?;
     }
     assert!(rt; 1 < disk.blocks());
     let (mut disk, used) = disk.crash(&[3]);
     assert!(rt; used == 1);
-    assert!(rt; first(&mut disk, 1)? == 3);
+    expect_first(&rt, &mut disk, 1, 3);
     Ok(())
+}
+
+/// A device of three blocks takes block 1, synced, and block 2. `None`: memory was refused.
+fn takes_two_blocks<D: BlockDisk>(rt: &impl Abort, disk: &mut D) -> Option<()> {
+    assert!(rt; disk.blocks() == 3);
+    store(disk, 1, &filled(1)).ok()?;
+    disk.write(2, &filled(2)).ok()?;
+    expect_first(rt, disk, 2, 2);
+    Some(())
+}
+
+/// They stand there.
+fn expect_two_blocks<D: BlockDisk>(rt: &impl Abort, disk: &mut D) {
+    assert!(rt; disk.blocks() == 3);
+    assert!(rt; firsts(disk) == Ok([0, 1, 2]));
 }
 
 /// A file keeps what was written, synced or not, until it is opened again. `None`: memory was
@@ -244,16 +302,10 @@ fn a_write_without_memory(rt: HostRuntime) -> Result<(), Fail> {
 fn keeps_in_a_file<R: Abort + AllocGlobal + Files<File = File>>(rt: &R) -> Option<()> {
     let path = "device.blk";
     let mut disk = FileDisk::create(rt, path, 3).ok()?;
-    assert!(rt; disk.blocks() == 3);
-    store(&mut disk, 1, &filled(1)).ok()?;
-    disk.write(2, &filled(2)).ok()?;
-    assert!(rt; first(&mut disk, 2) == Ok(2));
+    takes_two_blocks(rt, &mut disk)?;
     drop(disk);
     let mut disk = FileDisk::open(rt, path).ok()?;
-    assert!(rt; disk.blocks() == 3);
-    assert!(rt; first(&mut disk, 0) == Ok(0));
-    assert!(rt; first(&mut disk, 1) == Ok(1));
-    assert!(rt; first(&mut disk, 2) == Ok(2));
+    expect_two_blocks(rt, &mut disk);
     drop(disk);
     fs::remove_file(rt, path).ok()?;
     assert!(rt; FileDisk::open(rt, path).is_err());
@@ -265,22 +317,36 @@ fn a_file_is_a_device(rt: HostRuntime) {
     assert!(rt; keeps_in_a_file(&rt).is_some() || keeps_in_a_file(&rt).is_some());
 }
 
-/// A file that takes no write fails each call from its first write on. `None`: memory was refused,
-/// and where that was for the write the file has not failed.
+/// A write of 1 to block 0 is answered as failed.
+fn expect_no_write<D: BlockDisk>(rt: &impl Abort, disk: &mut D)
+    requires { 0 < D.block_count disk.old }
+    ensures count { D.block_count disk.new ≡ D.block_count disk.old }
+{
+    assert!(rt; disk.write(0, &filled(1)) == Err(DeviceError));
+}
+
+/// A device of one block that takes no write fails each call from its first write on. `None`:
+/// memory was refused for the write, and the device has not failed.
+fn fails_from_its_first_write<D: BlockDisk>(rt: &impl Abort, disk: &mut D) -> Option<()> {
+    assert!(rt; disk.blocks() == 1);
+    expect_first(rt, disk, 0, 0);
+    assert!(rt; disk.sync() == Ok(()));
+    expect_no_write(rt, disk);
+    if first(disk, 0).is_ok() {
+        return None;
+    }
+    expect_no_sync(rt, disk);
+    expect_no_write(rt, disk);
+    Some(())
+}
+
+/// So does a file that is open for reading. `None`: memory was refused.
 fn stays_failed<R: Abort + AllocGlobal + Files<File = File>>(rt: &R) -> Option<()> {
     let path = "read_only.blk";
     fs::write(rt, path, filled(0).as_slice()).ok()?;
     let file = OpenOptions::new().read(true).open(rt, path).ok()?;
     let mut disk = FileDisk::over(rt.alloc(), file).ok()?;
-    assert!(rt; disk.blocks() == 1);
-    assert!(rt; first(&mut disk, 0) == Ok(0));
-    assert!(rt; disk.sync() == Ok(()));
-    assert!(rt; disk.write(0, &filled(1)) == Err(DeviceError));
-    if first(&mut disk, 0).is_ok() {
-        return None;
-    }
-    assert!(rt; disk.sync() == Err(DeviceError));
-    assert!(rt; disk.write(0, &filled(1)) == Err(DeviceError));
+    fails_from_its_first_write(rt, &mut disk)?;
     fs::remove_file(rt, path).ok()
 }
 

@@ -135,9 +135,9 @@ fn expect_lsns<D: BlockDisk + Drop>(
 ) {
     match frames.lsns(page) {
         Some(lsns) => {
-            assert!(rt; lsns.now == Lsn(now));
-            assert!(rt; lsns.written == Lsn(written));
-            assert!(rt; lsns.synced == Lsn(synced));
+            assert!(rt; lsns.now.0 == now);
+            assert!(rt; lsns.written.0 == written);
+            assert!(rt; lsns.synced.0 == synced);
         }
         None => panic!(rt; "page {page} is not resident"),
     }
@@ -164,29 +164,96 @@ fn expect_bad_page<D: BlockDisk + Drop>(rt: &impl Abort, frames: &mut Frames<D>,
     }
 }
 
-// Page 0 is changed, written and synced; with one frame it gives it to page 1, and gets it back.
-fn one_frame<D: BlockDisk + Drop>(rt: &impl Abort, mut frames: Frames<D>) {
-    assert!(rt; frames.write(0) == Err(Fault::NothingToDo));
-    assert!(rt; load(rt, &mut frames, 0, 108).is_ok());
-    assert!(rt; frames.write(0) == Err(Fault::NothingToDo));
-    redo(rt, &mut frames, 0, 16);
-    expect_lsns(rt, &frames, 0, 16, 0, 0);
-    assert!(rt; load(rt, &mut frames, 1, 108) == Err(Fault::PoolFull));
-    write(rt, &mut frames, 0);
-    assert!(rt; frames.write(0) == Err(Fault::NothingToDo));
-    expect_lsns(rt, &frames, 0, 16, 16, 0);
-    assert!(rt; load(rt, &mut frames, 1, 108) == Err(Fault::PoolFull));
-    sync(rt, &mut frames);
-    expect_lsns(rt, &frames, 0, 16, 16, 16);
-    assert!(rt; load(rt, &mut frames, 1, 108).is_ok());
-    assert!(rt; frames.frame(0).is_none());
-    expect_lsns(rt, &frames, 1, 0, 0, 0);
-    let found = stored(rt, &mut frames, 0);
-    assert!(rt; found.lsn() == Lsn(16));
+// Nothing is to be written of a page.
+fn expect_nothing_to_write<D: BlockDisk + Drop>(
+    rt: &impl Abort,
+    frames: &mut Frames<D>,
+    page: u32,
+) {
+    assert!(rt; frames.write(page) == Err(Fault::NothingToDo));
+}
+
+// A page becomes resident in a log with this end.
+fn expect_loaded<D: BlockDisk + Drop>(
+    rt: &impl Abort,
+    frames: &mut Frames<D>,
+    page: u32,
+    end: u64,
+) {
+    assert!(rt; load(rt, frames, page, end).is_ok());
+}
+
+// Whether a page has a frame.
+fn has_frame<D: BlockDisk + Drop>(frames: &Frames<D>, page: u32) -> bool {
+    frames.frame(page).is_some()
+}
+
+// Pages become resident in turn in a log with this end.
+fn expect_each_loaded<D: BlockDisk + Drop>(
+    rt: &impl Abort,
+    frames: &mut Frames<D>,
+    pages: &[u32],
+    end: u64,
+) {
+    for page in pages {
+        expect_loaded(rt, frames, *page, end);
+        assert!(rt; has_frame(frames, *page));
+    }
+}
+
+// A page finds no frame.
+fn expect_pool_full<D: BlockDisk + Drop>(rt: &impl Abort, frames: &mut Frames<D>, page: u32) {
+    assert!(rt; load(rt, frames, page, 108) == Err(Fault::PoolFull));
+}
+
+// A page is no page of a log with this end.
+fn expect_not_loaded<D: BlockDisk + Drop>(
+    rt: &impl Abort,
+    frames: &mut Frames<D>,
+    page: u32,
+    end: u64,
+) {
+    assert!(rt; load(rt, frames, page, end) == Err(Fault::BadPage { page }));
+}
+
+// A page with no frame has the update of its slot 0 by the record at an offset in its block.
+fn expect_stored<D: BlockDisk + Drop>(rt: &impl Abort, frames: &mut Frames<D>, page: u32, at: u64) {
+    let found = stored(rt, frames, page);
+    assert!(rt; found.lsn().0 == at);
     assert!(rt; found.image(0) == one_byte(0xaa));
-    assert!(rt; frames.frame(0).is_none());
-    assert!(rt; load(rt, &mut frames, 0, 108).is_ok());
-    expect_lsns(rt, &frames, 0, 16, 16, 16);
+}
+
+// Page 0 is changed, written and synced; until then it keeps the one frame.
+fn keeps_its_frame<D: BlockDisk + Drop>(rt: &impl Abort, frames: &mut Frames<D>) {
+    expect_nothing_to_write(rt, frames, 0);
+    expect_loaded(rt, frames, 0, 108);
+    expect_nothing_to_write(rt, frames, 0);
+    redo(rt, frames, 0, 16);
+    expect_lsns(rt, frames, 0, 16, 0, 0);
+    expect_pool_full(rt, frames, 1);
+    write(rt, frames, 0);
+    expect_nothing_to_write(rt, frames, 0);
+    expect_lsns(rt, frames, 0, 16, 16, 0);
+    expect_pool_full(rt, frames, 1);
+    sync(rt, frames);
+    expect_lsns(rt, frames, 0, 16, 16, 16);
+}
+
+// Then it gives the frame to page 1, and gets it back.
+fn gives_its_frame<D: BlockDisk + Drop>(rt: &impl Abort, frames: &mut Frames<D>) {
+    expect_loaded(rt, frames, 1, 108);
+    assert!(rt; !has_frame(frames, 0));
+    expect_lsns(rt, frames, 1, 0, 0, 0);
+    expect_stored(rt, frames, 0, 16);
+    assert!(rt; !has_frame(frames, 0));
+    expect_loaded(rt, frames, 0, 108);
+    expect_lsns(rt, frames, 0, 16, 16, 16);
+}
+
+// Both, in frames of which there is one.
+fn one_frame<D: BlockDisk + Drop>(rt: &impl Abort, mut frames: Frames<D>) {
+    keeps_its_frame(rt, &mut frames);
+    gives_its_frame(rt, &mut frames);
 }
 
 #[test]
@@ -219,38 +286,41 @@ fn each_device_call_fails_in_turn(rt: HostRuntime) -> Result<(), Fail> {
 fn a_free_frame_is_taken_before_a_clean_one(rt: HostRuntime) {
     let disk = MemDisk::new(rt.alloc(), 4);
     let mut frames = formatted(&rt, rt.alloc(), disk, 2);
-    for page in [0, 1, 0, 1] {
-        assert!(rt; load(&rt, &mut frames, page, 16).is_ok());
-    }
+    expect_each_loaded(&rt, &mut frames, &[0, 1, 0, 1], 16);
     redo(&rt, &mut frames, 0, 16);
-    for page in [2, 3, 1, 2] {
-        assert!(rt; load(&rt, &mut frames, page, 52).is_ok());
-        assert!(rt; frames.frame(page).is_some());
-    }
+    expect_each_loaded(&rt, &mut frames, &[2, 3, 1, 2], 52);
     expect_lsns(&rt, &frames, 0, 16, 0, 0);
-    assert!(rt; frames.frame(1).is_none() && frames.frame(3).is_none());
+    assert!(rt; !has_frame(&frames, 1) && !has_frame(&frames, 3));
 }
 
-#[test]
-fn a_block_that_is_no_page_of_the_log_is_refused(rt: HostRuntime) {
-    let mut disk = MemDisk::new(rt.alloc(), 4);
+// A device of which block 1 is no page, for its page_LSN is 15.
+fn with_a_bad_block(rt: &impl Abort, alloc: Global) -> MemDisk
+    ensures { ⟦<MemDisk as BlockDisk>⟧.block_count result ≡ 4 }
+{
+    let mut disk = MemDisk::new(alloc, 4);
     assert!(rt; 4 <= disk.blocks());
     let mut block = [0; 512];
     block[7] = 15;
     if disk.write(1, &block).is_err() {
         assert!(rt; disk.write(1, &block).is_ok());
     }
+    disk
+}
+
+#[test]
+fn a_block_that_is_no_page_of_the_log_is_refused(rt: HostRuntime) {
+    let disk = with_a_bad_block(&rt, rt.alloc());
     let mut frames = Frames::open(rt.alloc(), disk, 4, 1);
-    assert!(rt; load(&rt, &mut frames, 1, 108) == Err(Fault::BadPage { page: 1 }));
+    expect_not_loaded(&rt, &mut frames, 1, 108);
     expect_bad_page(&rt, &mut frames, 1);
-    assert!(rt; load(&rt, &mut frames, 0, 16).is_ok());
+    expect_loaded(&rt, &mut frames, 0, 16);
     redo(&rt, &mut frames, 0, 16);
     write(&rt, &mut frames, 0);
     sync(&rt, &mut frames);
-    assert!(rt; load(&rt, &mut frames, 2, 16).is_ok());
-    assert!(rt; load(&rt, &mut frames, 0, 16) == Err(Fault::BadPage { page: 0 }));
+    expect_loaded(&rt, &mut frames, 2, 16);
+    expect_not_loaded(&rt, &mut frames, 0, 16);
     expect_lsns(&rt, &frames, 2, 0, 0, 0);
-    assert!(rt; load(&rt, &mut frames, 0, 17).is_ok());
+    expect_loaded(&rt, &mut frames, 0, 17);
 }
 
 #[test]
@@ -276,7 +346,7 @@ fn block_of<D: BlockDisk + Drop>(rt: &impl Abort, mut disk: D, page: u64) -> [u8
 fn a_page_is_written_to_its_block(rt: HostRuntime) {
     let disk = MemDisk::new(rt.alloc(), 4);
     let mut frames = formatted(&rt, rt.alloc(), disk, 1);
-    assert!(rt; load(&rt, &mut frames, 3, 16).is_ok());
+    expect_loaded(&rt, &mut frames, 3, 16);
     redo(&rt, &mut frames, 3, 16);
     write(&rt, &mut frames, 3);
     let block = block_of(&rt, frames.into_disk(), 3);

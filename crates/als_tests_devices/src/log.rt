@@ -70,7 +70,7 @@ fn append<D: BlockDisk + Drop>(
         Ok(Some((logged, _))) => {
             let answer = log.append(&logged, reserve_after);
             if answer.is_err() {
-                assert!(rt; log.end() == end);
+                assert!(rt; log.end().0 == end.0);
             }
             answer
         }
@@ -94,7 +94,7 @@ fn write<D: BlockDisk + Drop>(rt: &impl Abort, log: &mut LocalLog<D>) {
             Ok(()) => return,
             Err(fault) => {
                 assert!(rt; fault == Fault::Device);
-                assert!(rt; log.written() == before);
+                assert!(rt; log.written().0 == before.0);
             }
         }
     }
@@ -109,7 +109,7 @@ fn sync<D: BlockDisk + Drop>(rt: &impl Abort, log: &mut LocalLog<D>) {
             Ok(()) => return,
             Err(fault) => {
                 assert!(rt; fault == Fault::Device);
-                assert!(rt; log.synced() == before);
+                assert!(rt; log.synced().0 == before.0);
             }
         }
     }
@@ -126,31 +126,51 @@ fn first_block<D: BlockDisk + Drop>(rt: &impl Abort, mut disk: D) -> [u8; 512] {
     block
 }
 
+// The log's end, and how far it is written and synced.
+fn expect_ends<D: BlockDisk + Drop>(
+    rt: &impl Abort,
+    log: &LocalLog<D>,
+    end: u64,
+    written: u64,
+    synced: u64,
+) {
+    assert!(rt; log.end().0 == end);
+    assert!(rt; log.written().0 == written);
+    assert!(rt; log.synced().0 == synced);
+}
+
 // One transaction is appended, written, and synced, the last record by itself.
-fn one_transaction<D: BlockDisk + Drop>(rt: &impl Abort, alloc: Global, mut log: LocalLog<D>) {
-    assert!(rt; log.end() == Lsn(16));
-    assert!(rt; log.written() == Lsn(16));
-    assert!(rt; log.synced() == Lsn(16));
-    put(rt, alloc, &mut log, &UPDATE);
-    put(rt, alloc, &mut log, &COMMIT);
-    assert!(rt; log.end() == Lsn(80));
-    write(rt, &mut log);
-    assert!(rt; log.written() == Lsn(80));
-    assert!(rt; log.synced() == Lsn(16));
-    put(rt, alloc, &mut log, &END);
-    sync(rt, &mut log);
-    assert!(rt; log.end() == Lsn(108));
-    assert!(rt; log.synced() == Lsn(80));
-    write(rt, &mut log);
-    sync(rt, &mut log);
-    assert!(rt; log.synced() == Lsn(108));
+fn put_transaction<D: BlockDisk + Drop>(rt: &impl Abort, alloc: Global, log: &mut LocalLog<D>) {
+    expect_ends(rt, log, 16, 16, 16);
+    put(rt, alloc, log, &UPDATE);
+    put(rt, alloc, log, &COMMIT);
+    expect_ends(rt, log, 80, 16, 16);
+    write(rt, log);
+    expect_ends(rt, log, 80, 80, 16);
+    put(rt, alloc, log, &END);
+    sync(rt, log);
+    expect_ends(rt, log, 108, 80, 80);
+    write(rt, log);
+    sync(rt, log);
+    expect_ends(rt, log, 108, 108, 108);
     assert!(rt; log.write_block() == Err(Fault::NothingToDo));
+}
+
+// What then stands in block 0.
+fn block_of_transaction() -> [u8; 512] {
+    let mut block = [0; 512];
+    block[..16].copy_from_slice(&HEADER);
+    block[16..52].copy_from_slice(&UPDATE);
+    block[52..80].copy_from_slice(&COMMIT);
+    block[80..108].copy_from_slice(&END);
+    block
+}
+
+// The same, and the block.
+fn one_transaction<D: BlockDisk + Drop>(rt: &impl Abort, alloc: Global, mut log: LocalLog<D>) {
+    put_transaction(rt, alloc, &mut log);
     let block = first_block(rt, log.into_disk());
-    assert!(rt; (&block[..16]) == HEADER.as_slice());
-    assert!(rt; (&block[16..52]) == UPDATE.as_slice());
-    assert!(rt; (&block[52..80]) == COMMIT.as_slice());
-    assert!(rt; (&block[80..108]) == END.as_slice());
-    assert!(rt; block[108..].iter().all(|b| *b == 0));
+    assert!(rt; block.as_slice() == block_of_transaction().as_slice());
 }
 
 #[test]
@@ -199,28 +219,38 @@ fn commits(rt: &impl Abort, alloc: Global, blocks: u64, count: usize) -> LocalLo
 #[test]
 fn a_record_over_two_blocks_is_synced_when_it_is_whole(rt: HostRuntime) {
     let mut log = commits(&rt, rt.alloc(), 2, 18);
-    assert!(rt; log.end() == Lsn(520));
+    expect_ends(&rt, &log, 520, 16, 16);
     write(&rt, &mut log);
-    assert!(rt; log.written() == Lsn(512));
+    expect_ends(&rt, &log, 520, 512, 16);
     sync(&rt, &mut log);
-    assert!(rt; log.synced() == Lsn(492));
+    expect_ends(&rt, &log, 520, 512, 492);
     write(&rt, &mut log);
-    assert!(rt; log.written() == Lsn(520));
+    expect_ends(&rt, &log, 520, 520, 492);
     sync(&rt, &mut log);
-    assert!(rt; log.synced() == Lsn(520));
-    assert!(rt; log.end() == Lsn(520));
+    expect_ends(&rt, &log, 520, 520, 520);
+}
+
+// The record of these bytes is not appended, for the log is full.
+fn expect_full<D: BlockDisk + Drop>(
+    rt: &impl Abort,
+    alloc: Global,
+    log: &mut LocalLog<D>,
+    bytes: &[u8],
+    reserve_after: u64,
+) {
+    assert!(rt; append(rt, alloc, log, bytes, reserve_after) == Err(Fault::LogFull));
 }
 
 #[test]
 fn a_full_log_takes_no_record(rt: HostRuntime) {
     let mut log = commits(&rt, rt.alloc(), 1, 16);
     let bytes = commit_at(log.end());
-    assert!(rt; append(&rt, rt.alloc(), &mut log, &bytes, u64::MAX) == Err(Fault::LogFull));
-    assert!(rt; append(&rt, rt.alloc(), &mut log, &bytes, 21) == Err(Fault::LogFull));
+    expect_full(&rt, rt.alloc(), &mut log, &bytes, u64::MAX);
+    expect_full(&rt, rt.alloc(), &mut log, &bytes, 21);
     put(&rt, rt.alloc(), &mut log, &bytes);
     let bytes = commit_at(log.end());
-    assert!(rt; append(&rt, rt.alloc(), &mut log, &bytes, 0) == Err(Fault::LogFull));
-    assert!(rt; log.end() == Lsn(492));
+    expect_full(&rt, rt.alloc(), &mut log, &bytes, 0);
+    assert!(rt; log.end().0 == 492);
 }
 
 #[test]
@@ -289,7 +319,7 @@ fn records_are_read_back(rt: HostRuntime) {
     }
     expect_commits(&rt, rt.alloc(), &mut log);
     sync(&rt, &mut log);
-    assert!(rt; log.synced() == Lsn(1136));
+    assert!(rt; log.synced().0 == 1136);
     expect_commits(&rt, rt.alloc(), &mut log);
 }
 
@@ -307,25 +337,33 @@ fn a_record_is_read_with_no_walk(rt: HostRuntime) {
     let Some(found) = read_again(&mut log, 996) else {
         panic!(rt; "no record at 996")
     };
-    assert!(rt; found.lsn == Lsn(996));
+    assert!(rt; found.lsn.0 == 996);
     write(&rt, &mut log);
     write(&rt, &mut log);
     sync(&rt, &mut log);
     let Some(found) = read_again(&mut log, 492) else {
         panic!(rt; "no record at 492")
     };
-    assert!(rt; found.lsn == Lsn(492));
+    assert!(rt; found.lsn.0 == 492);
+}
+
+// Whether a record stands at an offset, read by one try. `None`: the reading is refused.
+fn stands_at<D: BlockDisk + Drop>(log: &mut LocalLog<D>, at: u64) -> Option<bool> {
+    match log.read_at(Lsn(at)) {
+        Ok(found) => Some(found.is_some()),
+        Err(_) => None,
+    }
 }
 
 #[test]
 fn a_reading_takes_no_memory(rt: HostRuntime) {
     let mut log = commits(&rt, rt.alloc(), 3, 40);
-    assert!(rt; matches!(log.read_at(Lsn(996)), Ok(Some(_))));
+    assert!(rt; stands_at(&mut log, 996) == Some(true));
     write(&rt, &mut log);
     write(&rt, &mut log);
     sync(&rt, &mut log);
-    assert!(rt; matches!(log.read_at(Lsn(492)), Ok(Some(_))));
-    assert!(rt; matches!(log.read_at(Lsn(493)), Ok(None)));
+    assert!(rt; stands_at(&mut log, 492) == Some(true));
+    assert!(rt; stands_at(&mut log, 493) == Some(false));
 }
 
 #[test]

@@ -29,6 +29,11 @@ fn page_of(rt: &impl Abort, id: u32, block: &[u8; BLOCK_LEN]) -> Page {
     }
 }
 
+// Slot 0 of a page has the value aa.
+fn expect_aa(rt: &impl Abort, page: &Page) {
+    assert!(rt; page.image(0) == one_byte(0xaa));
+}
+
 #[test]
 fn writes_and_reads_a_block(rt: HostRuntime) {
     let mut page = Page::empty(0);
@@ -42,8 +47,8 @@ fn writes_and_reads_a_block(rt: HostRuntime) {
     assert!(rt; block.as_slice() == block_of_first_update().as_slice());
     let read = page_of(&rt, 0, &block);
     assert!(rt; read.id() == 0);
-    assert!(rt; read.lsn() == Lsn(16));
-    assert!(rt; read.image(0) == one_byte(0xaa));
+    assert!(rt; read.lsn().0 == 16);
+    expect_aa(&rt, &read);
     assert!(rt; read.image(14).is_none());
     let copy = page;
     page.redo(&Change {
@@ -52,14 +57,14 @@ fn writes_and_reads_a_block(rt: HostRuntime) {
         after: KeptImage::absent(),
     });
     assert!(rt; page.image(0).is_none());
-    assert!(rt; copy.image(0) == one_byte(0xaa));
+    expect_aa(&rt, &copy);
 }
 
 #[test]
 fn an_untouched_page_is_zeros(rt: HostRuntime) {
     let read = page_of(&rt, 7, &[0; BLOCK_LEN]);
     assert!(rt; read.id() == 7);
-    assert!(rt; read.lsn() == Lsn(0));
+    assert!(rt; read.lsn().0 == 0);
     assert!(rt; read.image(0).is_none());
     let mut block = [7; BLOCK_LEN];
     read.write_block(&mut block);

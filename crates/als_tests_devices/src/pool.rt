@@ -115,6 +115,47 @@ fn rows_of<D: BlockDisk>(pool: &Pool<D>, alloc: Global) -> Result<PageRows, Allo
     }
 }
 
+// A page is redone up to the record at an offset.
+fn expect_applied<D: BlockDisk>(rt: &impl Abort, pool: &mut Pool<D>, page: u32, at: u64) {
+    assert!(rt; apply(pool, page) == Ok(Lsn(at)));
+}
+
+// A page is not redone.
+fn expect_not_applied<D: BlockDisk>(rt: &impl Abort, pool: &mut Pool<D>, page: u32, fault: Fault) {
+    assert!(rt; apply(pool, page) == Err(fault));
+}
+
+// A page is written.
+fn expect_flushed<D: BlockDisk>(rt: &impl Abort, pool: &mut Pool<D>, page: u32, acknowledged: u64) {
+    assert!(rt; flush(pool, page, acknowledged) == Ok(()));
+}
+
+// A page is not written.
+fn expect_not_flushed<D: BlockDisk>(
+    rt: &impl Abort,
+    pool: &mut Pool<D>,
+    page: u32,
+    acknowledged: u64,
+    fault: Fault,
+) {
+    assert!(rt; flush(pool, page, acknowledged) == Err(fault));
+}
+
+// The first row is this one.
+fn expect_first_row<D: BlockDisk>(rt: &impl Abort, pool: &Pool<D>, page: u32, lsn: u64) {
+    assert!(rt; pool.next_row(0) == Some(row(page, lsn)));
+}
+
+// What waits for a page begins there.
+fn expect_waits_from<D: BlockDisk>(rt: &impl Abort, pool: &Pool<D>, page: u32, lsn: u64) {
+    assert!(rt; pool.waits_from(page) == Some(Lsn(lsn)));
+}
+
+// Nothing waits for a page.
+fn expect_waits_for_nothing<D: BlockDisk>(rt: &impl Abort, pool: &Pool<D>, page: u32) {
+    assert!(rt; pool.waits_from(page) == None);
+}
+
 fn row(page: u32, lsn: u64) -> LoggedPage {
     LoggedPage {
         page,
@@ -125,37 +166,48 @@ fn row(page: u32, lsn: u64) -> LoggedPage {
 #[test]
 fn a_frame_is_free_for_another_page_after_the_sync(rt: HostRuntime) {
     let mut pool = in_memory(&rt, rt.alloc(), 1);
-    assert!(rt; apply(&mut pool, 0) == Ok(Lsn(16)));
-    assert!(rt; apply(&mut pool, 1) == Err(Fault::PoolFull));
-    assert!(rt; flush(&mut pool, 0, 116) == Ok(()));
-    assert!(rt; apply(&mut pool, 1) == Err(Fault::PoolFull));
+    expect_applied(&rt, &mut pool, 0, 16);
+    expect_not_applied(&rt, &mut pool, 1, Fault::PoolFull);
+    expect_flushed(&rt, &mut pool, 0, 116);
+    expect_not_applied(&rt, &mut pool, 1, Fault::PoolFull);
     assert!(rt; pool.sync_pages().is_ok());
-    assert!(rt; apply(&mut pool, 1) == Ok(Lsn(52)));
+    expect_applied(&rt, &mut pool, 1, 52);
     assert!(rt; pool.waiting() == 0);
 }
 
 #[test]
 fn a_page_is_flushed_when_its_record_is_acknowledged(rt: HostRuntime) {
     let mut pool = in_memory(&rt, rt.alloc(), 2);
-    assert!(rt; flush(&mut pool, 0, 116) == Err(Fault::NothingToDo));
-    assert!(rt; apply(&mut pool, 0) == Ok(Lsn(16)));
-    assert!(rt; flush(&mut pool, 0, 16) == Err(Fault::LogBehind));
-    assert!(rt; flush(&mut pool, 0, 17) == Ok(()));
-    assert!(rt; flush(&mut pool, 0, 17) == Err(Fault::NothingToDo));
-    assert!(rt; flush(&mut pool, 7, 17) == Err(Fault::NothingToDo));
+    expect_not_flushed(&rt, &mut pool, 0, 116, Fault::NothingToDo);
+    expect_applied(&rt, &mut pool, 0, 16);
+    expect_not_flushed(&rt, &mut pool, 0, 16, Fault::LogBehind);
+    expect_flushed(&rt, &mut pool, 0, 17);
+    expect_not_flushed(&rt, &mut pool, 0, 17, Fault::NothingToDo);
+    expect_not_flushed(&rt, &mut pool, 7, 17, Fault::NothingToDo);
+}
+
+// The rows of two pages that each wait for one change.
+fn expect_rows_of_two_changes<D: BlockDisk>(
+    rt: &impl Abort,
+    pool: &Pool<D>,
+    alloc: Global,
+) -> Result<(), AllocError> {
+    let rows = rows_of(pool, alloc)?;
+    assert!(rt; rows.as_slice() == [row(0, 16), row(1, 52)].as_slice());
+    Ok(())
 }
 
 #[test]
 fn rows_move_at_the_sync(rt: HostRuntime) -> Result<(), Fail> {
     let mut pool = in_memory(&rt, rt.alloc(), 2);
-    assert!(rt; rows_of(&pool, rt.alloc())?.as_slice() == [row(0, 16), row(1, 52)].as_slice());
-    assert!(rt; apply(&mut pool, 0) == Ok(Lsn(16)));
-    assert!(rt; flush(&mut pool, 0, 116) == Ok(()));
-    assert!(rt; pool.next_row(0) == Some(row(0, 16)));
+    expect_rows_of_two_changes(&rt, &pool, rt.alloc())?;
+    expect_applied(&rt, &mut pool, 0, 16);
+    expect_flushed(&rt, &mut pool, 0, 116);
+    expect_first_row(&rt, &pool, 0, 16);
     assert!(rt; pool.sync_pages().is_ok());
-    assert!(rt; pool.next_row(0) == Some(row(1, 52)));
+    expect_first_row(&rt, &pool, 1, 52);
     assert!(rt; 0 < pool.pages());
-    assert!(rt; pool.rec_lsn(0) == None);
+    assert!(rt; pool.rec_lsn(0).is_none());
     Ok(())
 }
 
@@ -164,7 +216,7 @@ fn a_page_past_the_end_is_refused(rt: HostRuntime) {
     let mut pool = in_memory(&rt, rt.alloc(), 2);
     assert!(rt; pool.apply(1, Lsn(0)) == Err(Fault::BadPage { page: 1 }));
     assert!(rt; pool.waiting() == 2);
-    assert!(rt; apply(&mut pool, 1) == Ok(Lsn(52)));
+    expect_applied(&rt, &mut pool, 1, 52);
 }
 
 #[test]
@@ -172,9 +224,9 @@ fn what_waits_is_redone_once(rt: HostRuntime) {
     let mut pool = in_memory(&rt, rt.alloc(), 2);
     assert!(rt; pool.waiting() == 2);
     assert!(rt; pool.next_pending(0) == Some(0));
-    assert!(rt; apply(&mut pool, 0) == Ok(Lsn(16)));
-    assert!(rt; apply(&mut pool, 0) == Err(Fault::NothingToDo));
-    assert!(rt; apply(&mut pool, 2) == Err(Fault::NothingToDo));
+    expect_applied(&rt, &mut pool, 0, 16);
+    expect_not_applied(&rt, &mut pool, 0, Fault::NothingToDo);
+    expect_not_applied(&rt, &mut pool, 2, Fault::NothingToDo);
     assert!(rt; pool.next_pending(0) == Some(1));
     assert!(rt; pool.waiting() == 1);
 }
@@ -191,12 +243,12 @@ fn page_of<D: BlockDisk>(rt: &impl Abort, pool: &mut Pool<D>, page: u32) -> Page
 #[test]
 fn a_page_is_shown_from_its_frame_or_its_block(rt: HostRuntime) {
     let mut pool = in_memory(&rt, rt.alloc(), 1);
-    assert!(rt; apply(&mut pool, 0) == Ok(Lsn(16)));
+    expect_applied(&rt, &mut pool, 0, 16);
     let framed = page_of(&rt, &mut pool, 0);
-    assert!(rt; framed.lsn() == Lsn(16));
+    assert!(rt; framed.lsn().0 == 16);
     assert!(rt; framed.image(0) == one_byte(0xaa));
     let stored = page_of(&rt, &mut pool, 1);
-    assert!(rt; stored.lsn() == Lsn(0));
+    assert!(rt; stored.lsn().0 == 0);
     assert!(rt; stored.id() == 1);
 }
 
@@ -211,8 +263,8 @@ fn block_of<D: BlockDisk + Drop>(rt: &impl Abort, mut disk: D, page: u64) -> [u8
 #[test]
 fn a_page_is_written_to_its_block(rt: HostRuntime) {
     let mut pool = in_memory(&rt, rt.alloc(), 2);
-    assert!(rt; apply(&mut pool, 1) == Ok(Lsn(52)));
-    assert!(rt; flush(&mut pool, 1, 116) == Ok(()));
+    expect_applied(&rt, &mut pool, 1, 52);
+    expect_flushed(&rt, &mut pool, 1, 116);
     let block = block_of(&rt, pool.into_disk(), 1);
     assert!(rt; (&block[..14]) == [0, 0, 0, 0, 0, 0, 0, 52, 0, 0, 0, 1, 0, 1].as_slice());
     assert!(rt; (&block[32..34]) == [2, 0xaa].as_slice());
@@ -226,21 +278,26 @@ fn fuse_of(alloc: Global) -> Result<Fuse, Fail> {
     }
 }
 
+// Each kind of call of the device fails once.
+fn expect_answers<D: BlockDisk>(rt: &impl Abort, pool: &mut Pool<D>, fuse: &Fuse) {
+    fuse.fail_at(1);
+    expect_not_applied(rt, pool, 0, Fault::Device);
+    expect_applied(rt, pool, 0, 16);
+    expect_first_row(rt, pool, 0, 16);
+    fuse.fail_at(1);
+    assert!(rt; pool.flush_one(0, Lsn(116)) == Err(Fault::Device));
+    expect_flushed(rt, pool, 0, 116);
+    fuse.fail_at(1);
+    assert!(rt; pool.sync_pages() == Err(Fault::Device));
+    expect_first_row(rt, pool, 0, 16);
+}
+
 #[test]
 fn a_failing_device_is_answered(rt: HostRuntime) -> Result<(), Fail> {
     let fuse = fuse_of(rt.alloc())?;
     let disk = FailingDisk::new(MemDisk::new(rt.alloc(), 2), fuse.clone()?);
     let mut pool = two_changes(&rt, rt.alloc(), disk, 1);
-    fuse.fail_at(1);
-    assert!(rt; apply(&mut pool, 0) == Err(Fault::Device));
-    assert!(rt; apply(&mut pool, 0) == Ok(Lsn(16)));
-    assert!(rt; pool.next_row(0) == Some(row(0, 16)));
-    fuse.fail_at(1);
-    assert!(rt; pool.flush_one(0, Lsn(116)) == Err(Fault::Device));
-    assert!(rt; flush(&mut pool, 0, 116) == Ok(()));
-    fuse.fail_at(1);
-    assert!(rt; pool.sync_pages() == Err(Fault::Device));
-    assert!(rt; pool.next_row(0) == Some(row(0, 16)));
+    expect_answers(&rt, &mut pool, &fuse);
     Ok(())
 }
 
@@ -295,8 +352,8 @@ fn opened<D: BlockDisk + Drop>(
 // A device on which page 1 was stored with its change at 52.
 fn stored(rt: &impl Abort, alloc: Global) -> MemDisk {
     let mut pool = in_memory(rt, alloc, 2);
-    assert!(rt; apply(&mut pool, 1) == Ok(Lsn(52)));
-    assert!(rt; flush(&mut pool, 1, 116) == Ok(()));
+    expect_applied(rt, &mut pool, 1, 52);
+    expect_flushed(rt, &mut pool, 1, 116);
     assert!(rt; pool.sync_pages().is_ok());
     pool.into_disk()
 }
@@ -305,41 +362,41 @@ fn stored(rt: &impl Abort, alloc: Global) -> MemDisk {
 fn what_waits_begins_at_the_row_or_the_position(rt: HostRuntime) {
     let rows = [row(1, 30), row(1, 52), row(7, 40)];
     let pool = opened(&rt, rt.alloc(), stored(&rt, rt.alloc()), 60, &rows);
-    assert!(rt; pool.waits_from(0) == Some(Lsn(60)));
-    assert!(rt; pool.waits_from(1) == Some(Lsn(52)));
-    assert!(rt; pool.waits_from(2) == None);
-    assert!(rt; pool.next_row(0) == Some(row(1, 52)));
+    expect_waits_from(&rt, &pool, 0, 60);
+    expect_waits_from(&rt, &pool, 1, 52);
+    expect_waits_for_nothing(&rt, &pool, 2);
+    expect_first_row(&rt, &pool, 1, 52);
     assert!(rt; pool.waiting() == 0);
 }
 
 #[test]
 fn nothing_waits_from_below_the_first_record(rt: HostRuntime) {
     let pool = opened(&rt, rt.alloc(), stored(&rt, rt.alloc()), 0, &[row(0, 3)]);
-    assert!(rt; pool.waits_from(0) == Some(Lsn(16)));
-    assert!(rt; pool.waits_from(1) == Some(Lsn(16)));
-    assert!(rt; pool.next_row(0) == Some(row(0, 16)));
-    assert!(rt; pool.next_row(1) == None);
+    expect_waits_from(&rt, &pool, 0, 16);
+    expect_waits_from(&rt, &pool, 1, 16);
+    expect_first_row(&rt, &pool, 0, 16);
+    assert!(rt; pool.next_row(1).is_none());
 }
 
 #[test]
 fn the_first_change_from_the_position_on_is_the_row(rt: HostRuntime) {
     let mut pool = opened(&rt, rt.alloc(), stored(&rt, rt.alloc()), 60, &[]);
     route(&rt, &mut pool, 0, 80);
-    assert!(rt; pool.next_row(0) == Some(row(0, 80)));
-    assert!(rt; pool.waits_from(0) == Some(Lsn(60)));
-    assert!(rt; apply(&mut pool, 0) == Ok(Lsn(80)));
-    assert!(rt; pool.waits_from(0) == None);
-    assert!(rt; pool.next_row(0) == Some(row(0, 80)));
+    expect_first_row(&rt, &pool, 0, 80);
+    expect_waits_from(&rt, &pool, 0, 60);
+    expect_applied(&rt, &mut pool, 0, 80);
+    expect_waits_for_nothing(&rt, &pool, 0);
+    expect_first_row(&rt, &pool, 0, 80);
 }
 
 #[test]
 fn a_row_of_the_checkpoint_goes_when_the_page_has_all(rt: HostRuntime) {
     let mut pool = opened(&rt, rt.alloc(), stored(&rt, rt.alloc()), 60, &[row(1, 16)]);
     route(&rt, &mut pool, 1, 52);
-    assert!(rt; pool.next_row(0) == Some(row(1, 16)));
-    assert!(rt; apply(&mut pool, 1) == Err(Fault::NothingToDo));
-    assert!(rt; pool.next_row(0) == None);
-    assert!(rt; pool.waits_from(1) == None);
+    expect_first_row(&rt, &pool, 1, 16);
+    expect_not_applied(&rt, &mut pool, 1, Fault::NothingToDo);
+    assert!(rt; pool.next_row(0).is_none());
+    expect_waits_for_nothing(&rt, &pool, 1);
     assert!(rt; pool.waiting() == 0);
 }
 

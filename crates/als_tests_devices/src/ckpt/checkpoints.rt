@@ -56,6 +56,46 @@ pub(crate) fn marked<D: BlockDisk + Drop>(disk: D) -> Option<Control<D>>
     Some(control)
 }
 
+/// Begins the checkpoint at that position. `None`: it can't, or memory was refused.
+pub(crate) fn begun<D: BlockDisk>(
+    control: &mut Control<D>,
+    alloc: Global,
+    position: u8,
+) -> Option<()>
+    requires position { 16 ≤ position }
+    requires pages { control.old.pages ≡ 64 }
+    ensures pages { IfSome result (λ _. control.new.pages ≡ control.old.pages) }
+    ensures sure { IfSome result (λ _. control.new.sure ≡ control.old.sure) }
+{
+    control.begin(alloc, checkpoint(alloc, position)?).ok()?;
+    Some(())
+}
+
+/// Writes the next block. `None`: there is none, or the device failed.
+pub(crate) fn writes_next<D: BlockDisk>(control: &mut Control<D>) -> Option<()>
+    ensures pages { IfSome result (λ _. control.new.pages ≡ control.old.pages) }
+    ensures sure { IfSome result (λ _. control.new.sure ≡ control.old.sure) }
+{
+    control.write_next().ok()
+}
+
+/// Syncs. `None`: the device failed.
+pub(crate) fn syncs<D: BlockDisk>(control: &mut Control<D>) -> Option<()>
+    requires { control.old.sure ≡ true }
+    ensures pages { IfSome result (λ _. control.new.pages ≡ control.old.pages) }
+    ensures sure { IfSome result (λ _. control.new.sure ≡ true) }
+{
+    control.sync().ok()
+}
+
+/// Publishes what is begun, with no sync. `None`: it can't, or the device failed.
+pub(crate) fn publishes_it<D: BlockDisk>(control: &mut Control<D>) -> Option<()>
+    ensures pages { IfSome result (λ _. control.new.pages ≡ control.old.pages) }
+    ensures sure { IfSome result (λ _. control.new.sure ≡ control.old.sure) }
+{
+    control.publish().ok()
+}
+
 /// Begins the checkpoint at that position and writes it. `None`: it can't, the device failed, or
 /// memory was refused.
 pub(crate) fn written<D: BlockDisk>(
@@ -68,10 +108,27 @@ pub(crate) fn written<D: BlockDisk>(
     ensures pages { IfSome result (λ _. control.new.pages ≡ control.old.pages) }
     ensures sure { IfSome result (λ _. control.new.sure ≡ control.old.sure) }
 {
-    control.begin(alloc, checkpoint(alloc, position)?).ok()?;
-    control.write_next().ok()?;
-    control.write_next().ok()?;
-    Some(())
+    begun(control, alloc, position)?;
+    writes_next(control)?;
+    writes_next(control)
+}
+
+/// Publishes the checkpoint at that position, with no sync of that. `None`: it can't, the device
+/// failed, or memory was refused.
+pub(crate) fn named<D: BlockDisk>(
+    control: &mut Control<D>,
+    alloc: Global,
+    position: u8,
+) -> Option<()>
+    requires position { 16 ≤ position }
+    requires pages { control.old.pages ≡ 64 }
+    requires sure { control.old.sure ≡ true }
+    ensures pages { IfSome result (λ _. control.new.pages ≡ control.old.pages) }
+    ensures sure { IfSome result (λ _. control.new.sure ≡ true) }
+{
+    written(control, alloc, position)?;
+    syncs(control)?;
+    publishes_it(control)
 }
 
 /// Publishes the checkpoint at that position. `None`: it can't, the device failed, or memory was
@@ -87,9 +144,6 @@ pub(crate) fn published<D: BlockDisk>(
     ensures pages { IfSome result (λ _. control.new.pages ≡ control.old.pages) }
     ensures sure { IfSome result (λ _. control.new.sure ≡ true) }
 {
-    written(control, alloc, position)?;
-    control.sync().ok()?;
-    control.publish().ok()?;
-    control.sync().ok()?;
-    Some(())
+    named(control, alloc, position)?;
+    syncs(control)
 }

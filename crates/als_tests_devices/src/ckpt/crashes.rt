@@ -1,4 +1,4 @@
-use super::checkpoints::{marked, published, written};
+use super::checkpoints::{marked, named, published, written};
 use super::crashed;
 use super::publishing::stands_at;
 use als_ckpt::{Control, Region, read_state};
@@ -29,9 +29,7 @@ fn left_whole<D: Restart + Drop>(control: Control<D>, picks: &[u8]) -> Option<u6
 fn left_of_a_publish(alloc: Global, picks: &[u8]) -> Option<u64> {
     let mut control = marked(MemDisk::new(alloc, 321))?;
     published(&mut control, alloc, 108)?;
-    written(&mut control, alloc, 116)?;
-    control.sync().ok()?;
-    control.publish().ok()?;
+    named(&mut control, alloc, 116)?;
     left_whole(control, picks)
 }
 

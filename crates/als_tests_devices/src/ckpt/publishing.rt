@@ -1,9 +1,8 @@
-ghost use Rattle.std.specs.Prelude.{◌<◌};
+ghost use Rattle.std.specs.Prelude.{◌≡◌, ◌<◌, true};
 
 use super::checkpoints::{checkpoint_bytes, marked, published};
 use als_ckpt::{Control, Region};
 use als_disk::{BlockDisk, FailingDisk, Fuse, MemDisk};
-use als_record::Lsn;
 use std::alloc::Global;
 use std::process::Abort;
 
@@ -43,20 +42,34 @@ fn each_call_for_a_checkpoint_fails_in_turn(rt: HostRuntime) {
 }
 
 /// The region and the position that the newest state names.
-fn place<D: BlockDisk>(control: &Control<D>) -> (Option<Region>, Lsn) {
+fn expect_place<D: BlockDisk>(rt: &impl Abort, control: &Control<D>, region: Region, at: u64) {
     let state = control.newest();
-    (state.published, state.position)
+    assert!(rt; state.published == Some(region));
+    assert!(rt; state.position.0 == at);
 }
 
-/// Three checkpoints, and where they stand. `None`: memory was refused.
+/// Three checkpoints, and the regions that they take. `None`: memory was refused.
+fn three_published<D: BlockDisk>(
+    rt: &impl Abort,
+    control: &mut Control<D>,
+    alloc: Global,
+) -> Option<()>
+    requires pages { control.old.pages ≡ 64 }
+    requires sure { control.old.sure ≡ true }
+{
+    published(control, alloc, 108)?;
+    expect_place(rt, control, Region::First, 108);
+    published(control, alloc, 116)?;
+    expect_place(rt, control, Region::Second, 116);
+    published(control, alloc, 200)?;
+    expect_place(rt, control, Region::First, 200);
+    Some(())
+}
+
+/// The same, and where the last two stand. `None`: memory was refused.
 fn takes_regions_in_turn(rt: &impl Abort, alloc: Global) -> Option<()> {
     let mut control = marked(MemDisk::new(alloc, 321))?;
-    published(&mut control, alloc, 108)?;
-    assert!(rt; place(&control) == (Some(Region::First), Lsn(108)));
-    published(&mut control, alloc, 116)?;
-    assert!(rt; place(&control) == (Some(Region::Second), Lsn(116)));
-    published(&mut control, alloc, 200)?;
-    assert!(rt; place(&control) == (Some(Region::First), Lsn(200)));
+    three_published(rt, &mut control, alloc)?;
     let mut disk = control.into_disk();
     assert!(rt; stands_at(&mut disk, 1, 200) == Some(true));
     assert!(rt; stands_at(&mut disk, 161, 116) == Some(true));

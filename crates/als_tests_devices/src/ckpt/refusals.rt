@@ -1,6 +1,8 @@
-ghost use Rattle.std.specs.Prelude.{◌≡◌, IfSome};
+ghost use Rattle.std.specs.Prelude.{◌≡◌, true, IfSome};
 
-use super::checkpoints::{checkpoint, marked, published, written};
+use super::checkpoints::{
+    begun, checkpoint, marked, named, published, publishes_it, syncs, writes_next, written,
+};
 use als_ckpt::{Control, Fault};
 use als_disk::{BlockDisk, MemDisk};
 use als_record::Lsn;
@@ -40,12 +42,24 @@ fn why_unpublished<D: BlockDisk>(control: &mut Control<D>) -> Option<Fault>
     }
 }
 
+/// Nothing can be published, for that reason. `None`: a checkpoint was, or the device failed.
+fn expect_unpublished<D: BlockDisk>(
+    rt: &impl Abort,
+    control: &mut Control<D>,
+    wanted: Fault,
+) -> Option<()>
+    ensures { IfSome result (λ _. control.new ≡ control.old) }
+{
+    let why = why_unpublished(control)?;
+    assert!(rt; why == wanted);
+    Some(())
+}
+
 /// Nothing is begun: 27. `None`: memory was refused.
 fn nothing_is_begun(rt: &impl Abort, alloc: Global) -> Option<()> {
     let mut control = marked(MemDisk::new(alloc, 321))?;
     has_no_next(&mut control)?;
-    assert!(rt; why_unpublished(&mut control)? == Fault::NothingToDo);
-    Some(())
+    expect_unpublished(rt, &mut control, Fault::NothingToDo)
 }
 
 #[test]
@@ -54,20 +68,44 @@ fn nothing_to_do_before_a_checkpoint(rt: HostRuntime) {
     assert!(rt; nothing_is_begun(&rt, alloc).is_some() || nothing_is_begun(&rt, alloc).is_some());
 }
 
-/// While a checkpoint is begun: 28, and 28 until its blocks are synced. `None`: memory was refused.
+/// While a checkpoint is begun: 28. `None`: memory was refused.
+fn is_busy_once_begun<D: BlockDisk>(
+    rt: &impl Abort,
+    control: &mut Control<D>,
+    alloc: Global,
+) -> Option<()>
+    requires { control.old.pages ≡ 64 }
+    ensures pages { IfSome result (λ _. control.new.pages ≡ control.old.pages) }
+    ensures sure { IfSome result (λ _. control.new.sure ≡ control.old.sure) }
+{
+    begun(control, alloc, 108)?;
+    expect_unpublished(rt, control, Fault::CkptBusy)?;
+    writes_next(control)?;
+    is_busy(control, alloc)
+}
+
+/// And 28 until its blocks are synced. `None`: memory was refused.
+fn is_busy_until_the_sync<D: BlockDisk>(
+    rt: &impl Abort,
+    control: &mut Control<D>,
+    alloc: Global,
+) -> Option<()>
+    requires pages { control.old.pages ≡ 64 }
+    requires sure { control.old.sure ≡ true }
+{
+    writes_next(control)?;
+    has_no_next(control)?;
+    expect_unpublished(rt, control, Fault::CkptBusy)?;
+    syncs(control)?;
+    is_busy(control, alloc)?;
+    publishes_it(control)
+}
+
+/// Both, over a device in memory.
 fn waits_for_the_sync(rt: &impl Abort, alloc: Global) -> Option<()> {
     let mut control = marked(MemDisk::new(alloc, 321))?;
-    control.begin(alloc, checkpoint(alloc, 108)?).ok()?;
-    assert!(rt; why_unpublished(&mut control)? == Fault::CkptBusy);
-    control.write_next().ok()?;
-    is_busy(&mut control, alloc)?;
-    control.write_next().ok()?;
-    has_no_next(&mut control)?;
-    assert!(rt; why_unpublished(&mut control)? == Fault::CkptBusy);
-    control.sync().ok()?;
-    is_busy(&mut control, alloc)?;
-    control.publish().ok()?;
-    Some(())
+    is_busy_once_begun(rt, &mut control, alloc)?;
+    is_busy_until_the_sync(rt, &mut control, alloc)
 }
 
 #[test]
@@ -82,8 +120,8 @@ fn a_checkpoint_waits_for_its_sync(rt: HostRuntime) {
 fn waits_for_the_mark(rt: &impl Abort, alloc: Global) -> Option<()> {
     let mut control = marked(MemDisk::new(alloc, 321))?;
     written(&mut control, alloc, 201)?;
-    control.sync().ok()?;
-    assert!(rt; why_unpublished(&mut control)? == Fault::LogBehind);
+    syncs(&mut control)?;
+    expect_unpublished(rt, &mut control, Fault::LogBehind)?;
     match control.newest().mark {
         Lsn(200) => {}
         _ => return None,
@@ -100,17 +138,26 @@ fn a_checkpoint_waits_for_the_mark(rt: HostRuntime) {
 }
 
 /// After a publish: 27, and 28 until it is synced. `None`: memory was refused.
+fn is_busy_until_the_last<D: BlockDisk>(
+    rt: &impl Abort,
+    control: &mut Control<D>,
+    alloc: Global,
+) -> Option<()>
+    requires pages { control.old.pages ≡ 64 }
+    requires sure { control.old.sure ≡ true }
+{
+    named(control, alloc, 108)?;
+    has_no_next(control)?;
+    expect_unpublished(rt, control, Fault::NothingToDo)?;
+    is_busy(control, alloc)?;
+    syncs(control)?;
+    published(control, alloc, 116)
+}
+
+/// The same over a device in memory.
 fn waits_for_the_last(rt: &impl Abort, alloc: Global) -> Option<()> {
     let mut control = marked(MemDisk::new(alloc, 321))?;
-    written(&mut control, alloc, 108)?;
-    control.sync().ok()?;
-    control.publish().ok()?;
-    has_no_next(&mut control)?;
-    assert!(rt; why_unpublished(&mut control)? == Fault::NothingToDo);
-    is_busy(&mut control, alloc)?;
-    control.sync().ok()?;
-    published(&mut control, alloc, 116)?;
-    Some(())
+    is_busy_until_the_last(rt, &mut control, alloc)
 }
 
 #[test]
