@@ -8,14 +8,14 @@ use Rattle.als_record.specs.declared.transaction_state.TransactionState.TheVaria
 use Rattle.als_record.specs.declared.transaction_row.TransactionRow.{TransactionRow}
 use Rattle.als_record.specs.Transactions.{is_transactional, is_end, is_among}
 use Rattle.als_record.specs.Table.{row_after, fresh_row}
-use Rattle.als_record.specs.Tail.{tail_len}
+use Rattle.als_record.specs.Tail.{reserve_of}
 use Rattle.als_record.specs.Validity.{may_follow}
 use Rattle.als_record.proofs.TableRows.{numbers}
 use Rattle.als_analysis.specs.Open.{Open, left_after, bytes_after, owed, owed_after, rows_of, bytes_of}
 use Rattle.als_analysis.specs.Noted.{Table, IsTableOf}
 use Rattle.als_analysis.proofs.KeptSteps.{remove-map}
 use Rattle.als_analysis.proofs.LogSteps.{step-checkpoint, step-more, step-end, step-new, step-new_end}
-use Rattle.als_analysis.proofs.TailLength.{owed-tail}
+use Rattle.als_analysis.proofs.TailLength.{owed-reserve}
 
 -- a place of the rows is a place of the entries
 pub place : (entries : List Open) (t : Table) (i : ℕ) → rows_of entries ≡ t.rows → i < length t.rows → i < length entries
@@ -33,11 +33,11 @@ fresh_entry t = record { row = fresh_row t; left = []; bytes = 0; room = 0 }
 pub record Owes (log : List Record) (sum before after : ℕ) : Type 0 where
   pub new : ℕ
   pub is : new + before ≡ sum + after
-  pub tail : new % 2 ^ 64 ≡ tail_len log % 2 ^ 64
+  pub reserve : new % 2 ^ 64 ≡ reserve_of log % 2 ^ 64
 
 module _ (log : List Record) (r : Record) (old : Table) (entries : List Open) (h : IsTableOf old log) (p : rows_of entries ≡ old.rows) (q : bytes_of entries ≡ old.bytes) where
-  pub after-checkpoint : is_transactional r.body ≡ false → sum_by owed entries % 2 ^ 64 ≡ tail_len (log ++ r ∷ []) % 2 ^ 64
-  after-checkpoint w = let t : IsTableOf old (log ++ r ∷ []) = step-checkpoint log r old old h w refl refl refl in owed-tail (log ++ r ∷ []) entries (p ∙ t.rows) (q ∙ t.bytes)
+  pub after-checkpoint : is_transactional r.body ≡ false → sum_by owed entries % 2 ^ 64 ≡ reserve_of (log ++ r ∷ []) % 2 ^ 64
+  after-checkpoint w = let t : IsTableOf old (log ++ r ∷ []) = step-checkpoint log r old old h w refl refl refl in owed-reserve (log ++ r ∷ []) entries (p ∙ t.rows) (q ∙ t.bytes)
 
   module _ (w : is_transactional r.body ≡ true) (m : may_follow log r ≡ true) where
     module _ (i : ℕ) (d : TransactionRow) (x : Open) (within : i < length old.rows) (at : (get_or old.rows i d).trans.0 ≡ r.trans.0) where
@@ -51,7 +51,7 @@ module _ (log : List Record) (r : Record) (old : Table) (entries : List Open) (h
           let rows : rows_of (remove entries i) ≡ remove old.rows i = sym (remove-map (λ (o : Open). o.row) entries i lt) ∙ ap (λ rows. remove rows i) p in
           let bytes : bytes_of (remove entries i) ≡ remove old.bytes i = sym (remove-map (λ (o : Open). o.bytes) entries i lt) ∙ ap (λ bytes. remove bytes i) q in
           let s : sum_by owed (remove entries i) + owed (get_or entries i x) ≡ sum_by owed entries = sum_by-remove owed entries i x lt in
-          record { new = sum_by owed (remove entries i); is = omega arith; tail = owed-tail (log ++ r ∷ []) (remove entries i) (rows ∙ t.rows) (bytes ∙ t.bytes) }
+          record { new = sum_by owed (remove entries i); is = omega arith; reserve = owed-reserve (log ++ r ∷ []) (remove entries i) (rows ∙ t.rows) (bytes ∙ t.bytes) }
 
       pub after-more : is_end r.body ≡ false → Owes (log ++ r ∷ []) (sum_by owed entries) (owed (get_or entries i x)) (owed_after (get_or entries i x).row.state (get_or entries i x).bytes r.body)
       after-more e =
@@ -66,13 +66,13 @@ module _ (log : List Record) (r : Record) (old : Table) (entries : List Open) (h
           map-set (λ (o : Open). o.bytes) entries i o
           ∙ ap (λ n. set (bytes_of entries) i (bytes_after n r.body)) (sym (get_or-map (λ (o : Open). o.bytes) entries i x 0 lt))
           ∙ ap (λ bytes. set bytes i (bytes_after (get_or bytes i 0) r.body)) q in
-          record { new = sum_by owed (set entries i o); is = sum_by-set owed entries i o x lt; tail = owed-tail (log ++ r ∷ []) (set entries i o) (rows ∙ t.rows) (bytes ∙ t.bytes) }
+          record { new = sum_by owed (set entries i o); is = sum_by-set owed entries i o x lt; reserve = owed-reserve (log ++ r ∷ []) (set entries i o) (rows ∙ t.rows) (bytes ∙ t.bytes) }
 
     module _ (absent : is_among (numbers old.rows) r.trans.0 ≡ false) where
-      pub after-new_end : is_end r.body ≡ true → sum_by owed entries % 2 ^ 64 ≡ tail_len (log ++ r ∷ []) % 2 ^ 64
-      after-new_end e = let t : IsTableOf old (log ++ r ∷ []) = step-new_end log r old old h w m absent e refl refl refl in owed-tail (log ++ r ∷ []) entries (p ∙ t.rows) (q ∙ t.bytes)
+      pub after-new_end : is_end r.body ≡ true → sum_by owed entries % 2 ^ 64 ≡ reserve_of (log ++ r ∷ []) % 2 ^ 64
+      after-new_end e = let t : IsTableOf old (log ++ r ∷ []) = step-new_end log r old old h w m absent e refl refl refl in owed-reserve (log ++ r ∷ []) entries (p ∙ t.rows) (q ∙ t.bytes)
 
-      pub after-new : is_end r.body ≡ false → (sum_by owed entries + owed_after Active 0 r.body) % 2 ^ 64 ≡ tail_len (log ++ r ∷ []) % 2 ^ 64
+      pub after-new : is_end r.body ≡ false → (sum_by owed entries + owed_after Active 0 r.body) % 2 ^ 64 ≡ reserve_of (log ++ r ∷ []) % 2 ^ 64
       after-new e =
           let o : Open = entry_after (fresh_entry r.trans.0) r in
           let new : Table = record { rows = old.rows ++ row_after (fresh_row r.trans.0) r ∷ []; left = old.left ++ left_after [] r r.body ∷ []; bytes = old.bytes ++ bytes_after 0 r.body ∷ []; has_room = false } in
@@ -80,4 +80,4 @@ module _ (log : List Record) (r : Record) (old : Table) (entries : List Open) (h
           let rows : rows_of (entries ++ o ∷ []) ≡ new.rows = map_push (λ (o : Open). o.row) entries o ∙ ap (λ rows. rows ++ row_after (fresh_row r.trans.0) r ∷ []) p in
           let bytes : bytes_of (entries ++ o ∷ []) ≡ new.bytes = map_push (λ (o : Open). o.bytes) entries o ∙ ap (λ bytes. bytes ++ bytes_after 0 r.body ∷ []) q in
           let s : sum_by owed (entries ++ o ∷ []) ≡ sum_by owed entries + owed o = sum_by_push owed entries o in
-          ap (λ n. n % 2 ^ 64) (sym s) ∙ owed-tail (log ++ r ∷ []) (entries ++ o ∷ []) (rows ∙ t.rows) (bytes ∙ t.bytes)
+          ap (λ n. n % 2 ^ 64) (sym s) ∙ owed-reserve (log ++ r ∷ []) (entries ++ o ∷ []) (rows ∙ t.rows) (bytes ∙ t.bytes)

@@ -1,4 +1,4 @@
--- The length of a tail is the sum of what each unended transaction owes.
+-- The length of a tail, and so the reserve, is the sum of what each unended transaction owes.
 use Rattle.std.proofs.Common.{◌≡◌, ℕ, ◌==◌, ◌+◌, ◌%◌, ◌^◌, Bool, true, false, cond, not, List, [], ◌∷◌, ◌++◌, map, filter, reverse, inl, inr, refl, sym, ap, ◌∙◌, arith}
 use Rattle.std.specs.List.{sum_by, list_any, AllByRecursion}
 use Rattle.std.proofs.Math.Nat.{add-mod-mod}
@@ -14,13 +14,14 @@ use Rattle.als_record.specs.declared.transaction_state.TransactionState.TheVaria
 use Rattle.als_record.specs.declared.transaction_row.TransactionRow.{TransactionRow}
 use Rattle.als_record.specs.Spelling.{image_len, body_len, record_len}
 use Rattle.als_record.specs.Images.{image_before}
-use Rattle.als_record.specs.Transactions.{is_update, is_among, is_some_left, is_committed, has_rollback, is_unended, is_open, is_loser, to_undo, surviving, transactions, unended, all_surviving}
+use Rattle.als_record.specs.Transactions.{is_update, is_among, is_some_left, is_committed, has_rollback, is_unended, is_loser, to_undo, surviving, transactions, unended, all_surviving}
 use Rattle.als_record.specs.Table.{state_of, row_of, table_of}
-use Rattle.als_record.specs.Tail.{TailStep, Ends, Undoes, is_finished, ends, undoes, losing, tail_steps, undone, record_for, numbered, tail_of, tail_len}
+use Rattle.als_record.specs.Tail.{TailStep, Ends, Undoes, is_finished, ends, undoes, losing, tail_steps, undone, record_for, numbered, tail_of, tail_len, reserve_of}
 use Rattle.als_record.proofs.Numbers.{Apart, eqb-refl, eqb-sym}
 use Rattle.als_record.proofs.Survivors.{is_by, all_surviving-by, All-is_update}
 use Rattle.als_record.proofs.Unended.{Apart-unended, is_among-unended}
 use Rattle.als_record.proofs.TailSteps.{filter-none, is_some_left-filter, filter-by}
+use Rattle.als_record.proofs.Reserve.{reserve_of-tail_len}
 use Rattle.als_analysis.specs.Open.{Open, undo_len, undo_owed, owed, rows_of, bytes_of}
 use Rattle.als_analysis.specs.Noted.{undo_bytes}
 use Rattle.als_analysis.proofs.Counting.{wrapped-add}
@@ -168,7 +169,7 @@ undo_owed-open s false bytes e = ap (λ s. undo_owed s bytes) e
 
 module _ (log : List Record) (t : ℕ) (u : is_unended log t ≡ true) where
   owed-one : cond (is_finished log t) 28 0 + weight (filter (is_by t) (losing log)) ≡ 28 + undo_owed (state_of log t) (undo_bytes log t)
-  unfolding is_finished losing state_of is_open surviving
+  unfolding is_finished losing state_of is_loser surviving
   owed-one = elim (cases_Bool (is_committed log t)) [
     | inl c ↦
         let none : filter (is_by t) (filter (λ v. is_loser log v.trans.0) (all_surviving log)) ≡ [] = filter-none (is_loser log) t (rw (u, c) refl) (all_surviving log) in
@@ -186,7 +187,7 @@ module _ (log : List Record) (t : ℕ) (u : is_unended log t ≡ true) where
 -- ---- all of them
 
 losing-undoes : (log : List Record) → AllByRecursion (IsUndoOf (unended log)) (losing log)
-unfolding losing is_open
+unfolding losing is_loser
 losing-undoes log = kept (all_surviving log) (All-is_update log)
   where
     kept : (vs : List Record) → AllByRecursion (λ v. is_update v.body ≡ true) vs → AllByRecursion (IsUndoOf (unended log)) (filter (λ v. is_loser log v.trans.0) vs)
@@ -196,7 +197,7 @@ losing-undoes log = kept (all_surviving log) (All-is_update log)
       | inr y ↦ rw y (kept rest a.1)
     ]
 
-pub tail_len-sum : (log : List Record) → tail_len log ≡ sum_by (λ t. 28 + undo_owed (state_of log t) (undo_bytes log t)) (unended log)
+tail_len-sum : (log : List Record) → tail_len log ≡ sum_by (λ t. 28 + undo_owed (state_of log t) (undo_bytes log t)) (unended log)
 unfolding tail_len tail_of tail_steps unended
 tail_len-sum log =
     numbered-len log (tail_steps log)
@@ -206,6 +207,10 @@ tail_len-sum log =
     let s : sum_by step_len (ends (filter (is_finished log) (unended log))) + sum_by step_len (undoes (losing log)) ≡ sum_by (λ t. cond (is_finished log t) 28 0) (unended log) + sum_by (λ t. weight (filter (is_by t) (losing log))) (unended log) = cc in s)
     ∙ sum-add (λ t. cond (is_finished log t) 28 0) (λ t. weight (filter (is_by t) (losing log))) (unended log)
     ∙ sum-agree (λ t. cond (is_finished log t) 28 0 + weight (filter (is_by t) (losing log))) (λ t. 28 + undo_owed (state_of log t) (undo_bytes log t)) (is_unended log) (λ t u. owed-one log t u) (transactions log)
+
+-- the reserve is the sum of what each unended transaction owes
+reserve_of-sum : (log : List Record) → reserve_of log ≡ sum_by (λ t. 28 + undo_owed (state_of log t) (undo_bytes log t)) (unended log)
+reserve_of-sum log = reserve_of-tail_len log ∙ tail_len-sum log
 
 owed-mod : (s : TransactionState) (bytes : ℕ) → (28 + undo_owed s (bytes % 2 ^ 64)) % 2 ^ 64 ≡ (28 + undo_owed s bytes) % 2 ^ 64
 owed-mod Active bytes = add-mod-mod 28 bytes (2 ^ 64)
@@ -232,7 +237,7 @@ owed-sum F G (o ∷ entries) (t ∷ ts) p q =
     ∙ wrapped-add (28 + undo_owed (F t).state (G t)) (sum_by (λ t. 28 + undo_owed (F t).state (G t)) ts)
     ∙ ap (λ n. n % 2 ^ 64) (sym b)
 
--- what the entries of the table of a log owe is what a takeover appends
-pub owed-tail : (log : List Record) (entries : List Open) → rows_of entries ≡ table_of log → bytes_of entries ≡ map (λ t. undo_bytes log t % 2 ^ 64) (unended log) → sum_by owed entries % 2 ^ 64 ≡ tail_len log % 2 ^ 64
+-- what the entries of the table of a log owe is the log's reserve
+pub owed-reserve : (log : List Record) (entries : List Open) → rows_of entries ≡ table_of log → bytes_of entries ≡ map (λ t. undo_bytes log t % 2 ^ 64) (unended log) → sum_by owed entries % 2 ^ 64 ≡ reserve_of log % 2 ^ 64
 unfolding table_of row_of
-owed-tail log entries p q = owed-sum (row_of log) (undo_bytes log) entries (unended log) p q ∙ ap (λ n. n % 2 ^ 64) (sym (tail_len-sum log))
+owed-reserve log entries p q = owed-sum (row_of log) (undo_bytes log) entries (unended log) p q ∙ ap (λ n. n % 2 ^ 64) (sym (reserve_of-sum log))

@@ -2,7 +2,7 @@
 use Rattle.std.specs.Prelude.{ℕ, List, [], ◌++◌, Option, Some, None, codes}
 use Rattle.std.specs.Fmt.{decimal}
 use Rattle.als_fault.specs.declared.fault_kind.FaultKind.{FaultKind}
-use Rattle.als_fault.specs.declared.fault_kind.FaultKind.TheVariants.{BadHeader, BadLength, BadType, BadReserved, WrongLsn, BadKey, BadValue, BadPrev, OldTransaction, WrongState, WrongUndoNext, WrongCompensation, RecordHeld, BeforeImage, TooManyTransactions, BadCheckpoint, Recovering, Sealed, LogBehind, NotDrained, PoolFull, PageLent, Stranger, NothingToDo, CkptBusy, LogFull, Device, Stopped, Memory, BadPage, BadControl, Warming, Backlog, BadConfig, NotSealed, BadSlot, Gap, BadFrame, Cut, Stream, NumbersSpent}
+use Rattle.als_fault.specs.declared.fault_kind.FaultKind.TheVariants.{BadHeader, BadLength, BadType, BadReserved, WrongLsn, BadKey, BadValue, BadPrev, OldTransaction, WrongState, WrongUndoNext, WrongCompensation, RecordHeld, BeforeImage, TooManyTransactions, BadCheckpoint, Recovering, Sealed, LogBehind, NotDrained, PoolFull, PageLent, Stranger, NothingToDo, CkptBusy, LogFull, Device, Stopped, Memory, BadPage, BadControl, Warming, Backlog, BadConfig, NotSealed, BadSlot, Gap, BadFrame, Diverged, Cut, Stream, NumbersSpent, NotPrimary, NotInDoubt, OtherEpoch, EpochsSpent}
 
 abbrev pub number_of : FaultKind → ℕ
 number_of BadHeader = 1
@@ -43,9 +43,14 @@ number_of NotSealed = 38
 number_of BadSlot = 39
 number_of Gap = 40
 number_of BadFrame = 41
+number_of (Diverged seal) = 42
 number_of Cut = 43
 number_of Stream = 44
 number_of NumbersSpent = 45
+number_of NotPrimary = 46
+number_of NotInDoubt = 47
+number_of (OtherEpoch epoch) = 48
+number_of EpochsSpent = 49
 
 abbrev pub name_of : FaultKind → List ℕ
 name_of BadHeader = codes "BadHeader"
@@ -86,14 +91,21 @@ name_of NotSealed = codes "NotSealed"
 name_of BadSlot = codes "BadSlot"
 name_of Gap = codes "Gap"
 name_of BadFrame = codes "BadFrame"
+name_of (Diverged seal) = codes "Diverged"
 name_of Cut = codes "Cut"
 name_of Stream = codes "Stream"
 name_of NumbersSpent = codes "NumbersSpent"
+name_of NotPrimary = codes "NotPrimary"
+name_of NotInDoubt = codes "NotInDoubt"
+name_of (OtherEpoch epoch) = codes "OtherEpoch"
+name_of EpochsSpent = codes "EpochsSpent"
 
 -- the number that a fault carries
 abbrev pub carried_of : FaultKind → Option ℕ
 carried_of (RecordHeld by) = Some by
 carried_of (BadPage page) = Some page
+carried_of (Diverged seal) = Some seal
+carried_of (OtherEpoch epoch) = Some epoch
 carried_of _ = None
 
 -- what is printed behind the name

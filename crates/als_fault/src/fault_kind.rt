@@ -89,12 +89,28 @@ pub enum FaultKind {
     Gap,
     /// A frame is not one of those that may come.
     BadFrame,
+    /// The held log reaches past the seal at which another node's history goes on.
+    Diverged {
+        /// That seal.
+        seal: u64,
+    },
     /// The input ended where more was wanted.
     Cut,
     /// A stream or a file failed.
     Stream,
     /// No lease number is left.
     NumbersSpent,
+    /// The standby is no primary: it has not finished a takeover.
+    NotPrimary,
+    /// The transaction is not in doubt.
+    NotInDoubt,
+    /// The history of another node does not go on from the own one.
+    OtherEpoch {
+        /// The epoch of that node.
+        epoch: u32,
+    },
+    /// The history has room for no more seals.
+    EpochsSpent,
 }
 
 impl FaultKind {
@@ -141,9 +157,14 @@ impl FaultKind {
             FaultKind::BadSlot => 39,
             FaultKind::Gap => 40,
             FaultKind::BadFrame => 41,
+            FaultKind::Diverged { seal: _ } => 42,
             FaultKind::Cut => 43,
             FaultKind::Stream => 44,
             FaultKind::NumbersSpent => 45,
+            FaultKind::NotPrimary => 46,
+            FaultKind::NotInDoubt => 47,
+            FaultKind::OtherEpoch { epoch: _ } => 48,
+            FaultKind::EpochsSpent => 49,
         }
     }
 
@@ -190,19 +211,26 @@ impl FaultKind {
             FaultKind::BadSlot => "BadSlot",
             FaultKind::Gap => "Gap",
             FaultKind::BadFrame => "BadFrame",
+            FaultKind::Diverged { seal: _ } => "Diverged",
             FaultKind::Cut => "Cut",
             FaultKind::Stream => "Stream",
             FaultKind::NumbersSpent => "NumbersSpent",
+            FaultKind::NotPrimary => "NotPrimary",
+            FaultKind::NotInDoubt => "NotInDoubt",
+            FaultKind::OtherEpoch { epoch: _ } => "OtherEpoch",
+            FaultKind::EpochsSpent => "EpochsSpent",
         }
     }
 
-    /// The number that the fault carries: a TransID or a page.
-    pub fn carried(self) -> Option<u32>
+    /// The number that the fault carries: a TransID, a page, a seal or an epoch.
+    pub fn carried(self) -> Option<u64>
         ensures { result ≡ carried_of self }
     {
         match self {
-            FaultKind::RecordHeld { by } => Some(by),
-            FaultKind::BadPage { page } => Some(page),
+            FaultKind::RecordHeld { by } => Some(u64::from(by)),
+            FaultKind::BadPage { page } => Some(u64::from(page)),
+            FaultKind::Diverged { seal } => Some(seal),
+            FaultKind::OtherEpoch { epoch } => Some(u64::from(epoch)),
             _ => None,
         }
     }

@@ -4,7 +4,8 @@ use Rattle.std.proofs.lemmas.Grind.{fold-append}
 use Rattle.als_record.specs.declared.change.Change.{Change}
 use Rattle.als_record.specs.Pages.{PageState, redone}
 use Rattle.als_frames.specs.Frames.{Framed}
-use Rattle.als_frames.specs.Batch.{AreNext, redone_frame}
+use Rattle.als_page.specs.Changes.{AreNext}
+use Rattle.als_frames.specs.Batch.{redone_frame}
 
 -- the first of some changes are redone, and the others can be
 pub record IsRedoneUpTo (old now : Framed) (changes : List Change) (i : ℕ) : Type 0 where

@@ -6,7 +6,8 @@ use Rattle.als_record.specs.Pages.{PageState, redone}
 use Rattle.als_frames.specs.declared.zones.Zones.{Zones}
 use Rattle.als_frames.specs.Frames.{Framed, IsFree}
 use Rattle.als_frames.specs.Outcomes.{synced_frame}
-use Rattle.als_frames.specs.Batch.{AreNext, redone_frame}
+use Rattle.als_page.specs.Changes.{AreNext}
+use Rattle.als_frames.specs.Batch.{redone_frame}
 use Rattle.als_frames.specs.Table.{Puts, written_frame}
 use Rattle.als_frames.specs.Zones.{IsOrdered, StandsAt, AreZoned, SetsAt, Swaps}
 

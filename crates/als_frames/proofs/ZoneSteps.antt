@@ -11,7 +11,8 @@ use Rattle.als_record.specs.declared.change.Change.{Change}
 use Rattle.als_frames.specs.declared.zones.Zones.{Zones}
 use Rattle.als_frames.specs.Frames.{Framed, IsFree}
 use Rattle.als_frames.specs.Outcomes.{synced_frame}
-use Rattle.als_frames.specs.Batch.{AreNext, redone_frame}
+use Rattle.als_page.specs.Changes.{AreNext}
+use Rattle.als_frames.specs.Batch.{redone_frame}
 use Rattle.als_frames.specs.Table.{IsFreeAt, Puts, written_frame}
 use Rattle.als_frames.specs.Zones.{AreZoned, SetsAt, Swaps}
 use Rattle.als_frames.proofs.TableLists.{same_some}

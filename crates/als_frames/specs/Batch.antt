@@ -1,19 +1,13 @@
--- Changes that wait for a page, and the redo of some of them.
-use Rattle.std.specs.Prelude.{◌≡◌, ℕ, ◌<◌, ◌≤◌, List, [], ◌∷◌, Some}
-use Rattle.std.specs.List.{fold}
+-- Changes that wait for a page, and the redo of some of them in its frame.
+use Rattle.std.specs.Prelude.{◌≡◌, ℕ, List, Some}
 use Rattle.als_record.specs.declared.change.Change.{Change}
-use Rattle.als_record.specs.Pages.{redone}
+use Rattle.als_page.specs.Changes.{AreNext, redone_all}
 use Rattle.als_frames.specs.Frames.{Framed, Paged, frame_of}
 use Rattle.als_frames.specs.Outcomes.{SetsFrame}
 
--- changes of a page in rising order, each above an LSN: redo can take them one after another
-abbrev pub AreNext : ℕ → ℕ → List Change → Type 0
-AreNext page lsn [] = Unit {0}
-AreNext page lsn (change ∷ rest) = (change.key.page ≡ page) × (change.key.slot ≤ 14) × (16 ≤ change.lsn.0) × (lsn < change.lsn.0) × AreNext page change.lsn.0 rest
-
 -- a frame after the redo of some changes
 abbrev pub redone_frame : Framed → List Change → Framed
-redone_frame f changes = record f { content = fold redone f.content changes }
+redone_frame f changes = record f { content = redone_all f.content changes }
 
 -- a page is resident, and its frame can redo these changes
 pub record CanRedo (v : Paged) (page : ℕ) (changes : List Change) : Type 0 where

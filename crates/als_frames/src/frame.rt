@@ -2,7 +2,8 @@ ghost use Rattle.std.specs.Prelude.{◌≡◌, ◌↔◌, IsTrue};
 ghost use Rattle.als_page.specs.Page.{id_of, state_of};
 ghost use Rattle.als_frames.specs.Frames.{IsFree, clean_frame};
 ghost use Rattle.als_frames.specs.Outcomes.{synced_frame};
-ghost use Rattle.als_frames.specs.Batch.{AreNext, redone_frame};
+ghost use Rattle.als_page.specs.Changes.{AreNext};
+ghost use Rattle.als_frames.specs.Batch.{redone_frame};
 
 use crate::lsns::Lsns;
 use als_page::Page;

@@ -1,3 +1,17 @@
+//! Frames: pages in memory over their blocks on the device.
+//!
+//! ```text
+//! frames in their order:   written since the last sync | otherwise not free | free
+//!                          0 .. written                | written .. dirty   | dirty ..
+//! ```
+//!
+//! Rules:
+//! 1. A frame is free where its page is the image last synced. Only free frames are replaced.
+//! 2. A write leaves its frame not free until a sync: a crash may still leave the older image.
+//! 3. A frame that changes its state swaps places at the border of its zone, so a look for a free
+//!    frame and the work of a sync do not walk all frames.
+//! 4. After a failed write the images are in doubt (`sure` is false), and no sync settles them.
+
 ghost use Rattle.std.specs.Prelude.{List, ◌++◌, Contains, IsTrue, ◌≡◌, ◌<◌, ◌≤◌, ◌+◌, ℕ, []};
 ghost use Rattle.std.specs.Prelude.{IsSome, IsOk, IfSome, IfOk, IfErr, OnOk, OnErr, Some, None};
 ghost use Rattle.std.specs.Prelude.{option_map, ◌↔◌};

@@ -10,5 +10,5 @@ mod valid_logs;
 mod outcomes;
 
 pub use outcomes::{pages_show_keys, readers_see_what_won};
-pub use takeover::{sweep_falls, tail_goes_on, tail_is_a_sum, tail_takes_over};
+pub use takeover::{sweep_falls, tail_goes_on, tail_is_a_sum, tail_takes_over, undone_has_no_tail};
 pub use valid_logs::{one_transaction_holds_a_key, rows_rise, undo_chain_meets_survivors};

@@ -1,24 +1,24 @@
-ghost use Rattle.std.specs.Prelude.{◌≡◌, ℕ, ◌==◌, ◌+◌, ◌*◌, List, [], ◌++◌, filter, length, sum_by};
+ghost use Rattle.std.specs.Prelude.{◌≡◌, ◌↔◌, ℕ, ◌==◌, ◌+◌, ◌*◌, List, [], ◌++◌, filter, length, sum_by};
 ghost use Rattle.std.specs.Prelude.{take, drop, IsTrue, if◌then◌else◌};
 ghost use Rattle.als_record.specs.declared.key.Key.{Key as AnyKey};
 ghost use Rattle.als_record.specs.declared.record.Record.{Record as AnyRecord};
 ghost use Rattle.als_record.specs.Transactions.{to_undo, is_loser, unended};
-ghost use Rattle.als_record.specs.Images.{image_now, won};
+ghost use Rattle.als_record.specs.Images.{image_now, kept};
 ghost use Rattle.als_record.specs.Validity.{is_valid};
-ghost use Rattle.als_record.specs.Tail.{losing, tail_of, tail_len, undo_len};
+ghost use Rattle.als_record.specs.Tail.{losing, tail_of, tail_len, is_undone, undo_len};
 ghost use Rattle.als_record.specs.Sweep.{compensations, AreCompensationsOf};
 ghost use Rattle.als_record.specs.Orders.{Falling};
 
 /// What a takeover appends to a valid log keeps it valid, ends every transaction, and leaves at
-/// each key what the surviving updates of the committed transactions wrote there: winners stay,
-/// losers are undone (ARIES undo).
+/// each key what a takeover keeps, which the surviving updates of the committed transactions wrote:
+/// winners stay, losers are undone (ARIES undo).
 pub fn tail_takes_over()
     ensures valid { (log : List AnyRecord) → IsTrue (is_valid log)
         → IsTrue (is_valid (log ++ tail_of log)) }
     ensures ended { (log : List AnyRecord) → IsTrue (is_valid log)
         → unended (log ++ tail_of log) ≡ [] }
     ensures images { (log : List AnyRecord) → IsTrue (is_valid log) → (k : AnyKey)
-        → image_now (log ++ tail_of log) k ≡ won log k }
+        → image_now (log ++ tail_of log) k ≡ kept log k }
 {}
 
 /// A takeover undoes in one falling sweep over all losers. The compensations of its tail are, in
@@ -39,6 +39,11 @@ pub fn sweep_falls()
 pub fn tail_goes_on()
     ensures { (log : List AnyRecord) → (n : ℕ)
         → tail_of (log ++ take n (tail_of log)) ≡ drop n (tail_of log) }
+{}
+
+/// Nothing of the tail is left to append exactly where it is empty.
+pub fn undone_has_no_tail()
+    ensures { (log : List AnyRecord) → IsTrue (is_undone log) ↔ (tail_of log ≡ []) }
 {}
 
 /// A tail takes 28 bytes for each unended transaction, and for each surviving update of a loser 42

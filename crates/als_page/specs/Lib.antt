@@ -1,3 +1,4 @@
 pub mod FaultNames
 pub mod Block
 pub mod Page
+pub mod Changes

@@ -25,6 +25,7 @@ pub mod Standing
 pub mod Sound
 pub mod Takeover
 pub mod TailLength
+pub mod Reserve
 pub mod TailBound
 pub mod Places
 pub mod Held

@@ -9,7 +9,12 @@ use Rattle.std.proofs.lemmas.Bool.{cases_Bool, false≢true, and_parts, not-true
 use Rattle.als_record.specs.declared.record.Body.{Body}
 use Rattle.als_record.specs.declared.record.Body.TheVariants.{Update, Compensation, Commit, Rollback, End, BeginCheckpoint, EndCheckpoint}
 use Rattle.als_record.specs.declared.record.Record.{Record}
-use Rattle.als_record.specs.Transactions.{is_update, is_compensation, is_commit, is_rollback, is_end, is_of, records_of, to_undo_after, to_undo, surviving, is_some_left, has_begun, is_committed, has_rollback, has_ended, is_unended, is_open, last_lsn, undo_next_after, undo_next_of}
+use Rattle.als_record.specs.Transactions.{is_update, is_compensation, is_commit, is_rollback, is_end, is_of, records_of, to_undo_after, to_undo, surviving, is_some_left, has_begun, is_committed, has_rollback, has_ended, is_unended, is_open, is_loser, last_lsn, undo_next_after, undo_next_of}
+
+-- the losers are the open transactions
+pub is_loser-is_open : (log : List Record) (t : ℕ) → is_loser log t ≡ is_open log t
+unfolding is_loser is_open
+is_loser-is_open log t = refl
 
 module _ (log : List Record) (r : Record) (t : ℕ) where
   pub records_of-own : is_of t r ≡ true → records_of (log ++ r ∷ []) t ≡ records_of log t ++ r ∷ []
@@ -54,6 +59,10 @@ module _ (log : List Record) (r : Record) (t : ℕ) where
     pub is_open-other : is_open (log ++ r ∷ []) t ≡ is_open log t
     unfolding is_open
     is_open-other = cc (is_unended-other, is_committed-other)
+
+    pub is_loser-other : is_loser (log ++ r ∷ []) t ≡ is_loser log t
+    unfolding is_loser
+    is_loser-other = cc (is_unended-other, is_committed-other)
 
     pub last_lsn-other : last_lsn (log ++ r ∷ []) t ≡ last_lsn log t
     unfolding last_lsn
@@ -109,6 +118,10 @@ module _ (log : List Record) (r : Record) (t : ℕ) where
     pub is_open-own : is_open (log ++ r ∷ []) t ≡ (not (has_ended log t || is_end r.body) && not (is_committed log t || is_commit r.body))
     unfolding is_open
     is_open-own = cc (is_unended-own, is_committed-own)
+
+    pub is_loser-own : is_loser (log ++ r ∷ []) t ≡ (not (has_ended log t || is_end r.body) && not (is_committed log t || is_commit r.body))
+    unfolding is_loser
+    is_loser-own = cc (is_unended-own, is_committed-own)
 
     -- an update is put behind the surviving ones, a compensation takes the last one away
     pub surviving-own_update : is_update r.body ≡ true → surviving (log ++ r ∷ []) t ≡ surviving log t ++ r ∷ []

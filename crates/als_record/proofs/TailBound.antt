@@ -1,5 +1,5 @@
 -- The reserve of a log is bounded by the log: each update has its bytes there, and each transaction a record.
-use Rattle.std.proofs.Common.{◌≡◌, ℕ, ◌+◌, ◌*◌, ◌≤◌, ◌<◌, ◌^◌, ◌%◌, Bool, true, false, cond, not, ◌&&◌, ◌==◌, refl, List, [], ◌∷◌, ◌++◌, length, filter, inl, inr, arith}
+use Rattle.std.proofs.Common.{◌≡◌, ℕ, ◌+◌, ◌*◌, ◌∙◌, ◌≤◌, ◌<◌, ◌^◌, ◌%◌, Bool, true, false, cond, not, ◌&&◌, ◌==◌, refl, List, [], ◌∷◌, ◌++◌, length, filter, inl, inr, arith}
 use Rattle.std.specs.List.{sum_by}
 use Rattle.std.proofs.Math.Nat.{mod-eq_of_lt}
 use Rattle.std.proofs.lemmas.Bool.{cases_Bool}
@@ -12,11 +12,12 @@ use Rattle.als_record.specs.declared.key.Key.{Key}
 use Rattle.als_record.specs.Spelling.{Image, record_len}
 use Rattle.als_record.specs.LogText.{end_of}
 use Rattle.als_record.specs.Transactions.{is_transactional, is_among, is_loser, is_unended, transactions, unended, without_newest, survivors_after, all_surviving}
-use Rattle.als_record.specs.Tail.{losing, undo_len, tail_len, reserve_of}
+use Rattle.als_record.specs.Tail.{losing, undo_len, reserve_of}
 use Rattle.als_record.proofs.Survivors.{log_induction, all_surviving-push, all_surviving-nil}
 use Rattle.als_record.proofs.Unended.{transactions-push}
 use Rattle.als_record.proofs.Places.{end_of-push, record_len-head}
 use Rattle.als_record.proofs.TailLength.{tail_len-is}
+use Rattle.als_record.proofs.Reserve.{reserve_of-tail_len}
 
 -- ---- sums and lengths of parts
 
@@ -101,7 +102,7 @@ survivors-below log = log_induction (λ l. sum_by undo_len (all_surviving l) + 3
 pub reserve_of-below : (log : List Record) → reserve_of log + 48 ≤ 3 * end_of log
 unfolding losing unended
 reserve_of-below log =
-    let is : tail_len log ≡ 28 * length (filter (is_unended log) (transactions log)) + sum_by undo_len (filter (λ u. is_loser log u.trans.0) (all_surviving log)) = tail_len-is log in
+    let is : reserve_of log ≡ 28 * length (filter (is_unended log) (transactions log)) + sum_by undo_len (filter (λ u. is_loser log u.trans.0) (all_surviving log)) = reserve_of-tail_len log ∙ tail_len-is log in
     let few : length (filter (is_unended log) (transactions log)) ≤ length (transactions log) = length-filter (is_unended log) (transactions log) in
     let less : sum_by undo_len (filter (λ u. is_loser log u.trans.0) (all_surviving log)) ≤ sum_by undo_len (all_surviving log) = sum-filter undo_len (λ u. is_loser log u.trans.0) (all_surviving log) in
     omega (arith, transactions-below log, survivors-below log)

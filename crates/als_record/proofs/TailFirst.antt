@@ -9,19 +9,19 @@ use Rattle.als_record.specs.declared.record.Body.TheVariants.{Update, Compensati
 use Rattle.als_record.specs.declared.record.Record.{Record}
 use Rattle.als_record.specs.Spelling.{record_len, IsBody, IsRecord}
 use Rattle.als_record.specs.LogText.{end_of, follow_from, IsLog}
-use Rattle.als_record.specs.Transactions.{is_transactional, is_update, is_among, transactions, unended, is_unended, is_committed, is_open, is_loser, survivors_after, all_surviving, last_lsn}
-use Rattle.als_record.specs.Images.{won}
+use Rattle.als_record.specs.Transactions.{is_transactional, is_update, is_among, transactions, unended, is_unended, is_committed, is_loser, survivors_after, all_surviving, last_lsn}
+use Rattle.als_record.specs.Images.{kept}
 use Rattle.als_record.specs.Validity.{may_follow, is_valid, IsValidLog}
-use Rattle.als_record.specs.Tail.{TailStep, Ends, Undoes, is_finished, ends, undoes, losing, tail_steps, undone, record_for, numbered, tail_of, tail_len}
+use Rattle.als_record.specs.Tail.{TailStep, Ends, Undoes, is_finished, ends, undoes, losing, tail_steps, undone, record_for, numbered, tail_of, tail_len, is_undone}
 use Rattle.als_record.proofs.Numbers.{is_among-filter, eqb-refl}
 use Rattle.als_record.proofs.Survivors.{all_surviving-push, all_surviving-nil, All-without_newest, log_induction}
-use Rattle.als_record.proofs.Unended.{is_among-unended, transactions-push}
+use Rattle.als_record.proofs.Unended.{is_among-unended, transactions-push, is_undone-unended, unended-is_undone}
 use Rattle.als_record.proofs.Validity.{is_valid-front, is_valid-push, may_follow-admitted, Admitted, Admitted-may_follow}
 use Rattle.als_record.proofs.TailSteps.{tail_of-front, losing-is_update}
 use Rattle.als_record.proofs.Takeover.{Steps, tail_steps-first, unended-without_tail}
 use Rattle.als_record.proofs.Falling.{losing-none, All-filter}
 use Rattle.als_record.proofs.Chain.{Threaded-valid}
-use Rattle.als_record.proofs.Places.{transactions-nil, end_of-push}
+use Rattle.als_record.proofs.Places.{transactions-nil}
 
 -- ---- which one
 
@@ -41,7 +41,7 @@ tail_of-undoes log u us e q = (
 
 -- none, where nothing is unended
 pub tail_of-none : (log : List Record) → unended log ≡ [] → tail_of log ≡ []
-unfolding tail_of numbered tail_steps undoes is_open
+unfolding tail_of numbered tail_steps undoes is_loser
 tail_of-none log e = ap (λ xs. numbered log (ends (filter (is_finished log) xs) ++ undoes (losing log))) e ∙ ap (λ us. numbered log (undoes us)) (losing-none log (λ t l. absurd (false≢true (ap (λ xs. is_among xs t) (sym e) ∙ is_among-unended log t ∙ (and_parts (is_unended log t) (not (is_committed log t)) l).0))))
 
 pub unended-tail_of : (log : List Record) → tail_of log ≡ [] → unended log ≡ []
@@ -51,6 +51,13 @@ unended-tail_of log e = unended-without_tail log (none (tail_steps log) e)
     none : (steps : List TailStep) → numbered log steps ≡ [] → steps ≡ []
     none [] e = refl
     none (step ∷ rest) e = absurd (cc e)
+
+-- none exactly where nothing of it is left to append
+pub tail_of-undone : (log : List Record) → is_undone log ≡ true → tail_of log ≡ []
+tail_of-undone log u = tail_of-none log (is_undone-unended log u)
+
+pub is_undone-tail_of : (log : List Record) → tail_of log ≡ [] → is_undone log ≡ true
+is_undone-tail_of log e = unended-is_undone log (unended-tail_of log e)
 
 -- ---- what comes of it
 
@@ -63,13 +70,6 @@ module _ (log : List Record) (r : Record) (rest : List Record) (e : tail_of log 
   pub tail_len-next : record_len r + tail_len (log ++ r ∷ []) ≡ tail_len log
   unfolding tail_len
   tail_len-next = ap (λ rs. record_len r + sum_by record_len rs) tail_of-next ∙ sym (sum_by-cons record_len r rest) ∙ ap (sum_by record_len) (sym e)
-
-  -- the room that the log and its tail take stays
-  pub room-next : end_of (log ++ r ∷ []) + tail_len (log ++ r ∷ []) ≡ end_of log + tail_len log
-  room-next =
-      let a : end_of (log ++ r ∷ []) ≡ end_of log + record_len r = end_of-push log r in
-      let b : record_len r + tail_len (log ++ r ∷ []) ≡ tail_len log = tail_len-next in
-      omega arith
 
   -- it is the record of the tail's first step
   stepped : (step : TailStep) × (steps : List TailStep) × (tail_steps log ≡ step ∷ steps) × (r ≡ record_for log step)
@@ -94,9 +94,9 @@ module _ (log : List Record) (r : Record) (rest : List Record) (e : tail_of log 
     pub tail_of-is_valid : is_valid (log ++ r ∷ []) ≡ true
     tail_of-is_valid = is_valid-push log r ∙ and_from (is_valid log) (may_follow log r) v tail_of-may_follow
 
-    -- what has won stays
-    pub won-next : (k : Key) → won (log ++ r ∷ []) k ≡ won log k
-    won-next k = ap (λ u. won (log ++ u ∷ []) k) stepped.3 ∙ first.stays k
+    -- what a takeover keeps stays
+    pub kept-next : (k : Key) → kept (log ++ r ∷ []) k ≡ kept log k
+    kept-next k = ap (λ u. kept (log ++ u ∷ []) k) stepped.3 ∙ first.stays k
 
 -- ---- its text
 

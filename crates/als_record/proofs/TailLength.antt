@@ -10,9 +10,9 @@ use Rattle.als_record.specs.declared.record.Record.{Record}
 use Rattle.als_record.specs.declared.key.Key.{Key}
 use Rattle.als_record.specs.Spelling.{Image, image_len, body_len, record_len}
 use Rattle.als_record.specs.Images.{image_before}
-use Rattle.als_record.specs.Transactions.{is_transactional, is_update, is_compensation, is_commit, is_end, is_of, is_among, to_undo_after, to_undo, is_committed, has_begun, has_ended, is_unended, is_open, is_loser, unended, without_newest, survivors_after, all_surviving}
+use Rattle.als_record.specs.Transactions.{is_transactional, is_update, is_compensation, is_commit, is_end, is_of, is_among, to_undo_after, to_undo, is_committed, has_begun, has_ended, is_unended, is_loser, unended, without_newest, survivors_after, all_surviving}
 use Rattle.als_record.specs.Tail.{TailStep, Ends, Undoes, is_finished, ends, undoes, losing, tail_steps, undone, record_for, numbered, tail_of, tail_len, undo_len, undo_bytes}
-use Rattle.als_record.proofs.Records.{to_undo-own, to_undo-other, is_open-own, is_open-other, has_ended-unended, to_undo-none, has_ended-none, is_committed-none}
+use Rattle.als_record.proofs.Records.{to_undo-own, to_undo-other, is_loser-own, is_loser-other, has_ended-unended, to_undo-none, has_ended-none, is_committed-none}
 use Rattle.als_record.proofs.Numbers.{without, eqb-refl, eqb-sym, is_among-filter, length-without}
 use Rattle.als_record.proofs.Survivors.{is_by, all_surviving-push, all_surviving-by}
 use Rattle.als_record.proofs.Unended.{unended-checkpoint, unended-more, unended-new, unended-new_end, Apart-unended, is_among-unended}
@@ -190,7 +190,7 @@ module _ (log : List Record) (r : Record) where
   losers_same : is_loser (log ++ r ∷ []) r.trans.0 ≡ is_loser log r.trans.0 → (x : ℕ) → is_loser (log ++ r ∷ []) x ≡ is_loser log x
   losers_same s x = elim (cases_Bool (x == r.trans.0)) [
     | inl e ↦ let q : x ≡ r.trans.0 = eqb-true x r.trans.0 e in ap (is_loser (log ++ r ∷ [])) q ∙ s ∙ ap (is_loser log) (sym q)
-    | inr e ↦ is_open-other log r x (other_of x e)
+    | inr e ↦ is_loser-other log r x (other_of x e)
   ]
 
   losing_same : is_loser (log ++ r ∷ []) r.trans.0 ≡ is_loser log r.trans.0 → all_surviving (log ++ r ∷ []) ≡ all_surviving log → losing (log ++ r ∷ []) ≡ losing log
@@ -209,7 +209,7 @@ module _ (log : List Record) (r : Record) where
   -- a transaction with nothing to undo
   losing_clean : to_undo log r.trans.0 ≡ [] → filter (λ u. is_loser (log ++ r ∷ []) u.trans.0) (all_surviving log) ≡ losing log
   unfolding losing
-  losing_clean e = filter-absent (λ u. is_loser (log ++ r ∷ []) u.trans.0) (λ u. is_loser log u.trans.0) r.trans.0 (λ u w. is_open-other log r u.trans.0 (other_of u.trans.0 w)) (all_surviving log) (all_surviving-by r.trans.0 log ∙ e)
+  losing_clean e = filter-absent (λ u. is_loser (log ++ r ∷ []) u.trans.0) (λ u. is_loser log u.trans.0) r.trans.0 (λ u w. is_loser-other log r u.trans.0 (other_of u.trans.0 w)) (all_surviving log) (all_surviving-by r.trans.0 log ∙ e)
 
   -- a new transaction's record that is no update
   losing_kept : is_update r.body ≡ false → has_begun log r.trans.0 ≡ false → losing (log ++ r ∷ []) ≡ losing log
@@ -227,7 +227,7 @@ module _ (log : List Record) (r : Record) where
 
   -- a checkpoint's record
   pub tail_len-checkpoint : is_transactional r.body ≡ false → tail_len (log ++ r ∷ []) ≡ tail_len log
-  tail_len-checkpoint w = tail_len-is (log ++ r ∷ []) ∙ ap (λ n. 28 * n + sum_by undo_len (losing (log ++ r ∷ []))) (ap length (unended-checkpoint log r w)) ∙ ap (λ us. 28 * length (unended log) + sum_by undo_len us) (losing_same (is_open-other log r r.trans.0 (rw w refl)) (all_surviving-push log r ∙ quiet r.body w)) ∙ sym (tail_len-is log)
+  tail_len-checkpoint w = tail_len-is (log ++ r ∷ []) ∙ ap (λ n. 28 * n + sum_by undo_len (losing (log ++ r ∷ []))) (ap length (unended-checkpoint log r w)) ∙ ap (λ us. 28 * length (unended log) + sum_by undo_len us) (losing_same (is_loser-other log r r.trans.0 (rw w refl)) (all_surviving-push log r ∙ quiet r.body w)) ∙ sym (tail_len-is log)
     where
       quiet : (b : Body) → is_transactional b ≡ false → survivors_after (all_surviving log) r b ≡ all_surviving log
       quiet (Update key before after) e = absurd (false≢true (sym e))
@@ -242,11 +242,11 @@ module _ (log : List Record) (r : Record) where
 
   module _ (l : is_loser log r.trans.0 ≡ true) where
     loser_parts : (is_unended log r.trans.0 ≡ true) × (not (is_committed log r.trans.0) ≡ true)
-    unfolding is_open
+    unfolding is_loser
     loser_parts = and_parts (is_unended log r.trans.0) (not (is_committed log r.trans.0)) l
 
     still_loser : is_transactional r.body ≡ true → is_end r.body ≡ false → is_commit r.body ≡ false → is_loser (log ++ r ∷ []) r.trans.0 ≡ is_loser log r.trans.0
-    still_loser w e c = is_open-own log r r.trans.0 (own_of w) ∙ rw (e, c, has_ended-unended log r.trans.0 loser_parts.0, not-true (is_committed log r.trans.0) loser_parts.1) (sym l)
+    still_loser w e c = is_loser-own log r r.trans.0 (own_of w) ∙ rw (e, c, has_ended-unended log r.trans.0 loser_parts.0, not-true (is_committed log r.trans.0) loser_parts.1) (sym l)
 
     -- updates
     pub tail_len-update : is_update r.body ≡ true → tail_len (log ++ r ∷ []) ≡ tail_len log + undo_len r
@@ -291,7 +291,7 @@ module _ (log : List Record) (r : Record) where
     committed_sum b =
         ap (λ us. sum_by undo_len (filter (λ u. is_loser (log ++ r ∷ []) u.trans.0) us) + sum_by undo_len (to_undo log r.trans.0)) (all_surviving-push log r ∙ rw b refl)
         ∙ ap (λ us. sum_by undo_len (filter (λ u. is_loser (log ++ r ∷ []) u.trans.0) (all_surviving log)) + sum_by undo_len us) (sym (all_surviving-by r.trans.0 log))
-        ∙ sum-without undo_len (is_loser log) (is_loser (log ++ r ∷ [])) r.trans.0 (λ x e. is_open-other log r x (other_of x e)) l (is_open-own log r r.trans.0 (own_of (rw b refl)) ∙ rw b (off (has_ended log r.trans.0) (is_committed log r.trans.0))) (all_surviving log)
+        ∙ sum-without undo_len (is_loser log) (is_loser (log ++ r ∷ [])) r.trans.0 (λ x e. is_loser-other log r x (other_of x e)) l (is_loser-own log r r.trans.0 (own_of (rw b refl)) ∙ rw b (off (has_ended log r.trans.0) (is_committed log r.trans.0))) (all_surviving log)
       where
         off : (h c : Bool) → (not (h || false) && not (c || true)) ≡ false
         off true c = refl
@@ -331,7 +331,7 @@ module _ (log : List Record) (r : Record) where
     where
       here : is_update r.body ≡ true → has_begun log r.trans.0 ≡ false → losing (log ++ r ∷ []) ≡ r ∷ losing log
       here u n = losing-push (all_surviving-push log r ∙ update-survivors r.body u (all_surviving log) r)
-          (is_open-own log r r.trans.0 (own_of (update-is_transactional r.body u)) ∙ rw (update-is_end r.body u, update-is_commit r.body u, has_ended-none log r.trans.0 n, is_committed-none log r.trans.0 n) refl)
+          (is_loser-own log r r.trans.0 (own_of (update-is_transactional r.body u)) ∙ rw (update-is_end r.body u, update-is_commit r.body u, has_ended-none log r.trans.0 n, is_committed-none log r.trans.0 n) refl)
           (losing_clean (to_undo-none log r.trans.0 n))
 
   pub tail_len-new : is_transactional r.body ≡ true → is_update r.body ≡ false → is_end r.body ≡ false → has_begun log r.trans.0 ≡ false → tail_len (log ++ r ∷ []) ≡ tail_len log + 28

@@ -8,10 +8,10 @@ use Rattle.als_record.specs.declared.key.Key.{Key}
 use Rattle.als_record.specs.declared.record.Body.{Body}
 use Rattle.als_record.specs.declared.record.Body.TheVariants.{Update, Compensation, Commit, Rollback, End, BeginCheckpoint, EndCheckpoint}
 use Rattle.als_record.specs.declared.record.Record.{Record}
-use Rattle.als_record.specs.Transactions.{is_transactional, is_update, is_compensation, is_commit, is_end, is_of, is_among, to_undo_after, to_undo, is_some_left, is_committed, is_unended, is_open, is_loser, unended, without_newest, survivors_after, all_surviving}
+use Rattle.als_record.specs.Transactions.{is_transactional, is_update, is_compensation, is_commit, is_end, is_of, is_among, to_undo_after, to_undo, is_some_left, is_committed, is_unended, is_loser, unended, without_newest, survivors_after, all_surviving}
 use Rattle.als_record.specs.Spelling.{Image}
 use Rattle.als_record.specs.Tail.{TailStep, Ends, Undoes, is_finished, ends, undoes, losing, tail_steps, undone, record_for, numbered, tail_of}
-use Rattle.als_record.proofs.Records.{to_undo-own, to_undo-other, is_committed-own, is_committed-other, is_open-own, is_open-other, has_begun-unended, has_ended-unended}
+use Rattle.als_record.proofs.Records.{to_undo-own, to_undo-other, is_committed-own, is_committed-other, is_loser-own, is_loser-other, has_begun-unended, has_ended-unended}
 use Rattle.als_record.proofs.Numbers.{without, eqb-refl, eqb-sym, is_among-filter, Apart-filter, filter-except, without-absent}
 use Rattle.als_record.specs.Orders.{Apart}
 use Rattle.als_record.proofs.Survivors.{is_by, all_surviving-push, all_surviving-by, All-is_update}
@@ -165,17 +165,17 @@ module _ (log : List Record) (r : Record) (c : is_compensation r.body ≡ true) 
   other x e = rw (compensation-is_transactional r.body c) (eqb-sym r.trans.0 x ∙ e)
 
   parts : (is_unended log r.trans.0 ≡ true) × (not (is_committed log r.trans.0) ≡ true)
-  unfolding is_open
+  unfolding is_loser
   parts = and_parts (is_unended log r.trans.0) (not (is_committed log r.trans.0)) l
 
   pub compensation-is_loser : (x : ℕ) → is_loser (log ++ r ∷ []) x ≡ is_loser log x
   compensation-is_loser x = elim (cases_Bool (x == r.trans.0)) [
     | inl e ↦ let q : x ≡ r.trans.0 = eqb-true x r.trans.0 e in ap (is_loser (log ++ r ∷ [])) q ∙ here ∙ ap (is_loser log) (sym q)
-    | inr e ↦ is_open-other log r x (other x e)
+    | inr e ↦ is_loser-other log r x (other x e)
   ]
     where
       here : is_loser (log ++ r ∷ []) r.trans.0 ≡ is_loser log r.trans.0
-      here = is_open-own log r r.trans.0 own
+      here = is_loser-own log r r.trans.0 own
           ∙ rw (compensation-is_end r.body c, compensation-is_commit r.body c, has_ended-unended log r.trans.0 parts.0, not-true (is_committed log r.trans.0) parts.1) (sym l)
 
   pub compensation-is_committed : (x : ℕ) → is_committed (log ++ r ∷ []) x ≡ is_committed log x
@@ -288,10 +288,10 @@ module _ (log : List Record) (r : Record) (b : r.body ≡ End) (u : is_unended l
 
   -- it had nothing to undo, so the losers' updates stay as they are
   pub end-losing : is_finished log r.trans.0 ≡ true → losing (log ++ r ∷ []) ≡ losing log
-  unfolding losing is_finished is_open
+  unfolding losing is_finished is_loser
   end-losing f = ap (filter (λ u. is_loser (log ++ r ∷ []) u.trans.0)) end-all_surviving ∙ elim (cases_Bool (is_committed log r.trans.0)) [
     | inl c ↦ filter_agree (λ (v : Record). is_loser (log ++ r ∷ []) v.trans.0) (λ v. is_loser log v.trans.0) (λ v. committed c v.trans.0) (all_surviving log)
-    | inr c ↦ filter-absent (λ v. is_loser (log ++ r ∷ []) v.trans.0) (λ v. is_loser log v.trans.0) r.trans.0 (λ v w. is_open-other log r v.trans.0 (end_other v.trans.0 w)) (all_surviving log)
+    | inr c ↦ filter-absent (λ v. is_loser (log ++ r ∷ []) v.trans.0) (λ v. is_loser log v.trans.0) r.trans.0 (λ v w. is_loser-other log r v.trans.0 (end_other v.trans.0 w)) (all_surviving log)
         (all_surviving-by r.trans.0 log ∙ nothing (to_undo log r.trans.0) (rw c at f))
   ]
     where
@@ -307,7 +307,7 @@ module _ (log : List Record) (r : Record) (b : r.body ≡ End) (u : is_unended l
       committed c x = elim (cases_Bool (x == r.trans.0)) [
         | inl e ↦ let q : x ≡ r.trans.0 = eqb-true x r.trans.0 e in
             rw (q, end-is_committed r.trans.0, c) (off (is_unended (log ++ r ∷ []) r.trans.0) ∙ sym (off (is_unended log r.trans.0)))
-        | inr e ↦ is_open-other log r x (end_other x e)
+        | inr e ↦ is_loser-other log r x (end_other x e)
       ]
 
 -- ---- one step

@@ -7,13 +7,13 @@ use Rattle.als_record.specs.declared.record.Body.{Body}
 use Rattle.als_record.specs.declared.record.Body.TheVariants.{Update, Compensation, Commit, Rollback, End, BeginCheckpoint, EndCheckpoint}
 use Rattle.als_record.specs.declared.record.Record.{Record}
 use Rattle.als_record.specs.Spelling.{Image}
-use Rattle.als_record.specs.Transactions.{is_update, is_compensation, is_among, to_undo, is_some_left, is_committed, has_rollback, has_begun, has_ended, is_unended, is_open, is_loser, last_lsn, transactions, unended, without_newest, all_surviving}
-use Rattle.als_record.specs.Images.{same_image, image_now, is_update_at, image_before, image_of_found, won}
+use Rattle.als_record.specs.Transactions.{is_update, is_compensation, is_among, to_undo, is_some_left, is_committed, has_rollback, has_begun, has_ended, is_unended, is_loser, last_lsn, transactions, unended, without_newest, all_surviving}
+use Rattle.als_record.specs.Images.{same_image, image_now, is_update_at, image_before, image_of_found, won, kept}
 use Rattle.als_record.specs.Validity.{prev_of, bad_prev, old_transaction, wrong_state, goes_on_after, wrong_undo_next, undoes_newest, wrong_compensation, held_by, before_image, too_many, bad_checkpoint, may_follow, is_valid}
-use Rattle.als_record.specs.Tail.{TailStep, Ends, Undoes, is_finished, ends, undoes, losing, tail_steps, undone, record_for, numbered, tail_of}
+use Rattle.als_record.specs.Tail.{TailStep, Ends, Undoes, is_finished, ends, undoes, losing, tail_steps, undone, record_for, numbered, tail_of, is_undone}
 use Rattle.als_record.proofs.Numbers.{without, eqb-refl, is_among-filter, length-without}
 use Rattle.als_record.proofs.Survivors.{is_by, all_surviving-by, All-has_begun, All-weaken}
-use Rattle.als_record.proofs.Unended.{Apart-unended, is_among-unended}
+use Rattle.als_record.proofs.Unended.{Apart-unended, is_among-unended, is_undone-unended, unended-is_undone}
 use Rattle.als_record.proofs.Validity.{is_valid-push, Admitted, may_follow-admitted, valid_induction}
 use Rattle.als_record.proofs.TailSteps.{filter-by, losing-is_update, losing-is_loser, undone-is_compensation, compensation-all_surviving, compensation-is_committed, compensation-unended, loser-to_undo, end-all_surviving, end-is_committed, end-unended, tail_steps-next}
 use Rattle.als_record.proofs.Standing.{same_key-refl, same_image-refl}
@@ -81,7 +81,7 @@ module _ (log : List Record) (v : is_valid log ≡ true) where
     loser = losing-is_loser log u rest e
 
     parts : (is_unended log u.trans.0 ≡ true) × (not (is_committed log u.trans.0) ≡ true)
-    unfolding is_open
+    unfolding is_loser
     parts = and_parts (is_unended log u.trans.0) (not (is_committed log u.trans.0)) loser
 
     comp : is_compensation (record_for log (Undoes u)).body ≡ true
@@ -161,26 +161,35 @@ won-undo log r c l n k =
     lost : (u : Record) → (u.trans.0 == r.trans.0) ≡ true → (is_update_at k u.body && is_committed log u.trans.0) ≡ false
     lost u y = ap (λ b. is_update_at k u.body && b) (ap (is_committed log) (eqb-true u.trans.0 r.trans.0 y) ∙ n) ∙ either (is_update_at k u.body)
 
+-- so does what a takeover keeps
+kept-end : (log : List Record) (t : ℕ) → is_unended log t ≡ true → (k : Key) → kept (log ++ record_for log (Ends t) ∷ []) k ≡ kept log k
+unfolding kept
+kept-end log t u k = won-end log t u k
+
+kept-undo : (log : List Record) (r : Record) → is_compensation r.body ≡ true → is_loser log r.trans.0 ≡ true → is_committed log r.trans.0 ≡ false → (k : Key) → kept (log ++ r ∷ []) k ≡ kept log k
+unfolding kept
+kept-undo log r c l n k = won-undo log r c l n k
+
 -- ---- one step of a tail
 
--- the first step of a tail: it may follow, and what has won stays
+-- the first step of a tail: it may follow, and what a takeover keeps stays
 pub record Steps (log : List Record) (step : TailStep) : Type 0 where
   pub may : Admitted log (record_for log step)
-  pub stays : (k : Key) → won (log ++ record_for log step ∷ []) k ≡ won log k
+  pub stays : (k : Key) → kept (log ++ record_for log step ∷ []) k ≡ kept log k
 
 pub tail_steps-first : (log : List Record) (step : TailStep) (rest : List TailStep) → is_valid log ≡ true → tail_steps log ≡ step ∷ rest → Steps log step
 unfolding tail_steps undoes
 tail_steps-first log step rest v e = go (filter (is_finished log) (unended log)) refl (losing log) refl e
   where
     at_end : (t : ℕ) (ts : List ℕ) → filter (is_finished log) (unended log) ≡ t ∷ ts → Steps log (Ends t)
-    at_end t ts p = record { may = may_end log v t passes.1 passes.0; stays = won-end log t passes.1 }
+    at_end t ts p = record { may = may_end log v t passes.1 passes.0; stays = kept-end log t passes.1 }
       where
         passes : (is_finished log t ≡ true) × (is_unended log t ≡ true)
         passes = and_parts (is_finished log t) (is_unended log t)
             (ap (λ b. is_finished log t && b) (sym (is_among-unended log t)) ∙ sym (is_among-filter (is_finished log) t (unended log)) ∙ ap (λ xs. is_among xs t) p ∙ rw (eqb-refl t) refl)
 
     at_undo : (u : Record) (us : List Record) → losing log ≡ u ∷ us → Steps log (Undoes u)
-    at_undo u us q = record { may = may_undo log v u us q; stays = won-undo log (record_for log (Undoes u)) (comp log v u us q) (loser log v u us q) (not-true (is_committed log u.trans.0) (parts log v u us q).1) }
+    at_undo u us q = record { may = may_undo log v u us q; stays = kept-undo log (record_for log (Undoes u)) (comp log v u us q) (loser log v u us q) (not-true (is_committed log u.trans.0) (parts log v u us q).1) }
 
     go : (ts : List ℕ) → filter (is_finished log) (unended log) ≡ ts → (us : List Record) → losing log ≡ us → ends ts ++ undoes us ≡ step ∷ rest → Steps log step
     go (t ∷ ts) p us q e = let s : step ≡ Ends t = cc e in subst (Steps log) (sym s) (at_end t ts p)
@@ -191,7 +200,7 @@ tail_steps-first log step rest v e = go (filter (is_finished log) (unended log))
 
 -- a log without a tail has no unended transaction
 pub unended-without_tail : (log : List Record) → tail_steps log ≡ [] → unended log ≡ []
-unfolding tail_steps undoes losing is_finished is_open
+unfolding tail_steps undoes losing is_finished is_loser
 unended-without_tail log e = nobody (unended log) refl
   where
     empty : (ts : List ℕ) (us : List Record) → ends ts ++ undoes us ≡ [] → (ts ≡ []) × (us ≡ [])
@@ -222,6 +231,9 @@ unended-without_tail log e = nobody (unended log) refl
 
         none : to_undo log x ≡ []
         none = sym (all_surviving-by x log) ∙ sym (filter-by (is_loser log) x lost (all_surviving log)) ∙ ap (filter (is_by x)) parts_of.1
+
+pub is_undone-without_tail : (log : List Record) → tail_steps log ≡ [] → is_undone log ≡ true
+is_undone-without_tail log e = unended-is_undone log (unended-without_tail log e)
 
 -- a surviving update is among those of its transaction
 All-some_left : (log : List Record) → AllByRecursion (λ u. is_some_left (to_undo log u.trans.0) ≡ true) (all_surviving log)
@@ -256,23 +268,23 @@ All-is_committed log s n = each (all_surviving log) (All-has_begun log) (All-som
     each [] a b = tt
     each (u ∷ rest) a b = (s.settled u.trans.0 b.0 (over u.trans.0 a.0), each rest a.1 b.1)
 
--- and each key has what the committed transactions left
-pub image_now-without_tail : (log : List Record) → is_valid log ≡ true → unended log ≡ [] → (k : Key) → image_now log k ≡ won log k
-unfolding won
-image_now-without_tail log v n k = (Sound-valid log v).now k ∙ ap image_of_found (find-where (λ u. is_update_at k u.body) (λ u. is_committed log u.trans.0) (all_surviving log) (All-is_committed log (Sound-valid log v) n))
+-- and where nothing of the tail is left, each key has what a takeover keeps
+pub image_now-without_tail : (log : List Record) → is_valid log ≡ true → is_undone log ≡ true → (k : Key) → image_now log k ≡ kept log k
+unfolding kept won
+image_now-without_tail log v n k = (Sound-valid log v).now k ∙ ap image_of_found (find-where (λ u. is_update_at k u.body) (λ u. is_committed log u.trans.0) (all_surviving log) (All-is_committed log (Sound-valid log v) (is_undone-unended log n)))
 
 -- ---- the law of a takeover
 
 pub record TakenOver (log more : List Record) : Type 0 where
   pub valid : is_valid (log ++ more) ≡ true
   pub ended : unended (log ++ more) ≡ []
-  pub images : (k : Key) → image_now (log ++ more) k ≡ won log k
+  pub images : (k : Key) → image_now (log ++ more) k ≡ kept log k
 
 taken_over : (steps : List TailStep) (log : List Record) → is_valid log ≡ true → tail_steps log ≡ steps → TakenOver log (numbered log steps)
 unfolding numbered
 taken_over [] log v e =
     let n : unended log ≡ [] = unended-without_tail log e in
-    record { valid = ap is_valid (append-nil log) ∙ v; ended = ap unended (append-nil log) ∙ n; images = λ k. ap (λ l. image_now l k) (append-nil log) ∙ image_now-without_tail log v n k }
+    record { valid = ap is_valid (append-nil log) ∙ v; ended = ap unended (append-nil log) ∙ n; images = λ k. ap (λ l. image_now l k) (append-nil log) ∙ image_now-without_tail log v (is_undone-without_tail log e) k }
 taken_over (step ∷ rest) log v e = joined (taken_over rest (log ++ record_for log step ∷ []) next (tail_steps-next log step rest e))
   where
     one : Steps log step

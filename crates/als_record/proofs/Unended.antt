@@ -1,11 +1,13 @@
 -- The transactions of a log, and those unended, with one more record.
-use Rattle.std.proofs.Common.{◌≡◌, ℕ, ◌==◌, ◌+◌, max, Bool, true, false, cond, not, ◌&&◌, ◌||◌, List, [], ◌∷◌, ◌++◌, length, filter, fold, refl, sym, ap, ◌∙◌, inl, inr, append-nil}
+use Rattle.std.proofs.Common.{◌≡◌, ℕ, ◌==◌, ◌+◌, max, Bool, true, false, cond, not, ◌&&◌, ◌||◌, List, [], ◌∷◌, ◌++◌, length, filter, fold, map, refl, sym, ap, ◌∙◌, inl, inr, append-nil}
 use Rattle.std.proofs.lemmas.Bool.{cases_Bool, eqb-true}
 use Rattle.std.proofs.lemmas.List.{length_push}
 use Rattle.std.proofs.lemmas.List.Elements.{filter-append, filter_agree}
 use Rattle.std.proofs.lemmas.List.Sums.{fold_push}
 use Rattle.als_record.specs.declared.record.Record.{Record}
-use Rattle.als_record.specs.Transactions.{is_transactional, is_end, is_of, is_among, is_some_left, records_of, has_begun, has_ended, is_unended, with_transaction, transactions, unended, greatest_trans}
+use Rattle.als_record.specs.Transactions.{is_transactional, is_end, is_of, is_among, is_some_left, records_of, has_begun, has_ended, is_unended, is_nobody, with_transaction, transactions, unended, greatest_trans}
+use Rattle.als_record.specs.Table.{row_of, table_of, is_closed}
+use Rattle.als_record.specs.Tail.{is_undone}
 use Rattle.als_record.proofs.Records.{is_unended-other, is_unended-own, has_ended-none, has_begun-unended, has_ended-unended}
 use Rattle.als_record.proofs.Numbers.{without, eqb-refl, eqb-sym, is_among-append, is_among-filter, Apart-push, Apart-filter, filter-except, filter-without, length-without}
 use Rattle.als_record.specs.Orders.{Apart}
@@ -159,3 +161,27 @@ module _ (log : List Record) (r : Record) where
 
   pub length-unended_checkpoint : is_transactional r.body ≡ false → length (unended (log ++ r ∷ [])) ≡ length (unended log)
   length-unended_checkpoint w = ap length (unended-checkpoint w)
+
+-- ---- none left
+
+-- nothing of the tail is left to append exactly where nothing is unended
+pub is_undone-unended : (log : List Record) → is_undone log ≡ true → unended log ≡ []
+unfolding is_undone
+is_undone-unended log = go (unended log)
+  where
+    go : (ts : List ℕ) → is_nobody ts ≡ true → ts ≡ []
+    go [] e = refl
+    go (t ∷ rest) e = absurd cc
+
+pub unended-is_undone : (log : List Record) → unended log ≡ [] → is_undone log ≡ true
+unfolding is_undone
+unended-is_undone log e = ap is_nobody e
+
+-- then the transaction table is closed
+pub is_closed-table_of : (log : List Record) → is_closed (table_of log) ≡ is_undone log
+unfolding is_closed table_of is_undone
+is_closed-table_of log = go (unended log)
+  where
+    go : (ts : List ℕ) → is_closed (map (row_of log) ts) ≡ is_nobody ts
+    go [] = refl
+    go (t ∷ rest) = refl

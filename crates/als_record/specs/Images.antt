@@ -49,3 +49,8 @@ image_of_found (Some u) = image_written u.body
 -- transaction, absent if there is none. No pages, page_LSNs, undo, checkpoints or kept tables.
 unfoldable pub won : List Record → Key → Image
 won log k = image_of_found (find (λ u. is_update_at k u.body && is_committed log u.trans.0) (all_surviving log))
+
+-- What a takeover keeps at a key: what the committed transactions leave there. What readers see is said by the word above, so
+-- that the updates of a transaction which waits for a decision could be kept and yet not be read.
+unfoldable pub kept : List Record → Key → Image
+kept log k = won log k

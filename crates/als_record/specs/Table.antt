@@ -1,6 +1,6 @@
 -- The transaction table: what the analysis pass of ARIES makes of a log from its first record (Mohan et al., TODS 1992,
 -- sections 4.3 and 6.1).
-use Rattle.std.specs.Prelude.{ℕ, List, map, if◌then◌else◌}
+use Rattle.std.specs.Prelude.{ℕ, Bool, true, false, List, [], ◌∷◌, map, if◌then◌else◌}
 use Rattle.als_record.specs.declared.record.Body.{Body}
 use Rattle.als_record.specs.declared.record.Body.TheVariants.{Commit, Rollback}
 use Rattle.als_record.specs.declared.record.Record.{Record}
@@ -20,6 +20,11 @@ row_of log t = record { trans = record { 0 = t }; state = state_of log t; last =
 -- the table: a row for each unended transaction. In a valid log the rows stand in rising TransID.
 unfoldable pub table_of : List Record → List TransactionRow
 table_of log = map (row_of log) (unended log)
+
+-- a table of which a takeover has nothing left to do: it has no row
+unfoldable pub is_closed : List TransactionRow → Bool
+is_closed [] = true
+is_closed (row ∷ rest) = false
 
 -- ---- a row with one more record of its transaction: what the table above becomes, record by record
 

@@ -9,7 +9,7 @@ use Rattle.als_record.specs.declared.record.Record.{Record}
 use Rattle.als_record.specs.Spelling.{image_len, record_len}
 use Rattle.als_record.specs.LogText.{end_of}
 use Rattle.als_record.specs.Images.{image_before}
-use Rattle.als_record.specs.Transactions.{to_undo, is_some_left, is_committed, is_loser, last_lsn, unended, all_surviving}
+use Rattle.als_record.specs.Transactions.{to_undo, is_some_left, is_committed, is_loser, is_nobody, last_lsn, unended, all_surviving}
 
 -- one record of a tail, before it has a place: a transaction ends, or an update is undone
 pub data TailStep : Type 0 where
@@ -60,8 +60,12 @@ tail_of log = numbered log (tail_steps log)
 unfoldable pub tail_len : List Record → ℕ
 tail_len log = sum_by record_len (tail_of log)
 
+-- nothing of the tail is left to append: no transaction is unended
+unfoldable pub is_undone : List Record → Bool
+is_undone log = is_nobody (unended log)
+
 -- What must stay free on the log device behind a log: room for its tail, so that a takeover never meets a full device.
-abbrev pub reserve_of : List Record → ℕ
+unfoldable pub reserve_of : List Record → ℕ
 reserve_of log = tail_len log
 
 -- the length of the compensation that undoes an update

@@ -88,10 +88,10 @@ is_unended log t = has_begun log t && not (has_ended log t)
 unfoldable pub is_open : List Record → ℕ → Bool
 is_open log t = is_unended log t && not (is_committed log t)
 
--- What a takeover has to undo: each open transaction. Holding keys is said by the word above, so that a transaction which
--- waits for a decision could hold its keys and yet not be undone.
-abbrev pub is_loser : List Record → ℕ → Bool
-is_loser log = is_open log
+-- What a takeover has to undo: an unended transaction that has not committed. Which transactions hold keys is said by the word
+-- above, so that one which waits for a decision could hold its keys and yet not be undone.
+unfoldable pub is_loser : List Record → ℕ → Bool
+is_loser log t = is_unended log t && not (is_committed log t)
 
 -- LastLSN: the LSN of the transaction's last record, 0 without one
 unfoldable pub last_lsn : List Record → ℕ → ℕ
@@ -108,6 +108,11 @@ unfoldable pub undo_next_of : List Record → ℕ → ℕ
 undo_next_of log t = fold (λ next r. undo_next_after next r.lsn.0 r.body) 0 (records_of log t)
 
 -- ---- all transactions
+
+-- whether there is none of these
+abbrev pub is_nobody : List ℕ → Bool
+is_nobody [] = true
+is_nobody (t ∷ rest) = false
 
 -- whether a number is among these
 abbrev pub is_among : List ℕ → ℕ → Bool

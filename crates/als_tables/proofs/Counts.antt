@@ -9,8 +9,8 @@ use Rattle.als_record.specs.declared.record_view.BodyView.{BodyView}
 use Rattle.als_record.specs.declared.record_view.BodyView.TheVariants as view
 use Rattle.als_record.specs.Shown.{shown_body}
 use Rattle.als_record.specs.Transactions.{is_commit}
-use Rattle.als_tables.specs.declared.tally.Tally.{Tally}
-use Rattle.als_tables.specs.Counting.{commit_count, last_commit, IsTallyOf}
+use Rattle.als_tables.specs.declared.commit_count.CommitCount.{CommitCount}
+use Rattle.als_tables.specs.Counting.{commit_count, last_commit, IsCountOf}
 
 abbrev count_of : Bool → ℕ
 count_of b = if b then 1 else 0
@@ -48,8 +48,8 @@ commit_count-few (r ∷ rest) = go (is_commit r.body) refl (commit_count-few res
     go false is h = rw is (omega (arith, h))
 
 -- the counts with one more record, by whether it is a commit
-pub counted : (old new : Tally) (log : List Record) (r : Record) (b : Bool) → is_commit r.body ≡ b → new.records ≡ old.records + 1 → new.commits ≡ old.commits + count_of b → new.last_commit.0 ≡ (if b then r.lsn.0 else old.last_commit.0)
-    → IsTallyOf old log → IsTallyOf new (log ++ r ∷ [])
+pub counted : (old new : CommitCount) (log : List Record) (r : Record) (b : Bool) → is_commit r.body ≡ b → new.records ≡ old.records + 1 → new.commits ≡ old.commits + count_of b → new.last_commit.0 ≡ (if b then r.lsn.0 else old.last_commit.0)
+    → IsCountOf old log → IsCountOf new (log ++ r ∷ [])
 counted old new log r b is records commits last h = record {
   records = omega (arith, records, h.records, length-append log (r ∷ []));
   commits = commits ∙ ap (λ (n : ℕ). n + count_of b) h.commits ∙ ap (λ (c : Bool). commit_count log + count_of c) (sym is) ∙ sym (commit_count-push log r);

@@ -3,7 +3,7 @@ use Rattle.std.specs.Prelude.{◌≡◌, ℕ, List, length, filter, if◌then◌
 use Rattle.std.specs.List.{fold}
 use Rattle.als_record.specs.declared.record.Record.{Record}
 use Rattle.als_record.specs.Transactions.{is_commit}
-use Rattle.als_tables.specs.declared.tally.Tally.{Tally}
+use Rattle.als_tables.specs.declared.commit_count.CommitCount.{CommitCount}
 
 -- how many commit records a log has
 unfoldable pub commit_count : List Record → ℕ
@@ -14,7 +14,7 @@ unfoldable pub last_commit : List Record → ℕ
 last_commit log = fold (λ last r. if is_commit r.body then r.lsn.0 else last) 0 log
 
 -- the counts are those of the log
-pub record IsTallyOf (tally : Tally) (log : List Record) : Type 0 where
-  pub records : tally.records ≡ length log
-  pub commits : tally.commits ≡ commit_count log
-  pub last : tally.last_commit.0 ≡ last_commit log
+pub record IsCountOf (count : CommitCount) (log : List Record) : Type 0 where
+  pub records : count.records ≡ length log
+  pub commits : count.commits ≡ commit_count log
+  pub last : count.last_commit.0 ≡ last_commit log

@@ -4,7 +4,7 @@
 // The rows of the transaction table.
 mod copies;
 // Records and commits, counted.
-mod tally;
+mod commit_count;
 
+pub use commit_count::CommitCount;
 pub use copies::{fits_checkpoint, logged_rows};
-pub use tally::Tally;

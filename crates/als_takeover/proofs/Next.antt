@@ -10,7 +10,7 @@ use Rattle.als_record.specs.declared.transaction_row.TransactionRow.{Transaction
 use Rattle.als_record.specs.declared.transaction_state.TransactionState.{TransactionState}
 use Rattle.als_record.specs.declared.transaction_state.TransactionState.TheVariants.{Active, Committed, RollingBack}
 use Rattle.als_record.specs.LogText.{end_of}
-use Rattle.als_record.specs.Transactions.{is_among, is_some_left, to_undo, surviving, is_committed, has_rollback, last_lsn, is_unended, is_open, is_loser, unended, all_surviving}
+use Rattle.als_record.specs.Transactions.{is_among, is_some_left, to_undo, surviving, is_committed, has_rollback, last_lsn, is_unended, is_loser, unended, all_surviving}
 use Rattle.als_record.specs.Table.{row_of, state_of, table_of}
 use Rattle.als_record.specs.Tail.{Ends, Undoes, TailStep, is_finished, ends, undoes, losing, tail_steps, record_for, numbered, tail_of, undone}
 use Rattle.als_record.specs.Validity.{is_valid}
@@ -214,11 +214,11 @@ module _ (log : List Record) (es : List Open) (rows : rows_of es ≡ table_of lo
         apart false false e = absurd (false≢true (sym e))
 
     loser : (t : ℕ) → is_unended log t ≡ true → is_loser log t ≡ true
-    unfolding is_open
+    unfolding is_loser
     loser t u = let c : (is_committed log t ≡ false) × (is_some_left (to_undo log t) ≡ true) = unfinished t u in rw (u, c.0) refl
 
     begun : (t : ℕ) → is_loser log t ≡ true → is_unended log t ≡ true
-    unfolding is_open
+    unfolding is_loser
     begun t l = (and_parts (is_unended log t) (not (is_committed log t)) l).0
 
     -- no record, where there is no transaction

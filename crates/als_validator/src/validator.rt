@@ -1,3 +1,18 @@
+//! The validator: it decides whether a record may follow the log.
+//!
+//! It keeps the transaction table with each transaction's surviving updates, the image that each
+//! key has, the committed TransIDs, the greatest TransID and the open begin_chkpt.
+//!
+//! Rules:
+//! 1. `check` asks for the causes of a refusal in the order of their numbers and reports the first
+//!    that applies. It changes nothing and takes no memory.
+//! 2. `admit` takes a record that passed. What is kept is then that of the log with the record.
+//! 3. `reserve` makes room for any one record, so an `admit` after it cannot fail.
+//!
+//! The definitions ask the whole log, from its first record (`first_bad` in als_record). The code
+//! asks kept tables, so its cost does not grow with the log. The contracts say that both agree for
+//! every valid log.
+
 ghost use Rattle.std.specs.Prelude.{◌≡◌, ◌≢◌, ◌<◌, vec_len, vec_capacity, ℕ, ◌+◌, ◌^◌, List, []};
 ghost use Rattle.std.specs.Prelude.{◌∷◌, ◌++◌, max, map};
 ghost use Rattle.std.specs.Prelude.{None, Ok, Err, IsOk, OnOk, OnErr, IfOk, IfErr, slice_index_or};

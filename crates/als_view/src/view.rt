@@ -1,3 +1,20 @@
+//! The view: what readers see of the committed work.
+//!
+//! ```text
+//! commits of the held log:   published | queued
+//!                            images    | waiting for their log to be acknowledged
+//! ```
+//!
+//! Rules:
+//! 1. A commit is queued when its record is held, with what it writes.
+//! 2. A publishing shows the first queued commits at once and in order. A commit shows only once
+//!    its record ends at or below the acknowledged LSN: no crash takes back what a reader saw.
+//! 3. A reader gets a key's image after all published commits, their number and the last one's LSN.
+//! 4. A view has a list of published commits from `format` on, or from the end of a recovery on.
+//!    Until then readers are refused with Warming.
+//!
+//! Publishing keeps one image a key, so a read is one look-up, however many commits there are.
+
 ghost use Rattle.std.specs.Prelude.{◌≡◌, ℕ, ◌<◌, ◌%◌, ◌^◌, ◌++◌, ◌∷◌, ◌+◌, ◌-◌, ◌≤◌, [], List};
 ghost use Rattle.std.specs.Prelude.{take, drop, IsOk, true, false, Ok, Err, None, IfOk, IfErr};
 ghost use Rattle.std.specs.Prelude.{OnOk, OnErr, if◌then◌else◌, ◌&&◌, nat_lt, length, MatchResult};

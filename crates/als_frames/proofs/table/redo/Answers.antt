@@ -2,7 +2,8 @@ use Rattle.std.proofs.Common.{◌≡◌, arith, Option, subst, ◌∙◌}
 use Rattle.std.specs.Prelude.{IsSomeAnd}
 use Rattle.std.proofs.lemmas.Option.{slice_get_within}
 use Rattle.als_frames.specs.Frames.{Framed}
-use Rattle.als_frames.specs.Batch.{AreNext, redone_frame}
+use Rattle.als_page.specs.Changes.{AreNext}
+use Rattle.als_frames.specs.Batch.{redone_frame}
 use Rattle.als_frames.proofs.ZoneLaws.{puts_swapped}
 use Rattle.als_frames.proofs.ZoneSteps.{puts_for, is_free_there, not_free_there, redo_stays, redo_moves}
 use Rattle.als_frames.proofs.table.redo.Goals as goal

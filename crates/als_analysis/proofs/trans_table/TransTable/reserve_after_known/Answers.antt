@@ -18,7 +18,7 @@ returns-then-is_end_record c log h m =
     let o : Owes (log ++ r ∷ []) (sum_by owed xs) (owed (get_or xs c.args.at e)) 0 =
     after-end log r c.args.self.now xs h (ap (λ (t : Table). t.rows) c.self.view_is) (ap (λ (t : Table). t.bytes) c.self.view_is) c.requires.kind m c.args.at (fresh_row 0) e c.requires.within (c.requires.here (fresh_row 0)) (sym c.if-is_end_record.ensures) in
     let is : sum_by owed xs ≡ o.new + owed (get_or xs c.args.at e) = omega (arith, o.is) in
-    rw (was, c.self.invariant.counted, is) (wrapped-sub o.new (owed (get_or xs c.args.at e)) ∙ o.tail)
+    rw (was, c.self.invariant.counted, is) (wrapped-sub o.new (owed (get_or xs c.args.at e)) ∙ o.reserve)
 
 pub returns : goal.returns
 returns c log h m =
@@ -32,4 +32,4 @@ returns c log h m =
     let less : owed (get_or xs c.args.at e) ≤ sum_by owed xs = get_or-le-sum_by owed xs c.args.at e (place xs c.args.self.now c.args.at (ap (λ (t : Table). t.rows) c.self.view_is) c.requires.within) in
     rw (was, next)
     (replaced (sum_by owed xs - owed (get_or xs c.args.at e)) (sum_by owed xs) o.new (owed (get_or xs c.args.at e)) (owed_after (get_or xs c.args.at e).row.state (get_or xs c.args.at e).bytes r.body)
-    c.self.inside.reserve (omega arith) (omega (arith, o.is)) c.self.invariant.counted ∙ o.tail)
+    c.self.inside.reserve (omega arith) (omega (arith, o.is)) c.self.invariant.counted ∙ o.reserve)

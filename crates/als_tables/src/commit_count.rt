@@ -1,25 +1,25 @@
 ghost use Rattle.std.specs.Prelude.{◌≡◌, ◌<◌, ◌^◌, [], ◌∷◌, ◌++◌, List};
 ghost use Rattle.als_record.specs.declared.record.Record.{Record as AnyRecord};
 ghost use Rattle.als_record.specs.Shown.{shown};
-ghost use Rattle.als_tables.specs.Counting.{IsTallyOf};
+ghost use Rattle.als_tables.specs.Counting.{IsCountOf};
 
 use als_record::{BodyView, Lsn, RecordView};
 
 /// How many records a log has, how many of them are commits, and the LSN of the last commit, 0 for
 /// none.
 #[derive(Clone, Copy, Debug, PartialEq, Eq)]
-pub struct Tally {
+pub struct CommitCount {
     pub records: usize,
     pub commits: u64,
     pub last_commit: Lsn,
 }
 
-impl Tally {
+impl CommitCount {
     /// That of the empty log.
-    pub fn new() -> Tally
-        ensures { IsTallyOf result [] }
+    pub fn new() -> CommitCount
+        ensures { IsCountOf result [] }
     {
-        Tally {
+        CommitCount {
             records: 0,
             commits: 0,
             last_commit: Lsn(0),
@@ -31,8 +31,8 @@ impl Tally {
     pub fn note(&mut self, logged: &RecordView<'_>)
         requires records { self.old.records < 2 ^ 62 }
         requires commits { self.old.commits < 2 ^ 62 }
-        ensures { (log : List AnyRecord) → IsTallyOf self.old log
-            → IsTallyOf self.new (log ++ shown logged.now ∷ []) }
+        ensures { (log : List AnyRecord) → IsCountOf self.old log
+            → IsCountOf self.new (log ++ shown logged.now ∷ []) }
     {
         self.records += 1;
         if let BodyView::Commit = logged.body {

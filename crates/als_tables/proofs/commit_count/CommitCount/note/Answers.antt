@@ -3,7 +3,7 @@ use Rattle.als_record.specs.Shown.{shown, shown_body}
 use Rattle.als_record.specs.Transactions.{is_commit}
 use Rattle.als_record.specs.declared.record_view.BodyView.{BodyView}
 use Rattle.als_tables.proofs.Counts.{counted, other_view}
-use Rattle.als_tables.proofs.tally.Tally.note.Goals as goal
+use Rattle.als_tables.proofs.commit_count.CommitCount.note.Goals as goal
 
 pub returns-in-Commit : goal.returns-in-Commit
 returns-in-Commit c log h =
