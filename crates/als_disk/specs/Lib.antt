@@ -1,7 +1,6 @@
 pub mod Count
 pub mod Crash
 pub mod Failures
-pub mod FileDisk
 pub mod MemDisk
 pub mod Slot
 pub mod SlotLaws

@@ -22,6 +22,12 @@ mod countdown;
 mod fuse;
 // a device that fails where its fuse burns
 mod failing_disk;
+// the first error of a file
+mod first_error;
+// files, piece by piece
+mod pieces;
+// what a device over a file keeps in memory
+mod mirror;
 // a device over a file
 mod file_disk;
 
@@ -29,6 +35,7 @@ pub use block_disk::BlockDisk;
 pub use device_error::DeviceError;
 pub use failing_disk::FailingDisk;
 pub use file_disk::FileDisk;
+pub use first_error::FirstError;
 pub use fuse::Fuse;
 pub use mem_disk::MemDisk;
 pub use restart::Restart;

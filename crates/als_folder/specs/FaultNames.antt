@@ -12,12 +12,14 @@ use Rattle.als_folder.specs.declared.trouble.Wrong.TheVariants as wrong
 
 abbrev pub kind_of : Fault → FaultKind
 kind_of (fault.Device trouble) = kind.Device
+kind_of (fault.Damaged trouble) = kind.BadControl
 kind_of fault.Busy = kind.Device
 kind_of fault.Memory = kind.Memory
 
 -- what of the folder is wrong, if anything is
 abbrev pub trouble_of : Fault → Option Trouble
 trouble_of (fault.Device trouble) = Some trouble
+trouble_of (fault.Damaged trouble) = Some trouble
 trouble_of fault.Busy = Some (record { part = part.Itself; wrong = wrong.Locked })
 trouble_of fault.Memory = None
 
@@ -29,13 +31,17 @@ IsOf p f = (f ≡ fault.Memory) ⊎ ((w : Wrong) × (f ≡ fault.Device (record 
 abbrev pub IsOfDevice : Fault → Type 0
 IsOfDevice f = IsOf part.Log f ⊎ IsOf part.Control f ⊎ IsOf part.Pages f
 
+-- so did the folder, or one of these
+abbrev pub IsOfOpening : Fault → Type 0
+IsOfOpening f = IsOf part.Itself f ⊎ IsOfDevice f
+
 -- the file of a device of a new database failed, or a growth was refused
 abbrev pub IsOfNewDevice : Fault → Type 0
-IsOfNewDevice f = IsOf part.Log f ⊎ IsOf part.NewControl f ⊎ IsOf part.Pages f
+IsOfNewDevice f = IsOf part.NewLog f ⊎ IsOf part.NewControl f ⊎ IsOf part.NewPages f
 
--- so did the folder, or one of these
+-- so did the folder, or one of a database that may be there
 abbrev pub IsOfLayout : Fault → Type 0
-IsOfLayout f = IsOf part.Itself f ⊎ IsOfNewDevice f
+IsOfLayout f = IsOfOpening f ⊎ IsOfNewDevice f
 
 -- another program has the lock, or it failed
 abbrev pub IsOfLock : Fault → Type 0

@@ -1,4 +1,5 @@
-pub mod Devices
 pub mod FaultNames
+pub mod Layouts
+pub mod Lengths
 pub mod Parts
 pub mod Troubles

@@ -1,32 +1,37 @@
-ghost use Rattle.std.specs.Prelude.{◌≡◌};
+ghost use Rattle.std.specs.Prelude.{◌≡◌, ◌<◌, ◌*◌, ◌^◌, IfOk};
 
-use als_disk::FileDisk;
-use std::fs::File;
-
-/// How many blocks each device has.
-#[derive(Clone, Copy, Debug, PartialEq, Eq)]
-pub struct Sizes {
-    /// The log's.
-    pub log: u64,
-    /// The control block's and the checkpoints'.
-    pub control: u64,
-    /// The pages'.
-    pub pages: u64,
-}
+use crate::lengths::Sizes;
+use als_disk::{BlockDisk, FileDisk};
+use std::fs::{File, OpenFile};
+use std::io;
+use std::os::unix::fs::FileExt;
 
 /// The devices of a standby, over files.
-pub struct Devices {
+pub struct Devices<F = File> {
     /// The log's.
-    pub log: FileDisk,
+    pub log: FileDisk<F>,
     /// The control block's and the checkpoints'.
-    pub control: FileDisk,
+    pub control: FileDisk<F>,
     /// The pages'.
-    pub pages: FileDisk,
+    pub pages: FileDisk<F>,
 }
 
-impl Devices {
+impl<F: OpenFile + FileExt + Drop> Devices<F> {
+    /// How many blocks they have.
+    pub fn sizes(&self) -> Sizes
+        ensures log { result.log ≡ ⟦<FileDisk<F> as BlockDisk>⟧.block_count self.now.log }
+        ensures control { result.control ≡ ⟦<FileDisk<F> as BlockDisk>⟧.block_count self.now.control }
+        ensures pages { result.pages ≡ ⟦<FileDisk<F> as BlockDisk>⟧.block_count self.now.pages }
+    {
+        Sizes {
+            log: self.log.blocks(),
+            control: self.control.blocks(),
+            pages: self.pages.blocks(),
+        }
+    }
+
     /// The log's device, the control block's and the pages'.
-    pub fn into_parts(self) -> (FileDisk, FileDisk, FileDisk)
+    pub fn into_parts(self) -> (FileDisk<F>, FileDisk<F>, FileDisk<F>)
         ensures log { result.0 ≡ self.log }
         ensures control { result.1 ≡ self.control }
         ensures pages { result.2 ≡ self.pages }
@@ -40,7 +45,7 @@ impl Devices {
     }
 }
 
-impl Drop for Devices {
+impl<F: Drop> Drop for Devices<F> {
     fn drop(self) {
         let Devices {
             log,
@@ -54,17 +59,31 @@ impl Drop for Devices {
 }
 
 /// The files of a standby, open to be read alone.
-pub struct DeviceFiles {
+pub struct DeviceFiles<F = File> {
     /// The log's.
-    pub log: File,
+    pub log: F,
     /// The control block's and the checkpoints'.
-    pub control: File,
+    pub control: F,
     /// The pages'.
-    pub pages: File,
+    pub pages: F,
+}
+
+impl<F: OpenFile> DeviceFiles<F> {
+    /// How many whole blocks they have.
+    pub fn sizes(&self) -> io::Result<Sizes>
+        ensures { IfOk result (λ s. (s.log * 512 < 2 ^ 64) × (s.control * 512 < 2 ^ 64)
+            × (s.pages * 512 < 2 ^ 64)) }
+    {
+        Ok(Sizes {
+            log: self.log.metadata()?.len() / 512,
+            control: self.control.metadata()?.len() / 512,
+            pages: self.pages.metadata()?.len() / 512,
+        })
+    }
 }
 
 // Written out: a derived drop is proved wherever the files are let go of, this one only here.
-impl Drop for DeviceFiles {
+impl<F: Drop> Drop for DeviceFiles<F> {
     fn drop(self) {
         let DeviceFiles {
             log,

@@ -16,6 +16,8 @@ use std::{fmt, io};
 pub enum Fault {
     /// The folder or one of its files failed.
     Device(Trouble),
+    /// The files are not those of one database. To callers the control block is damaged.
+    Damaged(Trouble),
     /// Another program has the folder. To callers it is a device that failed.
     Busy,
     /// A growth was refused.
@@ -29,6 +31,7 @@ impl Fault {
     {
         match self {
             Fault::Device(_) | Fault::Busy => FaultKind::Device,
+            Fault::Damaged(_) => FaultKind::BadControl,
             Fault::Memory => FaultKind::Memory,
         }
     }
@@ -38,7 +41,7 @@ impl Fault {
         ensures { result ≡ trouble_of self }
     {
         match self {
-            Fault::Device(trouble) => Some(trouble),
+            Fault::Device(trouble) | Fault::Damaged(trouble) => Some(trouble),
             Fault::Busy => Some(Trouble {
                 part: Part::Itself,
                 wrong: Wrong::Locked,
@@ -53,8 +56,8 @@ impl Fault {
     {
         match e.kind() {
             ErrorKind::OutOfMemory => Fault::Memory,
-            kind => {
-                let wrong = wrong_of(kind);
+            _ => {
+                let wrong = wrong_of(&e);
                 Fault::Device(Trouble { part, wrong })
             }
         }

@@ -1,43 +1,58 @@
+//! The folder of a standby, held for this program until the value is dropped.
+//!
+//!     log.blk  pages.blk  control.blk       a database
+//!     log.new  pages.new  control.new       one that is being laid out
+//!
+//! 1. Where control.blk is, there is a whole database, and no other is laid out. Where it is a link
+//!    that leads nowhere, the folder is refused.
+//! 2. Where it is missing, but log.blk or pages.blk has more than an empty database, the folder is
+//!    refused, and nothing in it is touched: the control block was lost, and not the database.
+//! 3. A new database is laid out under other names, in files that are made new. `keep` gives them
+//!    their names, control.blk last, and syncs the folder before that and behind it. So a stop on
+//!    the way leaves only what the next layout takes away.
+//! 4. `open` syncs the folder first: what `keep` renamed may not be on the disk yet.
 ghost use Rattle.std.specs.Prelude.{◌≡◌, ℕ, IfOk, IfErr};
-ghost use Rattle.als_disk.specs.FileDisk.{file_blocks, file_slot};
-ghost use Rattle.als_disk.specs.Slot.{only, IsSettled};
-ghost use Rattle.als_disk.specs.Store.{zeros};
+ghost use Rattle.als_disk.specs.Slot.{IsSettled};
 ghost use Rattle.als_folder.specs.declared.part.Part.TheVariants.{Itself};
-ghost use Rattle.als_folder.specs.FaultNames.{IsOf, IsOfDevice, IsOfNewDevice, IsOfLayout};
-ghost use Rattle.als_folder.specs.Devices.{HaveSizes, AreZeros, AreSettled};
+ghost use Rattle.als_folder.specs.FaultNames.{IsOf, IsOfDevice, IsOfOpening};
 
-use crate::devices::{DeviceFiles, Devices, Sizes};
+use crate::devices::{DeviceFiles, Devices};
+use crate::errors::Errors;
 use crate::fault::Fault;
+use crate::holding::{Holding, check_room};
 use crate::part::Part;
-use crate::trouble::{Trouble, Wrong};
-use als_disk::FileDisk;
-use std::alloc::AllocError;
-use std::fs;
-use std::fs::File;
+use crate::trouble::Trouble;
+use crate::zeros::is_zero_from;
+use als_disk::{BlockDisk, FileDisk, FirstError};
+use std::alloc::{AllocError, Global};
+use std::fs::{self, File, OpenFile};
+use std::io;
+use std::os::unix::fs::FileExt;
 use std::path::{AsPath, PathBuf};
 use std::rt::Files;
 
-/// The folder of a standby, held for this program alone until the value is dropped.
-///
-/// A new database is laid out without its control.blk: the caller formats it, and then `keep` gives
-/// the file its name. So a stop in between leaves a folder with no control.blk, which is laid out
-/// again.
-pub struct Folder {
+mod layout;
+
+/// The folder of a standby.
+pub struct Folder<F = File> {
     path: PathBuf,
     /// The folder itself, open and locked.
-    held: File,
+    held: F,
+    /// The first errors of the devices that are open.
+    errors: Errors,
 }
 
 // Written out: a derived drop is proved wherever a folder is let go of, this one only here.
-impl Drop for Folder {
+impl<F: Drop> Drop for Folder<F> {
     fn drop(self) {
-        let Folder { path, held } = self;
+        let Folder { path, held, errors } = self;
         drop(path);
         drop(held);
+        drop(errors);
     }
 }
 
-impl Folder {
+impl Folder<File> {
     /// Takes a folder, which is there, for this program alone.
     ///
     /// Busy: another program has it. Device: it can't be opened. Memory: there was none for its
@@ -46,38 +61,80 @@ impl Folder {
         rt: &R,
         path: P,
     ) -> Result<Folder, Fault> {
-        let path = PathBuf::from_str(rt.alloc(), path.path_text())?;
-        let held = match File::open(rt, path.as_path()) {
-            Ok(held) => held,
-            Err(e) => return Err(Fault::of(Part::Itself, e)),
-        };
+        let held = open_folder(rt, path.path_text())?;
         held.try_lock()?;
-        Ok(Folder { path, held })
+        Folder::over(rt.alloc(), path, held)
     }
 
-    /// Whether there is a whole database.
+    /// Takes a folder for programs that read it alone: no other may write it meanwhile.
     ///
-    /// Device: the folder can't be asked. Memory: there was none for a name.
-    pub fn is_kept<R: Files<File = File> + AllocGlobal>(&self, rt: &R) -> Result<bool, Fault>
+    /// As `hold`. Busy: another program may write it.
+    pub fn hold_to_read<R: Files<File = File> + AllocGlobal, P: AsPath>(
+        rt: &R,
+        path: P,
+    ) -> Result<Folder, Fault> {
+        let held = open_folder(rt, path.path_text())?;
+        held.try_lock_shared()?;
+        Folder::over(rt.alloc(), path, held)
+    }
+}
+
+/// Opens the folder itself.
+fn open_folder<R: Files<File = File>>(rt: &R, path: &str) -> Result<File, Fault>
+    ensures { IfErr result (IsOf Itself) }
+{
+    match File::open(rt, path) {
+        Ok(folder) => Ok(folder),
+        Err(e) => Err(Fault::of(Part::Itself, e)),
+    }
+}
+
+impl<F: OpenFile + FileExt + Drop> Folder<F> {
+    /// A folder that is open, and held, as this file. Memory: there was none for its name.
+    pub fn over<P: AsPath>(alloc: Global, path: P, held: F) -> Result<Folder<F>, Fault>
         ensures fails { IfErr result (IsOf Itself) }
     {
-        let path = self.path_of(rt, Part::Control)?;
-        match fs::exists(rt, path.as_path()) {
-            Ok(kept) => Ok(kept),
-            Err(e) => Err(Fault::of(Part::Itself, e)),
-        }
+        let path = PathBuf::from_str(alloc, path.path_text())?;
+        let errors = Errors::new(alloc)?;
+        Ok(Folder { path, held, errors })
     }
 
-    /// Opens the devices of a database, which have length / 512 blocks each.
+    /// Whether there is a whole database. Where there is none, a new one may be laid out.
     ///
-    /// Device: a file is missing or failed. Memory: there was none for what the files hold.
-    pub fn open<R: Files<File = File> + AllocGlobal>(&self, rt: &R) -> Result<Devices, Fault>
-        ensures settled { IfOk result AreSettled }
-        ensures fails { IfErr result IsOfDevice }
+    /// Device: the folder can't be asked, the control block is a link that leads nowhere, or there
+    /// is none, but a log or pages that have data. Memory: there was none for a name or for what a
+    /// file holds.
+    pub fn is_kept<R: Files<File = F> + AllocGlobal>(&self, rt: &R) -> Result<bool, Fault>
+        ensures fails { IfErr result IsOfOpening }
     {
-        let log = self.open_device(rt, Part::Log)?;
-        let control = self.open_device(rt, Part::Control)?;
-        let pages = self.open_device(rt, Part::Pages)?;
+        if self.has_control(rt)? {
+            return Ok(true);
+        }
+        // The log's header is the same in an empty database.
+        let log = self.holding(rt, Part::Log, 16)?;
+        let pages = self.holding(rt, Part::Pages, 0)?;
+        check_room(log, pages)?;
+        Ok(false)
+    }
+
+    /// Opens the devices of a database, which have length / 512 blocks each, once the folder is
+    /// synced.
+    ///
+    /// Device: the folder failed, or a file is missing or failed. Memory: there was none for what
+    /// the files hold.
+    pub fn open<R: Files<File = F> + AllocGlobal>(&self, rt: &R) -> Result<Devices<F>, Fault>
+        ensures log { IfOk result (λ d. (k : ℕ)
+            → IsSettled (⟦<FileDisk<F> as BlockDisk>⟧.slot d.log k)) }
+        ensures control { IfOk result (λ d. (k : ℕ)
+            → IsSettled (⟦<FileDisk<F> as BlockDisk>⟧.slot d.control k)) }
+        ensures pages { IfOk result (λ d. (k : ℕ)
+            → IsSettled (⟦<FileDisk<F> as BlockDisk>⟧.slot d.pages k)) }
+        ensures fails { IfErr result IsOfOpening }
+    {
+        self.sync()?;
+        let control = self.open_device(rt, Part::Control, &self.errors.control)?;
+        let log = self.open_device(rt, Part::Log, &self.errors.log)?;
+        let pages = self.open_device(rt, Part::Pages, &self.errors.pages)?;
         Ok(Devices {
             log,
             control,
@@ -88,10 +145,10 @@ impl Folder {
     /// Opens the files of a database to be read alone: nothing is written, as `open` does.
     ///
     /// Device: a file is missing or failed. Memory: there was none for a name.
-    pub fn open_to_read<R: Files<File = File> + AllocGlobal>(
+    pub fn open_to_read<R: Files<File = F> + AllocGlobal>(
         &self,
         rt: &R,
-    ) -> Result<DeviceFiles, Fault>
+    ) -> Result<DeviceFiles<F>, Fault>
         ensures fails { IfErr result IsOfDevice }
     {
         let log = self.open_file(rt, Part::Log)?;
@@ -104,72 +161,81 @@ impl Folder {
         })
     }
 
-    /// Makes devices of zeros for a new database, which there is not before `keep`. A database that
-    /// is there stays.
-    ///
-    /// Device: there is a database, a file failed, or it would be too long. Memory: there was none
-    /// for a name.
-    pub fn lay_out<R: Files<File = File> + AllocGlobal>(
-        &self,
-        rt: &R,
-        sizes: Sizes,
-    ) -> Result<Devices, Fault>
-        ensures sizes { IfOk result (HaveSizes sizes) }
-        ensures zeros { IfOk result AreZeros }
-        ensures fails { IfErr result IsOfLayout }
-    {
-        if self.is_kept(rt)? {
-            return Err(Fault::Device(Trouble {
-                part: Part::Itself,
-                wrong: Wrong::Kept,
-            }));
-        }
-        let devices = self.create_devices(rt, sizes)?;
-        Ok(devices)
+    /// What is wrong with a file of which a device has failed. None: no device of this folder has.
+    pub fn trouble(&self) -> Option<Trouble> {
+        self.errors.trouble()
     }
 
-    /// Makes what was laid out, and then formatted and synced, the database of this folder, and
-    /// makes that last.
-    ///
-    /// Device: the folder failed, and there may or may not be a database. Memory: there was none
-    /// for a name.
-    pub fn keep<R: Files<File = File> + AllocGlobal>(&self, rt: &R) -> Result<(), Fault>
-        ensures fails { IfErr result IsOfLayout }
+    /// Makes the names in the folder last.
+    fn sync(&self) -> Result<(), Fault>
+        ensures fails { IfErr result (IsOf Itself) }
     {
-        let new = self.path_of(rt, Part::NewControl)?;
-        let kept = self.path_of(rt, Part::Control)?;
-        match fs::rename(rt, new.as_path(), kept.as_path()) {
-            Ok(()) => {}
-            Err(e) => return Err(Fault::of(Part::NewControl, e)),
-        }
         match self.held.sync_all() {
             Ok(()) => Ok(()),
             Err(e) => Err(Fault::of(Part::Itself, e)),
         }
     }
 
-    /// Opens one device.
-    fn open_device<R: Files<File = File> + AllocGlobal>(
+    /// Whether there is a control block. A link of its name has to lead to one.
+    fn has_control<R: Files<File = F> + AllocGlobal>(&self, rt: &R) -> Result<bool, Fault>
+        ensures fails { IfErr result IsOfOpening }
+    {
+        let path = self.path_of(rt, Part::Control)?;
+        match fs::symlink_metadata(rt, path.as_path()) {
+            Ok(_) => {}
+            Err(e) if e.kind() == io::ErrorKind::NotFound => return Ok(false),
+            Err(e) => return Err(Fault::of(Part::Itself, e)),
+        }
+        match fs::metadata(rt, path.as_path()) {
+            Ok(_) => Ok(true),
+            Err(e) => Err(Fault::of(Part::Control, e)),
+        }
+    }
+
+    /// What a file without a control block holds from this byte on.
+    fn holding<R: Files<File = F> + AllocGlobal>(
         &self,
         rt: &R,
         part: Part,
-    ) -> Result<FileDisk, Fault>
-        ensures settled { IfOk result (λ disk. (k : ℕ) → IsSettled (file_slot disk k)) }
+        from: u64,
+    ) -> Result<Holding, Fault>
         ensures fails { IfErr result (IsOf part) }
     {
         let path = self.path_of(rt, part)?;
-        match FileDisk::open(rt, path.as_path()) {
+        match fs::symlink_metadata(rt, path.as_path()) {
+            Ok(found) if found.is_file() => {}
+            Ok(_) => return Ok(Holding::Data),
+            Err(e) if e.kind() == io::ErrorKind::NotFound => return Ok(Holding::Nothing),
+            Err(e) => return Err(Fault::of(part, e)),
+        }
+        let file = self.open_file(rt, part)?;
+        match is_zero_from(rt.alloc(), &file, from) {
+            Ok(true) => Ok(Holding::Nothing),
+            Ok(false) => Ok(Holding::Data),
+            Err(e) => Err(Fault::of(part, e)),
+        }
+    }
+
+    /// Opens one device.
+    fn open_device<R: Files<File = F> + AllocGlobal>(
+        &self,
+        rt: &R,
+        part: Part,
+        first_error: &FirstError,
+    ) -> Result<FileDisk<F>, Fault>
+        ensures settled { IfOk result (λ disk. (k : ℕ)
+            → IsSettled (⟦<FileDisk<F> as BlockDisk>⟧.slot disk k)) }
+        ensures fails { IfErr result (IsOf part) }
+    {
+        let path = self.path_of(rt, part)?;
+        match FileDisk::open(rt, path.as_path(), first_error.clone()?) {
             Ok(disk) => Ok(disk),
             Err(e) => Err(Fault::of(part, e)),
         }
     }
 
     /// Opens one file to be read alone.
-    fn open_file<R: Files<File = File> + AllocGlobal>(
-        &self,
-        rt: &R,
-        part: Part,
-    ) -> Result<File, Fault>
+    fn open_file<R: Files<File = F> + AllocGlobal>(&self, rt: &R, part: Part) -> Result<F, Fault>
         ensures fails { IfErr result (IsOf part) }
     {
         let path = self.path_of(rt, part)?;
@@ -179,45 +245,7 @@ impl Folder {
         }
     }
 
-    /// Makes the devices of a new database.
-    fn create_devices<R: Files<File = File> + AllocGlobal>(
-        &self,
-        rt: &R,
-        sizes: Sizes,
-    ) -> Result<Devices, Fault>
-        ensures sizes { IfOk result (HaveSizes sizes) }
-        ensures zeros { IfOk result AreZeros }
-        ensures fails { IfErr result IsOfNewDevice }
-    {
-        let log = self.create_device(rt, Part::Log, sizes.log)?;
-        let control = self.create_device(rt, Part::NewControl, sizes.control)?;
-        let pages = self.create_device(rt, Part::Pages, sizes.pages)?;
-        Ok(Devices {
-            log,
-            control,
-            pages,
-        })
-    }
-
-    /// Makes one device of zeros.
-    fn create_device<R: Files<File = File> + AllocGlobal>(
-        &self,
-        rt: &R,
-        part: Part,
-        blocks: u64,
-    ) -> Result<FileDisk, Fault>
-        ensures count { IfOk result (λ disk. file_blocks disk ≡ blocks) }
-        ensures zeros { IfOk result (λ disk. (k : ℕ) → file_slot disk k ≡ only zeros) }
-        ensures fails { IfErr result (IsOf part) }
-    {
-        let path = self.path_of(rt, part)?;
-        match FileDisk::create(rt, path.as_path(), blocks) {
-            Ok(disk) => Ok(disk),
-            Err(e) => Err(Fault::of(part, e)),
-        }
-    }
-
-    /// Where a part of the folder stands.
+    /// Where a part of the folder is.
     fn path_of<R: AllocGlobal>(&self, rt: &R, part: Part) -> Result<PathBuf, AllocError> {
         self.path.join(rt.alloc(), part.file_name())
     }

@@ -11,14 +11,23 @@ mod refusal;
 mod fault;
 // How long a log may be.
 mod limit;
-// The devices of a folder, and how large they are.
+// How large its devices are.
+mod lengths;
+// The devices of a folder.
 mod devices;
+// The first errors of the devices' files.
+mod errors;
+// Whether a file is empty.
+mod zeros;
+// Where a new database may be laid out.
+mod holding;
 // The folder.
 mod folder;
 
-pub use devices::{DeviceFiles, Devices, Sizes};
+pub use devices::{DeviceFiles, Devices};
 pub use fault::Fault;
 pub use folder::Folder;
+pub use lengths::Sizes;
 pub use limit::LOG_LIMIT;
 pub use part::Part;
 pub use refusal::trouble_of;

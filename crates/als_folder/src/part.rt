@@ -1,19 +1,23 @@
 ghost use Rattle.std.specs.Prelude.{◌≡◌};
 ghost use Rattle.als_folder.specs.Parts.{file_name_of};
 
-/// What stands in a folder, or the folder itself.
+/// What a folder holds, or the folder itself.
 #[derive(Clone, Copy, Debug, PartialEq, Eq)]
 pub enum Part {
     /// What a path names itself: the folder.
     Itself,
     /// The log's device.
     Log,
-    /// The control block's device. Where it stands, there is a whole database.
+    /// The control block's device. Where it is, there is a whole database.
     Control,
-    /// What the control block's device is called until there is a whole database.
-    NewControl,
     /// The pages' device.
     Pages,
+    /// The log's device of a database that is being laid out.
+    NewLog,
+    /// Its control block's device.
+    NewControl,
+    /// Its pages' device.
+    NewPages,
 }
 
 impl Part {
@@ -25,8 +29,10 @@ impl Part {
             Part::Itself => "",
             Part::Log => "log.blk",
             Part::Control => "control.blk",
-            Part::NewControl => "control.new",
             Part::Pages => "pages.blk",
+            Part::NewLog => "log.new",
+            Part::NewControl => "control.new",
+            Part::NewPages => "pages.new",
         }
     }
 }

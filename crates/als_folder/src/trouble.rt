@@ -1,4 +1,5 @@
 use crate::part::Part;
+use std::io;
 use std::io::ErrorKind;
 
 /// What is wrong with a part of a folder.
@@ -14,19 +15,25 @@ pub struct Trouble {
 /// tell of what they hold.
 #[derive(Clone, Copy, Debug, PartialEq, Eq)]
 pub enum Wrong {
-    /// It is not there.
+    /// It is not there, or a link that leads nowhere.
     Missing,
     /// It is no folder.
     NoFolder,
     /// It may not be opened, or not written.
     Denied,
+    /// Its file system is read-only.
+    ReadOnly,
     /// Another program has it.
     Locked,
     /// There is a database in it already.
     Kept,
+    /// It is not empty, or no file, and there is no control block beside it.
+    NoControl,
     /// There is no room on its disk.
     NoRoom,
-    /// It is shorter than what has to stand in it.
+    /// Its disk gave an input or output error, or is gone.
+    Gone,
+    /// It is shorter than what it has to hold.
     Short,
     /// It could not be opened, locked, read, written or synced.
     Failed,
@@ -42,18 +49,24 @@ pub enum Wrong {
     BadPage { page: u32 },
 }
 
-/// What a failure of this kind says of a part.
-pub(crate) fn wrong_of(kind: ErrorKind) -> Wrong {
-    match kind {
+/// EIO, ENXIO and ENODEV, which have no kind of their own.
+const GONE: [i32; 3] = [5, 6, 19];
+
+/// What a failure says of a part.
+pub(crate) fn wrong_of(error: &io::Error) -> Wrong {
+    match error.kind() {
         ErrorKind::NotFound => Wrong::Missing,
         ErrorKind::NotADirectory => Wrong::NoFolder,
-        ErrorKind::PermissionDenied | ErrorKind::ReadOnlyFilesystem | ErrorKind::IsADirectory => {
-            Wrong::Denied
-        }
+        ErrorKind::PermissionDenied | ErrorKind::IsADirectory => Wrong::Denied,
+        ErrorKind::ReadOnlyFilesystem => Wrong::ReadOnly,
         ErrorKind::StorageFull | ErrorKind::QuotaExceeded | ErrorKind::FileTooLarge => {
             Wrong::NoRoom
         }
+        ErrorKind::StaleNetworkFileHandle => Wrong::Gone,
         ErrorKind::UnexpectedEof => Wrong::Short,
-        _ => Wrong::Failed,
+        _ => match error.raw_os_error() {
+            Some(number) if GONE.contains(&number) => Wrong::Gone,
+            _ => Wrong::Failed,
+        },
     }
 }

@@ -2,7 +2,7 @@ use Rattle.std.proofs.Common.{◌∷◌, [], ◌∙◌, ap, subst, sym}
 use Rattle.std.specs.Prelude.{Contains}
 use Rattle.als_disk.specs.Slot.{Slot, only}
 use Rattle.als_disk.specs.SlotLaws.{Contains-one}
-use Rattle.als_disk.proofs.file_disk.keep.Goals as goal
+use Rattle.als_disk.proofs.mirror.keep.Goals as goal
 
 pub returns-clause-settled : goal.returns-clause-settled
 returns-clause-settled c = λ k. let kept = c.settle.ensures.kept k in (kept.content, kept.left)

@@ -1,5 +1,5 @@
 use Rattle.als_disk.specs.Store.{KeepsReadable-newest}
-use Rattle.als_disk.proofs.file_disk.settle.Goals as goal
+use Rattle.als_disk.proofs.mirror.settle.Goals as goal
 
 pub returns-clause-kept : goal.returns-clause-kept
 returns-clause-kept c =
