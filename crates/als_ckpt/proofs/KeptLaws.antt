@@ -1,6 +1,7 @@
 -- What is kept true of the disk, from one call to the next.
 use Rattle.std.proofs.Common.{◌≡◌, Option, ℕ, ◌≤◌, Bool, true, false, IsTrue, List, [], ◌∷◌, ◌++◌, refl, sym, ap, subst, ◌∙◌, inl, inr}
 use Rattle.std.specs.Prelude.{Contains, ◌⊎◌}
+use Rattle.std.proofs.lemmas.List.{map-append}
 use Rattle.std.proofs.lemmas.List.Elements.{Contains-append_left, Contains-push, Contains-push_cases}
 use Rattle.als_disk.specs.Slot.{Slot, only, written, FailsToWrite, KeepsReadable}
 use Rattle.als_disk.specs.SlotLaws.{Contains-one, candidates-write, readable-write, candidates-fail}
@@ -30,6 +31,7 @@ module _ (pages log_bytes blocks : ℕ) where
     candidates = λ content has.
         let same : control_block pages s ≡ content = Contains-one (subst (λ (x : Slot). Contains x.candidates content) is has) in
         IsBlockOf-last pages [] s content same;
+    all = λ sure. ap (λ (x : Slot). x.candidates) is;
     readable = λ sure content has. sym (Contains-one (subst (λ (x : Slot). Contains x.readable content) is has));
   }
 
@@ -70,6 +72,9 @@ module _ (pages log_bytes blocks : ℕ) where
             | inl before ↦ IsBlockOf-push pages (synced ∷ since) s content (kept.candidates content before)
             | inr same ↦ IsBlockOf-last pages (synced ∷ since) s content same
           ];
+      all = λ is_sure. ap (λ (x : Slot). x.candidates) is
+          ∙ ap (λ (xs : List (List ℕ)). xs ++ control_block pages s ∷ []) (kept.all is_sure)
+          ∙ sym (map-append (control_block pages) (synced ∷ since) (s ∷ []));
       readable = λ _ content has. sym (readable-write old new (control_block pages s) content is has);
     }
 
@@ -86,6 +91,7 @@ module _ (pages log_bytes blocks : ℕ) where
             | inl before ↦ IsBlockOf-push pages (synced ∷ since) s content (kept.candidates content before)
             | inr same ↦ IsBlockOf-last pages (synced ∷ since) s content same
           ];
+      all = λ never. absurd cc;
       readable = λ never content has. absurd cc;
     }
 

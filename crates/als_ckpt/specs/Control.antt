@@ -29,6 +29,10 @@ control_block pages s =
     codes "ALSCTL01" ++ (0 ∷ 1 ∷ phase_byte s.phase ∷ region_byte s.published ∷ (to_be_bytes w32 pages
     ++ (to_be_bytes w64 s.mark.0 ++ (to_be_bytes w64 s.position.0 ++ (to_be_bytes w64 s.seal.0 ++ replicate 472 0)))))
 
+-- a content spells a control state of a database with so many pages: it is its control block
+abbrev pub Spells : ℕ → ControlState → List ℕ → Type 0
+Spells pages state content = content ≡ control_block pages state
+
 -- a checkpoint's position is 0 exactly where no region is published, else from 16 to the mark
 abbrev pub IsPosition : Option Region → ℕ → ℕ → Type 0
 IsPosition None mark position = position ≡ 0
@@ -101,11 +105,11 @@ newest control = last_state control.synced control.since
 abbrev pub IsAmong : Controlled → ControlState → Type 0
 IsAmong control s = Contains (control.synced ∷ control.since) s
 
--- the content is the control block of one of these states
+-- the content spells one of these states
 pub record IsBlockOf (pages : ℕ) (states : List ControlState) (content : List ℕ) : Type 0 where
   pub state : ControlState
   pub among : Contains states state
-  pub spelled : content ≡ control_block pages state
+  pub spelled : Spells pages state content
 
 -- marks never fall from one state to the next
 abbrev pub MarksRise : ControlState → List ControlState → Type 0

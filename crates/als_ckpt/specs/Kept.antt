@@ -1,5 +1,5 @@
 -- What a running control block keeps true of its disk.
-use Rattle.std.specs.Prelude.{◌≡◌, ◌⊎◌, ℕ, ◌≤◌, ◌<◌, ◌+◌, Bool, IsTrue, List, ◌∷◌, Contains, Option, None, Some, length}
+use Rattle.std.specs.Prelude.{◌≡◌, ◌⊎◌, ℕ, ◌≤◌, ◌<◌, ◌+◌, Bool, IsTrue, List, ◌∷◌, Contains, Option, None, Some, length, map}
 use Rattle.als_disk.specs.Slot.{Slot}
 use Rattle.als_ckpt.specs.declared.control_state.ControlState.{ControlState}
 use Rattle.als_record.specs.declared.lsn.Lsn.{Lsn}
@@ -9,14 +9,15 @@ use Rattle.als_ckpt.specs.declared.region.Region.{Region}
 use Rattle.als_ckpt.specs.Regions.{Held, held_in, held_at, first_block, part_of, blocks_for, Begun, HoldsContent, IsPublished}
 use Rattle.als_ckpt.specs.Control.{control_block, last_state, IsControlState, IsBlockOf, MarksRise, IsApartIf}
 
--- Each candidate of the block is the control block of a state that was written, and where no write failed, a read gives
--- the newest.
+-- Each candidate of the block is the control block of a state that was written. Where no write failed they are those of
+-- all of these states, oldest first, and a read gives the newest.
 pub record IsKept (slot : Slot) (pages log_bytes blocks : ℕ) (synced newest : ControlState) (since : List ControlState) (sure : Bool) : Type 0 where
   pub room : 321 ≤ blocks
   pub last : newest ≡ last_state synced since
   pub fits : (s : ControlState) → Contains (synced ∷ since) s → IsControlState log_bytes s
   pub rising : MarksRise synced since
   pub candidates : (content : List ℕ) → Contains slot.candidates content → IsBlockOf pages (synced ∷ since) content
+  pub all : IsTrue sure → slot.candidates ≡ map (control_block pages) (synced ∷ since)
   pub readable : IsTrue sure → (content : List ℕ) → Contains slot.readable content → content ≡ control_block pages newest
 
 -- The bytes of a checkpoint that is being written, and how far it is written.

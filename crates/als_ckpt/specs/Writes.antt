@@ -1,17 +1,25 @@
 -- The control states that were written since the last sync.
 use Rattle.std.specs.Prelude.{Bool, true, false, List, [], ◌∷◌, ◌++◌}
 use Rattle.als_ckpt.specs.declared.control_state.ControlState.{ControlState}
+use Rattle.als_ckpt.specs.declared.made.Made.{Made}
+use Rattle.als_ckpt.specs.declared.made.Made.TheVariants.{Nothing, Done', Failed'}
 use Rattle.als_ckpt.specs.declared.writes.Writes.{Writes}
-use Rattle.als_ckpt.specs.declared.writes.Writes.TheVariants.{Nothing, Done', Failed'}
 
--- them, oldest first
+-- the states of writes, oldest first
+abbrev pub made_states : Made → List ControlState
+made_states Nothing = []
+made_states (Done' mark before state) = made_states before ++ state.value ∷ []
+made_states (Failed' mark before state) = made_states before ++ state.value ∷ []
+
+-- whether none of them failed
+abbrev pub all_done : Made → Bool
+all_done Nothing = true
+all_done (Done' mark before state) = all_done before
+all_done (Failed' mark before state) = false
+
+-- the same of those since the last sync
 abbrev pub states_of : Writes → List ControlState
-states_of Nothing = []
-states_of (Done' mark before state) = states_of before ++ state.value ∷ []
-states_of (Failed' mark before state) = states_of before ++ state.value ∷ []
+states_of w = made_states w.made.value
 
--- whether none of the writes failed
 abbrev pub is_sure : Writes → Bool
-is_sure Nothing = true
-is_sure (Done' mark before state) = is_sure before
-is_sure (Failed' mark before state) = false
+is_sure w = all_done w.made.value

@@ -6,10 +6,10 @@ ghost use Rattle.als_ckpt.specs.Regions.{with_sync, position_of, HasBlockLeft, I
 use crate::fault::Fault;
 use crate::region::Region;
 use als_ckpt_codec::{Checkpoint, encode_checkpoint};
+use als_past::Past;
 use als_record::{BLOCK_LEN, Lsn};
 use std::alloc::Global;
 use std::marker::Model;
-use std::snapshot::Snapshot;
 
 /// A checkpoint that is being written: its bytes, and how many of their blocks are written and
 /// synced.
@@ -18,7 +18,7 @@ pub(crate) struct Begun {
     pub(crate) region: Region,
     pub(crate) position: Lsn,
     pub(crate) bytes: Vec<u8>,
-    pub(crate) checkpoint: Snapshot<Checkpoint>,
+    pub(crate) checkpoint: Past<Checkpoint>,
     pub(crate) written: u64,
     pub(crate) synced: u64,
 }
@@ -72,7 +72,7 @@ impl Begun {
         ensures few { IfOk result (λ b. blocks_of b.checkpoint ≤ 160) }
         ensures memory { IfErr result (λ f. f ≡ Fault.Memory) }
     {
-        let kept = Snapshot::of(&checkpoint);
+        let kept = Past::of(&checkpoint);
         let position = checkpoint.numbers.position;
         let bytes = encode_checkpoint(alloc, checkpoint)?;
         Ok(Begun {
@@ -136,7 +136,7 @@ impl Begun {
     }
 
     /// The region, and the checkpoint that is written there.
-    pub(crate) fn into_whole(self) -> (Region, Snapshot<Checkpoint>)
+    pub(crate) fn into_whole(self) -> (Region, Past<Checkpoint>)
         ensures region { result.0 ≡ self.region }
         ensures checkpoint { result.1.value ≡ self.checkpoint }
     {

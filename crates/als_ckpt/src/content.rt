@@ -1,5 +1,5 @@
 use als_ckpt_codec::Checkpoint;
-use std::snapshot::Snapshot;
+use als_past::Past;
 
 /// What a region holds whatever a crash leaves, for clauses alone.
 #[derive(Drop)]
@@ -7,5 +7,5 @@ pub(crate) enum Content {
     /// No checkpoint is known to stand there.
     Unknown,
     /// This one stands there.
-    Whole(Snapshot<Checkpoint>),
+    Whole(Past<Checkpoint>),
 }

@@ -1,5 +1,5 @@
 ghost use Rattle.std.specs.Prelude.{◌≡◌, ◌≢◌, ◌≤◌, ◌<◌, ◌+◌, ◌⊎◌, ℕ, ◌∷◌, List, Contains, true};
-ghost use Rattle.std.specs.Prelude.{false, OnOk, OnErr, IfOk, IfErr, IsSomeAnd};
+ghost use Rattle.std.specs.Prelude.{false, OnOk, OnErr, IfOk, IfErr, IsSomeAnd, map};
 ghost use Rattle.als_disk.specs.Failures.{CountsFailure};
 ghost use Rattle.als_disk.specs.Slot.{only, IsSettled, SameBlocks};
 ghost use Rattle.als_ckpt.specs.Control.{control_block, first_state, newest, with_state, settled};
@@ -29,7 +29,6 @@ use als_disk::BlockDisk;
 use als_record::Lsn;
 use std::alloc::Global;
 use std::marker::Model;
-use std::snapshot::Snapshot;
 
 /// The control block of a database, on a disk of its own.
 ///
@@ -118,7 +117,7 @@ impl<D: BlockDisk> Control<D> {
                 log_bytes,
                 synced: state,
                 last: state,
-                writes: Writes::Nothing,
+                writes: Writes::none(),
                 regions: Regions::unknown(),
                 begun: None,
             }),
@@ -192,7 +191,7 @@ impl<D: BlockDisk> Control<D> {
             log_bytes,
             synced: state,
             last: state,
-            writes: Writes::Nothing,
+            writes: Writes::none(),
             regions,
             begun: None,
         }
@@ -305,7 +304,7 @@ impl<D: BlockDisk> Control<D> {
     {
         self.disk.sync()?;
         self.synced = self.last;
-        self.writes = Writes::Nothing;
+        self.writes = Writes::none();
         note_synced(&mut self.begun);
         Ok(())
     }
@@ -391,6 +390,9 @@ impl<D: BlockDisk> Control<D> {
     pub fn into_disk(self) -> D
         ensures candidates { (content : List ℕ) → Contains (D.slot result 0).candidates content
             → IsBlockOf self.pages (self.synced ∷ self.since) content }
+        // Where no write has failed, they are those of all of these states, oldest first.
+        ensures all { self.sure ≡ true → (D.slot result 0).candidates
+            ≡ map (control_block self.pages) (self.synced ∷ self.since) }
         ensures leaves { LeavesOneOf self (D.slot result) }
         ensures facts { IsControlled self }
         ensures count { D.block_count result ≡ self.blocks }

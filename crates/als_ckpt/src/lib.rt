@@ -23,6 +23,8 @@ mod regions;
 mod begun;
 // What comes next of a checkpoint that may be begun.
 mod progress;
+// Writes of states.
+mod made;
 // The states written since the last sync.
 mod writes;
 // Control blocks on a disk.

@@ -4,8 +4,8 @@ ghost use Rattle.als_ckpt.specs.Regions.{nothing_held, with_held, held_of};
 use crate::content::Content;
 use crate::region::Region;
 use als_ckpt_codec::Checkpoint;
+use als_past::Past;
 use std::marker::Model;
-use std::snapshot::Snapshot;
 
 /// What the two regions hold whatever a crash leaves, for clauses alone.
 #[derive(Drop)]
@@ -39,7 +39,7 @@ impl Regions {
     {
         let mut regions = Regions::unknown();
         match (published, checkpoint) {
-            (Some(region), Some(checkpoint)) => regions.hold(region, Snapshot::of(checkpoint)),
+            (Some(region), Some(checkpoint)) => regions.hold(region, Past::of(checkpoint)),
             _ => {}
         }
         regions
@@ -56,7 +56,7 @@ impl Regions {
     }
 
     /// A region holds a whole checkpoint.
-    pub(crate) fn hold(&mut self, region: Region, checkpoint: Snapshot<Checkpoint>)
+    pub(crate) fn hold(&mut self, region: Region, checkpoint: Past<Checkpoint>)
         ensures { self.new ≡ with_held self.old region (Held checkpoint.value) }
     {
         match region {

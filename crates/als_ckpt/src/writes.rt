@@ -2,24 +2,34 @@ ghost use Rattle.std.specs.Prelude.{◌≡◌, ◌∷◌, ◌++◌, [], true, fa
 ghost use Rattle.als_ckpt.specs.Writes.{states_of, is_sure};
 
 use crate::control_state::ControlState;
-use std::snapshot::Snapshot;
+use crate::made::Made;
+use als_past::Past;
+use std::mem::replace;
 
 /// The control states written since the last sync, for clauses alone.
 #[derive(Drop)]
-pub(crate) enum Writes {
-    Nothing,
-    Done(Snapshot<Writes>, Snapshot<ControlState>),
-    Failed(Snapshot<Writes>, Snapshot<ControlState>),
+pub(crate) struct Writes {
+    made: Past<Made>,
 }
 
 impl Writes {
+    /// None.
+    pub(crate) fn none() -> Writes
+        ensures states { states_of result ≡ [] }
+        ensures sure { is_sure result ≡ true }
+    {
+        Writes {
+            made: Past::of(&Made::Nothing),
+        }
+    }
+
     /// A write that was answered as done.
     pub(crate) fn note_done(&mut self, state: &ControlState)
         ensures states { states_of self.new ≡ states_of self.old ++ state.now ∷ [] }
         ensures sure { is_sure self.new ≡ is_sure self.old }
     {
-        let before = Snapshot::of(self);
-        *self = Writes::Done(before, Snapshot::of(state));
+        let before = replace(&mut self.made, Past::of(&Made::Nothing));
+        self.made = Past::of(&Made::Done(before, Past::of(state)));
     }
 
     /// A write that was answered as failed, and may have been done.
@@ -27,7 +37,7 @@ impl Writes {
         ensures states { states_of self.new ≡ states_of self.old ++ state.now ∷ [] }
         ensures sure { is_sure self.new ≡ false }
     {
-        let before = Snapshot::of(self);
-        *self = Writes::Failed(before, Snapshot::of(state));
+        let before = replace(&mut self.made, Past::of(&Made::Nothing));
+        self.made = Past::of(&Made::Failed(before, Past::of(state)));
     }
 }

@@ -9,11 +9,30 @@ use Rattle.als_record.specs.Spelling.{record_len, spelling, IsRecord}
 use Rattle.als_record.specs.LogText.{header_bytes, spellings, log_text, end_of, follow_from, IsLog}
 use Rattle.als_record.proofs.HeaderLaws.{length-header_bytes}
 use Rattle.als_record.proofs.LogLaws.{spellings-nil, spellings_push, end_of_is, end_of_push, follow-append}
-use Rattle.als_disk.specs.Slot.{Slot, SameBlocks}
+use Rattle.als_disk.specs.Slot.{Slot, SameBlocks, SameBlocksBut, IsSettled}
 use Rattle.als_log.specs.Local.{IsFrontEnd, IsLocal}
 use Rattle.als_log.specs.Texts.{HasText, AllHaveText}
-use Rattle.als_log.specs.Held.{IsStored, IsHeld, IsText}
+use Rattle.als_log.specs.Held.{IsStored, IsSettledBut, IsHeld, IsText}
 use Rattle.als_log.specs.Reading.{IsReadable}
+
+-- ---- settled blocks
+
+pub all-settled : (slots : ℕ → Slot) (written synced : ℕ) → ((k : ℕ) → IsSettled (slots k)) → IsSettledBut slots written synced
+all-settled slots written synced settled = record { before = λ k le. settled k; beyond = λ k lt. settled k }
+
+pub settled-same : (old new : ℕ → Slot) (written synced : ℕ) → SameBlocks old new → IsSettledBut old written synced → IsSettledBut new written synced
+settled-same old new written synced same s = record {
+  before = λ k le. subst (λ (slot : Slot). IsSettled slot) (sym (same k)) (s.before k le);
+  beyond = λ k lt. subst (λ (slot : Slot). IsSettled slot) (sym (same k)) (s.beyond k lt);
+}
+
+-- a write of the first block with unwritten bytes, one that failed too
+pub settled-but : (old new : ℕ → Slot) (written synced next : ℕ) → SameBlocksBut (written / 512) old new → synced ≤ written → written ≤ next → IsSettledBut old written synced
+    → IsSettledBut new next synced
+settled-but old new written synced next others low more s = record {
+  before = λ k le. subst (λ (slot : Slot). IsSettled slot) (sym (others k (λ (e : k ≡ written / 512). omega (arith, e, le, low)))) (s.before k le);
+  beyond = λ k lt. subst (λ (slot : Slot). IsSettled slot) (sym (others k (λ (e : k ≡ written / 512). omega (arith, e, lt, more)))) (s.beyond k (omega (arith, lt, more)));
+}
 
 -- ---- lengths
 
@@ -56,18 +75,19 @@ module _ {pages : ℕ} {log : List Record} {base written synced cursor blocks : 
   low_block = omega (arith, h.tail.low, h.tail.block, h.order.order)
 
   -- after a write
-  pub held-write : (next : ℕ) (now : ℕ → Slot) → synced ≤ next → next ≤ end_of log → IsStored now (log_text pages log) next synced → IsHeld pages log base next synced cursor blocks bytes now
-  held-write next now low within stored = record {
+  pub held-write : (next : ℕ) (now : ℕ → Slot) → synced ≤ next → next ≤ end_of log → IsStored now (log_text pages log) next synced → IsSettledBut now next synced → IsHeld pages log base next synced cursor blocks bytes now
+  held-write next now low within stored settled = record {
     order = record { is_log = h.order.is_log; fits = h.order.fits; within = within; order = low; front = h.order.front; few = h.order.few; some = h.order.some };
     tail = h.tail;
     stored = stored;
+    settled = settled;
     walked = h.walked;
   }
 
   -- after a sync
   pub held-sync : (whole : ℕ) (left : List ℕ) (now : ℕ → Slot) → IsFrontEnd log whole → synced ≤ whole → whole ≤ written → left ≡ drop (512 * (whole / 512) - base) bytes
-      → IsStored now (log_text pages log) written whole → IsHeld pages log (512 * (whole / 512)) written whole cursor blocks left now
-  held-sync whole left now front low within is stored =
+      → IsStored now (log_text pages log) written whole → ((k : ℕ) → IsSettled (now k)) → IsHeld pages log (512 * (whole / 512)) written whole cursor blocks left now
+  held-sync whole left now front low within is stored settled =
       let below : base ≤ 512 * (whole / 512) = omega (arith, h.tail.low, h.tail.block, low) in
       let place : base + (512 * (whole / 512) - base) ≡ 512 * (whole / 512) = omega (arith, below) in
       record {
@@ -78,6 +98,7 @@ module _ {pages : ℕ} {log : List Record} {base written synced cursor blocks : 
           low = omega arith;
         };
         stored = stored;
+        settled = all-settled now written whole settled;
         walked = h.walked;
       }
 
@@ -142,6 +163,7 @@ held-push {pages} {log} {base} {written} {synced} {cursor} {blocks} {bytes} {slo
         low = h.tail.low;
       };
       stored = subst (λ (xs : List ℕ). IsStored slots xs written synced) (sym longer) stored;
+      settled = h.settled;
       walked = front-push log r cursor h.walked;
     }
 
@@ -158,8 +180,9 @@ is_log-nil : (pages : ℕ) → IsLog pages []
 unfolding follow_from
 is_log-nil pages = record { laid_out = refl; records = tt }
 
-pub held-new : (pages blocks : ℕ) (bytes : List ℕ) (slots : ℕ → Slot) → 1 ≤ blocks → blocks ≤ 4194304 → bytes ≡ header_bytes pages → IsStored slots (header_bytes pages) 16 16 → IsHeld pages [] 0 16 16 16 blocks bytes slots
-held-new pages blocks bytes slots some few is stored = record {
+pub held-new : (pages blocks : ℕ) (bytes : List ℕ) (slots : ℕ → Slot) → 1 ≤ blocks → blocks ≤ 4194304 → bytes ≡ header_bytes pages → IsStored slots (header_bytes pages) 16 16 → ((k : ℕ) → IsSettled (slots k))
+    → IsHeld pages [] 0 16 16 16 blocks bytes slots
+held-new pages blocks bytes slots some few is stored settled = record {
   order = record {
     is_log = is_log-nil pages;
     fits = omega (arith, end-nil, some);
@@ -171,6 +194,7 @@ held-new pages blocks bytes slots some few is stored = record {
   };
   tail = record { held = is ∙ sym (text-nil pages); block = omega arith; low = omega arith };
   stored = subst (λ (xs : List ℕ). IsStored slots xs 16 16) (sym (text-nil pages)) stored;
+  settled = all-settled slots 16 16 settled;
   walked = record { front = []; rest = []; parts = refl; ends = end-nil };
 }
 
@@ -199,13 +223,19 @@ module _ {pages : ℕ} {log : List Record} {base written synced cursor blocks : 
 
   -- after a reading
   pub held-read : (next : ℕ) (now : ℕ → Slot) → IsFrontEnd log next → SameBlocks slots now → IsHeld pages log base written synced next blocks bytes now
-  held-read next now front same = record { order = h.order; tail = h.tail; stored = same-readable slots now same (log_text pages log) written synced h.stored; walked = front }
+  held-read next now front same = record {
+    order = h.order;
+    tail = h.tail;
+    stored = same-readable slots now same (log_text pages log) written synced h.stored;
+    settled = settled-same slots now written synced same h.settled;
+    walked = front;
+  }
 
 -- ---- a log that stands on a device
 
 pub held-reopened : (pages blocks end : ℕ) (log : List Record) (bytes : List ℕ) (slots now : ℕ → Slot) → IsLog pages log → end ≡ end_of log → end ≤ 512 * blocks → blocks ≤ 4194304 → bytes ≡ drop (512 * (end / 512)) (log_text pages log)
-    → SameBlocks slots now → IsStored slots (log_text pages log) end end → IsHeld pages log (512 * (end / 512)) end end 16 blocks bytes now
-held-reopened pages blocks end log bytes slots now is at fits few held same stored = record {
+    → SameBlocks slots now → IsStored slots (log_text pages log) end end → ((k : ℕ) → IsSettled (slots k)) → IsHeld pages log (512 * (end / 512)) end end 16 blocks bytes now
+held-reopened pages blocks end log bytes slots now is at fits few held same stored settled = record {
   order = record {
     is_log = is;
     fits = omega (arith, at, fits);
@@ -217,5 +247,6 @@ held-reopened pages blocks end log bytes slots now is at fits few held same stor
   };
   tail = record { held = held; block = omega arith; low = omega arith };
   stored = same-readable slots now same (log_text pages log) end end stored;
+  settled = settled-same slots now end end same (all-settled slots end end settled);
   walked = record { front = []; rest = log; parts = refl; ends = end-nil };
 }

@@ -1,8 +1,8 @@
 -- What a log keeps between calls: what stands on its device and in memory.
-use Rattle.std.specs.Prelude.{◌≡◌, ℕ, ◌≤◌, ◌*◌, ◌/◌, List, drop}
+use Rattle.std.specs.Prelude.{◌≡◌, ℕ, ◌<◌, ◌≤◌, ◌+◌, ◌*◌, ◌/◌, List, drop}
 use Rattle.als_record.specs.declared.record.Record.{Record}
 use Rattle.als_record.specs.LogText.{log_text, end_of, IsLog}
-use Rattle.als_disk.specs.Slot.{Slot}
+use Rattle.als_disk.specs.Slot.{Slot, IsSettled}
 use Rattle.als_log.specs.Local.{IsFrontEnd}
 use Rattle.als_log.specs.Texts.{AllHaveText}
 
@@ -11,6 +11,11 @@ use Rattle.als_log.specs.Texts.{AllHaveText}
 pub record IsStored (slots : ℕ → Slot) (text : List ℕ) (written synced : ℕ) : Type 0 where
   pub kept : AllHaveText (λ b. (slots b).candidates) text synced
   pub stored : AllHaveText (λ b. (slots b).readable) text written
+
+-- A block that ends at or below the synced end, or begins above the written end, has one content, which is synced.
+pub record IsSettledBut (slots : ℕ → Slot) (written synced : ℕ) : Type 0 where
+  pub before : (k : ℕ) → 512 * k + 512 ≤ synced → IsSettled (slots k)
+  pub beyond : (k : ℕ) → written < 512 * k → IsSettled (slots k)
 
 -- Memory has the text from the block of the synced end on.
 pub record IsTail (text bytes : List ℕ) (base synced : ℕ) : Type 0 where
@@ -33,6 +38,7 @@ pub record IsHeld (pages : ℕ) (log : List Record) (base written synced cursor 
   pub order : InOrder pages log written synced blocks
   pub tail : IsTail (log_text pages log) bytes base synced
   pub stored : IsStored slots (log_text pages log) written synced
+  pub settled : IsSettledBut slots written synced
   pub walked : IsFrontEnd log cursor
 
 -- the bytes of these records' text from an offset on, for a database of some size

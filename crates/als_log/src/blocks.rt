@@ -2,6 +2,7 @@
 ghost use Rattle.std.specs.Prelude.{◌≡◌, ℕ, ◌<◌, ◌≤◌, ◌+◌, ◌*◌, List, length, min, slice_index};
 ghost use Rattle.std.specs.Prelude.{OnOk, OnErr};
 ghost use Rattle.als_disk.specs.Failures.{CountsFailure};
+ghost use Rattle.als_disk.specs.Slot.{IsSettled, SameBlocks, SameBlocksBut};
 ghost use Rattle.als_log.specs.Texts.{HasText};
 ghost use Rattle.als_log.specs.Held.{IsStored};
 
@@ -40,6 +41,7 @@ pub(crate) fn write<D: BlockDisk>(
     ensures err { OnErr result ((text : List ℕ) (end front synced : ℕ)
         → HasText text end i block.now → IsStored (D.slot disk.old) text front synced → front ≤ end
         → synced ≤ end → IsStored (D.slot disk.new) text front synced) }
+    ensures others { SameBlocksBut i (D.slot disk.old) (D.slot disk.new) }
     ensures count { D.block_count disk.new ≡ D.block_count disk.old }
     ensures failures { CountsFailure result (D.failures disk.old) (D.failures disk.new) }
     ensures attempts { D.attempts disk.new ≡ D.attempts disk.old + 1 }
@@ -56,6 +58,8 @@ pub(crate) fn sync<D: BlockDisk>(disk: &mut D) -> Result<(), DeviceError>
     ensures err { OnErr result ((text : List ℕ) (front synced : ℕ) → synced ≤ front
         → IsStored (D.slot disk.old) text front synced
         → IsStored (D.slot disk.new) text front synced) }
+    ensures settled { OnOk result ((k : ℕ) → IsSettled (D.slot disk.new k)) }
+    ensures same { OnErr result (SameBlocks (D.slot disk.old) (D.slot disk.new)) }
     ensures count { D.block_count disk.new ≡ D.block_count disk.old }
     ensures failures { CountsFailure result (D.failures disk.old) (D.failures disk.new) }
     ensures attempts { D.attempts disk.new ≡ D.attempts disk.old + 1 }
@@ -69,6 +73,7 @@ pub(crate) fn lay_out<D: BlockDisk>(device: &mut D, front: &[u8]) -> Result<(), 
     requires some { 1 ≤ D.block_count device.old }
     requires front { length front.now ≡ 16 }
     ensures ok { OnOk result (IsStored (D.slot device.new) front.now 16 16) }
+    ensures settled { OnOk result ((k : ℕ) → IsSettled (D.slot device.new k)) }
     ensures count { D.block_count device.new ≡ D.block_count device.old }
     ensures failures { CountsFailure result (D.failures device.old) (D.failures device.new) }
     ensures attempts { OnOk result (D.attempts device.new ≡ D.attempts device.old + 2) }

@@ -3,14 +3,15 @@ ghost use Rattle.als_record.specs.Shown.{shown};
 ghost use Rattle.als_log.specs.History.{records_in};
 
 use crate::noted::Noted;
+use crate::records::Records;
+use als_past::Past;
 use als_record::{Record, RecordView};
-use std::snapshot::Snapshot;
+use std::mem::replace;
 
 /// The records of a log, for clauses alone: they take no bytes and no time.
 #[derive(Drop)]
-pub enum History {
-    Start,
-    Then(Snapshot<History>, Snapshot<Noted>),
+pub struct History {
+    records: Past<Records>,
 }
 
 impl History {
@@ -18,7 +19,9 @@ impl History {
     pub fn new() -> History
         ensures { records_in result ≡ [] }
     {
-        History::Start
+        History {
+            records: Past::of(&Records::Start),
+        }
     }
 
     /// Notes one more.
@@ -33,9 +36,8 @@ impl History {
     pub fn push_view(&mut self, logged: &RecordView<'_>)
         ensures { records_in self.new ≡ records_in self.old ++ shown logged.now ∷ [] }
     {
-        let before = Snapshot::of(self);
-        let noted = Noted::of(logged);
-        let last = Snapshot::of(&noted);
-        *self = History::Then(before, last);
+        let before = replace(&mut self.records, Past::of(&Records::Start));
+        let last = Past::of(&Noted::of(logged));
+        self.records = Past::of(&Records::Then(before, last));
     }
 }

@@ -6,7 +6,9 @@
 mod fault;
 // A record, for clauses alone.
 mod noted;
-// The records, for clauses alone.
+// Records, one after another, for clauses alone.
+mod records;
+// Those of a log, for clauses alone.
 mod history;
 // The text's bytes in memory.
 mod tail;

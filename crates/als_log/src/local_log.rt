@@ -1,10 +1,31 @@
-ghost use Rattle.std.specs.Prelude.{◌≡◌, ◌<◌, ◌≤◌, ◌+◌, ◌*◌, [], ◌∷◌, ◌++◌, IsTrue, ◌↔◌, Some};
+//! The local log: one text on a block device.
+//!
+//! ```text
+//! 16            synced          written            end
+//! |===============|----------------|----------------|
+//! | every         | on the device, | in memory      |
+//! | candidate     | not synced     | alone          |
+//! ```
+//!
+//! Rules:
+//! 1. The text only grows. Nothing below the end is written with other bytes.
+//! 2. `append` works in memory. `write_block` writes one block, `sync` makes one sync.
+//! 3. The synced end is the end of a record. Below it every candidate of the device has the text,
+//!    so no crash can lose it. That is the whole basis of acknowledgement.
+//! 4. A record is appended only where the device has room for it and for `reserve_after` more
+//!    bytes: the caller's room for a takeover's tail.
+//! 5. A failed call leaves the log as it was. Only the device's counts change.
+//!
+//! Memory holds the bytes from the block of the synced end on. Contracts speak of all records: they
+//! are in a history that takes no bytes (`History`).
+
+ghost use Rattle.std.specs.Prelude.{◌≡◌, ◌<◌, ◌≤◌, ◌+◌, ◌*◌, ℕ, [], ◌∷◌, ◌++◌, IsTrue, ◌↔◌, Some};
 ghost use Rattle.std.specs.Prelude.{IsOk, IfOk, IfErr, OnOk, OnErr, vec_len, vec_capacity};
 ghost use Rattle.std.specs.Result.{IsErrOf};
 ghost use Rattle.als_record.specs.Spelling.{spelling, record_len, IsRecord};
 ghost use Rattle.als_record.specs.LogText.{end_of, log_text, IsLog};
 ghost use Rattle.als_record.specs.Shown.{shown};
-ghost use Rattle.als_disk.specs.Slot.{SameBlocks};
+ghost use Rattle.als_disk.specs.Slot.{SameBlocks, IsSettled};
 ghost use Rattle.als_log.specs.History.{records_in};
 ghost use Rattle.als_log.specs.Held.{IsStored};
 ghost use Rattle.als_log.specs.declared.fault.Fault.TheVariants.{LogFull, Memory as OutOfMemory};
@@ -186,6 +207,7 @@ impl<D: BlockDisk> LocalLog<D> {
         requires fits { end ≤ 512 * D.block_count disk }
         requires few { D.block_count disk ≤ 4194304 }
         requires stored { IsStored (D.slot disk) (log_text pages (records_in history)) end end }
+        requires settled { (k : ℕ) → IsSettled (D.slot disk k) }
         ensures ok { IfOk result (λ l. l
             ≡ record {
               pages = pages;
@@ -466,6 +488,10 @@ impl<D: BlockDisk> LocalLog<D> {
             (log_text self.pages self.log) self.synced }
         ensures stored { AllHaveText (λ b. (D.slot result b).readable)
             (log_text self.pages self.log) self.written }
+        // A block that ends at or below the synced end, or begins above the written end, has one
+        // content.
+        ensures before { (k : ℕ) → 512 * k + 512 ≤ self.synced → IsSettled (D.slot result k) }
+        ensures beyond { (k : ℕ) → self.written < 512 * k → IsSettled (D.slot result k) }
         ensures count { D.block_count result ≡ self.blocks }
         ensures failures { D.failures result ≡ self.failures }
         ensures attempts { D.attempts result ≡ self.attempts }

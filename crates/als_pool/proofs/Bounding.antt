@@ -17,7 +17,8 @@ use Rattle.als_frames.specs.declared.fault.Fault.TheVariants.{PoolFull as FullFr
 use Rattle.als_frames.specs.Frames.{Framed, Paged, frame_of}
 use Rattle.als_frames.specs.Images.{lsn_or, synced_lsn}
 use Rattle.als_frames.specs.Outcomes.{IsReplaced, synced_frame}
-use Rattle.als_frames.specs.Batch.{AreNext, redone_frame}
+use Rattle.als_page.specs.Changes.{AreNext}
+use Rattle.als_frames.specs.Batch.{redone_frame}
 use Rattle.als_dirty.specs.Entries.{entry_of}
 use Rattle.als_pool.specs.declared.fault.Fault.{Fault}
 use Rattle.als_pool.specs.declared.fault.Fault.TheVariants.{LogBehind, PoolFull, NothingToDo, Device, Memory, BadPage}

@@ -10,7 +10,8 @@ use Rattle.als_record.proofs.PageLaws.{lsn-fold}
 use Rattle.als_frames.specs.Frames.{Framed, Paged, frame_of}
 use Rattle.als_frames.specs.Images.{lsn_or, lsn_now, synced_lsn}
 use Rattle.als_frames.specs.Outcomes.{PutsIn, IsReplaced}
-use Rattle.als_frames.specs.Batch.{AreNext, CanRedo, Redoes as FrameRedoes, redone_frame}
+use Rattle.als_page.specs.Changes.{AreNext}
+use Rattle.als_frames.specs.Batch.{CanRedo, Redoes as FrameRedoes, redone_frame}
 use Rattle.als_dirty.specs.declared.dirty_page.DirtyPage.{DirtyPage}
 use Rattle.als_pool.specs.Queues.{pending_of, above, count_up_to}
 use Rattle.als_pool.specs.Pooled.{Pooled, WaitsInOrder, IsPooled}

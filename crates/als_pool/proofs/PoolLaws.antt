@@ -11,7 +11,7 @@ use Rattle.als_record.specs.Pages.{change_of, changes_above, IsChangeAbove, IsFi
 use Rattle.als_record.proofs.PageLaws.{changes_on-same, changes_above-push, changes_above-fit, changes_above-cons, changes_above-head}
 use Rattle.als_frames.specs.Frames.{Framed, frame_of, slot_of}
 use Rattle.als_frames.specs.Images.{synced_lsn, synced_content, lsn_or, IsImageOf}
-use Rattle.als_frames.specs.Batch.{AreNext}
+use Rattle.als_page.specs.Changes.{AreNext}
 use Rattle.als_frames.proofs.Keeping.{each_image}
 use Rattle.als_frames.proofs.PageSteps.{oldest_image}
 use Rattle.als_dirty.specs.declared.dirty_page.DirtyPage.{DirtyPage}

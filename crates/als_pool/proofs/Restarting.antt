@@ -18,7 +18,7 @@ use Rattle.als_frames.specs.declared.fault.Fault.TheVariants.{PoolFull as FullFr
 use Rattle.als_frames.specs.Frames.{Framed, Paged, frame_of}
 use Rattle.als_frames.specs.Images.{lsn_or, synced_lsn}
 use Rattle.als_frames.specs.Outcomes.{IsReplaced, synced_frame}
-use Rattle.als_frames.specs.Batch.{AreNext}
+use Rattle.als_page.specs.Changes.{AreNext}
 use Rattle.als_dirty.specs.declared.dirty_page.DirtyPage.{DirtyPage}
 use Rattle.als_dirty.specs.Entries.{untouched_page, entry_of, first_of, after_record, after_write, after_sync, after_load}
 use Rattle.als_dirty.specs.Images.{first_lsn}

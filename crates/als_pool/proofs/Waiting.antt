@@ -6,7 +6,7 @@ use Rattle.als_record.specs.declared.lsn.Lsn.{Lsn}
 use Rattle.als_record.specs.declared.change.Change.{Change}
 use Rattle.als_record.specs.declared.record.Record.{Record}
 use Rattle.als_record.specs.Pages.{changes_on, changes_above, lsn_after, IsChangeAbove}
-use Rattle.als_frames.specs.Batch.{AreNext}
+use Rattle.als_page.specs.Changes.{AreNext}
 use Rattle.als_pool.specs.Queues.{count_up_to, above}
 
 above-in : (lsn : ℕ) (c : Change) (cs : List Change) → lsn < c.lsn.0 → above lsn (c ∷ cs) ≡ c ∷ above lsn cs

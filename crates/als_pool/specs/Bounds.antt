@@ -4,7 +4,7 @@ use Rattle.als_record.specs.declared.change.Change.{Change}
 use Rattle.als_record.specs.Pages.{lsn_after}
 use Rattle.als_frames.specs.Frames.{Framed, frame_of}
 use Rattle.als_frames.specs.Images.{lsn_or}
-use Rattle.als_frames.specs.Batch.{AreNext}
+use Rattle.als_page.specs.Changes.{AreNext}
 use Rattle.als_pool.specs.Queues.{pending_of}
 use Rattle.als_pool.specs.Pooled.{Pooled}
 

@@ -4,7 +4,7 @@ use Rattle.als_record.specs.declared.change.Change.{Change}
 use Rattle.als_record.specs.declared.lsn.Lsn.{Lsn}
 use Rattle.als_frames.specs.Frames.{Paged, frame_of}
 use Rattle.als_frames.specs.Images.{lsn_or, lsn_now, written_lsn, synced_lsn}
-use Rattle.als_frames.specs.Batch.{AreNext}
+use Rattle.als_page.specs.Changes.{AreNext}
 use Rattle.als_dirty.specs.declared.dirty_page.DirtyPage.{DirtyPage}
 use Rattle.als_dirty.specs.Entries.{untouched_page}
 use Rattle.als_dirty.specs.Rows.{rec_lsn_of}

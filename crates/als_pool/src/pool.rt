@@ -1,3 +1,23 @@
+//! The buffer pool: frames, the dirty page table, and the changes that wait for redo.
+//!
+//! ```text
+//! a page's changes in the log:   in the stored image | in the frame | waiting in the queue
+//!                                synced page_LSN       page_LSN       end of the log
+//! ```
+//!
+//! Rules:
+//! 1. A change of the log is routed: it waits behind the others of its page, which gets a row in
+//!    the dirty page table if it has none.
+//! 2. Redo takes the first changes that wait, so a page is history repeated up to its page_LSN.
+//! 3. Write-ahead logging: a page is written only where its page_LSN is below the acknowledged LSN.
+//! 4. A row moves at a sync, not at a write. RecLSN is the first change that the synced image
+//!    lacks, and a crash may leave that image.
+//! 5. A frame is replaced only where its page is the image last synced.
+//!
+//! Each call keeps "this is the pool of that log" for every log (`IsPoolOf`). No copy of the log is
+//! carried. After a restart the changes of a page that was not read yet wait from its row in the
+//! checkpoint on, or from the checkpoint's position: perhaps more than its image lacks.
+
 // What a pool is asked.
 mod asking;
 // A new pool, and the pool of a device that was laid out before.

@@ -1,4 +1,4 @@
-ghost use Rattle.std.specs.Prelude.{OnOk, IfErr};
+ghost use Rattle.std.specs.Prelude.{◌≡◌, ◌+◌, length, OnOk, IfOk, IfErr};
 ghost use Rattle.als_scan.specs.Scanned.{Scanned, IsScanned, IsWhole, RefusesNext};
 
 use crate::fault::Fault;
@@ -10,6 +10,8 @@ use als_disk::BlockDisk;
 pub fn read_all<D: BlockDisk>(scan: &mut Scan<D>) -> Result<u64, Fault>
     // The whole text is that of a valid log.
     ensures whole { OnOk result (IsWhole scan.new) }
+    // So many records were handed out.
+    ensures count { IfOk result (λ count. length scan.new.log ≡ length scan.old.log + count) }
     ensures fails { IfErr result (λ fault. (mid : Scanned) × RefusesNext mid fault scan.new) }
     ensures facts { IsScanned scan.new }
 {

@@ -115,7 +115,8 @@ impl<D: BlockDisk> Pool<D> {
 
     /// The first row of the dirty page table from a page on.
     pub fn next_row(&self, from: u32) -> Option<LoggedPage>
-        ensures { IsNextRow self.now.pool.dirty from result }
+        ensures row { IsNextRow self.now.pool.dirty from result }
+        ensures tabled { length self.now.pool.dirty ≡ length self.now.pool.waits }
     {
         self.dirty.next_row(from)
     }

@@ -12,7 +12,7 @@ invariant_of-self g c =
 pub invariant_of-self-2 : goal.invariant_of-self-2
 invariant_of-self-2 g c =
     let sure = ap (λ (v : Controlled). v.sure) c.self.view_is ∙ c.requires in
-    rw (c.in_ok-sync.ensures.count, c.note_synced.ensures)
+    rw (c.in_ok-sync.ensures.count, c.note_synced.ensures, c.none-self-inside.ensures.states, c.none-self-inside.ensures.sure)
     (IsKeeping-synced _ _ _ _ _ _ _ _ _ _ _ c.self.invariant sure (g.met.D.BlockDisk.gives_candidates c.self.inside.disk) c.in_ok-sync.ensures.ok)
 
 pub returns-clause-rises : goal.returns-clause-rises

@@ -1,0 +1,4 @@
+use Rattle.als_log.proofs.blocks.sync.Goals as goal
+
+pub returns-clause-settled : goal.returns-clause-settled
+returns-clause-settled g c k = ((c.in_ok-sync.ensures.ok k).content, (c.in_ok-sync.ensures.ok k).left)
