@@ -5,3 +5,4 @@ mod Warming
 mod WholeLogs
 mod Steps
 mod Texts
+mod Refusals

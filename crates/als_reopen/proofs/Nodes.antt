@@ -1,5 +1,5 @@
 -- Devices that hold a node are taken up with it.
-use Rattle.std.proofs.Common.{◌≡◌, ℕ, ◌*◌, ◌<◌, ◌≤◌, List, Option, None, Some, refl, sym, ap, subst, ◌∙◌, inl, inr, arith}
+use Rattle.std.proofs.Common.{◌≡◌, ◌⊎◌, ℕ, ◌*◌, ◌<◌, ◌≤◌, List, Option, None, Some, refl, sym, ap, subst, ◌∙◌, inl, inr, arith}
 use Rattle.std.specs.Prelude.{Contains, IfSome}
 use Rattle.als_record.specs.LogText.{log_text, end_of}
 use Rattle.als_disk.specs.Slot.{Slot}
@@ -19,6 +19,7 @@ use Rattle.als_reopen.specs.declared.fault.Fault.TheVariants.{Shape, Invalid, Ba
 use Rattle.als_reopen.specs.Node.{Node, HoldsLog, IsNode, position_in, rows_in}
 use Rattle.als_reopen.specs.Outcomes.{AreSettled, IsSync, said_now, IsBare, RefusesOpen}
 use Rattle.als_reopen.specs.Reading.{IsLogOn, CountsLog}
+use Rattle.als_reopen.specs.Refusing.{MeetsFirst}
 use Rattle.als_pool.specs.Restart.{HoldsImagesFrom}
 use Rattle.als_reopen.proofs.Devices.{synced_same}
 use Rattle.als_reopen.proofs.Texts.{length-text, text_stands}
@@ -64,6 +65,7 @@ holds_left pages blocks old new control control' n same same_control h =
     let whole : control' ≡ control = λ j k. same_control k j in
     let under : end_of n.log ≤ 512 * blocks = omega (arith, h.fits) in
     record {
+      count = h.count;
       control = subst (λ (slots : ℕ → Slot). HoldsControl pages (512 * blocks) slots n.said) whole h.control;
       text = text_left blocks (end_of n.log) old new (log_text pages n.log) same under h.text;
       ends = h.ends;
@@ -90,11 +92,21 @@ node_synced pages blocks blocks' old new control control' page page' n count set
 
 -- ---- why devices are not taken up
 
+-- a failed device or want of memory, or what would only be refused for these is not there
+pub bare_or : {X : Type 0} (fault : Fault) (x : X) (P : X → Node → Type 0) → ((n : Node) → P x n → IsBare fault) → IsBare fault ⊎ ((y : X) × ((n : Node) → P y n → ⊥))
+bare_or Device x P bare = inl (inl refl)
+bare_or Memory x P bare = inl (inr refl)
+bare_or (Shape shape) x P bare = inr (x, λ n h. elim (bare n h) [ inl e ↦ absurd cc | inr e ↦ absurd cc ])
+bare_or (Invalid cause) x P bare = inr (x, λ n h. elim (bare n h) [ inl e ↦ absurd cc | inr e ↦ absurd cc ])
+bare_or BadControl x P bare = inr (x, λ n h. elim (bare n h) [ inl e ↦ absurd cc | inr e ↦ absurd cc ])
+bare_or LogFull x P bare = inr (x, λ n h. elim (bare n h) [ inl e ↦ absurd cc | inr e ↦ absurd cc ])
+
 pub refuses : (fault : Fault) (pages blocks : ℕ) (log_slots control_slots : ℕ → Slot) (before now : ℕ) → CountsLog fault before now → ((n : Node) → HoldsLog pages blocks log_slots control_slots n → IsBare fault)
+    → MeetsFirst fault pages blocks log_slots control_slots
     → RefusesOpen fault pages blocks log_slots control_slots before now
-refuses Device pages blocks log_slots control_slots before now counts bare = counts
-refuses Memory pages blocks log_slots control_slots before now counts bare = counts
-refuses (Shape shape) pages blocks log_slots control_slots before now counts bare = (counts, λ n h. elim (bare n h) [ inl e ↦ absurd cc | inr e ↦ absurd cc ])
-refuses (Invalid cause) pages blocks log_slots control_slots before now counts bare = (counts, λ n h. elim (bare n h) [ inl e ↦ absurd cc | inr e ↦ absurd cc ])
-refuses BadControl pages blocks log_slots control_slots before now counts bare = (counts, λ n h. elim (bare n h) [ inl e ↦ absurd cc | inr e ↦ absurd cc ])
-refuses LogFull pages blocks log_slots control_slots before now counts bare = (counts, λ n h. elim (bare n h) [ inl e ↦ absurd cc | inr e ↦ absurd cc ])
+refuses Device pages blocks log_slots control_slots before now counts bare first = counts
+refuses Memory pages blocks log_slots control_slots before now counts bare first = counts
+refuses (Shape shape) pages blocks log_slots control_slots before now counts bare first = (counts, record { none = λ n h. elim (bare n h) [ inl e ↦ absurd cc | inr e ↦ absurd cc ]; first = first })
+refuses (Invalid cause) pages blocks log_slots control_slots before now counts bare first = (counts, record { none = λ n h. elim (bare n h) [ inl e ↦ absurd cc | inr e ↦ absurd cc ]; first = first })
+refuses BadControl pages blocks log_slots control_slots before now counts bare first = (counts, record { none = λ n h. elim (bare n h) [ inl e ↦ absurd cc | inr e ↦ absurd cc ]; first = first })
+refuses LogFull pages blocks log_slots control_slots before now counts bare first = (counts, record { none = λ n h. elim (bare n h) [ inl e ↦ absurd cc | inr e ↦ absurd cc ]; first = first })

@@ -15,8 +15,8 @@ use Rattle.als_analysis.specs.Open.{Open, rows_of as transaction_rows}
 use Rattle.als_ckpt_codec.specs.declared.checkpoint.Checkpoint.{Checkpoint}
 use Rattle.als_ckpt_codec.specs.declared.numbers.Numbers.{Numbers}
 use Rattle.als_scan.specs.Scanned.{Scanned, IsScanned, HandsOut, GivesNext, first_of}
-use Rattle.als_tables.specs.declared.tally.Tally.{Tally}
-use Rattle.als_tables.specs.Counting.{IsTallyOf}
+use Rattle.als_tables.specs.declared.commit_count.CommitCount.{CommitCount}
+use Rattle.als_tables.specs.Counting.{IsCountOf}
 use Rattle.als_tables.specs.Fronts.{IsCheckpointOf, IsOfFront}
 use Rattle.als_tables.proofs.Counts.{commit_count-few}
 use Rattle.als_frames.specs.Frames.{Paged}
@@ -40,7 +40,7 @@ end_low s f = omega (arith, f.size, ap length f.parts, length-append (log_text s
 pub few_records : (s : Scanned) → IsScanned s → length s.log ≤ 2147483648
 few_records s f = omega (arith, length-below_end s.log, end_low s f, f.high, f.few)
 
-pub few_counted : (s : Scanned) (count : Tally) → IsScanned s → IsTallyOf count s.log → (count.records < 4611686018427387904) × (count.commits < 4611686018427387904)
+pub few_counted : (s : Scanned) (count : CommitCount) → IsScanned s → IsCountOf count s.log → (count.records < 4611686018427387904) × (count.commits < 4611686018427387904)
 few_counted s count f h =
     let few = few_records s f in
     (omega (arith, few, h.records), omega (arith, few, h.commits, commit_count-few s.log))
@@ -74,7 +74,7 @@ handed old new r h f =
     let seen : IsLog old.pages (old.log ++ r ∷ []) = subst (λ (s : Scanned). IsLog s.pages s.log) h.after f.valid.text in
     record { is_log = seen; at = placed old.pages old.log r seen; fits = last-of (IsRecord old.pages) old.log r seen.records }
 
-module _ (checkpoint : Option Checkpoint) (s : Scanned) (pool : Pooled) (count : Tally) (reading : IsReading checkpoint s pool count) (r : Record) (h : Handed s.pages s.log r) where
+module _ (checkpoint : Option Checkpoint) (s : Scanned) (pool : Pooled) (count : CommitCount) (reading : IsReading checkpoint s pool count) (r : Record) (h : Handed s.pages s.log r) where
   page_count : length pool.waits ≡ s.pages
   page_count = sym reading.rows.paged ∙ reading.paged
 
@@ -93,9 +93,9 @@ module _ (checkpoint : Option Checkpoint) (s : Scanned) (pool : Pooled) (count :
       (omega (arith, reading.few, few_records s reading.facts))
 
   -- and it is taken in
-  pub read_on : (new : Scanned) (next : Pooled) (counted : Tally) → new ≡ record s { log = s.log ++ r ∷ [] } → IsScanned new → QueuesOf (s.log ++ r ∷ []) next
-      → HasRowsFrom (position_of checkpoint) (rows_of checkpoint) next → total_waiting next.waits ≤ total_waiting pool.waits + 1 → next.frames ≡ pool.frames → IsTallyOf counted (s.log ++ r ∷ []) → IsReading checkpoint new next counted
-  read_on new next counted is facts queues rows few frames tally =
+  pub read_on : (new : Scanned) (next : Pooled) (counted : CommitCount) → new ≡ record s { log = s.log ++ r ∷ [] } → IsScanned new → QueuesOf (s.log ++ r ∷ []) next
+      → HasRowsFrom (position_of checkpoint) (rows_of checkpoint) next → total_waiting next.waits ≤ total_waiting pool.waits + 1 → next.frames ≡ pool.frames → IsCountOf counted (s.log ++ r ∷ []) → IsReading checkpoint new next counted
+  read_on new next counted is facts queues rows few frames counts =
       let log : new.log ≡ s.log ++ r ∷ [] = ap (λ (x : Scanned). x.log) is in
       record {
         facts = facts;
@@ -103,7 +103,7 @@ module _ (checkpoint : Option Checkpoint) (s : Scanned) (pool : Pooled) (count :
         queues = subst (λ (l : List Record). QueuesOf l next) (sym log) queues;
         rows = rows;
         few = omega (arith, few, reading.few, ap (λ (l : List Record). length l) log, length-append s.log (r ∷ []));
-        counted = subst (IsTallyOf counted) (sym log) tally;
+        counted = subst (IsCountOf counted) (sym log) counts;
       }
 
 -- ---- fronts of the whole log

@@ -13,7 +13,7 @@ use Rattle.als_log.specs.Local.{Local}
 use Rattle.als_scan.specs.Scanned.{Scanned, IsScanned, IsWhole, taken_up}
 use Rattle.als_ckpt_codec.specs.declared.checkpoint.Checkpoint.{Checkpoint}
 use Rattle.als_ckpt.specs.declared.control_state.ControlState.{ControlState}
-use Rattle.als_tables.specs.declared.tally.Tally.{Tally}
+use Rattle.als_tables.specs.declared.commit_count.CommitCount.{CommitCount}
 use Rattle.als_tables.specs.Fronts.{IsOfFront}
 use Rattle.als_pool.specs.Pooled.{Held}
 use Rattle.als_reopen.specs.Outcomes.{IsReopened}
@@ -37,7 +37,7 @@ not_full blocks old new checkpoint on facts is whole h full =
     let same : new.log ≡ whole = whole_log old new whole on facts is h.valid h.text_is in
     omega (arith, full, h.fits, ap end_of same, ap reserve_of same)
 
-pub reopened : (blocks : ℕ) (old new : Scanned) (state : ControlState) (checkpoint : Option Checkpoint) (pool : Held) (count : Tally) (log : Local) (validator : Validator) (counted : Tally) (pooled : Held)
+pub reopened : (blocks : ℕ) (old new : Scanned) (state : ControlState) (checkpoint : Option Checkpoint) (pool : Held) (count : CommitCount) (log : Local) (validator : Validator) (counted : CommitCount) (pooled : Held)
     → ScansOn old new → IsReading checkpoint new pool.pool count → IsWhole new → IfSome checkpoint (IsOfFront new.log) → old.mark ≡ state.mark.0 → end_of new.log + reserve_of new.log ≤ 512 * blocks
     → log ≡ taken_up new log.room → IsValidatorOf new.pages validator new.log → pooled ≡ pool → counted ≡ count
     → IsReopened old.pages blocks (record { state = state; checkpoint = checkpoint }) log.log validator counted pooled.pool
@@ -58,5 +58,5 @@ reopened blocks old new state checkpoint pool count log validator counted pooled
       few = reading.few;
     } in
     subst (λ (l : List Record). IsReopened old.pages blocks (record { state = state; checkpoint = checkpoint }) l validator counted pooled.pool) (sym same)
-    (subst (λ (t : Tally). IsReopened old.pages blocks (record { state = state; checkpoint = checkpoint }) new.log validator t pooled.pool) (sym same_count)
+    (subst (λ (t : CommitCount). IsReopened old.pages blocks (record { state = state; checkpoint = checkpoint }) new.log validator t pooled.pool) (sym same_count)
     (subst (λ (p : Held). IsReopened old.pages blocks (record { state = state; checkpoint = checkpoint }) new.log validator count p.pool) (sym same_pool) made))

@@ -2,4 +2,5 @@ pub mod FaultNames
 pub mod Node
 pub mod Outcomes
 pub mod Reading
+pub mod Refusing
 pub mod Taken

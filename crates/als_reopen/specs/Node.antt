@@ -15,8 +15,9 @@ use Rattle.als_tables.specs.Fronts.{IsOfFront}
 use Rattle.als_pool.specs.Restart.{HoldsImagesFrom}
 use Rattle.als_reopen.specs.Taken.{IsTakenFrom}
 
--- What stopped devices hold: a control state with the checkpoint that it publishes, and a log.
+-- What stopped devices hold: a control state with the checkpoint that it publishes, and a log, on a device of so many blocks.
 pub record Node : Type 0 where
+  pub blocks : ℕ
   pub said : Said
   pub log : List Record
 
@@ -40,6 +41,7 @@ rows_in said = rows_of said.checkpoint
 -- The control device says the control state and its checkpoint. The text of the log stands below the mark, which is its end; the log is
 -- valid, and it fits the log device with the tail that a takeover would append. The checkpoint is that of a front of the log.
 pub record HoldsLog (pages blocks : ℕ) (log_slots control_slots : ℕ → Slot) (n : Node) : Type 0 where
+  pub count : n.blocks ≡ blocks
   pub control : HoldsControl pages (512 * blocks) control_slots n.said
   pub text : AllHaveText (λ b. (log_slots b).candidates) (log_text pages n.log) (end_of n.log)
   pub ends : end_of n.log ≡ n.said.state.mark.0

@@ -11,8 +11,8 @@ use Rattle.als_log.specs.Local.{Local}
 use Rattle.als_ckpt.specs.Regions.{Said, IsPublished}
 use Rattle.als_ckpt.specs.Control.{Controlled, IsControlState, said_of}
 use Rattle.als_ckpt.specs.Reading.{taken_up}
-use Rattle.als_tables.specs.declared.tally.Tally.{Tally}
-use Rattle.als_tables.specs.Counting.{IsTallyOf}
+use Rattle.als_tables.specs.declared.commit_count.CommitCount.{CommitCount}
+use Rattle.als_tables.specs.Counting.{IsCountOf}
 use Rattle.als_tables.specs.Fronts.{IsOfFront}
 use Rattle.als_frames.specs.Frames.{Paged, without_frames}
 use Rattle.als_pool.specs.Queues.{total_waiting}
@@ -22,6 +22,7 @@ use Rattle.als_pool.specs.Restart.{HasRowsFrom}
 use Rattle.als_reopen.specs.declared.fault.Fault.{Fault}
 use Rattle.als_reopen.specs.declared.fault.Fault.TheVariants.{Shape, Invalid, BadControl, LogFull, Device, Memory}
 use Rattle.als_reopen.specs.Node.{Node, HoldsLog, position_in, rows_in}
+use Rattle.als_reopen.specs.Refusing.{MeetsFirst}
 
 -- ---- devices
 
@@ -32,6 +33,15 @@ AreSettled slots = (k : ℕ) → IsSettled (slots k)
 -- after a sync each block keeps one content, one that a read might have given
 abbrev pub IsSync : (ℕ → Slot) → (ℕ → Slot) → Type 0
 IsSync old new = (k : ℕ) → KeepsReadable (old k) (new k)
+
+-- One outcome of a sync of three devices.
+pub record Synced (log control pages : ℕ → Slot) : Type 0 where
+  pub log_now : ℕ → Slot
+  pub control_now : ℕ → Slot
+  pub pages_now : ℕ → Slot
+  pub log_kept : IsSync log log_now
+  pub control_kept : IsSync control control_now
+  pub pages_kept : IsSync pages pages_now
 
 -- a block is as it was, or it keeps one content that a read might have given
 abbrev pub IsLeft : Slot → Slot → Type 0
@@ -78,13 +88,13 @@ pub record AreUnread (pages most : ℕ) (old : ℕ → Slot) (blocks failures at
 
 -- The log is valid and ends at the mark; it fits the device with the tail that a takeover would append; and the checkpoint is that of a
 -- front of it. The validator and the counts are those of the log, and what waits for each page are its changes from where a restart looks.
-pub record IsReopened (pages blocks : ℕ) (said : Said) (log : List Record) (validator : Validator) (count : Tally) (pool : Pooled) : Type 0 where
+pub record IsReopened (pages blocks : ℕ) (said : Said) (log : List Record) (validator : Validator) (count : CommitCount) (pool : Pooled) : Type 0 where
   pub valid : IsValidLog pages log
   pub ends : end_of log ≡ said.state.mark.0
   pub fits : end_of log + reserve_of log ≤ 512 * blocks
   pub front : IfSome said.checkpoint (IsOfFront log)
   pub judged : IsValidatorOf pages validator log
-  pub counted : IsTallyOf count log
+  pub counted : IsCountOf count log
   pub pages_are : length pool.waits ≡ pages
   pub queues : QueuesOf log pool
   pub rows : HasRowsFrom (position_in said) (rows_in said) pool
@@ -92,18 +102,19 @@ pub record IsReopened (pages blocks : ℕ) (said : Said) (log : List Record) (va
 
 -- ---- why not
 
--- By the fault: a device has failed; or a growth was refused; or the devices, as they are handed back, hold no log.
+-- Devices hold no log, and this fault is the first that is met in reading them: control block, checkpoint, header, records, room.
+pub record HoldsNone (fault : Fault) (pages blocks : ℕ) (log_slots control_slots : ℕ → Slot) : Type 0 where
+  pub none : (n : Node) → HoldsLog pages blocks log_slots control_slots n → ⊥
+  pub first : MeetsFirst fault pages blocks log_slots control_slots
+
+-- By the fault: a device has failed; or a growth was refused; or the devices, as they are handed back, hold no log, for this fault.
 abbrev pub RefusesOpen : Fault → ℕ → ℕ → (ℕ → Slot) → (ℕ → Slot) → ℕ → ℕ → Type 0
 RefusesOpen Device pages blocks log_slots control_slots before now = before < now
 RefusesOpen Memory pages blocks log_slots control_slots before now = now ≡ before
-RefusesOpen (Shape shape) pages blocks log_slots control_slots before now =
-    (now ≡ before) × ((n : Node) → HoldsLog pages blocks log_slots control_slots n → ⊥)
-RefusesOpen (Invalid cause) pages blocks log_slots control_slots before now =
-    (now ≡ before) × ((n : Node) → HoldsLog pages blocks log_slots control_slots n → ⊥)
-RefusesOpen BadControl pages blocks log_slots control_slots before now =
-    (now ≡ before) × ((n : Node) → HoldsLog pages blocks log_slots control_slots n → ⊥)
-RefusesOpen LogFull pages blocks log_slots control_slots before now =
-    (now ≡ before) × ((n : Node) → HoldsLog pages blocks log_slots control_slots n → ⊥)
+RefusesOpen (Shape shape) pages blocks log_slots control_slots before now = (now ≡ before) × HoldsNone (Shape shape) pages blocks log_slots control_slots
+RefusesOpen (Invalid cause) pages blocks log_slots control_slots before now = (now ≡ before) × HoldsNone (Invalid cause) pages blocks log_slots control_slots
+RefusesOpen BadControl pages blocks log_slots control_slots before now = (now ≡ before) × HoldsNone BadControl pages blocks log_slots control_slots
+RefusesOpen LogFull pages blocks log_slots control_slots before now = (now ≡ before) × HoldsNone LogFull pages blocks log_slots control_slots
 
 -- why devices that hold a log are not taken up: a device has failed, or a growth was refused
 abbrev pub IsBare : Fault → Type 0

@@ -9,8 +9,8 @@ use Rattle.als_disk.specs.Slot.{Slot}
 use Rattle.als_frames.specs.Frames.{Paged, slot_of}
 use Rattle.als_scan.specs.Texts as scan
 use Rattle.als_scan.specs.Scanned.{Scanned, IsScanned}
-use Rattle.als_tables.specs.declared.tally.Tally.{Tally}
-use Rattle.als_tables.specs.Counting.{IsTallyOf}
+use Rattle.als_tables.specs.declared.commit_count.CommitCount.{CommitCount}
+use Rattle.als_tables.specs.Counting.{IsCountOf}
 use Rattle.als_tables.specs.Fronts.{IsOfFront}
 use Rattle.als_pool.specs.Queues.{total_waiting}
 use Rattle.als_pool.specs.Pooled.{Pooled}
@@ -21,13 +21,13 @@ use Rattle.als_reopen.specs.declared.fault.Fault.TheVariants.{Shape, Invalid, Ba
 use Rattle.als_reopen.specs.Node.{position_of, rows_of}
 
 -- The records handed out are counted, and their changes wait, each from where a restart with this checkpoint looks for those of its page.
-pub record IsReading (checkpoint : Option Checkpoint) (s : Scanned) (pool : Pooled) (count : Tally) : Type 0 where
+pub record IsReading (checkpoint : Option Checkpoint) (s : Scanned) (pool : Pooled) (count : CommitCount) : Type 0 where
   pub facts : IsScanned s
   pub paged : pool.frames.pages ≡ s.pages
   pub queues : QueuesOf s.log pool
   pub rows : HasRowsFrom (position_of checkpoint) (rows_of checkpoint) pool
   pub few : total_waiting pool.waits ≤ length s.log
-  pub counted : IsTallyOf count s.log
+  pub counted : IsCountOf count s.log
 
 -- the checkpoint's position was met, and it is that of a front of these records; or they do not end past its position
 abbrev pub IsMet : Bool → List Record → Option Checkpoint → Type 0

@@ -1,7 +1,7 @@
 // The checkpoint of a front of the log, compared with that front.
 ghost use Rattle.std.specs.Prelude.{◌≡◌, true, false, MatchBool, IfOk, IfErr};
 ghost use Rattle.als_scan.specs.Scanned.{IsScanned};
-ghost use Rattle.als_tables.specs.Counting.{IsTallyOf};
+ghost use Rattle.als_tables.specs.Counting.{IsCountOf};
 ghost use Rattle.als_tables.specs.Fronts.{numbers_of, IsCheckpointOf};
 
 use crate::fault::Fault;
@@ -9,12 +9,12 @@ use als_ckpt_codec::{Checkpoint, Numbers};
 use als_disk::BlockDisk;
 use als_record::LoggedTransaction;
 use als_scan::Scan;
-use als_tables::{Tally, fits_checkpoint, logged_rows};
+use als_tables::{CommitCount, fits_checkpoint, logged_rows};
 use std::alloc::Global;
 
 /// The numbers of the records handed out.
-fn numbers<D: BlockDisk>(scan: &Scan<D>, count: &Tally) -> Numbers
-    requires { IsTallyOf count.now scan.now.log }
+fn numbers<D: BlockDisk>(scan: &Scan<D>, count: &CommitCount) -> Numbers
+    requires { IsCountOf count.now scan.now.log }
     ensures { result ≡ numbers_of scan.now.log }
 {
     let validator = scan.validator();
@@ -50,11 +50,11 @@ fn are_same_rows(a: &[LoggedTransaction], b: &[LoggedTransaction]) -> bool
 pub(crate) fn is_checkpoint_of<D: BlockDisk>(
     alloc: Global,
     scan: &Scan<D>,
-    count: &Tally,
+    count: &CommitCount,
     checkpoint: &Checkpoint,
 ) -> Result<bool, Fault>
     requires facts { IsScanned scan.now }
-    requires counted { IsTallyOf count.now scan.now.log }
+    requires counted { IsCountOf count.now scan.now.log }
     ensures ok { IfOk result (λ is. MatchBool is (IsCheckpointOf scan.now.log checkpoint.now)
         (IsCheckpointOf scan.now.log checkpoint.now → ⊥)) }
     ensures err { IfErr result (λ fault. fault ≡ Fault.Memory) }

@@ -15,6 +15,7 @@ ghost use Rattle.als_reopen.specs.Outcomes.{AreSettled, all_synced, IsReopened, 
 ghost use Rattle.als_reopen.specs.Reading.{IsReading, IsMet};
 ghost use Rattle.als_reopen.specs.Reading.{IsLogOn, IsFrontOf, KeepsImages, IsBelowMark, CountsLog};
 ghost use Rattle.als_reopen.specs.Reading.{IsScanLeft, IsPoolLeft, IsDiskLeft, IsPoolOpened};
+ghost use Rattle.als_reopen.specs.Refusing.{RefusesText, RefusesScan};
 
 use crate::fault::Fault;
 use crate::read_log::ReadLog;
@@ -26,7 +27,7 @@ use als_disk::BlockDisk;
 use als_pool::Pool;
 use als_record::{LoggedPage, Lsn};
 use als_scan::{Scan, Unread};
-use als_tables::Tally;
+use als_tables::CommitCount;
 use als_view::View;
 use std::alloc::Global;
 
@@ -94,6 +95,7 @@ fn finish<D: BlockDisk>(
     ensures bare { (whole : List AnyRecord)
         → IsLogOn reading.scan.pages blocks reading.scan.mark reading.scan.text checkpoint.now whole
         → IsFrontOf reading.scan.log whole → IfErr result (λ u. IsBare u.fault) }
+    ensures refuses { IfErr result (λ u. RefusesScan u.fault reading.scan checkpoint.now) }
     ensures failures { IfErr result (λ u. CountsLog u.fault reading.scan.failures
         (D.failures u.log)) }
     ensures left_log { IfErr result (λ u. IsScanLeft reading.scan (D.slot u.log)
@@ -173,6 +175,8 @@ fn begin<D: BlockDisk>(
     ensures pool { IfOk result (λ r. r.pool ≡ pool) }
     ensures bare { (whole : List AnyRecord) → IsValidLog pages whole
         → text_of (D.slot log) mark.0 ≡ log_text pages whole → IfErr result (λ u. IsBare u.fault) }
+    ensures refuses { IfErr result (λ u. RefusesText u.fault pages (D.block_count log) mark.0
+        (text_of (D.slot log) mark.0) checkpoint.now) }
     ensures failures { IfErr result (λ u. CountsLog u.fault (D.failures log) (D.failures u.log)) }
     ensures left_log { IfErr result (λ u. IsDiskLeft (D.block_count log) (D.slot log) (D.slot u.log)
         (D.block_count log) (D.attempts log)
@@ -194,7 +198,7 @@ fn begin<D: BlockDisk>(
         Ok(scan) => Ok(Reading {
             scan,
             pool,
-            count: Tally::new(),
+            count: CommitCount::new(),
             view,
             met: false,
         }),
@@ -251,6 +255,9 @@ pub(crate) fn read_log<D: BlockDisk>(
         → IsLogOn pages (D.block_count log) state.mark.0
         (text_of (D.slot log) state.mark.0) checkpoint.now whole
         → IfErr result (λ u. IsBare u.fault) }
+    // Over any text the fault is the first that is met in it.
+    ensures refuses { IfErr result (λ u. RefusesText u.fault pages (D.block_count log) state.mark.0
+        (text_of (D.slot log) state.mark.0) checkpoint.now) }
     ensures failures { IfErr result (λ u. CountsLog u.fault (D.failures log) (D.failures u.log)
         × (D.failures u.pages ≡ D.failures page_disk)) }
     ensures left_log { IfErr result (λ u. IsDiskLeft (D.block_count log) (D.slot log) (D.slot u.log)

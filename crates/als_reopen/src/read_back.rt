@@ -7,6 +7,7 @@ ghost use Rattle.als_reopen.specs.Node.{Node, HoldsLog, IsNode};
 ghost use Rattle.als_reopen.specs.Outcomes.{AreSettled, all_synced, said_now, IsControlRead};
 ghost use Rattle.als_reopen.specs.Outcomes.{IsReopened, IsBare};
 ghost use Rattle.als_reopen.specs.Reading.{CountsLog, IsDiskLeft};
+ghost use Rattle.als_reopen.specs.Refusing.{MeetsFirst};
 
 use crate::disks::Disks;
 use crate::fault::Fault;
@@ -50,6 +51,8 @@ pub(crate) fn read_back<D: BlockDisk>(
         → IfOk result (λ x. (x.log.log ≡ n.log) × (said_now x.control ≡ n.said)) }
     ensures bare { (n : Node) → HoldsLog pages (D.block_count disks.log) (D.slot disks.log)
         (D.slot disks.control) n → IfErr result (λ u. IsBare u.fault) }
+    ensures first { IfErr result (λ u. MeetsFirst u.fault pages (D.block_count disks.log)
+        (D.slot disks.log) (D.slot disks.control)) }
     ensures warm { (n : Node) → IsNode pages (D.block_count disks.log) (D.slot disks.log)
         (D.slot disks.control) (D.slot disks.pages) n
         → IfOk result (λ x. IsPoolOf n.log n.said.state.mark.0 x.pool.pool) }

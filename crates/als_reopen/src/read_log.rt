@@ -5,7 +5,7 @@ use als_ckpt::Control;
 use als_disk::BlockDisk;
 use als_log::LocalLog;
 use als_pool::Pool;
-use als_tables::Tally;
+use als_tables::CommitCount;
 use als_validator::Validator;
 use als_view::View;
 
@@ -14,7 +14,7 @@ pub(crate) struct ReadLog<D: BlockDisk> {
     pub(crate) log: LocalLog<D>,
     pub(crate) pool: Pool<D>,
     pub(crate) validator: Validator,
-    pub(crate) count: Tally,
+    pub(crate) count: CommitCount,
     pub(crate) view: View,
 }
 

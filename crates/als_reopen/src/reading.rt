@@ -12,6 +12,7 @@ ghost use Rattle.als_reopen.specs.Outcomes.{IsBare};
 ghost use Rattle.als_reopen.specs.Reading.{IsReading, IsMet, IsMetBefore};
 ghost use Rattle.als_reopen.specs.Reading.{ScansOn, KeepsImages, IsOneMore, IsFrontOf};
 ghost use Rattle.als_reopen.specs.Reading.{CountsDevice, CountsLog, IsScanLeft, IsPoolLeft};
+ghost use Rattle.als_reopen.specs.Refusing.{IsChecked, IsUnmet, RefusesScan};
 
 use crate::committing::take_commit;
 use crate::comparing::is_checkpoint_of;
@@ -23,7 +24,7 @@ use als_ckpt_codec::Checkpoint;
 use als_disk::BlockDisk;
 use als_pool::{Pool, change_can_be_read};
 use als_scan::{Scan, Unread};
-use als_tables::Tally;
+use als_tables::CommitCount;
 use als_view::View;
 use std::alloc::Global;
 
@@ -32,7 +33,7 @@ use std::alloc::Global;
 pub(crate) struct Reading<D: BlockDisk> {
     pub(crate) scan: Scan<D>,
     pub(crate) pool: Pool<D>,
-    pub(crate) count: Tally,
+    pub(crate) count: CommitCount,
     /// The commits of the records, which wait for the readers.
     pub(crate) view: View,
     /// The position of the checkpoint was met, and it is that of the records in front of it.
@@ -68,7 +69,8 @@ fn meet<D: BlockDisk>(
         reading.now.count }
     requires met { IsMet reading.now.met reading.now.scan.log checkpoint.now }
     ensures ok { IfOk result (λ met. IsMetBefore met reading.now.scan.log checkpoint.now) }
-    ensures err { IfErr result (λ fault. (fault ≡ Fault.Memory) ⊎ (fault ≡ Fault.BadControl)) }
+    ensures err { IfErr result (λ fault. (fault ≡ Fault.Memory) ⊎ ((fault ≡ Fault.BadControl)
+        × IsUnmet checkpoint.now reading.now.scan.log)) }
     ensures bare { (whole rest : List AnyRecord) → whole ≡ reading.now.scan.log ++ rest
         → IfSome checkpoint.now (IsOfFront whole)
         → IfErr result (λ fault. fault ≡ Fault.Memory) }
@@ -130,6 +132,9 @@ impl<D: BlockDisk> Reading<D> {
         ensures bare { (whole : List AnyRecord) → IsValidLog self.old.scan.pages whole
             → self.old.scan.text ≡ log_text self.old.scan.pages whole
             → IfErr result IsBare }
+        // Over any text the fault is that of the record behind those handed out.
+        ensures refuses { IsChecked checkpoint.now self.old.scan.log
+            → IfErr result (λ fault. RefusesScan fault self.old.scan checkpoint.now) }
         ensures front { (whole : List AnyRecord) → IsValidLog self.old.scan.pages whole
             → self.old.scan.text ≡ log_text self.old.scan.pages whole
             → OnOk result (IsFrontOf self.new.scan.log whole) }
@@ -170,6 +175,7 @@ impl<D: BlockDisk> Reading<D> {
             → self.old.scan.text ≡ log_text self.old.scan.pages whole
             → IsFrontOf self.old.scan.log whole → IfSome checkpoint.now (IsOfFront whole)
             → IfErr result IsBare }
+        ensures refuses { IfErr result (λ fault. RefusesScan fault self.old.scan checkpoint.now) }
         ensures front { (whole : List AnyRecord) → IsValidLog self.old.scan.pages whole
             → self.old.scan.text ≡ log_text self.old.scan.pages whole
             → OnOk result (IsFrontOf self.new.scan.log whole) }
@@ -206,6 +212,7 @@ impl<D: BlockDisk> Reading<D> {
             → self.old.scan.text ≡ log_text self.old.scan.pages whole
             → IsFrontOf self.old.scan.log whole → IfSome checkpoint.now (IsOfFront whole)
             → IfErr result IsBare }
+        ensures refuses { IfErr result (λ fault. RefusesScan fault self.old.scan checkpoint.now) }
     {
         let mut more = true;
         while more {

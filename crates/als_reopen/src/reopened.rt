@@ -4,7 +4,7 @@ use als_ckpt::Control;
 use als_disk::BlockDisk;
 use als_log::LocalLog;
 use als_pool::Pool;
-use als_tables::Tally;
+use als_tables::CommitCount;
 use als_validator::Validator;
 use als_view::View;
 
@@ -19,7 +19,7 @@ pub struct Reopened<D: BlockDisk> {
     /// What a validator keeps of the log.
     pub validator: Validator,
     /// The log's records, counted.
-    pub count: Tally,
+    pub count: CommitCount,
     /// The log's commits, which all wait; readers have no list yet.
     pub view: View,
 }
@@ -45,7 +45,16 @@ impl<D: BlockDisk + Drop> Drop for Reopened<D> {
 
 impl<D: BlockDisk> Reopened<D> {
     /// The log, the control state, the pages, the validator, the counts and the view.
-    pub fn into_parts(self) -> (LocalLog<D>, Control<D>, Pool<D>, Validator, Tally, View)
+    pub fn into_parts(
+        self,
+    ) -> (
+        LocalLog<D>,
+        Control<D>,
+        Pool<D>,
+        Validator,
+        CommitCount,
+        View,
+    )
         ensures { (result.0 ≡ self.log) × (result.1 ≡ self.control) × (result.2 ≡ self.pool)
             × (result.3 ≡ self.validator) × (result.4 ≡ self.count)
             × (result.5 ≡ self.view) }

@@ -1,9 +1,10 @@
 // Stopped devices are synced, and read.
-ghost use Rattle.std.specs.Prelude.{◌≡◌, ℕ, ◌<◌, ◌≤◌, ◌+◌, IfOk, IfErr};
+ghost use Rattle.std.specs.Prelude.{◌≡◌, ◌⊎◌, ℕ, ◌<◌, ◌≤◌, ◌+◌, IfOk, IfErr};
 ghost use Rattle.als_pool.specs.Images.{IsPoolOf};
 ghost use Rattle.als_view.specs.Showing.{IsWarming};
 ghost use Rattle.als_reopen.specs.Node.{Node, HoldsLog, IsNode};
 ghost use Rattle.als_reopen.specs.Outcomes.{AreSettled, AreLeft, IsOnceAtMost, all_synced};
+ghost use Rattle.als_reopen.specs.Outcomes.{Synced};
 ghost use Rattle.als_reopen.specs.Outcomes.{said_now, IsControlRead, AreUnread, IsReopened};
 ghost use Rattle.als_reopen.specs.Outcomes.{RefusesOpen, IsBare};
 
@@ -61,6 +62,19 @@ pub fn reopen<D: BlockDisk>(
         → IsNode pages (D.block_count disks.log) (D.slot disks.log) (D.slot disks.control)
         (D.slot disks.pages) n
         → IfOk result (λ x. IsPoolOf n.log n.said.state.mark.0 x.pool.pool) }
+    // Devices that were not synced are taken up by one outcome of the sync: by one content of each
+    // block, which a read might have given.
+    ensures synced { IfOk result (λ x. (kept : Synced (D.slot disks.log) (D.slot disks.control)
+        (D.slot disks.pages))
+        × ((n : Node) → HoldsLog pages (D.block_count disks.log) kept.log_now kept.control_now n
+        → (x.log.log ≡ n.log) × (said_now x.control ≡ n.said))
+        × ((n : Node) → IsNode pages (D.block_count disks.log) kept.log_now kept.control_now
+        kept.pages_now n → IsPoolOf n.log n.said.state.mark.0 x.pool.pool)) }
+    // A failed device or want of memory is in the way, or there is an outcome that holds no log.
+    ensures unsynced { IfErr result (λ u. IsBare u.fault
+        ⊎ ((kept : Synced (D.slot disks.log) (D.slot disks.control) (D.slot disks.pages))
+        × ((n : Node) → HoldsLog pages (D.block_count disks.log) kept.log_now kept.control_now n
+        → ⊥))) }
     ensures err { IfErr result (λ u. RefusesOpen u.fault pages (D.block_count disks.log)
         (D.slot u.disks.log) (D.slot u.disks.control)
         (D.failures disks.log + D.failures disks.control + D.failures disks.pages)

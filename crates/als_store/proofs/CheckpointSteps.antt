@@ -23,7 +23,7 @@ use Rattle.als_ckpt.specs.Control.{IsBeginning}
 use Rattle.als_dirty.specs.Rows.{rows_of}
 use Rattle.als_tables.specs.Copies.{logged_rows}
 use Rattle.als_store.proofs.CheckpointRows.{few_rows, rows_rise}
-use Rattle.als_tables.specs.declared.tally.Tally.{Tally}
+use Rattle.als_tables.specs.declared.commit_count.CommitCount.{CommitCount}
 use Rattle.als_ckpt_codec.specs.declared.checkpoint.Checkpoint.{Checkpoint}
 use Rattle.als_validator.specs.declared.validator.Validator.{Validator}
 use Rattle.als_log.specs.Local.{Local, IsLocal}
@@ -86,7 +86,7 @@ pub length_logged : (rows : List TransactionRow) → length (logged_rows rows) �
 length_logged [] = refl
 length_logged (r ∷ rows) = ap (λ (n : ℕ). suc n) (length_logged rows)
 
-module _ (pages : ℕ) (held : Tally) (l : Local) (c : Controlled) (pool : Pooled)
+module _ (pages : ℕ) (held : CommitCount) (l : Local) (c : Controlled) (pool : Pooled)
     (validator : Validator) (broken : Bool) (origin : Origin) (recovering : Bool)
     (h : IsStored pages l held c pool validator broken origin recovering) where
   pub stored-begun : (c' : Controlled) (chk : Checkpoint)

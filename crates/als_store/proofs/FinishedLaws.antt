@@ -1,19 +1,19 @@
 -- What a finished takeover leaves.
-use Rattle.std.proofs.Common.{◌≡◌, ℕ, ◌-◌, ◌<◌, ◌≤◌, nat_lt, Bool, true, false, List, [], ◌∷◌, length, filter, map, Option, Some, None, refl, sym, ap, subst, ◌∙◌, inl, inr, arith, lt-ltb}
+use Rattle.std.proofs.Common.{◌≡◌, ℕ, ◌-◌, ◌<◌, ◌≤◌, nat_lt, Bool, true, false, List, [], ◌∷◌, length, filter, Option, Some, None, refl, sym, ap, subst, ◌∙◌, inl, inr, arith, lt-ltb}
 use Rattle.std.specs.List.{AllByRecursion}
 use Rattle.std.proofs.lemmas.Bool.{cases_Bool}
 use Rattle.als_record.specs.declared.change.Change.{Change}
 use Rattle.als_record.specs.declared.key.Key.{Key}
 use Rattle.als_record.specs.declared.lsn.Lsn.{Lsn}
 use Rattle.als_record.specs.declared.record.Record.{Record}
-use Rattle.als_record.specs.Images.{won, image_now}
+use Rattle.als_record.specs.Images.{kept, image_now}
 use Rattle.als_record.specs.Pages.{changes_on, changes_above}
-use Rattle.als_record.specs.Table.{row_of, table_of}
-use Rattle.als_record.specs.Tail.{tail_of}
-use Rattle.als_record.specs.Transactions.{unended}
+use Rattle.als_record.specs.Table.{table_of, is_closed}
+use Rattle.als_record.specs.Tail.{tail_of, is_undone}
 use Rattle.als_record.specs.Validity.{IsValidLog}
 use Rattle.als_record.proofs.PageImages.{page_at-image_now}
-use Rattle.als_record.proofs.TailFirst.{unended-tail_of, IsValidLog-front}
+use Rattle.als_record.proofs.TailFirst.{is_undone-tail_of, IsValidLog-front}
+use Rattle.als_record.proofs.Unended.{is_closed-table_of}
 use Rattle.als_record.proofs.Takeover.{tail_of-takes_over, image_now-without_tail}
 use Rattle.als_validator.specs.declared.validator.Validator.{Validator}
 use Rattle.als_log.specs.Local.{Local}
@@ -32,7 +32,7 @@ use Rattle.als_store.specs.Origin.{Origin, origin_of}
 use Rattle.als_store.specs.Warm.{IsWarm}
 use Rattle.als_store.specs.Parts.{IsStored, stored_of}
 use Rattle.als_store.proofs.TakeoverLaws.{contains_last, done_primary, taken_over-whole}
-use Rattle.als_tables.specs.declared.tally.Tally.{Tally}
+use Rattle.als_tables.specs.declared.commit_count.CommitCount.{CommitCount}
 
 nothing : {X : Type 0} (xs : List X) → length xs ≤ 0 → xs ≡ []
 nothing [] le = refl
@@ -74,36 +74,32 @@ page_has_all log v page (Some from) is none =
     ap (λ (f : Option Framed). changes_above log page (lsn_or f (synced_lsn v.frames page))) is.absent
     ∙ lacks_none log page (synced_lsn v.frames page) from.0 (omega (arith, is.first)) is.lacks (sym is.wait ∙ none)
 
-table_none : (log : List Record) → unended log ≡ [] → table_of log ≡ []
-unfolding table_of
-table_none log e = ap (map (row_of log)) e
-
-module _ (pages : ℕ) (held : Tally) (l : Local) (c : Controlled) (pool : Pooled) (validator : Validator) (broken : Bool) (origin : Origin) (recovering : Bool) (h : IsStored pages l held c pool validator broken origin recovering) (was : IsWarm true origin) (ready : recovering ≡ false) (done : is_done (newest c).phase ≡ true) where
+module _ (pages : ℕ) (held : CommitCount) (l : Local) (c : Controlled) (pool : Pooled) (validator : Validator) (broken : Bool) (origin : Origin) (recovering : Bool) (h : IsStored pages l held c pool validator broken origin recovering) (was : IsWarm true origin) (ready : recovering ≡ false) (done : is_done (newest c).phase ≡ true) where
   warm : IsWarm recovering (origin_of l c pool)
   warm = h.warm was
 
   over : IsTakenOver l.log (newest c).mark.0 (newest c).seal.0
   over = subst (λ (p : Phase). IsTaken p l.log (newest c).mark.0 (newest c).seal.0) (done_primary (newest c).phase done) (warm.taken.each (newest c) (contains_last c.synced c.since))
 
-  ended : unended l.log ≡ []
-  ended = unended-tail_of l.log (taken_over-whole l.log (newest c).mark.0 (newest c).seal.0 over)
+  undone : is_undone l.log ≡ true
+  undone = is_undone-tail_of l.log (taken_over-whole l.log (newest c).mark.0 (newest c).seal.0 over)
 
   sealed_valid : IsValidLog pages over.sealed
   sealed_valid = IsValidLog-front pages over.sealed (tail_of over.sealed) (subst (IsValidLog pages) over.parts h.is_log)
 
-  now_won : (k : Key) → image_now l.log k ≡ won over.sealed k
-  now_won k = ap (λ (log : List Record). image_now log k) over.parts ∙ (tail_of-takes_over over.sealed sealed_valid.valid).images k
+  now_kept : (k : Key) → image_now l.log k ≡ kept over.sealed k
+  now_kept k = ap (λ (log : List Record). image_now log k) over.parts ∙ (tail_of-takes_over over.sealed sealed_valid.valid).images k
 
   pub finished : IsFinished (stored_of pages l c pool broken origin recovering)
   finished = record {
     sealed = over.sealed;
     ends = over.ends;
     parts = over.parts;
-    table = table_none l.log ended;
+    table = is_closed-table_of l.log ∙ undone;
     images = λ k in_range low.
         let lt : k.page < length pool.waits = omega (arith, h.paged.count, in_range) in
         page_at-image_now l.log k (lsn_now pool.frames k.page) low
         (page_has_all l.log pool k.page (unread_of pool.unread k.page) (warm.is_pool.each k.page lt) (none_waits pool.waits k.page lt (warm.taken.drained ready done)))
-        ∙ now_won k;
-    same = λ k. sym (image_now-without_tail l.log h.is_log.valid ended k) ∙ now_won k;
+        ∙ now_kept k;
+    same = λ k. sym (image_now-without_tail l.log h.is_log.valid undone k) ∙ now_kept k;
   }

@@ -12,9 +12,9 @@ use Rattle.als_pool.specs.Pooled.{Pooled}
 use Rattle.als_store.specs.Origin.{Origin}
 use Rattle.als_store.specs.Parts.{IsStored, stored_of}
 use Rattle.als_store.specs.Devices.{AreKept, IsControlOf}
-use Rattle.als_tables.specs.declared.tally.Tally.{Tally}
+use Rattle.als_tables.specs.declared.commit_count.CommitCount.{CommitCount}
 
-module _ (pages : ℕ) (held : Tally) (l : Local) (c : Controlled) (pool : Pooled)
+module _ (pages : ℕ) (held : CommitCount) (l : Local) (c : Controlled) (pool : Pooled)
     (validator : Validator) (broken : Bool) (origin : Origin) (recovering : Bool)
     (h : IsStored pages l held c pool validator broken origin recovering) (local : IsLocal l)
     (controlled : IsControlled c) where

@@ -30,7 +30,7 @@ use Rattle.als_ckpt.specs.Regions.{Said, Held, Begun, held_at, IsPublished}
 use Rattle.als_ckpt.specs.Control.{Controlled, said_of, IsPosition, IsSeal, IsControlled}
 use Rattle.als_ckpt.specs.Control.{IsControlState}
 use Rattle.als_ckpt.specs.Holding.{HoldsControl, HoldsOneOf, LeavesOneOf}
-use Rattle.als_tables.specs.declared.tally.Tally.{Tally}
+use Rattle.als_tables.specs.declared.commit_count.CommitCount.{CommitCount}
 use Rattle.als_tables.specs.Fronts.{IsOfFront}
 use Rattle.als_frames.specs.Frames.{slot_of}
 use Rattle.als_pool.specs.Pooled.{Pooled}
@@ -185,7 +185,7 @@ covers_in : (log : List Record) (pool : Pooled) (o : Option Checkpoint)
 covers_in log pool None none is = none
 covers_in log pool (Some c) none is = is.covers
 
-module _ (pages : ℕ) (held : Tally) (l : Local) (c : Controlled) (pool : Pooled)
+module _ (pages : ℕ) (held : CommitCount) (l : Local) (c : Controlled) (pool : Pooled)
     (validator : Validator) (broken : Bool) (origin : Origin) (recovering : Bool)
     (h : IsStored pages l held c pool validator broken origin recovering)
     (controlled : IsControlled c) (was : IsWarm true origin)
@@ -259,9 +259,10 @@ module _ (pages : ℕ) (held : Tally) (l : Local) (c : Controlled) (pool : Poole
       (pages_left page)))
 
   holds_log : HoldsLog pages l.blocks left_log left_control
-      (record { said = said; log = front.front })
+      (record { blocks = l.blocks; said = said; log = front.front })
   unfolding said one
   holds_log = record {
+    count = refl;
     control = control;
     text = left_text pages l.synced l.log front.front front.rest log_slots left_log front.parts
         below_synced log_left
@@ -280,7 +281,7 @@ module _ (pages : ℕ) (held : Tally) (l : Local) (c : Controlled) (pool : Poole
       left_control left_pages
   unfolding said one
   left_node = record {
-    node = record { said = said; log = front.front };
+    node = record { blocks = l.blocks; said = said; log = front.front };
     holds = record {
       held = holds_log;
       taken = left_taken one.state.phase l.log front.front front.rest one.state.mark.0
@@ -288,6 +289,7 @@ module _ (pages : ℕ) (held : Tally) (l : Local) (c : Controlled) (pool : Poole
       images = images;
     };
     may = record {
+      blocks = refl;
       state = one.among;
       checkpoint = refl;
       rest = front.rest;

@@ -15,3 +15,5 @@ pub mod LeavingLaws
 pub mod StayingLaws
 pub mod Formatted
 pub mod Unshown
+pub mod CrashLaws
+pub mod PickLaws

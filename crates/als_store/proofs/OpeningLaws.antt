@@ -23,7 +23,7 @@ use Rattle.als_ckpt.specs.declared.region.Region.{Region}
 use Rattle.als_ckpt.specs.declared.region.Region.TheVariants.{First, Second}
 use Rattle.als_ckpt.specs.Regions.{Said, held_of}
 use Rattle.als_ckpt.specs.Control.{Controlled, last_state}
-use Rattle.als_tables.specs.declared.tally.Tally.{Tally}
+use Rattle.als_tables.specs.declared.commit_count.CommitCount.{CommitCount}
 use Rattle.als_tables.specs.Fronts.{IsOfFront}
 use Rattle.als_frames.specs.Frames.{Paged, frame_of}
 use Rattle.als_frames.specs.Images.{synced_lsn}
@@ -111,7 +111,7 @@ covering_said log pool (Some c) front listed covers =
 
 module _ (pages blocks most log_failures log_attempts control_blocks control_failures
     control_attempts page_blocks page_failures page_attempts : ℕ) (old : ℕ → Slot)
-    (l : Local) (c : Controlled) (pool : Pooled) (validator : Validator) (count : Tally)
+    (l : Local) (c : Controlled) (pool : Pooled) (validator : Validator) (count : CommitCount)
     (el : l ≡ all_synced pages l.log blocks log_failures log_attempts l.room)
     (k : IsControlRead pages blocks control_blocks control_failures control_attempts c)
     (u : AreUnread pages most old page_blocks page_failures page_attempts pool.frames)
@@ -227,6 +227,8 @@ module _ (pages blocks most log_failures log_attempts control_blocks control_fai
     ends = r.ends;
     fits = r.fits;
     front = r.front;
+    published = k.published;
+    count = r.pages_are;
     queues = r.queues;
     rows = r.rows;
   }
@@ -273,5 +275,7 @@ module _ (pages blocks most log_failures log_attempts control_blocks control_fai
       control = ap (λ (x : Said). x.state) same_said;
       held = ap (λ (y : Controlled). y.held) k.is
           ∙ ap (λ (x : Said). held_of x.state.published x.checkpoint) same_said;
+      queues = subst (λ (xs : List Record). QueuesOf xs pool) same_log r.queues;
+      rows = subst (λ (x : Said). HasRowsFrom (position_in x) (rows_in x) pool) same_said r.rows;
       warm = warm-opened;
     }

@@ -27,7 +27,7 @@ use Rattle.als_store.specs.Events.{CanApply, AppliesFirst, NotApplied, NotShown,
 use Rattle.als_store.specs.Events.{FlushesPage, BreaksFlush}
 use Rattle.als_store.proofs.PoolSteps.{calm_applies, calm_loads, calm_refused, calm_show, raised}
 use Rattle.als_store.proofs.StoredParts.{view-calm, view-steady, view-called, view-broken}
-use Rattle.als_tables.specs.declared.tally.Tally.{Tally}
+use Rattle.als_tables.specs.declared.commit_count.CommitCount.{CommitCount}
 
 -- a page that was made resident had a frame, or could get one
 room_of : (old made : Pooled) (page end : ℕ) (o : Option Framed) → frame_of old.frames page ≡ o
@@ -59,7 +59,7 @@ behind_now : (v : Pooled) (page : ℕ) (mark : Lsn) → IsBehind v page mark
 behind_now v page mark b =
     le-leb mark.0 (view_of v page).now (omega (arith, b.behind, lsn_due v page b.lsn b.due))
 
-module _ (pages : ℕ) (held : Tally) (l : Local) (c : Controlled) (pool : Pooled)
+module _ (pages : ℕ) (held : CommitCount) (l : Local) (c : Controlled) (pool : Pooled)
     (validator : Validator) (broken : Bool) (origin : Origin) (recovering : Bool)
     (h : IsStored pages l held c pool validator broken origin recovering) where
   -- the store with other pages
@@ -151,6 +151,7 @@ module _ (pages : ℕ) (held : Tally) (l : Local) (c : Controlled) (pool : Poole
         absent = frame_is_none pool page r.1.absent;
         reads = (
           r.1.refuses.1,
+          r.1.refuses.2,
           same_store pool'
               (same_frames pool' pool.frames r.1.same r.1.refuses.3),
         );
@@ -176,6 +177,7 @@ module _ (pages : ℕ) (held : Tally) (l : Local) (c : Controlled) (pool : Poole
   }
   not_shown (pool_fault.BadPage p) pool' page r = record {
     number = r.refuses.0;
+    bad = r.refuses.1;
     absent = frame_is_none pool page r.absent;
     after = same_store pool' (same_frames pool' pool.frames r.same r.refuses.2);
   }

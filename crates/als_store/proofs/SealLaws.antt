@@ -1,18 +1,19 @@
 -- The store when its log is sealed, and when the takeover is done.
 use Rattle.std.proofs.Common.{◌≡◌, ℕ, ◌+◌, ◌<◌, ◌≤◌, Bool, true, false, List, [], ◌∷◌, ◌++◌, length, Option, Some, None, refl, sym, ap, ◌∙◌, arith, append-nil}
-use Rattle.std.specs.Prelude.{◌*◌, ◌==◌, ◌&&◌, not, nat_le, map}
+use Rattle.std.specs.Prelude.{◌*◌, ◌==◌, ◌&&◌, not, nat_le}
 use Rattle.std.proofs.lemmas.Bool.{and_parts, leb-true, le-leb, lt-leb, ne_eqb}
 use Rattle.als_record.specs.declared.lsn.Lsn.{Lsn}
 use Rattle.als_record.specs.declared.record.Record.{Record}
 use Rattle.als_record.specs.LogText.{end_of}
-use Rattle.als_record.specs.Tail.{tail_of, reserve_of}
-use Rattle.als_record.specs.Transactions.{unended}
+use Rattle.als_record.specs.Tail.{tail_of, is_undone, reserve_of}
 use Rattle.als_record.specs.Spelling.{record_len}
 use Rattle.als_record.specs.Spelling.{IsRecord}
-use Rattle.als_record.specs.Table.{row_of, table_of}
+use Rattle.als_record.specs.Table.{table_of, is_closed}
 use Rattle.als_record.specs.Validity.{first_bad}
 use Rattle.als_record.proofs.Validity.{first_bad-admitted}
-use Rattle.als_record.proofs.TailFirst.{tail_of-none, unended-tail_of, room-next, tail_of-admitted, tail_of-IsRecord}
+use Rattle.als_record.proofs.TailFirst.{tail_of-undone, is_undone-tail_of, tail_of-admitted, tail_of-IsRecord}
+use Rattle.als_record.proofs.Reserve.{room-next}
+use Rattle.als_record.proofs.Unended.{is_closed-table_of}
 use Rattle.als_takeover.specs.Next.{first_of}
 use Rattle.als_analysis.specs.Open.{Open, rows_of}
 use Rattle.als_record.proofs.PageLaws.{end_of-push}
@@ -25,12 +26,12 @@ use Rattle.als_ckpt.specs.Control.{Controlled, newest, phase_byte, IsPosition, I
 use Rattle.als_pool.specs.Queues.{total_waiting}
 use Rattle.als_pool.specs.Pooled.{Pooled}
 use Rattle.als_reopen.specs.Taken.{IsTakenOver, IsTaken}
-use Rattle.als_store.specs.Takeover.{follows, is_done, is_none, GoesOn, AreTaken, is_drained}
+use Rattle.als_store.specs.Takeover.{follows, is_done, GoesOn, AreTaken, is_drained}
 use Rattle.als_store.specs.Origin.{Origin}
 use Rattle.als_store.specs.Parts.{IsStored, stored_of}
 use Rattle.als_store.proofs.TakeoverLaws.{contains_last, follows_low, rest_is_tail, taken_written}
 use Rattle.als_store.proofs.StoredParts.{stored-written, stored-torn}
-use Rattle.als_tables.specs.declared.tally.Tally.{Tally}
+use Rattle.als_tables.specs.declared.commit_count.CommitCount.{CommitCount}
 
 position_raised : (published : Option Region) (mark higher position : ℕ) → mark ≤ higher → IsPosition published mark position → IsPosition published higher position
 position_raised None mark higher position le h = h
@@ -46,12 +47,12 @@ phase_high Following = omega arith
 phase_high Sealed = omega arith
 phase_high Primary = omega arith
 
--- a sealed log of which no transaction is unended has its whole tail
-whole_tail : (p : Phase) (log : List Record) (mark seal : ℕ) → follows p ≡ false → is_done p ≡ false → unended log ≡ [] → mark ≡ end_of log → IsTaken p log mark seal → IsTakenOver log mark seal
+-- a sealed log with nothing of its tail left to append has its whole tail
+whole_tail : (p : Phase) (log : List Record) (mark seal : ℕ) → follows p ≡ false → is_done p ≡ false → is_undone log ≡ true → mark ≡ end_of log → IsTaken p log mark seal → IsTakenOver log mark seal
 whole_tail Following log mark seal e f none at is = absurd cc
 whole_tail Primary log mark seal e f none at is = absurd cc
 whole_tail Sealed log mark seal e f none at is =
-    let rest : is.rest ≡ [] = sym (rest_is_tail log seal is) ∙ tail_of-none log none in
+    let rest : is.rest ≡ [] = sym (rest_is_tail log seal is) ∙ tail_of-undone log none in
     let all : is.undone ≡ tail_of is.sealed = sym (append-nil is.undone) ∙ ap (λ (xs : List Record). is.undone ++ xs) (sym rest) ∙ is.tail in
     record {
       sealed = is.sealed;
@@ -60,26 +61,22 @@ whole_tail Sealed log mark seal e f none at is =
       whole = at;
     }
 
-none_is : (ts : List ℕ) → is_none ts ≡ true → ts ≡ []
-none_is [] e = refl
-none_is (t ∷ ts) e = absurd cc
-
 pub record Drained (log : List Record) (waiting acknowledged : ℕ) : Type 0 where
-  pub ended : unended log ≡ []
+  pub undone : is_undone log ≡ true
   pub waits : waiting ≡ 0
   pub whole : end_of log ≤ acknowledged
 
-drained_parts : (log : List Record) (waiting acknowledged : ℕ) → (is_none (unended log) && nat_le waiting 0 && nat_le (end_of log) acknowledged) ≡ true → Drained log waiting acknowledged
+drained_parts : (log : List Record) (waiting acknowledged : ℕ) → (is_undone log && nat_le waiting 0 && nat_le (end_of log) acknowledged) ≡ true → Drained log waiting acknowledged
 drained_parts log waiting acknowledged e =
-    let first = and_parts (is_none (unended log) && nat_le waiting 0) (nat_le (end_of log) acknowledged) e in
-    let second = and_parts (is_none (unended log)) (nat_le waiting 0) first.0 in
-    record { ended = none_is (unended log) second.0; waits = omega (arith, leb-true waiting 0 second.1); whole = leb-true (end_of log) acknowledged first.1 }
+    let first = and_parts (is_undone log && nat_le waiting 0) (nat_le (end_of log) acknowledged) e in
+    let second = and_parts (is_undone log) (nat_le waiting 0) first.0 in
+    record { undone = second.0; waits = omega (arith, leb-true waiting 0 second.1); whole = leb-true (end_of log) acknowledged first.1 }
 
 first_cons : (rs : List Record) (r : Record) → first_of rs ≡ Some r → (rest : List Record) × (rs ≡ r ∷ rest)
 first_cons [] r e = absurd (cc e)
 first_cons (x ∷ rs) r e = let same : x ≡ r = cc e in (rs, ap (λ (y : Record). y ∷ rs) same)
 
-module _ (pages : ℕ) (held : Tally) (l : Local) (c : Controlled) (pool : Pooled) (validator : Validator) (broken : Bool) (origin : Origin) (recovering : Bool) (h : IsStored pages l held c pool validator broken origin recovering) (local : IsLocal l) (controlled : IsControlled c) where
+module _ (pages : ℕ) (held : CommitCount) (l : Local) (c : Controlled) (pool : Pooled) (validator : Validator) (broken : Bool) (origin : Origin) (recovering : Bool) (h : IsStored pages l held c pool validator broken origin recovering) (local : IsLocal l) (controlled : IsControlled c) where
   now : IsControlState c.log_bytes (newest c)
   now = controlled.fits (newest c) (contains_last c.synced c.since)
 
@@ -140,7 +137,7 @@ module _ (pages : ℕ) (held : Tally) (l : Local) (c : Controlled) (pool : Poole
     finish_taken : AreTaken l.log c.synced c.since recovering (total_waiting pool.waits) → AreTaken l.log c.synced (c.since ++ record (newest c) { phase = Primary } ∷ []) recovering (total_waiting pool.waits)
     finish_taken taken = taken_written l.log c.synced c.since recovering (total_waiting pool.waits) taken (record (newest c) { phase = Primary })
         finish_on
-        (whole_tail (newest c).phase l.log (newest c).mark.0 (newest c).seal.0 past unfinished parts_of.ended mark_is (taken.each (newest c) (contains_last c.synced c.since)))
+        (whole_tail (newest c).phase l.log (newest c).mark.0 (newest c).seal.0 past unfinished parts_of.undone mark_is (taken.each (newest c) (contains_last c.synced c.since)))
         (λ ready done. parts_of.waits)
 
     pub stored-finished : (c' : Controlled) → c' ≡ with_state c (record (newest c) { phase = Primary }) → IsStored pages l held c' pool validator broken origin recovering
@@ -178,33 +175,35 @@ module _ (pages : ℕ) (held : Tally) (l : Local) (c : Controlled) (pool : Poole
         );
       }
 
--- ---- whether a transaction is unended
+-- ---- whether something of the tail is left to append
 
-pub none_first : (log : List Record) → None ≡ first_of (tail_of log) → unended log ≡ []
-none_first log e = unended-tail_of log (no_first (tail_of log) e)
+pub none_first : (log : List Record) → None ≡ first_of (tail_of log) → is_undone log ≡ true
+none_first log e = is_undone-tail_of log (no_first (tail_of log) e)
   where
     no_first : (rs : List Record) → None ≡ first_of rs → rs ≡ []
     no_first [] e = refl
     no_first (r ∷ rs) e = absurd (cc e)
 
-pub some_unended : (log : List Record) (r : Record) (rest : List Record) → tail_of log ≡ r ∷ rest → unended log ≡ [] → ⊥
-some_unended log r rest e none = let wrong : r ∷ rest ≡ [] = sym e ∙ tail_of-none log none in cc wrong
-
-pub rows_empty : (log : List Record) (entries : List Open) → rows_of entries ≡ table_of log → (length entries == 0) ≡ is_none (unended log)
-unfolding table_of
-rows_empty log entries e = go entries (unended log) e
+pub some_left : (log : List Record) (r : Record) (rest : List Record) → tail_of log ≡ r ∷ rest → is_undone log ≡ false
+some_left log r rest e = go (is_undone log) (λ u. let wrong : r ∷ rest ≡ [] = sym e ∙ tail_of-undone log u in cc wrong)
   where
-    go : (os : List Open) (ts : List ℕ) → rows_of os ≡ map (row_of log) ts → (length os == 0) ≡ is_none ts
-    go [] [] e = refl
-    go [] (t ∷ ts) e = absurd (cc e)
-    go (o ∷ os) [] e = absurd (cc e)
-    go (o ∷ os) (t ∷ ts) e = ne_eqb (length (o ∷ os)) 0 (λ none. omega (arith, none))
+    go : (b : Bool) → (b ≡ true → ⊥) → b ≡ false
+    go true n = absurd (n refl)
+    go false n = refl
+
+pub rows_undone : (log : List Record) (entries : List Open) → rows_of entries ≡ table_of log → (length entries == 0) ≡ is_undone log
+unfolding is_closed
+rows_undone log entries e = closed entries ∙ ap is_closed e ∙ is_closed-table_of log
+  where
+    closed : (os : List Open) → (length os == 0) ≡ is_closed (rows_of os)
+    closed [] = refl
+    closed (o ∷ os) = ne_eqb (length (o ∷ os)) 0 (λ none. omega (arith, none))
 
 -- ---- whether a takeover can end
 
-pub unended_not_drained : (ended waits whole : Bool) → true ≡ not ended → false ≡ (ended && waits && whole)
-unended_not_drained true waits whole e = absurd cc
-unended_not_drained false waits whole e = refl
+pub left_not_drained : (undone waits whole : Bool) → true ≡ not undone → false ≡ (undone && waits && whole)
+left_not_drained true waits whole e = absurd cc
+left_not_drained false waits whole e = refl
 
 pub waits_not_drained : (ended : Bool) (waiting : ℕ) (whole : Bool) → 0 < waiting → false ≡ (ended && nat_le waiting 0 && whole)
 waits_not_drained true waiting whole lt = rw (lt-leb waiting 0 lt) refl

@@ -54,6 +54,7 @@ module _ (pages blocks : ℕ) (log control page_slots log' control' page_slots' 
   pub node_same : IsNode pages blocks log' control' page_slots' n
   node_same = record {
     held = record {
+      count = node.held.count;
       control = record {
         block = control_same 0 (omega arith) ∙ node.held.control.block;
         fits = node.held.control.fits;

@@ -30,15 +30,14 @@ use Rattle.als_ckpt.specs.Control.{new_control}
 use Rattle.als_frames.specs.Frames.{Paged}
 use Rattle.als_pool.specs.Queues.{total_waiting}
 use Rattle.als_pool.specs.Pooled.{Pooled, Room, Grows, new_pool}
-use Rattle.als_tables.specs.Counting.{IsTallyOf}
+use Rattle.als_tables.specs.Counting.{IsCountOf}
 use Rattle.als_store.proofs.CheckpointLaws.{told_push, told_grows, told_synced, told_new}
 use Rattle.als_pool.specs.Outcomes.{HasPlace, CanRoute, SyncsPages, Flushes}
 use Rattle.als_pool.specs.Bounds.{EndsBelow}
 use Rattle.als_pool.specs.Images.{IsPoolOf}
 use Rattle.als_pool.proofs.QueueLists.{total-empty}
-use Rattle.als_record.specs.Tail as tail
-use Rattle.als_record.specs.Transactions as transactions
-use Rattle.als_record.specs.Tail.{tail_len, reserve_of}
+use Rattle.als_record.specs.Tail.{reserve_of}
+use Rattle.als_record.proofs.Reserve.{reserve_of-nil}
 use Rattle.als_store.specs.Stored.{Stored, formatted, new_origin, routed, with_records, IsTooLong}
 use Rattle.als_store.specs.Stored.{FrontsFit}
 use Rattle.als_store.specs.Origin.{Origin, origin_of}
@@ -49,7 +48,7 @@ use Rattle.als_store.specs.Spare.{HasSpare}
 use Rattle.als_store.proofs.PoolSteps.{IsCalm, routed_count}
 use Rattle.als_store.proofs.TakeoverLaws.{phases_push, taken_calm, taken_settled, taken_marked}
 use Rattle.als_store.proofs.TakeoverLaws.{taken_new}
-use Rattle.als_tables.specs.declared.tally.Tally.{Tally}
+use Rattle.als_tables.specs.declared.commit_count.CommitCount.{CommitCount}
 
 -- ---- the log
 
@@ -149,13 +148,8 @@ fit-raised : (blocks from higher : ℕ) (log : List Record) → from ≤ higher
 fit-raised blocks from higher log rises fit front rest parts low =
     fit front rest parts (omega (arith, rises, low))
 
-tail_len-nil : tail_len [] ≡ 0
-unfolding tail_len tail.tail_of tail.numbered tail.tail_steps transactions.unended
-    transactions.transactions tail.undoes tail.losing transactions.all_surviving
-tail_len-nil = refl
-
 fit-nil : (blocks from : ℕ) → 1 ≤ blocks → FrontsFit blocks from []
-fit-nil blocks from some [] rest parts low = omega (arith, some, end-nil, tail_len-nil)
+fit-nil blocks from some [] rest parts low = omega (arith, some, end-nil, reserve_of-nil)
 fit-nil blocks from some (r ∷ front) rest parts low = absurd cc
 
 -- ---- control states
@@ -298,7 +292,7 @@ pool-broken pages log old new broken h same is = record {
   sure = λ wrong. absurd cc;
 }
 
-module _ (pages : ℕ) (held : Tally) (l : Local) (c : Controlled) (pool : Pooled)
+module _ (pages : ℕ) (held : CommitCount) (l : Local) (c : Controlled) (pool : Pooled)
     (validator : Validator) (broken : Bool) (origin : Origin) (recovering : Bool)
     (h : IsStored pages l held c pool validator broken origin recovering) where
   same_marks : (l' : Local) → l' ≡ record l { room = l'.room } → AreMarks l' c
@@ -393,7 +387,7 @@ module _ (pages : ℕ) (held : Tally) (l : Local) (c : Controlled) (pool : Poole
 
   -- a record more
   pub stored-push : (l' : Local) (r : Record) (pool' : Pooled) (validator' : Validator)
-      (held' : Tally) → IsTallyOf held' (l.log ++ r ∷ []) → IsRecord pages r
+      (held' : CommitCount) → IsCountOf held' (l.log ++ r ∷ []) → IsRecord pages r
       → r.lsn.0 ≡ end_of l.log → first_bad l.log r ≡ None
       → end_of l.log + record_len r + reserve_of (l.log ++ r ∷ []) ≤ 512 * l.blocks
       → l' ≡ record l { log = l.log ++ r ∷ []; room = l'.room }
@@ -742,7 +736,7 @@ warm-new recovering pages pool frames ep is = record {
 pub stored-new : (origin : Origin) (recovering : Bool)
     (pages blocks log_failures log_attempts control_blocks control_failures control_attempts : ℕ)
     (l : Local) (c : Controlled) (pool : Pooled) (frames : Paged) (validator : Validator)
-    (held : Tally) → IsTallyOf held [] → pages ≤ 4096 → 1 ≤ blocks
+    (held : CommitCount) → IsCountOf held [] → pages ≤ 4096 → 1 ≤ blocks
     → l ≡ record {
       pages = pages;
       log = [];

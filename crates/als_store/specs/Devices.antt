@@ -1,12 +1,12 @@
 -- What the devices of a store hold, whatever a crash leaves of them.
-use Rattle.std.specs.Prelude.{◌≡◌, ℕ, ◌*◌, ◌<◌, ◌≤◌, List, ◌∷◌, Contains}
+use Rattle.std.specs.Prelude.{ℕ, ◌*◌, ◌<◌, ◌≤◌, List, ◌∷◌, Contains}
 use Rattle.als_record.specs.LogText.{log_text, end_of}
 use Rattle.als_record.specs.Validity.{IsValidLog}
 use Rattle.als_disk.specs.Slot.{Slot}
 use Rattle.als_log.specs.Local.{IsFrontEnd}
 use Rattle.als_log.specs.Texts.{AllHaveText}
 use Rattle.als_ckpt.specs.declared.control_state.ControlState.{ControlState}
-use Rattle.als_ckpt.specs.Control.{control_block, IsControlState}
+use Rattle.als_ckpt.specs.Control.{Spells, IsControlState}
 use Rattle.als_dirty.specs.Rows.{rec_lsn_of}
 use Rattle.als_pool.specs.Images.{IsRowSound}
 use Rattle.als_store.specs.Stored.{Stored, acknowledged, FrontsFit}
@@ -16,7 +16,7 @@ use Rattle.als_store.specs.Stored.{Stored, acknowledged, FrontsFit}
 pub record IsControlOf (s : Stored) (content : List ℕ) : Type 0 where
   pub state : ControlState
   pub one : Contains (s.control ∷ s.since) state
-  pub spelled : content ≡ control_block s.pages state
+  pub spelled : Spells s.pages state content
   pub formed : IsControlState (512 * s.blocks) state
   pub above : acknowledged s ≤ state.mark.0
   pub below : state.mark.0 ≤ s.synced

@@ -10,6 +10,8 @@ use Rattle.als_pool.specs.Pooled.{view_of}
 use Rattle.als_pool.specs.Refusals.{has_waiting, is_full, is_due, is_behind}
 use Rattle.als_pool.specs.Outcomes.{Applies, HasAll, Flushes, FlushFails, SyncsPages}
 use Rattle.als_pool.specs.Outcomes.{SyncPagesFails, ReadRefused}
+use Rattle.als_frames.specs.Frames.{slot_of}
+use Rattle.als_frames.specs.Outcomes.{IsBad, IsBadBelow}
 use Rattle.als_frames.specs.declared.fault.Fault.TheVariants.{Device as DiskFailed}
 use Rattle.als_store.specs.declared.fault.Fault.{Fault}
 use Rattle.als_store.specs.declared.fault.Fault.TheVariants as fault
@@ -129,12 +131,13 @@ pub record FailsToFetch (old new : Stored) : Type 0 where
   }
   pub after : new ≡ record old { pool = new.pool; failures = new.failures }
 
--- by the fault, what reading a page came to: it has all that waited; the device failed; the block
--- is not the page's; or a growth was refused
+-- by the fault, what reading a page came to: it has all that waited; the device failed; a read may
+-- give what is no block of the page with a page_LSN below the log's end; or a growth was refused
 abbrev pub ReadsInVain : Stored → ℕ → Fault → Stored → Type 0
 ReadsInVain old page fault.NothingToDo new = FindsAll old page new
 ReadsInVain old page fault.Device new = FailsToFetch old new
-ReadsInVain old page (fault.BadPage p) new = (p ≡ page) × (new ≡ old)
+ReadsInVain old page (fault.BadPage p) new =
+    (p ≡ page) × IsBadBelow (slot_of old.pool.frames page) page (end_of old.log) × (new ≡ old)
 ReadsInVain old page fault.Memory new = new ≡ old
 ReadsInVain old page (fault.Invalid cause) new = ⊥
 ReadsInVain old page fault.LogBehind new = ⊥
@@ -214,9 +217,11 @@ pub record BreaksSync (old new : Stored) : Type 0 where
     attempts = old.attempts + 1;
   }
 
--- a page that has no frame was read, and its block is not that of the page: nothing changed
+-- a page that has no frame was read, and a read may give what is no block of the page: nothing
+-- changed
 pub record IsNoPage (old : Stored) (page p : ℕ) (new : Stored) : Type 0 where
   pub number : p ≡ page
+  pub bad : IsBad (slot_of old.pool.frames page) page
   pub absent : (view_of old.pool page).resident ≡ false
   pub after : new ≡ old
 

@@ -2,7 +2,7 @@
 use Rattle.std.specs.Prelude.{◌≡◌, ◌⊎◌, ◌+◌, ℕ, List, Contains}
 use Rattle.als_disk.specs.Slot.{Slot, SameBlocks}
 use Rattle.als_disk.specs.Store.{zeros}
-use Rattle.als_ckpt.specs.Control.{control_block, first_state}
+use Rattle.als_ckpt.specs.Control.{Spells, first_state}
 use Rattle.als_store.specs.Stored.{Stored, formatted, formatted_pool}
 
 -- The store of a new database of so many pages and frames. The pages' device has so many blocks,
@@ -15,7 +15,7 @@ FormatsStore pages frames page_blocks page_failures page_attempts log_blocks fai
 
 -- a block that is no control block any more, or that of the new database
 abbrev pub IsCleared : ℕ → List ℕ → Type 0
-IsCleared pages content = (content ≡ zeros) ⊎ (content ≡ control_block pages first_state)
+IsCleared pages content = (content ≡ zeros) ⊎ Spells pages first_state content
 
 -- The blocks of the log and of the pages are as they were, or whatever a crash leaves of the
 -- control block is cleared. So no control block of an earlier database stands over a log or pages

@@ -8,8 +8,9 @@ use Rattle.als_store.specs.Stored.{Stored, acknowledged}
 use Rattle.als_store.specs.Takeover.{GoesOn}
 
 -- One of the control states that were synced or written since, with the checkpoint that it
--- publishes; and a front of the log, which ends at its mark.
+-- publishes; and a front of the log, which ends at its mark; on the same log device.
 pub record MayLeave (s : Stored) (n : Node) : Type 0 where
+  pub blocks : n.blocks ≡ s.blocks
   pub state : Contains (s.control ∷ s.since) n.said.state
   pub checkpoint : n.said.checkpoint ≡ held_at s.held n.said.state.published
   pub rest : List Record

@@ -11,6 +11,7 @@ pub mod Takeover
 pub mod Warm
 pub mod Opening
 pub mod Leaving
+pub mod Stopped
 pub mod Staying
 pub mod Parts
 pub mod Views

@@ -1,10 +1,10 @@
 -- A store over devices that were stopped.
-use Rattle.std.specs.Prelude.{◌≡◌, ℕ, ◌+◌, ◌*◌, ◌≤◌, true, false, List, [], None, IfSome}
+use Rattle.std.specs.Prelude.{◌≡◌, ℕ, ◌+◌, ◌*◌, ◌≤◌, true, false, List, [], length, None, IfSome}
 use Rattle.als_record.specs.declared.record.Record.{Record}
 use Rattle.als_record.specs.LogText.{end_of}
 use Rattle.als_record.specs.Tail.{reserve_of}
 use Rattle.als_record.specs.Validity.{IsValidLog}
-use Rattle.als_ckpt.specs.Regions.{Said, held_of, held_at}
+use Rattle.als_ckpt.specs.Regions.{Said, IsPublished, held_of, held_at}
 use Rattle.als_tables.specs.Fronts.{IsOfFront}
 use Rattle.als_pool.specs.Pooled.{Pooled}
 use Rattle.als_pool.specs.Images.{QueuesOf}
@@ -45,8 +45,9 @@ abbrev pub said_in : Stored → Said
 said_in s = record { state = s.control; checkpoint = held_at s.held s.control.published }
 
 -- What an opened store is, whatever the devices held: its log is valid, ends at the mark, and fits
--- the device with its tail; the checkpoint is that of a front of it; no page was read, and what
--- waits for each are its changes from where a restart looks for them.
+-- the device with its tail; the checkpoint is the published one, none where none is published, and
+-- that of a front of it; no page was read, and what waits for each are its changes from where a
+-- restart looks for them.
 pub record IsOpened (pages blocks failures attempts : ℕ) (s : Stored) : Type 0 where
   pub said : Said
   pub is : s ≡ opened pages blocks s.log said s.pool failures attempts
@@ -54,6 +55,8 @@ pub record IsOpened (pages blocks failures attempts : ℕ) (s : Stored) : Type 0
   pub ends : end_of s.log ≡ said.state.mark.0
   pub fits : end_of s.log + reserve_of s.log ≤ 512 * blocks
   pub front : IfSome said.checkpoint (IsOfFront s.log)
+  pub published : IsPublished pages said.state.published said.state.position.0 said.checkpoint
+  pub count : length s.pool.waits ≡ pages
   pub queues : QueuesOf s.log s.pool
   pub rows : HasRowsFrom (position_in said) (rows_in said) s.pool
 
@@ -62,4 +65,6 @@ pub record TakesUp (n : Node) (s : Stored) : Type 0 where
   pub log : s.log ≡ n.log
   pub control : s.control ≡ n.said.state
   pub held : s.held ≡ held_of n.said.state.published n.said.checkpoint
+  pub queues : QueuesOf n.log s.pool
+  pub rows : HasRowsFrom (position_in n.said) (rows_in n.said) s.pool
   pub warm : WasWarm s

@@ -13,8 +13,8 @@ use Rattle.als_pool.specs.Queues.{total_waiting}
 use Rattle.als_pool.specs.Pooled.{Pooled, Room}
 use Rattle.als_pool.specs.Bounds.{EndsBelow}
 use Rattle.als_store.specs.Stored.{Stored, FrontsFit}
-use Rattle.als_tables.specs.declared.tally.Tally.{Tally}
-use Rattle.als_tables.specs.Counting.{IsTallyOf}
+use Rattle.als_tables.specs.declared.commit_count.CommitCount.{CommitCount}
+use Rattle.als_tables.specs.Counting.{IsCountOf}
 use Rattle.als_store.specs.Spare.{Spare}
 use Rattle.als_store.specs.Takeover.{PhasesRise}
 use Rattle.als_store.specs.Origin.{Origin, origin_of}
@@ -66,14 +66,14 @@ pub record IsHeldPool (pages : ℕ) (log : List Record) (pool : Pooled) (broken 
 
 -- What holds of the parts: the validator is that of the log; and what was true of the log, the
 -- control block and the pages when the store was made still is.
-pub record IsStored (pages : ℕ) (l : Local) (held : Tally) (c : Controlled) (pool : Pooled)
+pub record IsStored (pages : ℕ) (l : Local) (held : CommitCount) (c : Controlled) (pool : Pooled)
     (validator : Validator) (broken : Bool) (origin : Origin) (recovering : Bool) : Type 0 where
   pub log_pages : l.pages ≡ pages
   pub is_log : IsValidLog pages l.log
   pub fit : FrontsFit l.blocks c.synced.mark.0 l.log
   pub judged : IsValidatorOf pages validator l.log
   pub paged : IsHeldPool pages l.log pool broken
-  pub held_is : IsTallyOf held l.log
+  pub held_is : IsCountOf held l.log
   pub few_pages : pages ≤ 4096
   pub marks : AreMarks l c
   pub rise : PhasesRise c.synced c.since

@@ -5,16 +5,15 @@ use Rattle.als_record.specs.declared.lsn.Lsn.{Lsn}
 use Rattle.als_record.specs.declared.record.Record.{Record}
 use Rattle.als_record.specs.Spelling.{Image}
 use Rattle.als_record.specs.LogText.{end_of}
-use Rattle.als_record.specs.Images.{won}
+use Rattle.als_record.specs.Images.{kept}
 use Rattle.als_record.specs.Pages.{page_at}
-use Rattle.als_record.specs.Table.{table_of}
-use Rattle.als_record.specs.Tail.{tail_of}
-use Rattle.als_record.specs.Transactions.{unended}
+use Rattle.als_record.specs.Table.{table_of, is_closed}
+use Rattle.als_record.specs.Tail.{tail_of, is_undone}
 use Rattle.als_frames.specs.Images.{lsn_now}
 use Rattle.als_ckpt.specs.declared.phase.Phase.{Phase}
 use Rattle.als_ckpt.specs.declared.phase.Phase.TheVariants.{Following, Sealed, Primary}
 use Rattle.als_ckpt.specs.declared.control_state.ControlState.{ControlState}
-use Rattle.als_ckpt.specs.Control.{phase_byte, last_state}
+use Rattle.als_ckpt.specs.Control.{phase_byte, last_state, IsSeal}
 use Rattle.als_reopen.specs.Taken.{IsTakenFrom}
 use Rattle.als_store.specs.declared.fault.Fault.{Fault}
 use Rattle.als_store.specs.declared.fault.Fault.TheVariants as fault
@@ -48,6 +47,10 @@ pub record GoesOn (before after : ControlState) : Type 0 where
   pub phase : phase_byte before.phase ≤ phase_byte after.phase
   pub seal : 1 < phase_byte before.phase → after.seal ≡ before.seal
 
+-- a control state has no seal while the log follows its source; from then on it has one, at or below the mark
+abbrev pub IsSealOf : ControlState → Type 0
+IsSealOf c = IsSeal c.phase c.mark.0 c.seal.0
+
 -- so it is along the states of a control block
 abbrev pub PhasesRise : ControlState → List ControlState → Type 0
 PhasesRise state [] = Unit {0}
@@ -69,15 +72,15 @@ IsUnderTakeover s = AreTaken s.log s.control s.since s.recovering (pending_of s)
 abbrev pub slot_now : Stored → Key → Image
 slot_now s key = slice_index_or (page_at s.log key.page (lsn_now s.pool.frames key.page)).slots key.slot None
 
--- The log is the one at the seal with its tail, no transaction is unended, and each slot of each page as it is now has what the
--- committed transactions left there: those of the log at the seal, which are those of the whole log.
+-- The log is the one at the seal with its tail, its transaction table is closed, and each slot of each page as it is now has what
+-- a takeover keeps there: of the log at the seal, which is the same of the whole log.
 pub record IsFinished (s : Stored) : Type 0 where
   pub sealed : List Record
   pub ends : end_of sealed ≡ (newest s).seal.0
   pub parts : s.log ≡ sealed ++ tail_of sealed
-  pub table : table_of s.log ≡ []
-  pub images : (key : Key) → key.page < s.pages → key.slot < 15 → slot_now s key ≡ won sealed key
-  pub same : (key : Key) → won s.log key ≡ won sealed key
+  pub table : is_closed (table_of s.log) ≡ true
+  pub images : (key : Key) → key.page < s.pages → key.slot < 15 → slot_now s key ≡ kept sealed key
+  pub same : (key : Key) → kept s.log key ≡ kept sealed key
 
 -- ---- the events
 
@@ -98,13 +101,9 @@ sealed_state s = record (newest s) { phase = Sealed; mark = record { 0 = end_of 
 abbrev pub finished_state : Stored → ControlState
 finished_state s = record (newest s) { phase = Primary }
 
-abbrev pub is_none : List ℕ → Bool
-is_none [] = true
-is_none (t ∷ rest) = false
-
--- no transaction is unended, no change waits for redo, and the whole log is acknowledged
+-- nothing of the tail is left to append, no change waits for redo, and the whole log is acknowledged
 abbrev pub is_drained : Stored → Bool
-is_drained s = is_none (unended s.log) && nat_le (pending_of s) 0 && nat_le (end_of s.log) (acknowledged s)
+is_drained s = is_undone s.log && nat_le (pending_of s) 0 && nat_le (end_of s.log) (acknowledged s)
 
 -- the first record of the log's tail is held
 pub record UndoesOne (old : Stored) (lsn : Lsn) (new : Stored) : Type 0 where
@@ -114,10 +113,10 @@ pub record UndoesOne (old : Stored) (lsn : Lsn) (new : Stored) : Type 0 where
   pub place : lsn ≡ made.lsn
   pub after : new ≡ with_records old (made ∷ [])
 
--- no record is held: no transaction is unended, or a growth was refused
+-- no record is held: nothing of the tail is left to append, or a growth was refused
 abbrev pub NotUndone : Stored → Fault → Stored → Type 0
-NotUndone old fault.NothingToDo new = (unended old.log ≡ []) × (new ≡ old)
-NotUndone old fault.Memory new = (unended old.log ≢ []) × (new ≡ old)
+NotUndone old fault.NothingToDo new = (is_undone old.log ≡ true) × (new ≡ old)
+NotUndone old fault.Memory new = (is_undone old.log ≡ false) × (new ≡ old)
 NotUndone old fault new = ⊥
 
 -- there is room for the next record of the tail

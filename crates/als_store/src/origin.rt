@@ -4,16 +4,16 @@ ghost use Rattle.als_store.specs.Origin.{origin_of};
 use als_ckpt::Control;
 use als_disk::BlockDisk;
 use als_log::LocalLog;
+use als_past::Past;
 use als_pool::Pool;
 use std::marker::Model;
-use std::snapshot::Snapshot;
 
 /// What the log, the control block and the pages of a store were when it was made, for clauses
 /// alone: it takes no bytes.
 pub(crate) struct Origin<D: BlockDisk> {
-    log: Snapshot<LocalLog<D>>,
-    control: Snapshot<Control<D>>,
-    pool: Snapshot<Pool<D>>,
+    log: Past<LocalLog<D>>,
+    control: Past<Control<D>>,
+    pool: Past<Pool<D>>,
 }
 
 impl<D: BlockDisk> Model for Origin<D> {
@@ -42,9 +42,9 @@ impl<D: BlockDisk> Origin<D> {
         ensures { result ≡ origin_of log.now control.now pool.now.pool }
     {
         Origin {
-            log: Snapshot::of(log),
-            control: Snapshot::of(control),
-            pool: Snapshot::of(pool),
+            log: Past::of(log),
+            control: Past::of(control),
+            pool: Past::of(pool),
         }
     }
 }

@@ -1,8 +1,30 @@
+//! The store: the log, the control block with its checkpoints, the pages and the transaction table,
+//! over three devices.
+//!
+//! ```text
+//! format --> running <-- ready -- recovering <-- open
+//!               |                      |
+//!               +---- write or sync fails ----> broken
+//! ```
+//!
+//! Rules:
+//! 1. A record is held by all parts or by none: room is reserved in each part first, and then no
+//!    part can fail.
+//! 2. The device has room for every front of the log from the acknowledged LSN on, with the tail
+//!    that a takeover would append. So a takeover never meets a full log, whatever a crash leaves.
+//! 3. Each event makes one write or one sync of a device at most. A stop inside an event is a stop
+//!    before or after it.
+//! 4. After a failed write or sync the store is broken, and no event writes or syncs any more.
+//! 5. A checkpoint goes to the region that no control block names that a crash could leave.
+//!
+//! Blocks and candidates end here. Above, a crash leaves one of the control states that were synced
+//! or written since, and the front of the log that ends at its mark (`Leaves`). What holds over
+//! sound devices alone has the premise that they were sound when the store was made (`WasWarm`).
+
 ghost use Rattle.std.specs.Prelude.{◌≡◌, ◌<◌, ◌≤◌, ◌+◌, ◌⊎◌, false, IfOk, IfErr};
 ghost use Rattle.als_store.specs.declared.fault.Fault.TheVariants as fault;
-ghost use Rattle.als_store.specs.Devices.{AreKept, AreImages};
 ghost use Rattle.als_store.specs.Formatting.{FormatsStore, IsHalfFormatted};
-ghost use Rattle.als_store.specs.Leaving.{Leaves};
+ghost use Rattle.als_store.specs.Stopped.{AreStopped, devices_of};
 ghost use Rattle.als_store.specs.Stored.{pending_of};
 ghost use Rattle.als_store.specs.Warm.{WasWarm};
 
@@ -36,7 +58,7 @@ use als_disk::BlockDisk;
 use als_log::LocalLog;
 use als_pool::{Pool, pool_ends_below, rows_make_a_checkpoint, stopped_pages_hold_images};
 use als_reopen::Disks;
-use als_tables::Tally;
+use als_tables::CommitCount;
 use als_validator::Validator;
 use std::alloc::Global;
 use std::marker::Model;
@@ -47,7 +69,7 @@ use std::marker::Model;
 pub struct Store<D: BlockDisk> {
     pages: u32,
     log: LocalLog<D>,
-    count: Tally,
+    count: CommitCount,
     control: Control<D>,
     pool: Pool<D>,
     validator: Validator,
@@ -149,7 +171,7 @@ impl<D: BlockDisk> Store<D> {
                 Ok(Store {
                     pages,
                     log,
-                    count: Tally::new(),
+                    count: CommitCount::new(),
                     control,
                     pool,
                     validator,
@@ -165,21 +187,14 @@ impl<D: BlockDisk> Store<D> {
         }
     }
 
-    /// The devices. Whatever a crash leaves of them has all acknowledged bytes, and of each page an
-    /// image from below them for which its row is sound, if the devices were sound when the store
-    /// was made. Their attempts together are the store's.
+    /// The devices. Whatever a crash leaves of them has all acknowledged bytes. If the devices were
+    /// sound when the store was made, it has of each page an image from below these bytes for which
+    /// its row is sound, one of the control states that were synced or written since, and the front
+    /// of the log that ends at its mark. Their attempts together are the store's.
     pub fn into_disks(self) -> Disks<D>
-        ensures kept { AreKept self.stored (D.slot result.log) (D.slot result.control) }
-        ensures images { WasWarm self.stored → AreImages self.stored (D.slot result.pages) }
-        // And it holds one of the control states that were synced or written since, and the front
-        // of the log that ends at its mark.
-        ensures leaves { WasWarm self.stored
-            → Leaves self.stored (D.slot result.log) (D.slot result.control) (D.slot result.pages) }
-        ensures log_blocks { D.block_count result.log ≡ self.stored.blocks }
+        ensures stopped { AreStopped self.stored (devices_of D.slot D.block_count result) }
         ensures some_blocks { 1 ≤ self.stored.blocks }
         ensures few_blocks { self.stored.blocks ≤ 4194304 }
-        ensures control_blocks { 321 ≤ D.block_count result.control }
-        ensures page_blocks { self.stored.pages ≤ D.block_count result.pages }
         ensures failures { D.failures result.log + D.failures result.control
             + D.failures result.pages ≡ self.stored.failures }
         ensures attempts { D.attempts result.log + D.attempts result.control

@@ -10,6 +10,7 @@ ghost use Rattle.als_record.specs.Validity.{IsValidLog};
 ghost use Rattle.als_store.specs.declared.fault.Fault.TheVariants as fault;
 ghost use Rattle.als_store.specs.Events.{NotRead};
 ghost use Rattle.als_store.specs.Stored.{acknowledged, FrontsFit, StandsAt};
+ghost use Rattle.als_store.specs.Takeover.{IsSealOf};
 ghost use Rattle.als_store.specs.Warm.{WasWarm};
 
 use super::Store;
@@ -72,6 +73,8 @@ impl<D: BlockDisk> Store<D> {
         ensures pool { WasWarm self.now.stored
             → IsPoolOf self.now.stored.log (acknowledged self.now.stored) self.now.stored.pool }
         ensures count { length self.now.stored.pool.waits ≡ self.now.stored.pages }
+        // Past Following the seal is acknowledged.
+        ensures seal { IsSealOf self.now.stored.control }
     {
         self.control.acknowledged()
     }

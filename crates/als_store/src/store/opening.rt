@@ -1,6 +1,7 @@
-ghost use Rattle.std.specs.Prelude.{◌≡◌, ℕ, ◌≤◌, ◌+◌, true, false, IfOk, IfErr};
+ghost use Rattle.std.specs.Prelude.{◌≡◌, ◌⊎◌, ℕ, ◌≤◌, ◌+◌, true, false, IfOk, IfErr};
 ghost use Rattle.als_reopen.specs.Node.{Node, HoldsLog, IsNode};
 ghost use Rattle.als_reopen.specs.Outcomes.{AreSettled, AreLeft, IsOnceAtMost, RefusesOpen, IsBare};
+ghost use Rattle.als_reopen.specs.Outcomes.{Synced};
 ghost use Rattle.als_view.specs.Showing.{IsWarming};
 ghost use Rattle.als_store.specs.Opening.{IsOpened, TakesUp, said_in};
 ghost use Rattle.als_store.specs.Staying.{StaysNode};
@@ -57,6 +58,17 @@ impl<D: BlockDisk> Store<D> {
             → IsNode pages (D.block_count disks.log) (D.slot disks.log) (D.slot disks.control)
             (D.slot disks.pages) n
             → IfOk result (λ o. TakesUp n o.store.stored) }
+        // Devices that were not synced are taken up by one outcome of the sync that comes first: by
+        // one content of each block, which a read might have given.
+        ensures synced { IfOk result (λ o. (kept : Synced (D.slot disks.log) (D.slot disks.control)
+            (D.slot disks.pages))
+            × ((n : Node) → IsNode pages (D.block_count disks.log) kept.log_now kept.control_now
+            kept.pages_now n → TakesUp n o.store.stored)) }
+        // A failed device or want of memory is in the way, or there is an outcome that holds no log.
+        ensures unsynced { IfErr result (λ u. IsBare u.fault
+            ⊎ ((kept : Synced (D.slot disks.log) (D.slot disks.control) (D.slot disks.pages))
+            × ((n : Node) → HoldsLog pages (D.block_count disks.log) kept.log_now kept.control_now
+            n → ⊥))) }
         ensures err { IfErr result (λ u. RefusesOpen u.fault pages (D.block_count disks.log)
             (D.slot u.disks.log) (D.slot u.disks.control)
             (D.failures disks.log + D.failures disks.control + D.failures disks.pages)

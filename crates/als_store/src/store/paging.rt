@@ -1,7 +1,8 @@
-ghost use Rattle.std.specs.Prelude.{◌≡◌, ◌<◌, false, IfOk, IfErr, OnOk};
+ghost use Rattle.std.specs.Prelude.{◌≡◌, ◌<◌, false, length, IfOk, IfErr, OnOk};
 ghost use Rattle.std.specs.Result.{IsErrOf};
 ghost use Rattle.als_dirty.specs.Rows.{IsNextRow};
-ghost use Rattle.als_page.specs.Page.{id_of};
+ghost use Rattle.als_page.specs.Page.{id_of, state_of};
+ghost use Rattle.als_pool.specs.Outcomes.{IsPageNow};
 ghost use Rattle.als_pool.specs.Queues.{WaitsFirst};
 ghost use Rattle.als_store.specs.declared.fault.Fault.TheVariants as fault;
 ghost use Rattle.als_store.specs.Events.{AppliesFirst, NotApplied, FlushesPage, NotFlushed};
@@ -100,7 +101,9 @@ impl<D: BlockDisk> Store<D> {
 
     /// The first row of the dirty page table from a page on.
     pub fn next_row(&self, from: u32) -> Option<LoggedPage>
-        ensures { IsNextRow self.now.stored.pool.dirty from result }
+        ensures row { IsNextRow self.now.stored.pool.dirty from result }
+        // There is one entry a page, whatever the devices held.
+        ensures count { length self.now.stored.pool.dirty ≡ self.now.stored.pages }
     {
         self.pool.next_row(from)
     }
@@ -113,6 +116,10 @@ impl<D: BlockDisk> Store<D> {
         requires { page < self.old.stored.pages }
         ensures ok { WasWarm self.old.stored → IfOk result (IsShown self.old.stored page) }
         ensures number { IfOk result (λ shown. id_of shown ≡ page) }
+        // Whatever the devices held: it is the page of its frame, or one that a read of its block
+        // may give.
+        ensures found { IfOk result (λ shown. IsPageNow self.old.stored.pool page
+            (state_of shown)) }
         ensures same { OnOk result (self.new ≡ self.old) }
         ensures err { IfErr result (λ f. NotShown self.old.stored page f self.new.stored) }
         ensures sound { WasWarm self.old.stored → IfErr result (λ f. f ≡ fault.BadPage page → ⊥) }

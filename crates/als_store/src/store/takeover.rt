@@ -5,8 +5,7 @@ ghost use Rattle.als_record.specs.declared.record.Record.{Record as AnyRecord};
 ghost use Rattle.als_record.specs.Spelling.{record_len, IsRecord};
 ghost use Rattle.als_record.specs.LogText.{end_of};
 ghost use Rattle.als_record.specs.Shown.{shown};
-ghost use Rattle.als_record.specs.Tail.{tail_of};
-ghost use Rattle.als_record.specs.Transactions.{unended};
+ghost use Rattle.als_record.specs.Tail.{tail_of, is_undone};
 ghost use Rattle.als_store.specs.Stored.{newest, with_records};
 ghost use Rattle.als_store.specs.Spare.{HasSpare};
 ghost use Rattle.als_store.specs.Warm.{WasWarm};
@@ -15,7 +14,7 @@ ghost use Rattle.als_validator.specs.Validated.{IsValidatorOf};
 ghost use Rattle.als_log.specs.Local.{HasRoomFor};
 ghost use Rattle.als_takeover.specs.Next.{first_of};
 ghost use Rattle.als_store.specs.declared.fault.Fault.TheVariants as fault;
-ghost use Rattle.als_store.specs.Takeover.{is_following, is_primary, is_drained, is_none};
+ghost use Rattle.als_store.specs.Takeover.{is_following, is_primary, is_drained};
 ghost use Rattle.als_store.specs.Takeover.{IsUnderTakeover, IsFinished, WritesState, BreaksState};
 ghost use Rattle.als_store.specs.Takeover.{sealed_state, finished_state, UndoesOne, NotUndone};
 ghost use Rattle.als_store.specs.Takeover.{HasRoomToUndo};
@@ -45,10 +44,10 @@ fn next_of_tail<D: BlockDisk>(validator: &Validator, log: &mut LocalLog<D>) -> O
 /// Lets a record go: its drop is proved here alone.
 fn let_go(_logged: Record) {}
 
-/// A transaction of the log is unended.
-fn has_unended(validator: &Validator) -> bool
+/// Something of the log's tail is left to append: a transaction is unended.
+fn has_tail(validator: &Validator) -> bool
     ensures { (pages : ℕ) (log : List AnyRecord) → IsValidatorOf pages validator.now log
-        → result ≡ not (is_none (unended log)) }
+        → result ≡ not (is_undone log) }
 {
     !validator.rows().is_empty()
 }
@@ -101,9 +100,9 @@ impl<D: BlockDisk> Store<D> {
     /// The takeover is done.
     pub fn is_primary(&self) -> bool
         ensures is { result ≡ is_primary self.now.stored }
-        // Then no transaction is unended, and each slot of each page has what the committed
-        // transactions of the sealed log left: unless the store is recovering, or the devices were
-        // not sound when it was made.
+        // Then the transaction table is closed, and each slot of each page has what a takeover of
+        // the sealed log keeps: unless the store is recovering, or the devices were not sound when
+        // it was made.
         ensures finished { WasWarm self.now.stored → self.now.stored.recovering ≡ false
             → is_primary self.now.stored ≡ true → IsFinished self.now.stored }
     {
@@ -113,11 +112,12 @@ impl<D: BlockDisk> Store<D> {
         }
     }
 
-    /// No transaction is unended, no change waits for redo, and the whole log is acknowledged.
+    /// Nothing of the tail is left to append, no change waits for redo, and the whole log is
+    /// acknowledged.
     pub fn is_drained(&self) -> bool
         ensures { result ≡ is_drained self.now.stored }
     {
-        if has_unended(&self.validator) {
+        if has_tail(&self.validator) {
             return false;
         }
         if self.pool.waiting() > 0 {
@@ -133,11 +133,11 @@ impl<D: BlockDisk> Store<D> {
         self.control.newest().phase
     }
 
-    /// A transaction is unended.
-    pub fn has_unended(&self) -> bool
-        ensures { result ≡ not (is_none (unended self.now.stored.log)) }
+    /// Something of the log's tail is left to append: a transaction is unended.
+    pub fn has_tail(&self) -> bool
+        ensures { result ≡ not (is_undone self.now.stored.log) }
     {
-        has_unended(&self.validator)
+        has_tail(&self.validator)
     }
 
     /// The end of the last record that was wholly written at the log's last sync.
@@ -174,8 +174,8 @@ impl<D: BlockDisk> Store<D> {
         }
     }
 
-    /// Holds the next record of the sealed log's tail, and answers its LSN. NothingToDo: no
-    /// transaction is unended. Memory: a growth was refused, in a part that had no room for the
+    /// Holds the next record of the sealed log's tail, and answers its LSN. NothingToDo: nothing of
+    /// the tail is left to append. Memory: a growth was refused, in a part that had no room for the
     /// record; nothing has changed. The log device has room for the whole tail.
     pub fn undo_one(&mut self) -> Result<Lsn, Fault>
         requires sealed { is_following self.old.stored ≡ false }

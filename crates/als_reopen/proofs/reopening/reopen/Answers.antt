@@ -1,8 +1,11 @@
 use Rattle.std.proofs.Common.{◌≡◌, ℕ, ◌+◌, sym, subst, arith}
-use Rattle.als_reopen.specs.Node.{HoldsLog}
+use Rattle.als_reopen.specs.Node.{Node, HoldsLog, IsNode}
+use Rattle.als_reopen.specs.Outcomes.{Synced}
 use Rattle.als_reopen.specs.Reading.{CountsLog}
+use Rattle.als_reopen.specs.Refusing.{MeetsFirst}
 use Rattle.als_reopen.proofs.Devices.{settles}
-use Rattle.als_reopen.proofs.Nodes.{holds_left, holds_synced, node_synced, refuses}
+use Rattle.als_reopen.proofs.Nodes.{holds_left, holds_synced, node_synced, refuses, bare_or}
+use Rattle.als_reopen.proofs.Refusals.{first_left}
 use Rattle.als_reopen.proofs.reopening.reopen.Goals as goal
 
 pub read_back-requires-clause-settled_log : goal.read_back-requires-clause-settled_log
@@ -56,3 +59,34 @@ returns-in-Err-read_back-clause-err g c =
     let counted : HoldsLog pages (g.D.BlockDisk.block_count new.log) log control n = subst (λ (k : ℕ). HoldsLog pages k log control n) (sym c.sync_all.ensures.counts.0) h in
     c.in-Err-read_back.ensures.bare n
     (holds_left pages (g.D.BlockDisk.block_count new.log) (g.D.BlockDisk.slot new.log) log (g.D.BlockDisk.slot new.control) control n c.in-Err-read_back.ensures.left_log.same c.in-Err-read_back.ensures.left_control.0 counted))
+    (subst (λ (k : ℕ). MeetsFirst fault pages k log control) c.sync_all.ensures.counts.0
+    (first_left fault pages (g.D.BlockDisk.block_count new.log) (g.D.BlockDisk.slot new.log) log (g.D.BlockDisk.slot new.control) control c.in-Err-read_back.ensures.left_log.same c.in-Err-read_back.ensures.left_control.0
+    c.in-Err-read_back.ensures.first))
+
+pub returns-in-Ok-read_back-clause-synced : goal.returns-in-Ok-read_back-clause-synced
+returns-in-Ok-read_back-clause-synced g c =
+    let old = c.args.disks in
+    let new = c.sync_all.new.disks in
+    let log = g.D.BlockDisk.slot new.log in
+    let control = g.D.BlockDisk.slot new.control in
+    let page_slots = g.D.BlockDisk.slot new.pages in
+    let kept : Synced (g.D.BlockDisk.slot old.log) (g.D.BlockDisk.slot old.control) (g.D.BlockDisk.slot old.pages)
+    = record { log_now = log; control_now = control; pages_now = page_slots; log_kept = c.in-Ok.ensures.log; control_kept = c.in-Ok.ensures.control; pages_kept = c.in-Ok.ensures.pages } in
+    let count = sym c.sync_all.ensures.counts.0 in (
+      kept,
+      (λ n h. c.in-Ok-read_back.ensures.only n (subst (λ (k : ℕ). HoldsLog c.args.pages k log control n) count h)),
+      (λ n h. c.in-Ok-read_back.ensures.warm n (subst (λ (k : ℕ). IsNode c.args.pages k log control page_slots n) count h)),
+    )
+
+pub returns-in-Err-read_back-clause-unsynced : goal.returns-in-Err-read_back-clause-unsynced
+returns-in-Err-read_back-clause-unsynced g c =
+    let old = c.args.disks in
+    let new = c.sync_all.new.disks in
+    let log = g.D.BlockDisk.slot new.log in
+    let control = g.D.BlockDisk.slot new.control in
+    let kept : Synced (g.D.BlockDisk.slot old.log) (g.D.BlockDisk.slot old.control) (g.D.BlockDisk.slot old.pages)
+    = record { log_now = log; control_now = control; pages_now = g.D.BlockDisk.slot new.pages; log_kept = c.in-Ok.ensures.log; control_kept = c.in-Ok.ensures.control; pages_kept = c.in-Ok.ensures.pages } in
+    let count = sym c.sync_all.ensures.counts.0 in
+    bare_or c.in-Err-read_back.unread.fault kept
+    (λ (k : Synced (g.D.BlockDisk.slot old.log) (g.D.BlockDisk.slot old.control) (g.D.BlockDisk.slot old.pages)). λ (n : Node). HoldsLog c.args.pages (g.D.BlockDisk.block_count old.log) k.log_now k.control_now n)
+    (λ n h. c.in-Err-read_back.ensures.bare n (subst (λ (k : ℕ). HoldsLog c.args.pages k log control n) count h))

@@ -2,7 +2,7 @@ use Rattle.std.proofs.Common.{Option, Some, subst, refl, [], ◌∷◌, ◌++◌
 use Rattle.als_record.specs.declared.record.Record.{Record}
 use Rattle.als_record.specs.Pages.{change_of}
 use Rattle.als_scan.specs.Scanned.{HandsNext, HandsOut, GivesNext}
-use Rattle.als_tables.specs.Counting.{IsTallyOf}
+use Rattle.als_tables.specs.Counting.{IsCountOf}
 use Rattle.als_reopen.specs.Node.{position_of, rows_of}
 use Rattle.als_reopen.proofs.Steps.{few_counted, handed, change_unread, change_can, read_on, front_given}
 use Rattle.als_reopen.proofs.Warming.{warming_on}
@@ -38,7 +38,7 @@ returns-clause-reading g c =
     read_on checkpoint s.scan s.pool.pool s.count c.requires.reading r h c.next.new.self c.take_change.new.pool.pool c.note.new.self out.after c.next.ensures.facts
     (c.in_ok-take_change.ensures.reads s.scan.log c.requires.reading.queues h.at)
     (c.take_change.ensures.given (position_of checkpoint) (rows_of checkpoint) c.requires.reading.rows) c.take_change.ensures.few c.take_change.ensures.frames
-    (subst (λ (x : Record). IsTallyOf c.note.new.self (s.scan.log ++ x ∷ [])) c.view.ensures (c.note.ensures s.scan.log c.requires.reading.counted))
+    (subst (λ (x : Record). IsCountOf c.note.new.self (s.scan.log ++ x ∷ [])) c.view.ensures (c.note.ensures s.scan.log c.requires.reading.counted))
 
 pub returns-clause-front : goal.returns-clause-front
 returns-clause-front g c whole valid text =

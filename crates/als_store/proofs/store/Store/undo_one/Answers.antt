@@ -11,7 +11,7 @@ use Rattle.std.proofs.lemmas.Bool.{false≢true}
 use Rattle.als_log.specs.Local.{Local}
 use Rattle.als_store.specs.Stored.{with_records}
 use Rattle.als_store.specs.Parts.{stored_of, spare_of}
-use Rattle.als_store.proofs.SealLaws.{next_of, none_first, some_unended}
+use Rattle.als_store.proofs.SealLaws.{next_of, none_first, some_left}
 use Rattle.als_store.proofs.store.Store.undo_one.Goals as goal
 
 pub hold_next-held-requires-clause-first : goal.hold_next-held-requires-clause-first
@@ -67,7 +67,7 @@ returns-in-Err-clause-err g c =
     let n = next_of s.pages s.count s.log s.control s.pool.pool s.validator s.broken s.origin s.recovering c.self.invariant c.end.ensures.facts c.newest.ensures.facts c.in-Some.logged (sym (c.in-Some.ensures.next s.pages c.self.invariant.is_log.valid c.self.invariant.judged)) in
     let failed = c.in-Err.ensures.err in
     rw (← c.self.view_is, failed.0)
-    (some_unended s.log.log c.in-Some.logged n.rest n.first, failed.1 ∙ ap (λ (x : Local). stored_of s.pages x s.control s.pool.pool s.broken s.origin s.recovering) c.in-Some.ensures.same)
+    (some_left s.log.log c.in-Some.logged n.rest n.first, failed.1 ∙ ap (λ (x : Local). stored_of s.pages x s.control s.pool.pool s.broken s.origin s.recovering) c.in-Some.ensures.same)
 
 pub returns-in-Err-clause-reserved : goal.returns-in-Err-clause-reserved
 returns-in-Err-clause-reserved g c =
