@@ -3,6 +3,8 @@ use Rattle.std.proofs.Common.{◌≡◌, ℕ, ◌+◌, ◌≤◌, true, false, [
 use Rattle.std.proofs.Common.{inr, refl, sym, ap, subst, ◌∙◌, append-nil, arith}
 use Rattle.std.specs.Prelude.{Result, MatchOption}
 use Rattle.als_record.specs.declared.lsn.Lsn.{Lsn}
+use Rattle.als_record.specs.declared.record.Record.{Record}
+use Rattle.als_page.specs.declared.page.Page.{Page}
 use Rattle.als_store.specs.declared.fault.Fault.{Fault as StoreFault}
 use Rattle.als_store.specs.declared.fault.Fault.TheVariants as store_fault
 use Rattle.als_ckpt.specs.declared.control_state.ControlState.{ControlState}
@@ -19,7 +21,8 @@ use Rattle.als_engine.specs.declared.step.Step.TheVariants as step
 use Rattle.als_engine.specs.Readers.{ended_in}
 use Rattle.als_engine.specs.Machine.{Machine, IsStopped, Keeps}
 use Rattle.als_engine.specs.Refusals.{refusal, Does}
-use Rattle.als_engine.specs.Events.{Applies, Redoes, FlushesOne, WritesPage, ShowsPage}
+use Rattle.als_engine.specs.Events.{Applies, Redoes, FlushesOne, WritesPage, ShowsPage, Reads}
+use Rattle.als_engine.specs.Events.{Changes}
 use Rattle.als_engine.proofs.KeepLaws.{goes_on_same, keeps_equal, IsReadAlike, none_opened}
 use Rattle.als_engine.proofs.KeepLaws.{IsAsMade, as_made}
 
@@ -110,6 +113,7 @@ not_shown m page (store_fault.BadPage p) held sound n =
     inr (record {
       answer =
           ap fault.BadPage n.number;
+      bad = n.bad;
       unsound = λ w. sound w (ap store_fault.BadPage n.number);
       absent = n.absent;
       after = ap (λ (h : Stored). with_held m h) n.after;
@@ -175,12 +179,12 @@ in_vain old held page store_fault.Device r = (
       held _ r.after refl (λ w. w) (λ r. r),
 )
 in_vain old held page (store_fault.BadPage p) r = (
-  ap (λ (s : Stored). s.control) r.1,
-  ap (λ (s : Stored). s.log) r.1,
+  ap (λ (s : Stored). s.control) r.2,
+  ap (λ (s : Stored). s.log) r.2,
   ap
-      (λ (s : Stored). s.broken) r.1,
-  ap (λ (s : Stored). s.attempts) r.1,
-  as_made old held _ r.1
+      (λ (s : Stored). s.broken) r.2,
+  ap (λ (s : Stored). s.attempts) r.2,
+  as_made old held _ r.2
       refl (λ w. w) (λ r. r),
 )
 in_vain old held page store_fault.Memory r = (
@@ -250,3 +254,40 @@ pub flushes_keeps : (old new : Machine) (page : ℕ) (answer : Result (Unit {0})
     → FlushesOne old page answer new → Keeps old new
 flushes_keeps old new page answer r =
     flush_keeps old new page answer (refusal old (step.Flush page)) r
+
+pub apply_keeps : (old new : Machine) (page : ℕ) (answer : Result Lsn Fault)
+    → Applies old page answer new → Keeps old new
+apply_keeps old new page (Ok lsn) r = applied_keeps old new page lsn r
+apply_keeps old new page (Err f) r = (not_applied_keeps old new page f r).0
+
+-- ---- queries that may read a device
+
+-- a failed read, which is counted
+keeps_failing : (old new : Machine) (event : Stored → Stored → Type 0) → Changes old event new
+    → ((held : Stored) → event old.held held → (held.control ≡ old.held.control)
+    × (held.log ≡ old.held.log) × (held.broken ≡ old.held.broken) × IsAsMade old.held held)
+    → Keeps old new
+keeps_failing old new event c k =
+    let v = k c.held c.becomes in
+    keeps_pool old new c.held c.after v.0 v.1 (λ s. v.2 ∙ s) v.3
+
+pub shows_keeps : (old new : Machine) (page : ℕ) (answer : Result Page Fault)
+    → ShowsPage old page answer new → Keeps old new
+shows_keeps old new page (Ok shown) s = keeps_equal old new s.3
+shows_keeps old new page (Err f) (inl s) = keeps_failing old new _ s.1 (λ held e. (
+  ap (λ (h : Stored). h.control) e.after,
+  ap (λ (h : Stored). h.log) e.after,
+  ap (λ (h : Stored). h.broken) e.after,
+  as_made old.held held _ e.after refl (λ w. w) (λ r. r),
+))
+shows_keeps old new page (Err f) (inr s) = keeps_equal old new s.after
+
+pub reads_keeps : (old new : Machine) (lsn : Lsn) (answer : Result (Option Record) Fault)
+    → Reads old lsn answer new → Keeps old new
+reads_keeps old new lsn (Ok found) s = keeps_equal old new s.1
+reads_keeps old new lsn (Err f) (inl s) = keeps_equal old new s.2
+reads_keeps old new lsn (Err f) (inr s) =
+    let e = s.2.after in
+    keeps_pool old new s.1 s.3 (ap (λ (h : Stored). h.control) e) (ap (λ (h : Stored). h.log) e)
+    (λ b. ap (λ (h : Stored). h.broken) e ∙ b)
+    (as_made old.held s.1 _ e refl (λ w. w) (λ r. r))

@@ -249,7 +249,7 @@ serving_in_vain old new receiver refused view page store_fault.NothingToDo s r =
 serving_in_vain old new receiver refused view page store_fault.Device s r =
     serving_still old new receiver refused view s _ r.after refl refl refl refl refl
 serving_in_vain old new receiver refused view page (store_fault.BadPage p) s r =
-    serving_still old new receiver refused view s old r.1 refl refl refl refl refl
+    serving_still old new receiver refused view s old r.2 refl refl refl refl refl
 serving_in_vain old new receiver refused view page store_fault.Memory s r =
     serving_still old new receiver refused view s old r refl refl refl refl refl
 serving_in_vain old new receiver refused view page (store_fault.Invalid cause) s r = absurd r

@@ -75,3 +75,8 @@ keeps_refused old new piece None refusal front =
     keeps_grown old new front.records _ front.after refl refl
     (record { listed = refl; published = refl })
 keeps_refused old new piece (Some fault) refusal same = keeps_equal old new same.1
+
+pub keeps_feed : (old new : Machine) (piece : List ℕ) (cause : Option Fault)
+    (answer : Result Fed FeedFault) → Feeds old piece cause answer new → Keeps old new
+keeps_feed old new piece cause (Ok fed) f = keeps_fed old new piece cause fed f
+keeps_feed old new piece cause (Err refusal) f = keeps_refused old new piece cause refusal f

@@ -1,20 +1,25 @@
 -- What a crash leaves of an engine, from what it leaves of the store.
-use Rattle.std.proofs.Common.{◌≡◌, ℕ, ◌≤◌, cond, List, [], Option, Some, None, refl, sym, ap, subst}
-use Rattle.std.proofs.Common.{◌∙◌, arith}
+use Rattle.std.proofs.Common.{◌≡◌, ◌⊎◌, ℕ, ◌≤◌, cond, List, [], Option, Some, None, refl, sym, ap, subst}
+use Rattle.std.proofs.Common.{◌∙◌, inl, inr, arith}
 use Rattle.std.specs.Prelude.{is_some}
 use Rattle.als_record.specs.LogText.{end_of}
 use Rattle.als_view.specs.Fronts.{View}
 use Rattle.als_view.specs.Showing.{IsWarming, published_of}
 use Rattle.als_store.specs.Stored.{Stored}
 use Rattle.als_store.specs.Opening.{IsOpened, TakesUp}
+use Rattle.als_store.specs.Warm.{now_of}
 use Rattle.als_engine.specs.Config.{IsConfig}
 use Rattle.als_engine.specs.Readers.{count_in}
 use Rattle.als_engine.proofs.FeedLaws.{machine}
 use Rattle.als_disk.specs.Slot.{Slot}
 use Rattle.als_reopen.specs.Node.{Node, IsNode}
-use Rattle.als_reopen.specs.Outcomes.{AreSettled}
+use Rattle.als_reopen.specs.declared.fault.Fault.{Fault as OpenFault}
+use Rattle.als_reopen.specs.Outcomes.{AreSettled, IsBare}
 use Rattle.als_store.specs.Leaving.{HoldsLeft}
 use Rattle.als_engine.specs.declared.config.Config.{Config}
+use Rattle.als_engine.specs.declared.fault.Fault.{Fault}
+use Rattle.als_engine.specs.declared.fault.Fault.TheVariants as fault
+use Rattle.als_engine.specs.Faults.{from_open}
 use Rattle.als_engine.specs.Machine.{Machine}
 use Rattle.als_engine.specs.Restarts.{IsWarm, IsMadeWith, Holds, Leaves, IsStarted, IsRestarted}
 
@@ -78,23 +83,36 @@ restarted config held from view waiting partial blocks failures attempts numbers
 
 -- and over devices that held a node
 pub started : (config : Config) (n : Node) (m : Machine) (blocks failures attempts : ℕ)
-    → IsRestarted config blocks failures attempts m → TakesUp n m.held
-    → IsWarm m × IsStarted config n m
-started config n m blocks failures attempts r t = (
-  t.warm,
-  record {
-    made = r.made;
-    log = t.log;
-    control = t.control;
-    since = ap (λ (h : Stored). h.since) r.held.is;
-    begun = ap (λ (h : Stored). h.begun) r.held.is;
-    running = ap (λ (h : Stored). h.broken) r.held.is;
-    recovering = ap (λ (h : Stored). h.recovering) r.held.is;
-    written = ap (λ (h : Stored). h.written) r.held.is ∙ ap end_of t.log;
-    synced = ap (λ (h : Stored). h.synced) r.held.is ∙ ap end_of t.log;
-    partial = r.partial;
-    refused = r.refused;
-    listed = r.listed;
-    published = r.published;
-  },
-)
+    → IsRestarted config blocks failures attempts m → TakesUp n m.held → n.blocks ≡ blocks
+    → m.held.pool.frames.most ≡ config.frames → IsStarted config n m
+started config n m blocks failures attempts r t counted most = record {
+  made = r.made;
+  warm = t.warm;
+  blocks = ap (λ (h : Stored). h.blocks) r.held.is ∙ sym counted;
+  log = t.log;
+  control = t.control;
+  held = t.held;
+  frames = most;
+  count = r.held.count;
+  queues = t.queues;
+  rows = t.rows;
+  origin = ap (λ (h : Stored). h.origin) r.held.is
+      ∙ sym (ap (λ (h : Stored). now_of h) r.held.is);
+  since = ap (λ (h : Stored). h.since) r.held.is;
+  begun = ap (λ (h : Stored). h.begun) r.held.is;
+  running = ap (λ (h : Stored). h.broken) r.held.is;
+  recovering = ap (λ (h : Stored). h.recovering) r.held.is;
+  written = ap (λ (h : Stored). h.written) r.held.is ∙ ap end_of t.log;
+  synced = ap (λ (h : Stored). h.synced) r.held.is ∙ ap end_of t.log;
+  partial = r.partial;
+  refused = r.refused;
+  listed = r.listed;
+  published = r.published;
+}
+
+-- a failed device and want of memory keep their names
+pub bare_or : {X : Type 0} (cause : OpenFault) (answer : Fault) → answer ≡ from_open cause
+    → IsBare cause ⊎ X → ((answer ≡ fault.Device) ⊎ (answer ≡ fault.Memory)) ⊎ X
+bare_or cause answer is (inl (inl e)) = inl (inl (is ∙ ap from_open e))
+bare_or cause answer is (inl (inr e)) = inl (inr (is ∙ ap from_open e))
+bare_or cause answer is (inr x) = inr x

@@ -18,7 +18,7 @@ use Rattle.als_engine.specs.Refusals.{refusal, Does}
 use Rattle.als_engine.specs.Feeds.{Feeds}
 use Rattle.als_engine.specs.Events.{Changes, DropsPartial, SyncsAllPages, WritesBlock, SyncsBlocks}
 use Rattle.als_engine.specs.Events.{MovesMark, Acknowledges, Resyncs, PagesSync, LogWrites}
-use Rattle.als_engine.specs.Events.{LogSyncs, MarkWrites, ControlSyncs}
+use Rattle.als_engine.specs.Events.{LogSyncs, MarkWrites, ControlSyncs, FlushesOne, WritesPage}
 use Rattle.als_engine.specs.Checkpointing.{Begins, WritesNext, PublishesNext, CkptBegins}
 use Rattle.als_engine.specs.Checkpointing.{CkptWrites, CkptPublishes}
 use Rattle.als_engine.specs.Runs.{Steps, reply_of}
@@ -28,6 +28,7 @@ use Rattle.als_engine.specs.Readiness.{readied, BecomesReady, Readies}
 use Rattle.als_engine.specs.Takeover.{SealsLog, Undoes, FinishesTakeover, Seals, UndoesOneOf}
 use Rattle.als_engine.specs.Takeover.{Finishes}
 use Rattle.als_engine.proofs.ReaderLaws.{ended_in-few}
+use Rattle.als_engine.proofs.RefusalLaws.{keeps_undone}
 use Rattle.als_engine.proofs.KeepLaws.{goes_on_same, keeps_equal, IsReadAlike, read_alike}
 use Rattle.als_engine.proofs.KeepLaws.{none_opened, IsAsMade, as_made}
 
@@ -344,6 +345,18 @@ keeps_finish old new result does =
         (ap (λ (h : Stored). h.log) e.after) (ap (λ (h : Stored). h.control) e.after)
         (λ b. ap (λ (h : Stored). h.broken) e.after))
 
+pub keeps_ctl_sync : (old new : Machine) (answer : Result Lsn Fault)
+    → acknowledged old.held ≤ (newest old.held).mark.0 → GoesOn old.held.control new.held.control
+    → ControlSyncs old answer new → Keeps old new
+keeps_ctl_sync old new (Ok lsn) marks goes_on does =
+    keeps_acknowledged old new lsn marks goes_on does
+keeps_ctl_sync old new (Err fault) marks goes_on does = keeps_not_acknowledged old new fault does
+
+pub keeps_undo_one : (old new : Machine) (answer : Result Lsn Fault) → UndoesOneOf old answer new
+    → Keeps old new
+keeps_undo_one old new (Ok lsn) does = keeps_undone old new lsn does
+keeps_undo_one old new (Err fault) does = keeps_not_undone old new fault does
+
 -- a refused feed calls no device
 pub attempts_refused : (old new : Machine) (piece : List ℕ) (cause : Option Fault)
     (refused : FeedFault) → Feeds old piece cause (Err refused) new
@@ -382,3 +395,57 @@ attempts_finish old new result does = go (refusal old step.Finish) result does
               (λ (h : Stored). h.attempts) c.1.becomes.after,
         )
     go (Some cause) answer same = omega (arith, ap (λ (m : Machine). m.held.attempts) same.1)
+
+pub flushes_step : (old new : Machine) (page : ℕ) (result : Result (Unit {0}) Fault)
+    → FlushesOne old page result new → Steps old (step.Flush page) (reply_of result) new
+flushes_step old new page (Ok done) does = does
+flushes_step old new page (Err fault) does = does
+
+pub finishes_step : (old new : Machine) (result : Result (Unit {0}) Fault)
+    → Finishes old result new → Steps old step.Finish (reply_of result) new
+finishes_step old new (Ok done) does = does
+finishes_step old new (Err fault) does = does
+
+pub attempts_flush : (old new : Machine) (page : ℕ) (result : Result (Unit {0}) Fault)
+    → FlushesOne old page result new → new.held.attempts ≤ old.held.attempts + 1
+attempts_flush old new page result does = go (refusal old (step.Flush page)) result does
+  where
+    go : (r : Option Fault) (answer : Result (Unit {0}) Fault)
+        → MatchOption r (WritesPage old page answer new) (λ fault. (answer ≡ Err fault)
+        × (new ≡ old)) → new.held.attempts ≤ old.held.attempts + 1
+    go None (Ok done) c = omega (arith, ap (λ (m : Machine). m.held.attempts) c.after, ap (λ (h : Stored). h.attempts) c.becomes.after)
+    go None (Err fault) c = omega (arith, ap (λ (m : Machine). m.held.attempts) c.1.after, ap (λ (h : Stored). h.attempts) c.1.becomes.after)
+    go (Some cause) answer same = omega (arith, ap (λ (m : Machine). m.held.attempts) same.1)
+
+pub attempts_begin : (old new : Machine) (result : Result (Unit {0}) Fault)
+    → CkptBegins old result new → new.held.attempts ≤ old.held.attempts + 1
+attempts_begin old new result does = go (refusal old step.CkptBegin) result does
+  where
+    go : (r : Option Fault) (answer : Result (Unit {0}) Fault)
+        → MatchOption r (Begins old answer new) (λ fault. (answer ≡ Err fault)
+        × (new ≡ old)) → new.held.attempts ≤ old.held.attempts + 1
+    go None (Ok done) c = omega (arith, ap (λ (m : Machine). m.held.attempts) c.after, ap (λ (h : Stored). h.attempts) c.becomes.after)
+    go None (Err fault) c = omega (arith, ap (λ (m : Machine). m.held.attempts) c.1)
+    go (Some cause) answer same = omega (arith, ap (λ (m : Machine). m.held.attempts) same.1)
+
+pub attempts_seal : (old new : Machine) (result : Result (Unit {0}) Fault)
+    → Seals old result new → new.held.attempts ≤ old.held.attempts + 1
+attempts_seal old new result does = go (refusal old step.Seal) result does
+  where
+    go : (r : Option Fault) (answer : Result (Unit {0}) Fault)
+        → MatchOption r (SealsLog old answer new) (λ fault. (answer ≡ Err fault)
+        × (new ≡ old)) → new.held.attempts ≤ old.held.attempts + 1
+    go None (Ok done) c = omega (arith, ap (λ (m : Machine). m.held.attempts) c.after, ap (λ (h : Stored). h.attempts) c.seals.after)
+    go None (Err fault) c = omega (arith, ap (λ (m : Machine). m.held.attempts) c.1.after, ap (λ (h : Stored). h.attempts) c.1.becomes.after)
+    go (Some cause) answer same = omega (arith, ap (λ (m : Machine). m.held.attempts) same.1)
+
+pub attempts_not_undone : (old new : Machine) (fault : Fault) → UndoesOneOf old (Err fault) new
+    → new.held.attempts ≤ old.held.attempts + 1
+attempts_not_undone old new fault does = go (refusal old step.UndoOne) does
+  where
+    go : (r : Option Fault)
+        → MatchOption r (Undoes old (Err fault) new)
+        (λ cause. (◌≡◌ {A = Result Lsn Fault} (Err fault) (Err cause)) × (new ≡ old))
+        → new.held.attempts ≤ old.held.attempts + 1
+    go None h = omega (arith, ap (λ (m : Machine). m.held.attempts) h.1)
+    go (Some cause) h = omega (arith, ap (λ (m : Machine). m.held.attempts) h.1)

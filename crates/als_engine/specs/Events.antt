@@ -4,7 +4,10 @@ use Rattle.als_record.specs.declared.lsn.Lsn.{Lsn}
 use Rattle.als_record.specs.declared.record.Record.{Record}
 use Rattle.als_log.specs.Reading.{HasRowsAt}
 use Rattle.als_page.specs.declared.page.Page.{Page}
-use Rattle.als_page.specs.Page.{id_of}
+use Rattle.als_page.specs.Page.{id_of, state_of}
+use Rattle.als_frames.specs.Frames.{slot_of}
+use Rattle.als_frames.specs.Outcomes.{IsBad}
+use Rattle.als_pool.specs.Outcomes.{IsPageNow}
 use Rattle.als_pool.specs.Pooled.{view_of}
 use Rattle.als_store.specs.declared.fault.Fault.{Fault as StoreFault}
 use Rattle.als_store.specs.declared.fault.Fault.TheVariants.{BadPage as NotThePage}
@@ -122,19 +125,22 @@ Reads old lsn (Err fault) new =
     ⊎ ((fault ≡ Device) × (held : Stored) × FailsToRead old.held held
     × (new ≡ record old { held = held }))
 
--- The block of a page that has no frame is not that of the page: nothing changes. It does not come
--- where the devices were sound when the engine was made.
+-- A page has no frame, and a read of its block may give what is no block of the page: nothing
+-- changes. It does not come where the devices were sound when the engine was made.
 pub record FindsNoPage (old : Machine) (page : ℕ) (fault : Fault) (new : Machine) : Type 0 where
   pub answer : fault ≡ BadPage page
+  pub bad : IsBad (slot_of old.held.pool.frames page) page
   pub unsound : WasWarm old.held → ⊥
   pub absent : (view_of old.held.pool page).resident ≡ false
   pub after : new ≡ old
 
--- The page of this number, which is the page as it is now where the devices were sound when the
--- engine was made; or none was found. A read that fails is counted, and nothing else changes.
+-- The page of this number, as its frame has it or as a read of its block may give it. It is the
+-- page as it is now where the devices were sound when the engine was made. Or none was found. A
+-- read that fails is counted, and nothing else changes.
 abbrev pub ShowsPage : Machine → ℕ → Result Page Fault → Machine → Type 0
 ShowsPage old page (Ok shown) new =
-    (id_of shown ≡ page) × (WasWarm old.held → IsShown old.held page shown) × (new ≡ old)
+    (id_of shown ≡ page) × IsPageNow old.held.pool page (state_of shown)
+    × (WasWarm old.held → IsShown old.held page shown) × (new ≡ old)
 ShowsPage old page (Err fault) new =
     FailsIn old fault (λ held after. FailsToShow held page after) new
     ⊎ FindsNoPage old page fault new

@@ -3,14 +3,14 @@ use Rattle.std.specs.Prelude.{◌≡◌, nat_lt, nat_le, Bool, true, false, not,
 use Rattle.std.specs.Prelude.{List, [], ◌∷◌, ◌++◌, Option, Some, None, MatchOption, Result, Err}
 use Rattle.std.specs.Prelude.{if◌then◌else◌}
 use Rattle.als_record.specs.LogText.{end_of}
-use Rattle.als_record.specs.Transactions.{unended}
+use Rattle.als_record.specs.Tail.{is_undone}
 use Rattle.als_ckpt.specs.declared.region.Region.{Region}
 use Rattle.als_ckpt.specs.declared.region.Region.TheVariants.{First, Second}
 use Rattle.als_ckpt.specs.Regions.{Begun, blocks_of, position_of}
 use Rattle.als_pool.specs.Pooled.{view_of}
 use Rattle.als_pool.specs.Refusals.{has_waiting, is_full as has_no_frame, is_due, is_behind}
 use Rattle.als_store.specs.Stored.{Stored, newest, pending_of, acknowledged}
-use Rattle.als_store.specs.Takeover.{is_following, is_primary, is_drained, is_none as has_none}
+use Rattle.als_store.specs.Takeover.{is_following, is_primary, is_drained}
 use Rattle.als_engine.specs.declared.fault.Fault.{Fault}
 use Rattle.als_engine.specs.declared.fault.Fault.TheVariants.{Recovering, Sealed, LogBehind}
 use Rattle.als_engine.specs.declared.fault.Fault.TheVariants.{NotDrained, CkptBusy, PoolFull}
@@ -127,7 +127,7 @@ causes m step.Seal =
     has_stopped m ∷ is_recovering m ∷ has_sealed m ∷ (is_unsynced m.held, LogBehind) ∷ []
 causes m step.UndoOne =
     has_stopped m ∷ is_recovering m ∷ is_unsealed m
-    ∷ (has_none (unended m.held.log), NothingToDo) ∷ []
+    ∷ (is_undone m.held.log, NothingToDo) ∷ []
 causes m step.Finish =
     has_stopped m ∷ is_recovering m ∷ is_unsealed m ∷ (is_primary m.held, NothingToDo)
     ∷ (not (is_drained m.held), NotDrained) ∷ []

@@ -1,14 +1,17 @@
 -- What a crash leaves of an engine, and what a restart makes of it.
-use Rattle.std.specs.Prelude.{◌≡◌, ℕ, true, false, [], None}
+use Rattle.std.specs.Prelude.{◌≡◌, ℕ, true, false, [], length, None}
 use Rattle.als_record.specs.LogText.{end_of}
 use Rattle.als_disk.specs.Slot.{Slot}
 use Rattle.als_reopen.specs.declared.fault.Fault.{Fault as OpenFault}
-use Rattle.als_reopen.specs.Node.{Node, IsNode}
+use Rattle.als_ckpt.specs.Regions.{held_of}
+use Rattle.als_pool.specs.Images.{QueuesOf}
+use Rattle.als_pool.specs.Restart.{HasRowsFrom}
+use Rattle.als_reopen.specs.Node.{Node, IsNode, position_in, rows_in}
 use Rattle.als_reopen.specs.Outcomes.{AreSettled, RefusesOpen}
 use Rattle.als_store.specs.Leaving.{MayLeave}
 use Rattle.als_store.specs.Opening.{IsOpened}
 use Rattle.als_store.specs.Staying.{StaysNode}
-use Rattle.als_store.specs.Warm.{WasWarm}
+use Rattle.als_store.specs.Warm.{WasWarm, now_of}
 use Rattle.als_engine.specs.declared.config.Config.{Config}
 use Rattle.als_engine.specs.declared.fault.Fault.{Fault}
 use Rattle.als_engine.specs.Config.{IsConfig, IsWorld}
@@ -50,12 +53,21 @@ pub record Leaves (old : Machine) (n : Node) : Type 0 where
   pub may : MayLeave old.held n
   pub ends : end_of n.log ≡ n.said.state.mark.0
 
--- An engine that begins again with what the devices held: nothing is unsynced, partial or refused.
--- It is recovering, and readers have no list of commits yet.
+-- An engine that begins again with what sound devices held, its checkpoint too: nothing is unsynced,
+-- partial or refused. No page was read; what waits for each are its changes from where a restart
+-- looks for them. It is recovering, and readers have no list of commits yet.
 pub record IsStarted (config : Config) (n : Node) (new : Machine) : Type 0 where
   pub made : IsMadeWith config new
+  pub warm : IsWarm new
+  pub blocks : new.held.blocks ≡ n.blocks
   pub log : new.held.log ≡ n.log
   pub control : new.held.control ≡ n.said.state
+  pub held : new.held.held ≡ held_of n.said.state.published n.said.checkpoint
+  pub frames : new.held.pool.frames.most ≡ config.frames
+  pub count : length new.held.pool.waits ≡ config.pages
+  pub queues : QueuesOf n.log new.held.pool
+  pub rows : HasRowsFrom (position_in n.said) (rows_in n.said) new.held.pool
+  pub origin : new.held.origin ≡ now_of new.held
   pub since : new.held.since ≡ []
   pub begun : new.held.begun ≡ None
   pub running : new.held.broken ≡ false
@@ -82,7 +94,8 @@ pub record IsRestarted (config : Config) (blocks failures attempts : ℕ) (m : M
   pub published : m.published ≡ 0
 
 -- Devices that are large enough are refused by the store's fault: a device has failed, a growth was
--- refused, or the devices, as they are handed back, hold no log.
+-- refused, or the devices, as they are handed back, hold no log, and the fault is the first that is
+-- met in reading them.
 pub record RefusesRestart (config : Config) (blocks : ℕ) (log control : ℕ → Slot)
     (before now : ℕ) (fault : Fault) : Type 0 where
   pub cause : OpenFault

@@ -1,9 +1,13 @@
 -- What a standby tells of itself.
-use Rattle.std.specs.Prelude.{◌≡◌, length}
+use Rattle.std.specs.Prelude.{◌≡◌, ℕ, ◌≤◌, true, false, not, length, if◌then◌else◌}
 use Rattle.als_record.specs.LogText.{end_of}
+use Rattle.als_record.specs.Validity.{is_valid}
 use Rattle.als_store.specs.Stored.{acknowledged, pending_of}
+use Rattle.als_store.specs.Takeover.{IsUnderTakeover, IsFinished, is_primary}
+use Rattle.als_store.specs.Warm.{WasWarm}
 use Rattle.als_engine.specs.declared.status.Status.{Status}
 use Rattle.als_engine.specs.Machine.{Machine, state_of}
+use Rattle.als_engine.specs.Readers.{ended_in}
 
 -- its state, where its log ends, the bytes of the record that is not whole yet, what is
 -- acknowledged, and what waits for redo
@@ -14,3 +18,23 @@ pub record Tells (m : Machine) (status : Status) : Type 0 where
   pub acknowledged : status.acknowledged.0 ≡ acknowledged m.held
   pub pending : status.pending ≡ pending_of m.held
   pub leases : status.leases ≡ 0
+
+-- What always holds between two events. The log is valid, and reaches what is acknowledged. Readers
+-- have a list of published commits unless the engine is recovering, and each of them is
+-- acknowledged. Where the devices were sound when the engine was made, what each control state that
+-- a crash may leave says of the log is true, and a finished takeover holds exactly what the
+-- committed transactions of the sealed log left, unless the engine is recovering.
+pub record Stands (m : Machine) : Type 0 where
+  pub valid : is_valid m.held.log ≡ true
+  pub stable : acknowledged m.held ≤ end_of m.held.log
+  pub listed : m.listed ≡ not m.held.recovering
+  pub counted : m.published ≤ ended_in m.held
+  pub unlisted : m.listed ≡ false → m.published ≡ 0
+  pub taken : WasWarm m.held → IsUnderTakeover m.held
+  pub finished : WasWarm m.held → m.held.recovering ≡ false → is_primary m.held ≡ true
+      → IsFinished m.held
+
+-- How many commits a reader may have been told of: those published, where there is a list; else
+-- those whose records end at or below what is acknowledged.
+abbrev pub told_in : Machine → ℕ
+told_in m = if m.listed then m.published else ended_in m.held

@@ -1,8 +1,29 @@
-ghost use Rattle.std.specs.Prelude.{◌≡◌, ◌<◌, ◌+◌, IfOk, IfErr};
+//! The engine: a standby as one machine of events and queries.
+//!
+//! ```text
+//! format --> Following --a bad record--> Refusing --resync--> Following
+//!            Following, Refusing --seal--> Sealed --finish--> Primary
+//! open ----> Recovering --ready--> Following, Sealed or Primary, by the phase
+//! any state --a write or a sync fails--> Stopped
+//! ```
+//!
+//! Rules:
+//! 1. Each event is one step of the small machine (`specs/Machine`, `specs/Runs`). It is refused by
+//!    the first of its causes that applies, in the order of one table (`specs/Refusals`). Such a
+//!    refusal changes nothing; a feed keeps the whole records in front of the refused one.
+//! 2. Feed holds each whole record in turn; the rest of a piece waits as the partial record.
+//! 3. Acknowledged is the mark in the control block as last synced. No event lowers it.
+//! 4. Each event makes one write or one sync of a device at most.
+//! 5. Queries change nothing but the count of failed reads, and go on in Stopped.
+//!
+//! The engine is the store, the receiver of the partial record and the readers' view. Its contract
+//! speaks of one value, `Machine`, so a caller needs to know none of the three.
+
+ghost use Rattle.std.specs.Prelude.{◌≡◌, ◌<◌, ◌≤◌, ◌+◌, IfOk, IfErr};
 ghost use Rattle.als_engine.specs.Config.{IsWorld};
 ghost use Rattle.als_engine.specs.Formatting.{FormatsWorld, RefusesFormat};
-ghost use Rattle.als_store.specs.Devices.{AreKept, AreImages};
 ghost use Rattle.als_store.specs.Formatting.{IsHalfFormatted};
+ghost use Rattle.als_store.specs.Stopped.{AreStopped, devices_of};
 ghost use Rattle.als_store.specs.Warm.{WasWarm};
 
 // What acknowledges the log.
@@ -162,11 +183,15 @@ impl<D: BlockDisk> Engine<D> {
     /// The devices. Whatever a crash leaves of them, the control block has a mark from the
     /// acknowledged LSN to the synced end, and the log device has the held log's text below that
     /// mark. Where the devices were sound when the engine was made, it has of each page an image
-    /// for which its row is sound. Their attempts together are the machine's.
+    /// for which its row is sound, one of the control states that were synced or written since with
+    /// the checkpoint that it publishes, and the front of the log that ends at its mark. Their
+    /// failures and their attempts together are the machine's.
     pub fn into_disks(self) -> Disks<D>
-        ensures kept { AreKept self.machine.held (D.slot result.log) (D.slot result.control) }
-        ensures images { WasWarm self.machine.held
-            → AreImages self.machine.held (D.slot result.pages) }
+        ensures stopped { AreStopped self.machine.held (devices_of D.slot D.block_count result) }
+        ensures some_blocks { 1 ≤ self.machine.held.blocks }
+        ensures few_blocks { self.machine.held.blocks ≤ 4194304 }
+        ensures failures { D.failures result.log + D.failures result.control
+            + D.failures result.pages ≡ self.machine.held.failures }
         ensures attempts { D.attempts result.log + D.attempts result.control
             + D.attempts result.pages ≡ self.machine.held.attempts }
     {

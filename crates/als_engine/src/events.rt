@@ -3,7 +3,7 @@ ghost use Rattle.als_record.specs.Table.{table_of};
 ghost use Rattle.als_pool.specs.Queues.{WaitsFirst};
 ghost use Rattle.als_dirty.specs.Rows.{IsNextRow};
 ghost use Rattle.als_engine.specs.declared.fault.Fault.TheVariants as fault;
-ghost use Rattle.als_engine.specs.Machine.{Machine};
+ghost use Rattle.als_engine.specs.Machine.{Machine, Keeps};
 ghost use Rattle.als_engine.specs.Refusals.{feed_refusal};
 ghost use Rattle.als_engine.specs.Feeds.{Feeds};
 ghost use Rattle.als_engine.specs.Events.{Resyncs, Applies, FlushesOne, PagesSync};
@@ -13,7 +13,7 @@ ghost use Rattle.als_engine.specs.Checkpointing.{CkptBegins, CkptWrites, CkptPub
 ghost use Rattle.als_engine.specs.Publishing.{PublishesView, ReadsKey};
 ghost use Rattle.als_engine.specs.Readiness.{Readies};
 ghost use Rattle.als_engine.specs.Takeover.{Seals, UndoesOneOf, Finishes};
-ghost use Rattle.als_engine.specs.Telling.{Tells};
+ghost use Rattle.als_engine.specs.Telling.{Tells, Stands};
 
 use crate::fault::Fault;
 use crate::fed::{Fed, FeedFault};
@@ -37,71 +37,88 @@ pub trait Events {
     /// Takes a piece of the primary's log.
     fn feed(&mut self, piece: &[u8]) -> Result<Fed, FeedFault>
         ensures feeds { alone → Feeds (machine self.old) piece.now (feed_refusal (machine self.old))
-            result (machine self.new) };
+            result (machine self.new) }
+        ensures keeps { alone → Keeps (machine self.old) (machine self.new) };
 
     /// Drops the partial record, and takes the log again after a refusal.
     fn resync(&mut self) -> Result<(), Fault>
-        ensures resyncs { alone → Resyncs (machine self.old) result (machine self.new) };
+        ensures resyncs { alone → Resyncs (machine self.old) result (machine self.new) }
+        ensures keeps { alone → Keeps (machine self.old) (machine self.new) };
 
     /// Redoes the first changes that a page waits for, and answers its page_LSN.
     fn apply(&mut self, page: u32) -> Result<Lsn, Fault>
-        ensures applies { alone → Applies (machine self.old) page result (machine self.new) };
+        ensures applies { alone → Applies (machine self.old) page result (machine self.new) }
+        ensures keeps { alone → Keeps (machine self.old) (machine self.new) };
 
     /// Writes a page to its block, if the log is acknowledged past its page_LSN.
     fn flush(&mut self, page: u32) -> Result<(), Fault>
-        ensures flushes { alone → FlushesOne (machine self.old) page result (machine self.new) };
+        ensures flushes { alone → FlushesOne (machine self.old) page result (machine self.new) }
+        ensures keeps { alone → Keeps (machine self.old) (machine self.new) };
 
     /// Syncs the pages' device.
     fn sync_pages(&mut self) -> Result<(), Fault>
-        ensures syncs { alone → PagesSync (machine self.old) result (machine self.new) };
+        ensures syncs { alone → PagesSync (machine self.old) result (machine self.new) }
+        ensures keeps { alone → Keeps (machine self.old) (machine self.new) };
 
     /// Writes the first block of the log with unwritten bytes.
     fn log_write(&mut self) -> Result<(), Fault>
-        ensures writes { alone → LogWrites (machine self.old) result (machine self.new) };
+        ensures writes { alone → LogWrites (machine self.old) result (machine self.new) }
+        ensures keeps { alone → Keeps (machine self.old) (machine self.new) };
 
     /// Syncs the log.
     fn log_sync(&mut self) -> Result<(), Fault>
-        ensures syncs { alone → LogSyncs (machine self.old) result (machine self.new) };
+        ensures syncs { alone → LogSyncs (machine self.old) result (machine self.new) }
+        ensures keeps { alone → Keeps (machine self.old) (machine self.new) };
 
     /// Writes the control block with the log's synced end as its mark.
     fn mark_write(&mut self) -> Result<(), Fault>
-        ensures writes { alone → MarkWrites (machine self.old) result (machine self.new) };
+        ensures writes { alone → MarkWrites (machine self.old) result (machine self.new) }
+        ensures keeps { alone → Keeps (machine self.old) (machine self.new) };
 
     /// Syncs the control block, and answers its mark: the acknowledged LSN.
     fn ctl_sync(&mut self) -> Result<Lsn, Fault>
-        ensures syncs { alone → ControlSyncs (machine self.old) result (machine self.new) };
+        ensures syncs { alone → ControlSyncs (machine self.old) result (machine self.new) }
+        ensures keeps { alone → Keeps (machine self.old) (machine self.new) };
 
     /// Begins a checkpoint: copies both tables and the end of the log.
     fn ckpt_begin(&mut self) -> Result<(), Fault>
-        ensures begins { alone → CkptBegins (machine self.old) result (machine self.new) };
+        ensures begins { alone → CkptBegins (machine self.old) result (machine self.new) }
+        ensures keeps { alone → Keeps (machine self.old) (machine self.new) };
 
     /// Writes the next block of the checkpoint.
     fn ckpt_block(&mut self) -> Result<(), Fault>
-        ensures writes { alone → CkptWrites (machine self.old) result (machine self.new) };
+        ensures writes { alone → CkptWrites (machine self.old) result (machine self.new) }
+        ensures keeps { alone → Keeps (machine self.old) (machine self.new) };
 
     /// Publishes the checkpoint.
     fn ckpt_publish(&mut self) -> Result<(), Fault>
-        ensures publishes { alone → CkptPublishes (machine self.old) result (machine self.new) };
+        ensures publishes { alone → CkptPublishes (machine self.old) result (machine self.new) }
+        ensures keeps { alone → Keeps (machine self.old) (machine self.new) };
 
     /// Publishes for readers the commits that are acknowledged.
     fn publish_view(&mut self) -> Result<(), Fault>
-        ensures publishes { alone → PublishesView (machine self.old) result (machine self.new) };
+        ensures publishes { alone → PublishesView (machine self.old) result (machine self.new) }
+        ensures keeps { alone → Keeps (machine self.old) (machine self.new) };
 
     /// Ends the recovery of a standby that was opened, and publishes the commits of its log.
     fn ready(&mut self) -> Result<(), Fault>
-        ensures readies { alone → Readies (machine self.old) result (machine self.new) };
+        ensures readies { alone → Readies (machine self.old) result (machine self.new) }
+        ensures keeps { alone → Keeps (machine self.old) (machine self.new) };
 
     /// Seals the log at its end: from now on no piece of the primary's log is taken.
     fn seal(&mut self) -> Result<(), Fault>
-        ensures seals { alone → Seals (machine self.old) result (machine self.new) };
+        ensures seals { alone → Seals (machine self.old) result (machine self.new) }
+        ensures keeps { alone → Keeps (machine self.old) (machine self.new) };
 
     /// Holds the next record of the sealed log's tail, and answers its LSN.
     fn undo_one(&mut self) -> Result<Lsn, Fault>
-        ensures undoes { alone → UndoesOneOf (machine self.old) result (machine self.new) };
+        ensures undoes { alone → UndoesOneOf (machine self.old) result (machine self.new) }
+        ensures keeps { alone → Keeps (machine self.old) (machine self.new) };
 
     /// Ends the takeover.
     fn finish(&mut self) -> Result<(), Fault>
-        ensures finishes { alone → Finishes (machine self.old) result (machine self.new) };
+        ensures finishes { alone → Finishes (machine self.old) result (machine self.new) }
+        ensures keeps { alone → Keeps (machine self.old) (machine self.new) };
 
     // ---- the queries
 
@@ -109,7 +126,10 @@ pub trait Events {
     /// too.
     fn status(&self) -> Status
         ensures fits { result.end.0 + result.partial < 2 ^ 64 }
-        ensures tells { alone → Tells (machine self.now) result };
+        ensures tells { alone → Tells (machine self.now) result }
+        // What always holds between two events: of the log, of what readers were told, and of a
+        // takeover.
+        ensures stands { alone → Stands (machine self.now) };
 
     /// The transaction table of the held log, in rising TransID. Only want of memory for the copy
     /// is refused.
@@ -137,9 +157,11 @@ pub trait Events {
     /// The page as it is now, which may have to be read from its block.
     fn page_now(&mut self, page: u32) -> Result<Page, Fault>
         requires { alone → page < (machine self.old).held.pages }
-        ensures shows { alone → ShowsPage (machine self.old) page result (machine self.new) };
+        ensures shows { alone → ShowsPage (machine self.old) page result (machine self.new) }
+        ensures keeps { alone → Keeps (machine self.old) (machine self.new) };
 
     /// The held record at an LSN, which may have to be read from the log device.
     fn record_at(&mut self, lsn: Lsn) -> Result<Option<Record>, Fault>
-        ensures reads { alone → Reads (machine self.old) lsn result (machine self.new) };
+        ensures reads { alone → Reads (machine self.old) lsn result (machine self.new) }
+        ensures keeps { alone → Keeps (machine self.old) (machine self.new) };
 }

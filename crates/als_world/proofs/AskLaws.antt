@@ -41,7 +41,7 @@ stays-held old new held after pages origin = record {
 }
 
 pub stays-shown : (old : Machine) (page : ℕ) (answer : Result Page Fault) (new : Machine) → ShowsPage old page answer new → Stays old new
-stays-shown old page (Ok shown) new s = stays-same old new s.2
+stays-shown old page (Ok shown) new s = stays-same old new s.3
 stays-shown old page (Err fault) new s = elim s [
   | inl failed ↦ stays-held old new failed.1.held failed.1.after (ap (λ (h : Stored). h.pages) failed.1.becomes.after) (ap (λ (h : Stored). h.origin) failed.1.becomes.after)
   | inr absent ↦ stays-same old new absent.after

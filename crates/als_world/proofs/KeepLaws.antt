@@ -160,5 +160,5 @@ keeps-opened config n (reply.Answered answer) new ends o = absurd o
 keeps-opened config n (reply.Restarted end) (Down left) ends o = absurd o
 keeps-opened config n (reply.Refused cause) (Up new) ends o = absurd o
 
-pub keeps-crash : (config : Config) (old : Machine) (answer : WorldReply) (new : Standing) → IsCounted old → Crashes config old answer new → Keeps (Up old) new
-keeps-crash config old answer new counts c = keeps-both (Up old) (Down c.left) new (keeps-left old c.left counts c.leaves) (keeps-opened config c.left answer new c.leaves.ends c.opens)
+pub keeps-crash : (config : Config) (old : Machine) (picks : List ℕ) (answer : WorldReply) (new : Standing) → IsCounted old → Crashes config old picks answer new → Keeps (Up old) new
+keeps-crash config old picks answer new counts c = keeps-both (Up old) (Down c.left) new (keeps-left old c.left counts c.leaves) (keeps-opened config c.left answer new c.leaves.ends c.opens)

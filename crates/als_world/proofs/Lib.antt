@@ -2,3 +2,4 @@ pub mod KeepLaws
 pub mod RunLaws
 pub mod StepLaws
 pub mod AskLaws
+mod SealLaws

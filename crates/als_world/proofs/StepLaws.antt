@@ -1,5 +1,5 @@
 -- One step over a world.
-use Rattle.std.proofs.Common.{◌≡◌, ℕ, ◌≤◌, ◌⊎◌, List, Bor, true, refl, sym, subst, arith}
+use Rattle.std.proofs.Common.{◌≡◌, ℕ, ◌≤◌, ◌⊎◌, List, Bor, true, refl, sym, ap, subst, arith}
 use Rattle.als_record.specs.declared.lsn.Lsn.{Lsn}
 use Rattle.als_record.specs.declared.key.Key.{Key}
 use Rattle.als_record.specs.LogText.{end_of}
@@ -10,6 +10,8 @@ use Rattle.als_engine.specs.declared.fault.Fault.{Fault}
 use Rattle.als_engine.specs.declared.fault.Fault.TheVariants as fault
 use Rattle.als_engine.specs.declared.step.Step.{Step}
 use Rattle.als_engine.specs.declared.step.Reply.{Reply}
+use Rattle.als_engine.specs.Config.{IsConfig}
+use Rattle.als_engine.specs.Formatting.{FormatsWorld}
 use Rattle.als_engine.specs.Machine.{Machine, Keeps as EngineKeeps}
 use Rattle.als_engine.specs.Serving.{Serving}
 use Rattle.als_reopen.specs.Node.{Node}
@@ -25,7 +27,7 @@ use Rattle.als_world.specs.declared.step.WorldStep.TheVariants as step
 use Rattle.als_world.specs.declared.step.WorldReply.{WorldReply}
 use Rattle.als_world.specs.declared.step.WorldReply.TheVariants as reply
 use Rattle.als_world.specs.Standing.{Standing, Up, Down, Shown, Shows}
-use Rattle.als_world.specs.Runs.{AnswersRead, Opens, Crashes, Steps, OpensTo, StepsTo}
+use Rattle.als_world.specs.Runs.{AnswersRead, Opens, IsPicked, Crashes, Steps, OpensTo, StepsTo}
 use Rattle.als_world.proofs.KeepLaws.{IsCounted, keeps-same, keeps-event, keeps-opened, keeps-crash, made-still}
 
 -- what a world is that is up, and one that is down
@@ -48,13 +50,19 @@ module _ {D : Type 0} (slot : D → ℕ → Slot) (count : D → ℕ) (config : 
   unfolding Shows Shown
   shows-down disks n held = held
 
+  -- the machine of a new database
+  pub shows-formatted : (engine : Serving) (log_blocks page_blocks page_failures page_attempts failures : ℕ) → IsConfig config → FormatsWorld config log_blocks page_blocks page_failures page_attempts failures engine.machine → IsWarm engine.machine
+      → Shows slot count (up {D = D} config engine) (Up engine.machine)
+  shows-formatted engine log_blocks page_blocks page_failures page_attempts failures numbers is warm =
+      shows-up engine (record { numbers = numbers; pages = ap (λ (m : Machine). m.held.pages) is; limit = ap (λ (m : Machine). m.limit) is }) warm
+
   -- ---- an opening
 
-  pub opens-up : (n : Node) (engine : Serving) (end : Lsn) → end.0 ≡ end_of engine.machine.held.log → IsWarm engine.machine × IsStarted config n engine.machine
+  pub opens-up : (n : Node) (engine : Serving) (end : Lsn) → end.0 ≡ end_of engine.machine.held.log → IsStarted config n engine.machine
       → OpensTo slot count config n (reply.Restarted end) (up {D = D} config engine)
   unfolding Opens
   opens-up n engine end at started =
-      (Up engine.machine, shows-up engine started.1.made started.0, (rw (at, started.1.log) refl, started.1))
+      (Up engine.machine, shows-up engine started.made started.warm, (rw (at, started.log) refl, started))
 
   pub opens-down : (n : Node) (disks : Disks D) (cause : Fault) → ((cause ≡ fault.Device) ⊎ (cause ≡ fault.Memory)) × Held slot count config disks n
       → OpensTo slot count config n (reply.Refused cause) (down {D = D} config disks)
@@ -75,12 +83,13 @@ module _ {D : Type 0} (slot : D → ℕ → Slot) (count : D → ℕ) (config : 
   unfolding Steps
   steps-read engine key answer made warm read stable = (Up engine.machine, shows-up engine made warm, (read, refl), keeps-same (Up engine.machine) stable)
 
-  pub steps-crash : (old : Machine) (picks : Bor (List ℕ)) (n : Node) (answer : WorldReply) (after : World D) → IsCounted old → Leaves old n → OpensTo slot count config n answer after
+  pub steps-crash : (old : Machine) (picks : Bor (List ℕ)) (n : Node) (answer : WorldReply) (after : World D) → IsCounted old → Leaves old n → IsPicked config old picks.now n
+      → OpensTo slot count config n answer after
       → StepsTo slot count config (Up old) (step.Crash picks) answer after
   unfolding Steps
-  steps-crash old picks n answer after counts leaves opens =
-      let crash : Crashes config old answer opens.0 = record { left = n; leaves = leaves; opens = opens.2 } in
-      (opens.0, opens.1, crash, keeps-crash config old answer opens.0 counts crash)
+  steps-crash old picks n answer after counts leaves picked opens =
+      let crash : Crashes config old picks.now answer opens.0 = record { left = n; leaves = leaves; picked = picked; opens = opens.2 } in
+      (opens.0, opens.1, crash, keeps-crash config old picks.now answer opens.0 counts crash)
 
   pub steps-refused : (n : Node) (event : Step) (disks : Disks D) → Held slot count config disks n
       → StepsTo slot count config (Down n) (step.Event event) (reply.Refused fault.Stopped) (down {D = D} config disks)

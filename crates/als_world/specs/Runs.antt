@@ -1,11 +1,12 @@
 -- Runs of steps over a world.
-use Rattle.std.specs.Prelude.{◌≡◌, ℕ, ◌⊎◌, List, [], ◌∷◌, Ok, Err}
+use Rattle.std.specs.Prelude.{◌≡◌, ℕ, ◌⊎◌, false, List, [], ◌∷◌, Ok, Err}
 use Rattle.als_record.specs.declared.key.Key.{Key}
 use Rattle.als_record.specs.LogText.{end_of}
 use Rattle.als_engine.specs.declared.config.Config.{Config}
 use Rattle.als_engine.specs.declared.fault.Fault.TheVariants as fault
 use Rattle.als_engine.specs.Machine.{Machine}
-use Rattle.als_reopen.specs.Node.{Node}
+use Rattle.als_reopen.specs.Node.{Node, IsNode}
+use Rattle.als_store.specs.Stopped.{Devices, CrashesTo, NamesState}
 use Rattle.als_engine.specs.Restarts.{Leaves, IsStarted}
 use Rattle.als_engine.specs.Publishing.{ReadsKey}
 use Rattle.als_engine.specs.Runs.{Steps as EngineSteps}
@@ -23,10 +24,20 @@ Opens config n (reply.Restarted end) (Up new) = (end.0 ≡ end_of n.log) × IsSt
 Opens config n (reply.Refused cause) (Down left) = ((cause ≡ fault.Device) ⊎ (cause ≡ fault.Memory)) × (left ≡ n)
 Opens config n answer new = ⊥
 
--- a crash leaves something of the machine, which is taken up again
-pub record Crashes (config : Config) (old : Machine) (answer : WorldReply) (new : Standing) : Type 0 where
+-- A crash leaves what the picks name of the devices that a stop of the machine leaves, which hold this. Where no device has failed, one of the first
+-- picks names the control state.
+pub record IsPicked (config : Config) (old : Machine) (picks : List ℕ) (left : Node) : Type 0 where
+  pub disks : Devices
+  pub used : ℕ
+  pub crashes : CrashesTo old.held picks disks used
+  pub state : old.held.broken ≡ false → NamesState old.held picks disks
+  pub holds : IsNode config.pages disks.log.blocks disks.log.slot disks.control.slot disks.pages.slot left
+
+-- a crash leaves something of the machine, as the picks name it, which is taken up again
+pub record Crashes (config : Config) (old : Machine) (picks : List ℕ) (answer : WorldReply) (new : Standing) : Type 0 where
   pub left : Node
   pub leaves : Leaves old left
+  pub picked : IsPicked config old picks left
   pub opens : Opens config left answer new
 
 -- a reader is answered out of what is published
@@ -39,7 +50,7 @@ AnswersRead m key answer = ⊥
 unfoldable pub Steps : Config → Standing → WorldStep → WorldReply → Standing → Type 0
 Steps config (Up old) (step.Event event) (reply.Event answer) (Up new) = EngineSteps old event answer new
 Steps config (Up old) (step.Read key) answer new = AnswersRead old key answer × (new ≡ Up old)
-Steps config (Up old) (step.Crash picks) answer new = Crashes config old answer new
+Steps config (Up old) (step.Crash picks) answer new = Crashes config old picks.now answer new
 Steps config (Down n) (step.Event event) answer new = (answer ≡ reply.Refused fault.Stopped) × (new ≡ Down n)
 Steps config (Down n) (step.Read key) answer new = (answer ≡ reply.Refused fault.Stopped) × (new ≡ Down n)
 Steps config (Down n) (step.Crash picks) answer new = Opens config n answer new

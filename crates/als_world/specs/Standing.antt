@@ -1,13 +1,14 @@
 -- What a world shows: the small machine while it is up, and what its devices hold while it is down.
-use Rattle.std.specs.Prelude.{◌≡◌, ℕ, true, false, List, ◌++◌, ◌≤◌, if◌then◌else◌}
+use Rattle.std.specs.Prelude.{◌≡◌, ℕ, true, false, List, ◌++◌, ◌<◌, ◌≤◌, if◌then◌else◌}
 use Rattle.als_record.specs.declared.record.Record.{Record}
 use Rattle.als_record.specs.LogText.{end_of}
 use Rattle.als_record.specs.Commits.{commits_of}
 use Rattle.als_disk.specs.Slot.{Slot}
 use Rattle.als_ckpt.specs.declared.control_state.ControlState.{ControlState}
+use Rattle.als_ckpt.specs.Control.{phase_byte}
 use Rattle.als_reopen.specs.Taken.{IsTakenFrom}
 use Rattle.als_view.specs.Showing.{ended_count}
-use Rattle.als_store.specs.Takeover.{GoesOn, IsUnderTakeover, IsFinished, is_primary}
+use Rattle.als_store.specs.Takeover.{GoesOn, IsUnderTakeover, IsFinished, IsSealOf, is_primary}
 use Rattle.als_engine.specs.declared.config.Config.{Config}
 use Rattle.als_engine.specs.Machine.{Machine}
 use Rattle.als_engine.specs.Readers.{ended_in}
@@ -61,6 +62,14 @@ pub record Agree (before after : List Record) (offset : ℕ) : Type 0 where
   pub new : after ≡ front ++ more
   pub reaches : offset ≤ end_of front
 
+-- The log of a standing past Following at the seal, which is acknowledged: the front of the log that ends there.
+pub record IsSealedAt (s : Standing) (sealed : List Record) : Type 0 where
+  pub past : 1 < phase_byte (control_of s).phase
+  pub rest : List Record
+  pub parts : log_of s ≡ sealed ++ rest
+  pub ends : end_of sealed ≡ (control_of s).seal.0
+  pub acknowledged : (control_of s).seal.0 ≤ (control_of s).mark.0
+
 -- What is acknowledged stays so, over crashes too, and the text below it stands. What is acknowledged of a takeover stays so too: the phase
 -- never falls, and past Following the seal stays. A commit that was counted stays counted.
 pub record Keeps (old new : Standing) : Type 0 where
@@ -69,8 +78,9 @@ pub record Keeps (old new : Standing) : Type 0 where
   pub takeover : GoesOn (control_of old) (control_of new)
   pub counted : counted old ≤ counted new
 
--- What each control state says of the log is true: past Following the log is the sealed one and a front of its tail. A finished takeover
+-- What each control state says of the log is true: past Following the log is the sealed one and a front of its tail, and the seal is
+-- acknowledged. A finished takeover
 -- holds exactly what the committed transactions of the sealed log left, unless the engine is recovering.
 abbrev pub IsTrue : Standing → Type 0
-IsTrue (Up m) = IsUnderTakeover m.held × (m.held.recovering ≡ false → is_primary m.held ≡ true → IsFinished m.held)
-IsTrue (Down n) = IsTakenFrom n.log n.said.state
+IsTrue (Up m) = IsUnderTakeover m.held × (m.held.recovering ≡ false → is_primary m.held ≡ true → IsFinished m.held) × IsSealOf m.held.control
+IsTrue (Down n) = IsTakenFrom n.log n.said.state × IsSealOf n.said.state

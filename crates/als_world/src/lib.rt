@@ -13,7 +13,10 @@ mod world;
 mod asking;
 // Runs of steps.
 mod running;
+// Laws of the definitions.
+mod laws;
 
+pub use laws::one_sealed_log;
 pub use running::run;
 pub use step::{WorldReply, WorldStep};
 pub use world::World;

@@ -1,3 +1,10 @@
+//! Runs of steps over a world: the place where the headline is a clause.
+//!
+//! A world is a standby that is up, or the devices that it left. A run makes steps one by one:
+//! events, reads, and crashes after which the standby begins again. The clause of `run` says for
+//! every list of steps which replies come, what stays and what a finished takeover holds.
+//! docs/THEOREM.md reads it out.
+
 ghost use Rattle.std.specs.Prelude.{◌≡◌, IfOk, IfErr};
 ghost use Rattle.als_world.specs.Standing.{Standing, Shows, Keeps, IsTrue};
 ghost use Rattle.als_world.specs.Runs.{Run};

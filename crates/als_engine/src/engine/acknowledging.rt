@@ -1,4 +1,5 @@
 ghost use Rattle.als_engine.specs.Events.{LogWrites, LogSyncs, MarkWrites, ControlSyncs};
+ghost use Rattle.als_engine.specs.Machine.{Keeps};
 ghost use Rattle.als_store.specs.Takeover.{GoesOn};
 
 use super::Engine;
@@ -11,6 +12,14 @@ impl<D: BlockDisk> Engine<D> {
     /// Writes the first block of the log with unwritten bytes: it makes one write of a device.
     /// NothingToDo: there is none. Device: the write failed, and the engine has stopped.
     pub fn log_write(&mut self) -> Result<(), Fault>
+        ensures writes { LogWrites self.old.machine result self.new.machine }
+        ensures keeps { Keeps self.old.machine self.new.machine }
+    {
+        self.log_write_in()
+    }
+
+    /// The event itself: what it keeps follows at the public call.
+    fn log_write_in(&mut self) -> Result<(), Fault>
         ensures { LogWrites self.old.machine result self.new.machine }
     {
         if self.store.is_broken() {
@@ -23,6 +32,14 @@ impl<D: BlockDisk> Engine<D> {
     /// Syncs the log: it makes one sync of a device. Device: the sync failed, and the engine has
     /// stopped.
     pub fn log_sync(&mut self) -> Result<(), Fault>
+        ensures syncs { LogSyncs self.old.machine result self.new.machine }
+        ensures keeps { Keeps self.old.machine self.new.machine }
+    {
+        self.log_sync_in()
+    }
+
+    /// The event itself: what it keeps follows at the public call.
+    fn log_sync_in(&mut self) -> Result<(), Fault>
         ensures { LogSyncs self.old.machine result self.new.machine }
     {
         if self.store.is_broken() {
@@ -36,6 +53,14 @@ impl<D: BlockDisk> Engine<D> {
     /// device. NothingToDo: the last mark written is not below it. Device: the write failed, and
     /// the engine has stopped.
     pub fn mark_write(&mut self) -> Result<(), Fault>
+        ensures writes { MarkWrites self.old.machine result self.new.machine }
+        ensures keeps { Keeps self.old.machine self.new.machine }
+    {
+        self.mark_write_in()
+    }
+
+    /// The event itself: what it keeps follows at the public call.
+    fn mark_write_in(&mut self) -> Result<(), Fault>
         ensures { MarkWrites self.old.machine result self.new.machine }
     {
         if self.store.is_broken() {
@@ -48,6 +73,18 @@ impl<D: BlockDisk> Engine<D> {
     /// Syncs the control block, and answers its mark: the acknowledged LSN from now on. It makes
     /// one sync of a device. Device: the sync failed, and the engine has stopped.
     pub fn ctl_sync(&mut self) -> Result<Lsn, Fault>
+        ensures syncs { ControlSyncs self.old.machine result self.new.machine }
+        // Of the synced states the phase never falls, and past Following the seal stays.
+        ensures goes_on { GoesOn self.old.machine.held.control self.new.machine.held.control }
+        ensures keeps { Keeps self.old.machine self.new.machine }
+    {
+        // For the prover alone: what always holds of the engine.
+        let _ = &self.limit;
+        self.ctl_sync_in()
+    }
+
+    /// The event itself: what it keeps follows at the public call.
+    fn ctl_sync_in(&mut self) -> Result<Lsn, Fault>
         ensures syncs { ControlSyncs self.old.machine result self.new.machine }
         // Of the synced states the phase never falls, and past Following the seal stays.
         ensures goes_on { GoesOn self.old.machine.held.control self.new.machine.held.control }

@@ -2,7 +2,7 @@ ghost use Rattle.std.specs.Prelude.{◌≡◌, ◌<◌, ◌≤◌, ◌+◌, ◌^
 ghost use Rattle.als_analysis.specs.Open.{rows_of};
 ghost use Rattle.als_dirty.specs.Rows.{IsNextRow};
 ghost use Rattle.als_engine.specs.Events.{Reads, ShowsPage};
-ghost use Rattle.als_engine.specs.Machine.{state_of, state_from};
+ghost use Rattle.als_engine.specs.Machine.{Keeps, state_of, state_from};
 ghost use Rattle.als_engine.specs.Readers.{ended_in};
 ghost use Rattle.als_pool.specs.Images.{IsPoolOf};
 ghost use Rattle.als_pool.specs.Queues.{WaitsFirst};
@@ -10,7 +10,7 @@ ghost use Rattle.als_record.specs.LogText.{end_of};
 ghost use Rattle.als_record.specs.Table.{table_of};
 ghost use Rattle.als_record.specs.Validity.{is_valid};
 ghost use Rattle.als_store.specs.Stored.{acknowledged, pending_of};
-ghost use Rattle.als_store.specs.Takeover.{IsUnderTakeover, IsFinished, is_primary};
+ghost use Rattle.als_store.specs.Takeover.{IsUnderTakeover, IsFinished, IsSealOf, is_primary};
 ghost use Rattle.als_store.specs.Warm.{WasWarm};
 
 use super::Engine;
@@ -46,6 +46,8 @@ impl<D: BlockDisk> Engine<D> {
         // the log is the sealed one and a front of its tail. So it is where the devices were sound
         // when the engine was made.
         ensures taken { WasWarm self.now.machine.held → IsUnderTakeover self.now.machine.held }
+        // Past Following the seal is acknowledged.
+        ensures seal { IsSealOf self.now.machine.held.control }
         // Then a finished takeover holds exactly what the committed transactions of the sealed log
         // left, unless the engine is recovering.
         ensures finished { WasWarm self.now.machine.held → self.now.machine.held.recovering ≡ false
@@ -90,6 +92,9 @@ impl<D: BlockDisk> Engine<D> {
     /// The dirty page table: the first row of a page from there on.
     pub fn dirty(&self, from: u32) -> Option<LoggedPage>
         ensures row { IsNextRow self.now.machine.held.pool.dirty from result }
+        // There is one entry a page, and one queue of what waits, whatever the devices held.
+        ensures count { length self.now.machine.held.pool.dirty ≡ self.now.machine.held.pages }
+        ensures queues { length self.now.machine.held.pool.waits ≡ self.now.machine.held.pages }
         // Where the devices were sound when the engine was made: the pages, their images and their
         // rows are the log's, and no image has a page_LSN above what is acknowledged.
         ensures pool { WasWarm self.now.machine.held → IsPoolOf self.now.machine.held.log
@@ -104,6 +109,15 @@ impl<D: BlockDisk> Engine<D> {
     /// comes where the devices were sound when the engine was made.
     pub fn page_now(&mut self, page: u32) -> Result<Page, Fault>
         requires { page < self.old.machine.held.pages }
+        ensures shows { ShowsPage self.old.machine page result self.new.machine }
+        ensures keeps { Keeps self.old.machine self.new.machine }
+    {
+        self.page_now_in(page)
+    }
+
+    /// The query itself: what it keeps follows at the public call.
+    fn page_now_in(&mut self, page: u32) -> Result<Page, Fault>
+        requires { page < self.old.machine.held.pages }
         ensures { ShowsPage self.old.machine page result self.new.machine }
     {
         let found = self.store.page_now(page)?;
@@ -114,6 +128,14 @@ impl<D: BlockDisk> Engine<D> {
     /// a read failed. Memory: there was none for the rows of the end_chkpt that stands there; no
     /// other record takes any. A failed read is counted; else nothing changes.
     pub fn record_at(&mut self, lsn: Lsn) -> Result<Option<Record>, Fault>
+        ensures reads { Reads self.old.machine lsn result self.new.machine }
+        ensures keeps { Keeps self.old.machine self.new.machine }
+    {
+        self.record_at_in(lsn)
+    }
+
+    /// The query itself: what it keeps follows at the public call.
+    fn record_at_in(&mut self, lsn: Lsn) -> Result<Option<Record>, Fault>
         ensures { Reads self.old.machine lsn result self.new.machine }
     {
         let found = self.store.record_at(lsn)?;

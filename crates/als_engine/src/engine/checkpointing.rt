@@ -1,4 +1,5 @@
 ghost use Rattle.als_engine.specs.Checkpointing.{CkptBegins, CkptWrites, CkptPublishes};
+ghost use Rattle.als_engine.specs.Machine.{Keeps};
 
 use super::Engine;
 use crate::fault::Fault;
@@ -8,6 +9,14 @@ impl<D: BlockDisk> Engine<D> {
     /// Begins a checkpoint: copies both tables, the numbers and the end of the log as they are now.
     /// CkptBusy: one is begun, or the last publish is not synced. Memory: a growth was refused.
     pub fn ckpt_begin(&mut self) -> Result<(), Fault>
+        ensures begins { CkptBegins self.old.machine result self.new.machine }
+        ensures keeps { Keeps self.old.machine self.new.machine }
+    {
+        self.ckpt_begin_in()
+    }
+
+    /// The event itself: what it keeps follows at the public call.
+    fn ckpt_begin_in(&mut self) -> Result<(), Fault>
         ensures { CkptBegins self.old.machine result self.new.machine }
     {
         if self.store.is_broken() {
@@ -21,6 +30,14 @@ impl<D: BlockDisk> Engine<D> {
     /// NothingToDo: none is begun, or each block is written. Device: the write failed, and the
     /// engine has stopped.
     pub fn ckpt_block(&mut self) -> Result<(), Fault>
+        ensures writes { CkptWrites self.old.machine result self.new.machine }
+        ensures keeps { Keeps self.old.machine self.new.machine }
+    {
+        self.ckpt_block_in()
+    }
+
+    /// The event itself: what it keeps follows at the public call.
+    fn ckpt_block_in(&mut self) -> Result<(), Fault>
         ensures { CkptWrites self.old.machine result self.new.machine }
     {
         if self.store.is_broken() {
@@ -34,6 +51,14 @@ impl<D: BlockDisk> Engine<D> {
     /// begun. CkptBusy: a block of it is not written and synced. LogBehind: its position is above
     /// the acknowledged LSN. Device: the write failed, and the engine has stopped.
     pub fn ckpt_publish(&mut self) -> Result<(), Fault>
+        ensures publishes { CkptPublishes self.old.machine result self.new.machine }
+        ensures keeps { Keeps self.old.machine self.new.machine }
+    {
+        self.ckpt_publish_in()
+    }
+
+    /// The event itself: what it keeps follows at the public call.
+    fn ckpt_publish_in(&mut self) -> Result<(), Fault>
         ensures { CkptPublishes self.old.machine result self.new.machine }
     {
         if self.store.is_broken() {

@@ -1,6 +1,7 @@
 ghost use Rattle.std.specs.Prelude.{◌≡◌, ◌≤◌, ◌+◌, length, IfErr, OnOk};
 ghost use Rattle.als_engine.specs.Events.{Resyncs};
 ghost use Rattle.als_engine.specs.Feeds.{Feeds, kept_fault};
+ghost use Rattle.als_engine.specs.Machine.{Keeps};
 ghost use Rattle.als_engine.specs.Refusals.{feed_refusal};
 ghost use Rattle.als_engine.specs.Serving.{HasRoomForPiece};
 
@@ -20,6 +21,18 @@ impl<D: BlockDisk> Engine<D> {
     /// record (2 to 16) is kept, LogFull and Memory are not. Memory does not come where there is
     /// room for the piece.
     pub fn feed(&mut self, piece: &[u8]) -> Result<Fed, FeedFault>
+        ensures feeds { Feeds self.old.machine piece.now (feed_refusal self.old.machine)
+            result self.new.machine }
+        // Where there is room for the piece, memory is not wanted.
+        ensures reserved { HasRoomForPiece self.old piece.now
+            → IfErr result (λ refusal. refusal.fault ≡ Fault.Memory → ⊥) }
+        ensures keeps { Keeps self.old.machine self.new.machine }
+    {
+        self.feed_in(piece)
+    }
+
+    /// The event itself: what it keeps follows at the public call.
+    fn feed_in(&mut self, piece: &[u8]) -> Result<Fed, FeedFault>
         ensures feeds { Feeds self.old.machine piece.now (feed_refusal self.old.machine)
             result self.new.machine }
         // Where there is room for the piece, memory is not wanted.
@@ -72,6 +85,17 @@ impl<D: BlockDisk> Engine<D> {
     /// Drops the partial record, and takes the log again after a refusal. Stopped, then Recovering
     /// before `ready`, and then Sealed of a log that was sealed, change nothing.
     pub fn resync(&mut self) -> Result<(), Fault>
+        ensures resyncs { Resyncs self.old.machine result self.new.machine }
+        // The room of the bytes that were dropped is free again.
+        ensures room { OnOk result
+            (self.old.room + length self.old.machine.partial ≤ self.new.room) }
+        ensures keeps { Keeps self.old.machine self.new.machine }
+    {
+        self.resync_in()
+    }
+
+    /// The event itself: what it keeps follows at the public call.
+    fn resync_in(&mut self) -> Result<(), Fault>
         ensures resyncs { Resyncs self.old.machine result self.new.machine }
         // The room of the bytes that were dropped is free again.
         ensures room { OnOk result

@@ -1,4 +1,5 @@
 ghost use Rattle.std.specs.Prelude.{◌≤◌};
+ghost use Rattle.als_engine.specs.Machine.{Keeps};
 ghost use Rattle.als_engine.specs.Readiness.{Readies};
 
 use super::Engine;
@@ -14,6 +15,14 @@ impl<D: BlockDisk> Engine<D> {
     /// Stopped. NothingToDo: the standby is not recovering. NotDrained: a change waits for redo.
     /// They come in this order.
     pub fn ready(&mut self) -> Result<(), Fault>
+        ensures readies { Readies self.old.machine result self.new.machine }
+        ensures keeps { Keeps self.old.machine self.new.machine }
+    {
+        self.ready_in()
+    }
+
+    /// The event itself: what it keeps follows at the public call.
+    fn ready_in(&mut self) -> Result<(), Fault>
         ensures readies { Readies self.old.machine result self.new.machine }
         // What was published stays so.
         ensures grows { self.old.machine.published ≤ self.new.machine.published }

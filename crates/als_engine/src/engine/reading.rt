@@ -1,3 +1,4 @@
+ghost use Rattle.als_engine.specs.Machine.{Keeps};
 ghost use Rattle.als_engine.specs.Publishing.{PublishesView, ReadsKey};
 
 use super::Engine;
@@ -13,6 +14,14 @@ impl<D: BlockDisk> Engine<D> {
     /// Stopped. Recovering: it is not ready yet. NothingToDo: each of them is published. They come
     /// in this order.
     pub fn publish_view(&mut self) -> Result<(), Fault>
+        ensures publishes { PublishesView self.old.machine result self.new.machine }
+        ensures keeps { Keeps self.old.machine self.new.machine }
+    {
+        self.publish_view_in()
+    }
+
+    /// The event itself: what it keeps follows at the public call.
+    fn publish_view_in(&mut self) -> Result<(), Fault>
         ensures { PublishesView self.old.machine result self.new.machine }
     {
         if self.store.is_broken() {

@@ -1,4 +1,5 @@
 ghost use Rattle.als_engine.specs.Events.{Applies, FlushesOne, PagesSync};
+ghost use Rattle.als_engine.specs.Machine.{Keeps};
 
 use super::Engine;
 use crate::fault::Fault;
@@ -14,6 +15,14 @@ impl<D: BlockDisk> Engine<D> {
     /// block has no image of it that is the log's. Memory: a growth was refused. They come in this
     /// order. Then again NothingToDo: the page that was read has all that waited.
     pub fn apply(&mut self, page: u32) -> Result<Lsn, Fault>
+        ensures applies { Applies self.old.machine page result self.new.machine }
+        ensures keeps { Keeps self.old.machine self.new.machine }
+    {
+        self.apply_in(page)
+    }
+
+    /// The event itself: what it keeps follows at the public call.
+    fn apply_in(&mut self, page: u32) -> Result<Lsn, Fault>
         ensures { Applies self.old.machine page result self.new.machine }
     {
         if self.store.is_broken() {
@@ -28,6 +37,14 @@ impl<D: BlockDisk> Engine<D> {
     /// its page_LSN is not below the acknowledged LSN. Device: the write failed, and the engine has
     /// stopped.
     pub fn flush(&mut self, page: u32) -> Result<(), Fault>
+        ensures flushes { FlushesOne self.old.machine page result self.new.machine }
+        ensures keeps { Keeps self.old.machine self.new.machine }
+    {
+        self.flush_in(page)
+    }
+
+    /// The event itself: what it keeps follows at the public call.
+    fn flush_in(&mut self, page: u32) -> Result<(), Fault>
         ensures { FlushesOne self.old.machine page result self.new.machine }
     {
         if self.store.is_broken() {
@@ -40,6 +57,14 @@ impl<D: BlockDisk> Engine<D> {
     /// Syncs the pages' device, by one sync: the rows of the dirty page table move. Device: the
     /// sync failed, and the engine has stopped.
     pub fn sync_pages(&mut self) -> Result<(), Fault>
+        ensures syncs { PagesSync self.old.machine result self.new.machine }
+        ensures keeps { Keeps self.old.machine self.new.machine }
+    {
+        self.sync_pages_in()
+    }
+
+    /// The event itself: what it keeps follows at the public call.
+    fn sync_pages_in(&mut self) -> Result<(), Fault>
         ensures { PagesSync self.old.machine result self.new.machine }
     {
         if self.store.is_broken() {

@@ -1,9 +1,11 @@
-ghost use Rattle.std.specs.Prelude.{◌≡◌, ⊤, ◌+◌, ◌⊎◌, IfOk, IfErr};
+ghost use Rattle.std.specs.Prelude.{◌≡◌, ⊤, ◌≤◌, ◌+◌, ◌⊎◌, false, IfOk, IfErr};
 ghost use Rattle.als_engine.specs.declared.config.Config.{Config as AnyConfig};
 ghost use Rattle.als_engine.specs.declared.fault.Fault.TheVariants as fault;
 ghost use Rattle.als_engine.specs.Config.{IsWorld};
-ghost use Rattle.als_reopen.specs.Node.{Node};
-ghost use Rattle.als_reopen.specs.Outcomes.{AreLeft, IsOnceAtMost};
+ghost use Rattle.als_reopen.specs.Node.{Node, HoldsLog, IsNode};
+ghost use Rattle.als_reopen.specs.Outcomes.{AreLeft, AreSettled, IsOnceAtMost, Synced};
+ghost use Rattle.als_store.specs.Devices.{AreKept};
+ghost use Rattle.als_store.specs.Stopped.{CrashesTo, NamesState, devices_of};
 ghost use Rattle.als_engine.specs.Restarts.{IsWarm, IsMadeWith, Holds, StillHolds, Leaves};
 ghost use Rattle.als_engine.specs.Restarts.{IsStarted, IsRestarted, RefusesRestart};
 
@@ -70,7 +72,7 @@ impl<D: BlockDisk> Engine<D> {
         ensures warm { (n : Node) → Holds config (D.block_count disks.log)
             (D.block_count disks.control) (D.block_count disks.pages)
             (D.slot disks.log) (D.slot disks.control) (D.slot disks.pages) n
-            → IfOk result (λ e. IsWarm e.machine × IsStarted config n e.machine) }
+            → IfOk result (λ e. IsStarted config n e.machine) }
         // or else a device failed or a growth was refused, and the devices still hold the same.
         ensures bare { (n : Node) → Holds config (D.block_count disks.log)
             (D.block_count disks.control) (D.block_count disks.pages)
@@ -79,6 +81,20 @@ impl<D: BlockDisk> Engine<D> {
             × StillHolds config (D.block_count r.disks.log) (D.block_count r.disks.control)
             (D.block_count r.disks.pages) (D.slot r.disks.log) (D.slot r.disks.control)
             (D.slot r.disks.pages) n) }
+        // Devices that were left with no crash need not be synced: they are taken up by one outcome
+        // of the sync that comes first, by one content of each block, which a read might have given.
+        ensures synced { IfOk result (λ e. (kept : Synced (D.slot disks.log) (D.slot disks.control)
+            (D.slot disks.pages))
+            × ((n : Node) → IsNode config.pages (D.block_count disks.log) kept.log_now
+            kept.control_now kept.pages_now n → IsStarted config n e.machine)) }
+        // Where they fit, a failed device or want of memory is in the way, or there is an outcome
+        // that holds no log.
+        ensures unsynced { IsWorld config (D.block_count disks.log) (D.block_count disks.control)
+            (D.block_count disks.pages)
+            → IfErr result (λ r. ((r.fault ≡ fault.Device) ⊎ (r.fault ≡ fault.Memory))
+            ⊎ ((kept : Synced (D.slot disks.log) (D.slot disks.control) (D.slot disks.pages))
+            × ((n : Node) → HoldsLog config.pages (D.block_count disks.log) kept.log_now
+            kept.control_now n → ⊥))) }
     {
         if !config.fits(&disks) {
             return Err(Refused {
@@ -110,10 +126,28 @@ impl<D: BlockDisk> Engine<D> {
 }
 
 impl<D: Restart> Engine<D> {
-    /// What a crash leaves of the devices: in each block one of its candidates. The blocks of the
-    /// log's device take the picks first, then the control block's, then the pages'. The answer
-    /// tells how many picks were used.
+    /// What a crash leaves of the devices: in each block the one of its candidates that the picks
+    /// name. The blocks of the log's device take the picks first, then those of the control device,
+    /// then those of the pages. The answer tells how many picks were used.
     pub fn crash(self, picks: &[u8]) -> (Disks<D>, usize)
+        ensures picked { CrashesTo self.machine.held picks.now
+            (devices_of D.slot D.block_count result.0) result.1 }
+        // Where no device has failed, one of the first picks names the control state that is left.
+        ensures state { self.machine.held.broken ≡ false → NamesState self.machine.held picks.now
+            (devices_of D.slot D.block_count result.0) }
+        // Whatever the devices held when the engine was made: all acknowledged bytes are there, and
+        // are the log's.
+        ensures kept { AreKept self.machine.held (D.slot result.0.log) (D.slot result.0.control) }
+        ensures log { AreSettled (D.slot result.0.log) }
+        ensures control { AreSettled (D.slot result.0.control) }
+        ensures pages { AreSettled (D.slot result.0.pages) }
+        ensures log_blocks { D.block_count result.0.log ≡ self.machine.held.blocks }
+        ensures control_blocks { 321 ≤ D.block_count result.0.control }
+        ensures page_blocks { self.machine.held.pages ≤ D.block_count result.0.pages }
+        ensures failures { D.failures result.0.log + D.failures result.0.control
+            + D.failures result.0.pages ≡ self.machine.held.failures }
+        ensures attempts { D.attempts result.0.log + D.attempts result.0.control
+            + D.attempts result.0.pages ≡ self.machine.held.attempts }
         ensures leaves { (config : AnyConfig) → IsMadeWith config self.machine → IsWarm self.machine
             → (n : Node) × Leaves self.machine n
             × Holds config (D.block_count result.0.log) (D.block_count result.0.control)

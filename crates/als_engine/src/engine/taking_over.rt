@@ -1,4 +1,5 @@
 ghost use Rattle.std.specs.Prelude.{IsErrOf};
+ghost use Rattle.als_engine.specs.Machine.{Keeps};
 ghost use Rattle.als_engine.specs.Takeover.{Seals, UndoesOneOf, Finishes};
 ghost use Rattle.als_store.specs.Takeover.{HasRoomToUndo};
 
@@ -18,6 +19,14 @@ impl<D: BlockDisk> Engine<D> {
     /// is not synced to its end. Device: the write failed, and the engine has stopped. They come in
     /// this order.
     pub fn seal(&mut self) -> Result<(), Fault>
+        ensures seals { Seals self.old.machine result self.new.machine }
+        ensures keeps { Keeps self.old.machine self.new.machine }
+    {
+        self.seal_in()
+    }
+
+    /// The event itself: what it keeps follows at the public call.
+    fn seal_in(&mut self) -> Result<(), Fault>
         ensures { Seals self.old.machine result self.new.machine }
     {
         if self.store.is_broken() {
@@ -42,10 +51,20 @@ impl<D: BlockDisk> Engine<D> {
     /// compensation of the newest surviving update of all losers. The log device has room for the
     /// whole tail.
     ///
-    /// Stopped. Recovering: it is not ready yet. NotSealed: the log was not sealed. NothingToDo: no
-    /// transaction is unended. Memory: a growth was refused; nothing has changed. They come in this
-    /// order.
+    /// Stopped. Recovering: it is not ready yet. NotSealed: the log was not sealed. NothingToDo:
+    /// nothing of the tail is left to append. Memory: a growth was refused; nothing has changed.
+    /// They come in this order.
     pub fn undo_one(&mut self) -> Result<Lsn, Fault>
+        ensures undoes { UndoesOneOf self.old.machine result self.new.machine }
+        ensures reserved { HasRoomToUndo self.old.machine.held self.old.spare
+            → IsErrOf result Fault.Memory → ⊥ }
+        ensures keeps { Keeps self.old.machine self.new.machine }
+    {
+        self.undo_one_in()
+    }
+
+    /// The event itself: what it keeps follows at the public call.
+    fn undo_one_in(&mut self) -> Result<Lsn, Fault>
         ensures undoes { UndoesOneOf self.old.machine result self.new.machine }
         ensures reserved { HasRoomToUndo self.old.machine.held self.old.spare
             → IsErrOf result Fault.Memory → ⊥ }
@@ -59,7 +78,7 @@ impl<D: BlockDisk> Engine<D> {
         if self.store.is_following() {
             return Err(Fault::NotSealed);
         }
-        if !self.store.has_unended() {
+        if !self.store.has_tail() {
             return Err(Fault::NothingToDo);
         }
         let lsn = self.store.undo_one()?;
@@ -76,6 +95,14 @@ impl<D: BlockDisk> Engine<D> {
     /// log is not acknowledged to its end. Device: the write failed, and the engine has stopped.
     /// They come in this order.
     pub fn finish(&mut self) -> Result<(), Fault>
+        ensures finishes { Finishes self.old.machine result self.new.machine }
+        ensures keeps { Keeps self.old.machine self.new.machine }
+    {
+        self.finish_in()
+    }
+
+    /// The event itself: what it keeps follows at the public call.
+    fn finish_in(&mut self) -> Result<(), Fault>
         ensures { Finishes self.old.machine result self.new.machine }
     {
         if self.store.is_broken() {

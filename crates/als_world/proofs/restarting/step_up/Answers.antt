@@ -1,7 +1,8 @@
 use Rattle.std.proofs.Common.{sym, subst}
 use Rattle.als_world.specs.declared.step.WorldStep.{WorldStep}
 use Rattle.als_world.specs.Standing.{Up}
-use Rattle.als_world.specs.Runs.{StepsTo}
+use Rattle.als_store.specs.Stopped.{devices_of}
+use Rattle.als_world.specs.Runs.{IsPicked, StepsTo}
 use Rattle.als_world.proofs.KeepLaws.{IsCounted}
 use Rattle.als_world.proofs.StepLaws.{up, steps-event, steps-read, steps-crash}
 use Rattle.als_world.specs.declared.step.WorldReply.TheVariants as reply
@@ -25,5 +26,8 @@ returns-in-Crash-clause-steps g c = λ made warm.
     let before = c.status.ensures in
     let counts : IsCounted c.args.engine.machine = record { valid = before.valid; stable = before.stable; published = before.counted } in
     let left = c.crash-disks.ensures.leaves c.args.config made warm in
+    let disks = devices_of g.D.BlockDisk.slot g.D.BlockDisk.block_count c.crash-disks.result.0 in
+    let picked : IsPicked c.args.config c.args.engine.machine c.in-Crash.picks.now left.0
+    = record { disks = disks; used = c.crash-disks.result.1; crashes = c.crash-disks.ensures.picked; state = c.crash-disks.ensures.state; holds = left.2.node } in
     subst (λ (s : WorldStep). StepsTo g.D.BlockDisk.slot g.D.BlockDisk.block_count c.args.config (Up c.args.engine.machine) s c.open.result.1 c.open.result.0) (sym c.in-Crash.is)
-    (steps-crash g.D.BlockDisk.slot g.D.BlockDisk.block_count c.args.config c.args.engine.machine c.in-Crash.picks left.0 c.open.result.1 c.open.result.0 counts left.1 (c.open.ensures.opens left.0 left.2))
+    (steps-crash g.D.BlockDisk.slot g.D.BlockDisk.block_count c.args.config c.args.engine.machine c.in-Crash.picks left.0 c.open.result.1 c.open.result.0 counts left.1 picked (c.open.ensures.opens left.0 left.2))

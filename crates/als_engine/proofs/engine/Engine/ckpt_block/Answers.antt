@@ -1,8 +1,7 @@
-use Rattle.als_engine.proofs.ReaderLaws.{serving_no_block}
+use Rattle.als_engine.proofs.StepLaws.{keeps_ckpt_block}
 use Rattle.als_engine.proofs.engine.Engine.ckpt_block.Goals as goal
 
-pub invariant_of-self : goal.invariant_of-self
-invariant_of-self g c =
-    let s = c.self.inside in
-    serving_no_block s.store.stored c.ckpt_block.new.self.stored s.receiver s.refused s.shown
-    c.in_err-ckpt_block.field-0.0 c.self.invariant c.in_err-ckpt_block.ensures.err
+pub returns-clause-keeps : goal.returns-clause-keeps
+returns-clause-keeps g c =
+    keeps_ckpt_block c.args.self.now.machine c.ckpt_block_in.new.self.machine c.ckpt_block_in.result
+    c.ckpt_block_in.ensures

@@ -1,4 +1,4 @@
-use Rattle.std.proofs.Common.{None, ap, sym, subst}
+use Rattle.std.proofs.Common.{None, ap, sym, subst, ◌∙◌}
 use Rattle.als_receiver.specs.Reception.{Reception}
 use Rattle.als_view.specs.Showing.{published_of}
 use Rattle.als_store.specs.Stored.{Stored}
@@ -35,3 +35,18 @@ returns-in-Ok-clause-warm g c = λ n holds.
     (subst (λ (h : Stored). TakesUp n h) (sym same)
     (c.in-Ok.ensures.warm n holds.log_settled holds.control_settled holds.pages_settled
     holds.node))
+    holds.node.held.count
+    (ap (λ (h : Stored). h.pool.frames.most) same ∙ c.in-Ok.ensures.frames)
+
+pub returns-in-Ok-clause-synced : goal.returns-in-Ok-clause-synced
+returns-in-Ok-clause-synced g c =
+    let same = ap (λ (h : Holding). h.stored) c.into_parts-store.ensures.0 in
+    let m = machine c.into_parts-store.result.0.stored c.args.config.pending
+    c.new-receiver.result.kept None (published_of c.into_parts-store.result.1) in (
+      c.in-Ok.ensures.synced.0,
+      λ n node.
+          started c.args.config n m _ _ _ (returns-in-Ok-clause-ok g c)
+          (subst (λ (h : Stored). TakesUp n h) (sym same) (c.in-Ok.ensures.synced.1 n node))
+          node.held.count
+          (ap (λ (h : Stored). h.pool.frames.most) same ∙ c.in-Ok.ensures.frames),
+    )

@@ -1,8 +1,7 @@
-use Rattle.als_engine.proofs.ReaderLaws.{serving_not_shown}
+use Rattle.als_engine.proofs.PageLaws.{shows_keeps}
 use Rattle.als_engine.proofs.engine.Engine.page_now.Goals as goal
 
-pub invariant_of-self : goal.invariant_of-self
-invariant_of-self g c =
-    let s = c.self.inside in
-    serving_not_shown s.store.stored c.page_now.new.self.stored s.receiver s.refused s.shown
-    c.args.page c.in_err-found.field-0.0 c.self.invariant c.in_err-found.ensures.err
+pub returns-clause-keeps : goal.returns-clause-keeps
+returns-clause-keeps g c =
+    shows_keeps c.args.self.now.machine c.page_now_in.new.self.machine c.args.page
+    c.page_now_in.result c.page_now_in.ensures

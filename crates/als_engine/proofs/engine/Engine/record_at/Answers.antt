@@ -1,14 +1,7 @@
-use Rattle.std.proofs.Common.{ap}
-use Rattle.als_store.specs.Stored.{Stored}
-use Rattle.als_view.specs.Showing.{published_of}
-use Rattle.als_engine.proofs.FeedLaws.{machine}
+use Rattle.als_engine.proofs.PageLaws.{reads_keeps}
 use Rattle.als_engine.proofs.engine.Engine.record_at.Goals as goal
 
-pub returns : goal.returns
-returns g c =
-    rw (← c.self.view_is) (
-      c.in_ok-found.ensures.ok.0,
-      ap
-          (λ (h : Stored). machine h c.self.inside.limit c.self.inside.receiver.kept
-          c.self.inside.refused (published_of c.self.inside.shown)) c.in_ok-found.ensures.ok.1,
-    )
+pub returns-clause-keeps : goal.returns-clause-keeps
+returns-clause-keeps g c =
+    reads_keeps c.args.self.now.machine c.record_at_in.new.self.machine c.args.lsn
+    c.record_at_in.result c.record_at_in.ensures

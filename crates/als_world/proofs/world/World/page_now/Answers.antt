@@ -18,7 +18,7 @@ pub returns-in-Ok-clause-tells : goal.returns-in-Ok-clause-tells
 returns-in-Ok-clause-tells g c =
     let old = c.in-Up.engine in
     let new = c.page_now.new.self in
-    let shows = subst (λ (r : Result Page Fault). ShowsPage old.machine c.args.page r new.machine) c.in-Ok.is c.page_now.ensures in
+    let shows = subst (λ (r : Result Page Fault). ShowsPage old.machine c.args.page r new.machine) c.in-Ok.is c.page_now.ensures.shows in
     tells-up g.D.BlockDisk.slot g.D.BlockDisk.block_count c.args.self.now (λ (a : Standing). λ (b : Standing). TellsPage a c.args.page (Ok (Some c.in-Ok.shown)) b) old new c.in-Up.is
     (stays-shown old.machine c.args.page (Ok c.in-Ok.shown) new.machine shows) (told-page old.machine c.args.page c.in-Ok.shown new.machine shows)
 
@@ -26,7 +26,7 @@ pub returns-in-Err-clause-tells : goal.returns-in-Err-clause-tells
 returns-in-Err-clause-tells g c =
     let old = c.in-Up.engine in
     let new = c.page_now.new.self in
-    let shows = subst (λ (r : Result Page Fault). ShowsPage old.machine c.args.page r new.machine) c.in-Err.is c.page_now.ensures in
+    let shows = subst (λ (r : Result Page Fault). ShowsPage old.machine c.args.page r new.machine) c.in-Err.is c.page_now.ensures.shows in
     tells-up g.D.BlockDisk.slot g.D.BlockDisk.block_count c.args.self.now (λ (a : Standing). λ (b : Standing). TellsPage a c.args.page (Err c.in-Err.fault) b) old new c.in-Up.is
     (stays-shown old.machine c.args.page (Err c.in-Err.fault) new.machine shows) (told-fault old.machine c.args.page c.in-Err.fault new.machine shows)
 

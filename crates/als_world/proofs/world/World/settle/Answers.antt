@@ -7,10 +7,10 @@ pub returns-in-Up-clause-steady : goal.returns-in-Up-clause-steady
 returns-in-Up-clause-steady g c = all-up g.D.BlockDisk.slot g.D.BlockDisk.block_count c.args.self.now IsSteady c.in-Up.engine c.in-Up.is (λ warm. c.status.ensures.stable)
 
 pub returns-in-Up-clause-whole : goal.returns-in-Up-clause-whole
-returns-in-Up-clause-whole g c = all-up g.D.BlockDisk.slot g.D.BlockDisk.block_count c.args.self.now IsTrue c.in-Up.engine c.in-Up.is (λ warm. (c.status.ensures.taken warm, c.status.ensures.finished warm))
+returns-in-Up-clause-whole g c = all-up g.D.BlockDisk.slot g.D.BlockDisk.block_count c.args.self.now IsTrue c.in-Up.engine c.in-Up.is (λ warm. (c.status.ensures.taken warm, c.status.ensures.finished warm, c.status.ensures.seal))
 
 pub returns-in-Down-clause-steady : goal.returns-in-Down-clause-steady
 returns-in-Down-clause-steady g c = all-down g.D.BlockDisk.slot g.D.BlockDisk.block_count c.args.self.now IsSteady c.in-Down.field-0 c.in-Down.is (λ n held. omega (arith, held.stays.node.held.ends))
 
 pub returns-in-Down-clause-whole : goal.returns-in-Down-clause-whole
-returns-in-Down-clause-whole g c = all-down g.D.BlockDisk.slot g.D.BlockDisk.block_count c.args.self.now IsTrue c.in-Down.field-0 c.in-Down.is (λ n held. held.stays.node.taken)
+returns-in-Down-clause-whole g c = all-down g.D.BlockDisk.slot g.D.BlockDisk.block_count c.args.self.now IsTrue c.in-Down.field-0 c.in-Down.is (λ n held. (held.stays.node.taken, held.stays.node.held.control.fits.seal))

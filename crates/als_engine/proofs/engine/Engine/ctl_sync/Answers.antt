@@ -1,0 +1,8 @@
+use Rattle.als_engine.proofs.StepLaws.{keeps_ctl_sync}
+use Rattle.als_engine.proofs.engine.Engine.ctl_sync.Goals as goal
+
+pub returns-clause-keeps : goal.returns-clause-keeps
+returns-clause-keeps g c =
+    keeps_ctl_sync c.args.self.now.machine c.ctl_sync_in.new.self.machine c.ctl_sync_in.result
+    (rw (← c.self.view_is) c.self.invariant.ready.marks) c.ctl_sync_in.ensures.goes_on
+    c.ctl_sync_in.ensures.syncs

@@ -1,0 +1,7 @@
+use Rattle.als_engine.proofs.StepLaws.{keeps_log_write}
+use Rattle.als_engine.proofs.engine.Engine.log_write.Goals as goal
+
+pub returns-clause-keeps : goal.returns-clause-keeps
+returns-clause-keeps g c =
+    keeps_log_write c.args.self.now.machine c.log_write_in.new.self.machine c.log_write_in.result
+    c.log_write_in.ensures

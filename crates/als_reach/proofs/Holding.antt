@@ -1,0 +1,389 @@
+-- How many records each event holds, once the log is sealed: `undo_one` one, the others none.
+use Rattle.std.proofs.Common.{◌≡◌, ℕ, ◌+◌, false, List, [], ◌∷◌, Option, Some, None, Result}
+use Rattle.std.proofs.Common.{Ok, Err, inl, inr, refl, ap, subst, ◌∙◌, arith, length}
+use Rattle.std.specs.Borrow.{Bor}
+use Rattle.std.specs.Prelude.{MatchOption, IsSomeAnd}
+use Rattle.std.proofs.lemmas.Bool.{cases_Bool}
+use Rattle.std.proofs.lemmas.List.{length-append}
+use Rattle.als_record.specs.declared.lsn.Lsn.{Lsn}
+use Rattle.als_record.specs.declared.record.Record.{Record}
+use Rattle.als_ckpt.specs.Regions.{Begun}
+use Rattle.als_store.specs.declared.fault.Fault.{Fault as StoreFault}
+use Rattle.als_store.specs.declared.fault.Fault.TheVariants as store_fault
+use Rattle.als_store.specs.CheckpointEvents.{Publishes, BreaksPublish}
+use Rattle.als_store.specs.Events.{ReadsInVain}
+use Rattle.als_store.specs.Stored.{Stored}
+use Rattle.als_store.specs.Takeover.{is_following}
+use Rattle.als_engine.specs.declared.fault.Fault.{Fault}
+use Rattle.als_engine.specs.declared.fault.Fault.TheVariants.{Stopped, Recovering, Sealed}
+use Rattle.als_engine.specs.declared.fed.FeedFault.{FeedFault}
+use Rattle.als_engine.specs.declared.fed.Fed.{Fed}
+use Rattle.als_engine.specs.declared.step.Step.{Step}
+use Rattle.als_engine.specs.declared.step.Step.TheVariants as step
+use Rattle.als_engine.specs.declared.step.Reply.{Reply}
+use Rattle.als_engine.specs.declared.step.Reply.TheVariants as reply
+use Rattle.als_engine.specs.Checkpointing.{Begins, WritesNext, PublishesNext}
+use Rattle.als_engine.specs.Events.{Changes, DropsPartial, Redoes, WritesPage, SyncsAllPages}
+use Rattle.als_engine.specs.Events.{WritesBlock, SyncsBlocks, MovesMark, Acknowledges}
+use Rattle.als_engine.specs.Feeds.{Feeds}
+use Rattle.als_engine.specs.Machine.{Machine}
+use Rattle.als_engine.specs.Publishing.{PublishesEnded}
+use Rattle.als_engine.specs.Readiness.{BecomesReady}
+use Rattle.als_engine.specs.Refusals.{refusal, feed_refusal, Does}
+use Rattle.als_engine.specs.Runs.{Steps}
+use Rattle.als_engine.specs.Takeover.{SealsLog, Undoes, FinishesTakeover}
+use Rattle.als_reach.specs.Undoing.{undone_by}
+
+-- ---- a machine whose log is another one's, and a store's
+
+log_of : Machine → List Record
+log_of m = m.held.log
+
+pub record IsSameLog (old new : Machine) : Type 0 where
+  pub log : new.held.log ≡ old.held.log
+
+unchanged : (old new : Machine) → new ≡ old → IsSameLog old new
+unchanged old new e = record { log = ap (λ (m : Machine). m.held.log) e }
+
+-- an event that is refused changes nothing
+does : {A : Type 0} (old new : Machine) (event : Step) (acts : Result A Fault → Machine → Type 0)
+    (result : Result A Fault) → Does old event acts result new
+    → (acts result new → IsSameLog old new) → IsSameLog old new
+does {A} old new event acts result d k = go (refusal old event) d
+  where
+    go : (r : Option Fault)
+        → MatchOption r (acts result new) (λ fault. (result ≡ Err fault) × (new ≡ old))
+        → IsSameLog old new
+    go None h = k h
+    go (Some fault) h = unchanged old new h.1
+
+-- what is held changes, and not its log
+changes : (old new : Machine) (event : Stored → Stored → Type 0) → Changes old event new
+    → ((held : Stored) → event old.held held → held.log ≡ old.held.log) → IsSameLog old new
+changes old new event c k =
+    record { log = ap (λ (m : Machine). m.held.log) c.after ∙ k c.held c.becomes }
+
+after : (old held becomes : Stored) → held ≡ becomes → becomes.log ≡ old.log
+    → held.log ≡ old.log
+after old held becomes e same = ap (λ (s : Stored). s.log) e ∙ same
+
+in_vain : (old held : Stored) (page : ℕ) (cause : StoreFault) → ReadsInVain old page cause held
+    → held.log ≡ old.log
+in_vain old held page store_fault.NothingToDo r = after old held _ r.after refl
+in_vain old held page store_fault.Device r = after old held _ r.after refl
+in_vain old held page (store_fault.BadPage p) r = after old held _ r.2 refl
+in_vain old held page store_fault.Memory r = after old held _ r refl
+in_vain old held page (store_fault.Invalid c) r = absurd r
+in_vain old held page store_fault.LogBehind r = absurd r
+in_vain old held page store_fault.CkptBusy r = absurd r
+in_vain old held page store_fault.PoolFull r = absurd r
+in_vain old held page store_fault.LogFull r = absurd r
+
+published : (old held : Stored) (b : Option Begun) → IsSomeAnd b (λ x. Publishes old x held)
+    → held.log ≡ old.log
+published old held None h = absurd h
+published old held (Some b) h = after old held _ h.after refl
+
+torn : (old held : Stored) (b : Option Begun) → IsSomeAnd b (λ x. BreaksPublish old x held)
+    → held.log ≡ old.log
+torn old held None h = absurd h
+torn old held (Some b) h = after old held _ h.after refl
+
+-- a feed is refused once the log is sealed
+refuses_feed : (m : Machine) → is_following m.held ≡ false
+    → (fault : Fault) × (feed_refusal m ≡ Some fault)
+refuses_feed m sealed = elim (cases_Bool m.held.broken) [
+  | inl y ↦ (Stopped, rw y refl)
+  | inr n ↦ elim (cases_Bool m.held.recovering) [
+    | inl y ↦ (Recovering, rw (n, y) refl)
+    | inr r ↦ (Sealed, rw (n, r, sealed) refl)
+  ]
+]
+
+fed : (old new : Machine) (piece : List ℕ) (answer : Result Fed FeedFault)
+    → is_following old.held ≡ false → Feeds old piece (feed_refusal old) answer new
+    → IsSameLog old new
+fed old new piece answer sealed f =
+    let refused = refuses_feed old sealed in
+    let g : Feeds old piece (Some refused.0) answer new =
+    subst (λ (r : Option Fault). Feeds old piece r answer new) refused.1 f in
+    unchanged old new g.1
+
+-- as many records are held as a reply tells of
+abbrev pub HoldsBy : Machine → Reply → Machine → Type 0
+HoldsBy old answer new = length new.held.log ≡ length old.held.log + undone_by answer
+
+pub none : (old new : Machine) → IsSameLog old new → length new.held.log ≡ length old.held.log + 0
+none old new e = omega (arith, ap (λ (l : List Record). length l) e.log)
+
+-- ---- the events
+
+resync : (old new : Machine) (answer : Reply) → Steps old step.Resync answer new
+    → HoldsBy old answer new
+resync old new (reply.Fed fed) s = absurd s
+resync old new (reply.FeedRefused refusal) s = absurd s
+resync old new reply.Done s =
+    none old new (does old new step.Resync (DropsPartial old) (Ok tt) s
+    (λ c. record { log = ap (λ (m : Machine). m.held.log) c }))
+resync old new (reply.Applied lsn) s = absurd s
+resync old new (reply.Acknowledged lsn) s = absurd s
+resync old new (reply.Undone lsn) s = absurd s
+resync old new (reply.Refused fault) s =
+    none old new (does old new step.Resync (DropsPartial old) (Err fault) s
+    (λ c. absurd c))
+
+apply : (old new : Machine) (page : ℕ) (answer : Reply) → Steps old (step.Apply page) answer new
+    → HoldsBy old answer new
+apply old new page (reply.Fed fed) s = absurd s
+apply old new page (reply.FeedRefused refusal) s = absurd s
+apply old new page reply.Done s = absurd s
+apply old new page (reply.Applied lsn) s =
+    none old new (does old new (step.Apply page) (Redoes old page) (Ok lsn) s
+    (λ c. changes old new _ c (λ held e. after old.held held _ e.after refl)))
+apply old new page (reply.Acknowledged lsn) s = absurd s
+apply old new page (reply.Undone lsn) s = absurd s
+apply old new page (reply.Refused fault) s =
+    none old new (does old new (step.Apply page) (Redoes old page) (Err fault) s
+    (λ c. changes old new _ c.changes
+    (λ held e. in_vain old.held held page c.cause e.reads)))
+
+flush : (old new : Machine) (page : ℕ) (answer : Reply) → Steps old (step.Flush page) answer new
+    → HoldsBy old answer new
+flush old new page (reply.Fed fed) s = absurd s
+flush old new page (reply.FeedRefused refusal) s = absurd s
+flush old new page reply.Done s =
+    none old new (does old new (step.Flush page) (WritesPage old page) (Ok tt) s
+    (λ c. changes old new _ c (λ held e. after old.held held _ e.after refl)))
+flush old new page (reply.Applied lsn) s = absurd s
+flush old new page (reply.Acknowledged lsn) s = absurd s
+flush old new page (reply.Undone lsn) s = absurd s
+flush old new page (reply.Refused fault) s =
+    none old new (does old new (step.Flush page) (WritesPage old page) (Err fault) s
+    (λ c. changes old new _ c.1 (λ held e. after old.held held _ e.after refl)))
+
+sync_pages : (old new : Machine) (answer : Reply) → Steps old step.SyncPages answer new
+    → HoldsBy old answer new
+sync_pages old new (reply.Fed fed) s = absurd s
+sync_pages old new (reply.FeedRefused refusal) s = absurd s
+sync_pages old new reply.Done s =
+    none old new (does old new step.SyncPages (SyncsAllPages old) (Ok tt) s
+    (λ c. changes old new _ c (λ held e. after old.held held _ e.after refl)))
+sync_pages old new (reply.Applied lsn) s = absurd s
+sync_pages old new (reply.Acknowledged lsn) s = absurd s
+sync_pages old new (reply.Undone lsn) s = absurd s
+sync_pages old new (reply.Refused fault) s =
+    none old new (does old new step.SyncPages (SyncsAllPages old) (Err fault) s
+    (λ c. changes old new _ c.1 (λ held e. after old.held held _ e.after refl)))
+
+log_write : (old new : Machine) (answer : Reply) → Steps old step.LogWrite answer new
+    → HoldsBy old answer new
+log_write old new (reply.Fed fed) s = absurd s
+log_write old new (reply.FeedRefused refusal) s = absurd s
+log_write old new reply.Done s =
+    none old new (does old new step.LogWrite (WritesBlock old) (Ok tt) s
+    (λ c. changes old new _ c (λ held e. after old.held held _ e.after refl)))
+log_write old new (reply.Applied lsn) s = absurd s
+log_write old new (reply.Acknowledged lsn) s = absurd s
+log_write old new (reply.Undone lsn) s = absurd s
+log_write old new (reply.Refused fault) s =
+    none old new (does old new step.LogWrite (WritesBlock old) (Err fault) s
+    (λ c. changes old new _ c.1 (λ held e. after old.held held _ e.after refl)))
+
+log_sync : (old new : Machine) (answer : Reply) → Steps old step.LogSync answer new
+    → HoldsBy old answer new
+log_sync old new (reply.Fed fed) s = absurd s
+log_sync old new (reply.FeedRefused refusal) s = absurd s
+log_sync old new reply.Done s =
+    none old new (does old new step.LogSync (SyncsBlocks old) (Ok tt) s
+    (λ c. changes old new _ c (λ held e. after old.held held _ e.after refl)))
+log_sync old new (reply.Applied lsn) s = absurd s
+log_sync old new (reply.Acknowledged lsn) s = absurd s
+log_sync old new (reply.Undone lsn) s = absurd s
+log_sync old new (reply.Refused fault) s =
+    none old new (does old new step.LogSync (SyncsBlocks old) (Err fault) s
+    (λ c. changes old new _ c.1 (λ held e. after old.held held _ e.after refl)))
+
+mark_write : (old new : Machine) (answer : Reply) → Steps old step.MarkWrite answer new
+    → HoldsBy old answer new
+mark_write old new (reply.Fed fed) s = absurd s
+mark_write old new (reply.FeedRefused refusal) s = absurd s
+mark_write old new reply.Done s =
+    none old new (does old new step.MarkWrite (MovesMark old) (Ok tt) s
+    (λ c. changes old new _ c (λ held e. after old.held held _ e.after refl)))
+mark_write old new (reply.Applied lsn) s = absurd s
+mark_write old new (reply.Acknowledged lsn) s = absurd s
+mark_write old new (reply.Undone lsn) s = absurd s
+mark_write old new (reply.Refused fault) s =
+    none old new (does old new step.MarkWrite (MovesMark old) (Err fault) s
+    (λ c. changes old new _ c.1 (λ held e. after old.held held _ e.after refl)))
+
+ctl_sync : (old new : Machine) (answer : Reply) → Steps old step.ControlSync answer new
+    → HoldsBy old answer new
+ctl_sync old new (reply.Fed fed) s = absurd s
+ctl_sync old new (reply.FeedRefused refusal) s = absurd s
+ctl_sync old new reply.Done s = absurd s
+ctl_sync old new (reply.Applied lsn) s = absurd s
+ctl_sync old new (reply.Acknowledged lsn) s =
+    none old new (does old new step.ControlSync (Acknowledges old) (Ok lsn) s
+    (λ c. changes old new _ c (λ held e. after old.held held _ e.after refl)))
+ctl_sync old new (reply.Undone lsn) s = absurd s
+ctl_sync old new (reply.Refused fault) s =
+    none old new (does old new step.ControlSync (Acknowledges old) (Err fault) s
+    (λ c. changes old new _ c.1 (λ held e. after old.held held _ e.after refl)))
+
+ckpt_begin : (old new : Machine) (answer : Reply) → Steps old step.CkptBegin answer new
+    → HoldsBy old answer new
+ckpt_begin old new (reply.Fed fed) s = absurd s
+ckpt_begin old new (reply.FeedRefused refusal) s = absurd s
+ckpt_begin old new reply.Done s =
+    none old new (does old new step.CkptBegin (Begins old) (Ok tt) s
+    (λ c. changes old new _ c (λ held e. after old.held held _ e.after refl)))
+ckpt_begin old new (reply.Applied lsn) s = absurd s
+ckpt_begin old new (reply.Acknowledged lsn) s = absurd s
+ckpt_begin old new (reply.Undone lsn) s = absurd s
+ckpt_begin old new (reply.Refused fault) s =
+    none old new (does old new step.CkptBegin (Begins old) (Err fault) s
+    (λ c. unchanged old new c.1))
+
+ckpt_block : (old new : Machine) (answer : Reply) → Steps old step.CkptBlock answer new
+    → HoldsBy old answer new
+ckpt_block old new (reply.Fed fed) s = absurd s
+ckpt_block old new (reply.FeedRefused refusal) s = absurd s
+ckpt_block old new reply.Done s =
+    none old new (does old new step.CkptBlock (WritesNext old) (Ok tt) s
+    (λ c. changes old new _ c (λ held e. after old.held held _ e.after refl)))
+ckpt_block old new (reply.Applied lsn) s = absurd s
+ckpt_block old new (reply.Acknowledged lsn) s = absurd s
+ckpt_block old new (reply.Undone lsn) s = absurd s
+ckpt_block old new (reply.Refused fault) s =
+    none old new (does old new step.CkptBlock (WritesNext old) (Err fault) s
+    (λ c. changes old new _ c.1 (λ held e. after old.held held _ e.after refl)))
+
+ckpt_publish : (old new : Machine) (answer : Reply) → Steps old step.CkptPublish answer new
+    → HoldsBy old answer new
+ckpt_publish old new (reply.Fed fed) s = absurd s
+ckpt_publish old new (reply.FeedRefused refusal) s = absurd s
+ckpt_publish old new reply.Done s =
+    none old new (does old new step.CkptPublish (PublishesNext old) (Ok tt) s
+    (λ c. changes old new _ c (λ held e. published old.held held old.held.begun e)))
+ckpt_publish old new (reply.Applied lsn) s = absurd s
+ckpt_publish old new (reply.Acknowledged lsn) s = absurd s
+ckpt_publish old new (reply.Undone lsn) s = absurd s
+ckpt_publish old new (reply.Refused fault) s =
+    none old new (does old new step.CkptPublish (PublishesNext old) (Err fault) s
+    (λ c. changes old new _ c.1 (λ held e. torn old.held held old.held.begun e)))
+
+publish_view : (old new : Machine) (answer : Reply) → Steps old step.PublishView answer new
+    → HoldsBy old answer new
+publish_view old new (reply.Fed fed) s = absurd s
+publish_view old new (reply.FeedRefused refusal) s = absurd s
+publish_view old new reply.Done s =
+    none old new (does old new step.PublishView (PublishesEnded old) (Ok tt) s
+    (λ c. record { log = ap (λ (m : Machine). m.held.log) c.1 }))
+publish_view old new (reply.Applied lsn) s = absurd s
+publish_view old new (reply.Acknowledged lsn) s = absurd s
+publish_view old new (reply.Undone lsn) s = absurd s
+publish_view old new (reply.Refused fault) s =
+    none old new (does old new step.PublishView (PublishesEnded old) (Err fault) s
+    (λ c. absurd c))
+
+ready : (old new : Machine) (answer : Reply) → Steps old step.Ready answer new
+    → HoldsBy old answer new
+ready old new (reply.Fed fed) s = absurd s
+ready old new (reply.FeedRefused refusal) s = absurd s
+ready old new reply.Done s =
+    none old new (does old new step.Ready (BecomesReady old) (Ok tt) s
+    (λ c. record { log = ap (λ (m : Machine). m.held.log) c }))
+ready old new (reply.Applied lsn) s = absurd s
+ready old new (reply.Acknowledged lsn) s = absurd s
+ready old new (reply.Undone lsn) s = absurd s
+ready old new (reply.Refused fault) s =
+    none old new (does old new step.Ready (BecomesReady old) (Err fault) s
+    (λ c. absurd c))
+
+seal : (old new : Machine) (answer : Reply) → Steps old step.Seal answer new
+    → HoldsBy old answer new
+seal old new (reply.Fed fed) s = absurd s
+seal old new (reply.FeedRefused refusal) s = absurd s
+seal old new reply.Done s =
+    none old new (does old new step.Seal (SealsLog old) (Ok tt) s
+    (λ c. record {
+      log = ap (λ (m : Machine). m.held.log) c.after ∙ ap (λ (h : Stored). h.log) c.seals.after;
+    }))
+seal old new (reply.Applied lsn) s = absurd s
+seal old new (reply.Acknowledged lsn) s = absurd s
+seal old new (reply.Undone lsn) s = absurd s
+seal old new (reply.Refused fault) s =
+    none old new (does old new step.Seal (SealsLog old) (Err fault) s
+    (λ c. changes old new _ c.1 (λ held e. after old.held held _ e.after refl)))
+
+finish : (old new : Machine) (answer : Reply) → Steps old step.Finish answer new
+    → HoldsBy old answer new
+finish old new (reply.Fed fed) s = absurd s
+finish old new (reply.FeedRefused refusal) s = absurd s
+finish old new reply.Done s =
+    none old new (does old new step.Finish (FinishesTakeover old) (Ok tt) s
+    (λ c. changes old new _ c (λ held e. after old.held held _ e.after refl)))
+finish old new (reply.Applied lsn) s = absurd s
+finish old new (reply.Acknowledged lsn) s = absurd s
+finish old new (reply.Undone lsn) s = absurd s
+finish old new (reply.Refused fault) s =
+    none old new (does old new step.Finish (FinishesTakeover old) (Err fault) s
+    (λ c. changes old new _ c.1 (λ held e. after old.held held _ e.after refl)))
+
+feed : (old new : Machine) (piece : Bor (List ℕ)) (answer : Reply) → is_following old.held ≡ false
+    → Steps old (step.Feed piece) answer new → HoldsBy old answer new
+feed old new piece (reply.Fed held) sealed s =
+    none old new (fed old new piece.now (Ok held) sealed s)
+feed old new piece (reply.FeedRefused refused) sealed s =
+    none old new (fed old new piece.now (Err refused) sealed s)
+feed old new piece reply.Done sealed s = absurd s
+feed old new piece (reply.Applied lsn) sealed s = absurd s
+feed old new piece (reply.Acknowledged lsn) sealed s = absurd s
+feed old new piece (reply.Undone lsn) sealed s = absurd s
+feed old new piece (reply.Refused fault) sealed s = absurd s
+
+held_next : (old new : Machine) (lsn : Lsn) (r : Option Fault)
+    → MatchOption r (Undoes old (Ok lsn) new)
+    (λ fault. (◌≡◌ {A = Result Lsn Fault} (Ok lsn) (Err fault)) × (new ≡ old))
+    → length new.held.log ≡ length old.held.log + 1
+held_next old new lsn None u = omega (
+  arith,
+  ap (λ (m : Machine). length m.held.log) u.after,
+  ap (λ (h : Stored). length h.log) u.undoes.after,
+  length-append old.held.log (u.undoes.made ∷ []),
+)
+held_next old new lsn (Some fault) h = absurd (cc h.0)
+
+undo_one : (old new : Machine) (answer : Reply) → Steps old step.UndoOne answer new
+    → HoldsBy old answer new
+undo_one old new (reply.Undone lsn) s = held_next old new lsn (refusal old step.UndoOne) s
+undo_one old new (reply.Refused fault) s =
+    none old new (does old new step.UndoOne (Undoes old) (Err fault) s
+    (λ c. unchanged old new c.1))
+undo_one old new (reply.Fed fed) s = absurd s
+undo_one old new (reply.FeedRefused refusal) s = absurd s
+undo_one old new reply.Done s = absurd s
+undo_one old new (reply.Applied lsn) s = absurd s
+undo_one old new (reply.Acknowledged lsn) s = absurd s
+
+-- once the log is sealed, an event holds as many records as its reply tells of
+pub holds : (old new : Machine) (event : Step) (answer : Reply) → is_following old.held ≡ false
+    → Steps old event answer new → HoldsBy old answer new
+holds old new (step.Feed piece) answer sealed s = feed old new piece answer sealed s
+holds old new step.UndoOne answer sealed s = undo_one old new answer s
+holds old new step.Resync answer sealed s = resync old new answer s
+holds old new (step.Apply page) answer sealed s = apply old new page answer s
+holds old new (step.Flush page) answer sealed s = flush old new page answer s
+holds old new step.SyncPages answer sealed s = sync_pages old new answer s
+holds old new step.LogWrite answer sealed s = log_write old new answer s
+holds old new step.LogSync answer sealed s = log_sync old new answer s
+holds old new step.MarkWrite answer sealed s = mark_write old new answer s
+holds old new step.ControlSync answer sealed s = ctl_sync old new answer s
+holds old new step.CkptBegin answer sealed s = ckpt_begin old new answer s
+holds old new step.CkptBlock answer sealed s = ckpt_block old new answer s
+holds old new step.CkptPublish answer sealed s = ckpt_publish old new answer s
+holds old new step.PublishView answer sealed s = publish_view old new answer s
+holds old new step.Ready answer sealed s = ready old new answer s
+holds old new step.Seal answer sealed s = seal old new answer s
+holds old new step.Finish answer sealed s = finish old new answer s

@@ -1,0 +1,4 @@
+pub mod Fronts
+pub mod Reached
+pub mod Holding
+pub mod Undone

@@ -1,0 +1,8 @@
+use Rattle.als_reach.proofs.Undone.{run-holds, run-undoes}
+use Rattle.als_reach.proofs.laws.undo_answers_once_a_record.Goals as goal
+
+pub returns-clause-grows : goal.returns-clause-grows
+returns-clause-grows c = run-holds
+
+pub returns-clause-whole : goal.returns-clause-whole
+returns-clause-whole c = run-undoes

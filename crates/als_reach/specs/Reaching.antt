@@ -1,0 +1,53 @@
+-- A machine that is reached from another one, by events and by queries.
+use Rattle.std.specs.Prelude.{◌⊎◌, ℕ, List, [], ◌∷◌, ◌++◌, Option, Some, None, Result}
+use Rattle.als_record.specs.declared.lsn.Lsn.{Lsn}
+use Rattle.als_record.specs.declared.record.Record.{Record}
+use Rattle.als_page.specs.declared.page.Page.{Page}
+use Rattle.als_engine.specs.declared.fault.Fault.{Fault}
+use Rattle.als_engine.specs.declared.step.Step.{Step}
+use Rattle.als_engine.specs.declared.step.Reply.{Reply}
+use Rattle.als_engine.specs.Events.{ShowsPage, Reads}
+use Rattle.als_engine.specs.Machine.{Machine, Keeps}
+use Rattle.als_engine.specs.Runs.{Steps}
+use Rattle.als_engine.specs.Telling.{Stands}
+
+-- an event has this reply; it keeps what each event keeps, and what always holds still does
+pub record Makes (old : Machine) (event : Step) (reply : Reply) (new : Machine) : Type 0 where
+  pub steps : Steps old event reply new
+  pub keeps : Keeps old new
+  pub stands : Stands new
+
+-- a page or a record was asked for, which may have to be read from a device
+abbrev pub IsAsked : Machine → Machine → Type 0
+IsAsked old new =
+    ((page : ℕ) × (answer : Result Page Fault) × ShowsPage old page answer new)
+    ⊎ ((lsn : Lsn) × (answer : Result (Option Record) Fault) × Reads old lsn answer new)
+
+-- such a query keeps what each event keeps
+pub record Asks (old new : Machine) : Type 0 where
+  pub asked : IsAsked old new
+  pub keeps : Keeps old new
+  pub stands : Stands new
+
+-- The events have these replies, one after another, and lead from the first machine to the last.
+-- Queries may come in between.
+pub data Run (start : Machine) : List Step → List Reply → Machine → Type 0 where
+  Begins : Run start [] [] start
+  Goes : (events : List Step) → (replies : List Reply) → (mid : Machine)
+      → Run start events replies mid
+      → (event : Step) → (reply : Reply) → (new : Machine) → Makes mid event reply new
+      → Run start (events ++ event ∷ []) (replies ++ reply ∷ []) new
+  Queries : (events : List Step) → (replies : List Reply) → (mid : Machine)
+      → Run start events replies mid
+      → (new : Machine) → Asks mid new → Run start events replies new
+
+-- there are such events and replies
+pub record Reaches (start now : Machine) : Type 0 where
+  pub events : List Step
+  pub replies : List Reply
+  pub run : Run start events replies now
+
+-- it is reached from the one that was picked
+abbrev pub ReachesFrom : Option Machine → Machine → Type 0
+ReachesFrom (Some start) now = Reaches start now
+ReachesFrom None now = ⊥

@@ -1,0 +1,31 @@
+-- How often `undo_one` held a record, in a run without a crash.
+use Rattle.std.specs.Prelude.{◌≡◌, ℕ, ◌<◌, List}
+use Rattle.std.specs.List.{sum_by}
+use Rattle.als_record.specs.LogText.{end_of}
+use Rattle.als_ckpt.specs.Control.{phase_byte}
+use Rattle.als_engine.specs.declared.step.Reply.{Reply}
+use Rattle.als_engine.specs.declared.step.Reply.TheVariants as reply
+use Rattle.als_engine.specs.Machine.{Machine}
+
+-- how many records of the tail a reply tells of
+abbrev pub undone_by : Reply → ℕ
+undone_by (reply.Fed fed) = 0
+undone_by (reply.FeedRefused refusal) = 0
+undone_by reply.Done = 0
+undone_by (reply.Applied lsn) = 0
+undone_by (reply.Acknowledged lsn) = 0
+undone_by (reply.Undone lsn) = 1
+undone_by (reply.Refused fault) = 0
+
+-- how often it answered Ok
+abbrev pub undone : List Reply → ℕ
+undone replies = sum_by undone_by replies
+
+-- the log is sealed, and that is acknowledged
+abbrev pub IsSealed : Machine → Type 0
+IsSealed m = 1 < phase_byte m.held.control.phase
+
+-- and it ends at its seal: no record of the tail is held yet
+pub record EndsAtSeal (m : Machine) : Type 0 where
+  pub sealed : IsSealed m
+  pub ends : m.held.control.seal.0 ≡ end_of m.held.log
