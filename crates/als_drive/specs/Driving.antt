@@ -1,8 +1,29 @@
 -- What is done with a standby by several of its events.
-use Rattle.std.specs.Prelude.{None}
+use Rattle.std.specs.Prelude.{◌≡◌, ◌⊎◌, None, Err, ℕ, false}
 use Rattle.als_pool.specs.Queues.{WaitsFirst}
+use Rattle.als_engine.specs.declared.fault.Fault.{Fault}
+use Rattle.als_engine.specs.declared.fault.Fault.TheVariants.{Backlog}
 use Rattle.als_engine.specs.Machine.{Machine}
+use Rattle.als_engine.specs.Events.{Applies}
+use Rattle.als_engine.specs.Readiness.{Readies}
 
 -- no page waits for changes
 abbrev pub IsDrained : Machine → Type 0
 IsDrained m = WaitsFirst m.held.pool.waits 0 None
+
+-- pages were redone: the log, how far it is stable, the control states and all else are as they were
+abbrev pub OnlyRedoes : Machine → Machine → Type 0
+OnlyRedoes old new = new ≡ record old { held = record old.held { pool = new.held.pool; failures = new.held.failures } }
+
+-- a redo was refused; a database has no page for each of 2^64 rounds
+abbrev pub RedoRefused : Fault → Machine → Type 0
+RedoRefused cause new = (cause ≡ Backlog) ⊎ ((old : Machine) × (page : ℕ) × Applies old page (Err cause) new)
+
+-- a redo was refused, or the end of the recovery
+abbrev pub RecoveryRefused : Fault → Machine → Type 0
+RecoveryRefused cause new = RedoRefused cause new ⊎ ((old : Machine) × Readies old (Err cause) new)
+
+-- nothing waits for redo, and it is not recovering any more
+pub record IsRecovered (m : Machine) : Type 0 where
+  pub drained : IsDrained m
+  pub ready : m.held.recovering ≡ false

@@ -1,5 +1,5 @@
-ghost use Rattle.std.specs.Prelude.{OnOk};
-ghost use Rattle.als_drive.specs.Driving.{IsDrained};
+ghost use Rattle.std.specs.Prelude.{OnOk, IfErr};
+ghost use Rattle.als_drive.specs.Driving.{IsDrained, OnlyRedoes, RedoRefused};
 
 use crate::progress::{Progress, Silent};
 use als_engine::{Events, Fault};
@@ -12,14 +12,20 @@ const TOLD_EACH: u64 = 64;
 pub fn drain<E: Events>(events: &mut E) -> Result<(), Fault>
     // Then no page waits.
     ensures done { OnOk result (E.alone → IsDrained (E.machine events.new)) }
+    // Nothing but pages changes.
+    ensures keeps { E.alone → OnlyRedoes (E.machine events.old) (E.machine events.new) }
+    ensures fails { IfErr result (λ f. E.alone → RedoRefused f (E.machine events.new)) }
 {
     drain_telling(events, &mut Silent)
 }
 
 /// The same, and tells every now and then how many changes wait: at the beginning, and last that
 /// none does.
+#[tactic(auto, using(crate::proofs::Redoing::redoes_nothing, crate::proofs::Redoing::redoes_more, crate::proofs::Redoing::rounds_spent))]
 pub fn drain_telling<E: Events, P: Progress>(events: &mut E, progress: &mut P) -> Result<(), Fault>
     ensures done { OnOk result (E.alone → IsDrained (E.machine events.new)) }
+    ensures keeps { E.alone → OnlyRedoes (E.machine events.old) (E.machine events.new) }
+    ensures fails { IfErr result (λ f. E.alone → RedoRefused f (E.machine events.new)) }
 {
     let mut from = 0;
     for redone in 0..u64::MAX {
@@ -44,7 +50,11 @@ pub fn drain_telling<E: Events, P: Progress>(events: &mut E, progress: &mut P) -
 }
 
 /// Redoes the first changes that a page waits for. Its image may have them all.
-fn redo<E: Events>(events: &mut E, page: u32) -> Result<(), Fault> {
+#[tactic(auto, using(crate::proofs::Redoing::apply_redoes, crate::proofs::Redoing::apply_refused))]
+fn redo<E: Events>(events: &mut E, page: u32) -> Result<(), Fault>
+    ensures keeps { E.alone → OnlyRedoes (E.machine events.old) (E.machine events.new) }
+    ensures fails { IfErr result (λ f. E.alone → RedoRefused f (E.machine events.new)) }
+{
     match events.apply(page) {
         Ok(_) => Ok(()),
         Err(Fault::NothingToDo) => Ok(()),

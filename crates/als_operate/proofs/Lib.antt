@@ -1,1 +1,4 @@
 mod Limits
+pub mod Keeping
+pub mod Checkpoints
+pub mod Refusing

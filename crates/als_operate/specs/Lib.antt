@@ -1,2 +1,5 @@
 pub mod FaultNames
 pub mod Lines
+pub mod Upkeep
+pub mod Following
+pub mod Building

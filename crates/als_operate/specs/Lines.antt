@@ -3,6 +3,7 @@ use Rattle.std.specs.Prelude.{ℕ, List, [], ◌∷◌, ◌++◌, Option, codes}
 use Rattle.std.specs.Fmt.{decimal}
 use Rattle.std.specs.Io.KnownBytes.{Appends}
 use Rattle.als_record.specs.declared.header.LogHeader.{LogHeader}
+use Rattle.als_record.specs.declared.lsn.Lsn.{Lsn}
 use Rattle.als_ship.specs.Wire.{Ships}
 
 -- the line of a session: how many log bytes it sent
@@ -10,5 +11,5 @@ abbrev pub sent_line : ℕ → List ℕ
 sent_line n = codes "sent=" ++ decimal n ++ 10 ∷ []
 
 -- a session has sent all of the text from where the follower goes on, and the line that was printed tells how many bytes that were
-abbrev pub Tells : List ℕ → LogHeader → (asked old new printed after : Option (List ℕ)) → Type 0
-Tells text header asked old new printed after = (n : ℕ) × Ships text header asked old new n × Appends printed after (sent_line n)
+abbrev pub Tells : List ℕ → LogHeader → (asked behind old new printed after : Option (List ℕ)) → Type 0
+Tells text header asked behind old new printed after = (n : ℕ) × (kept : Option Lsn) × Ships text header asked behind old new n kept × Appends printed after (sent_line n)

@@ -8,16 +8,20 @@ mod fault;
 mod whole;
 // A session as the sending end, and what it prints.
 mod shipping;
-// The answer of an event that may have nothing to do.
-mod passing;
 // One checkpoint.
 mod checkpointing;
+// The pages and a checkpoint onto the devices.
+mod storing;
 // All that is held onto the devices.
 mod settling;
 // All parts of a takeover.
 mod taking_over;
-// A standby whose pages are kept warm.
-mod warm;
+// What is done between the frames of a session.
+mod upkeep;
+// How long a connection may be silent.
+mod silence;
+// Who is told of those that a shipper meets.
+mod meeting;
 // The engine of a folder.
 mod opening;
 // A standby that follows one session.
@@ -27,10 +31,11 @@ mod takeover_command;
 
 pub use checkpointing::checkpoint;
 pub use fault::Fault;
+pub use meeting::{Meetings, Untold};
 pub use settling::settle;
-pub use shipping::{serve, ship};
+pub use shipping::{Shipping, serve, ship};
 pub use standby_command::{Following, follow, standby};
 pub use takeover_command::takeover;
 pub use taking_over::{take_over, take_over_telling};
-pub use warm::Warm;
+pub use upkeep::StandbyUpkeep;
 pub use whole::read_whole;

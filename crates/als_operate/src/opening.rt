@@ -1,10 +1,14 @@
-ghost use Rattle.std.specs.Prelude.{IfOk};
-ghost use Rattle.als_store.specs.Warm.{WasWarm};
+ghost use Rattle.std.specs.Prelude.{◌≡◌, ℕ};
+ghost use Rattle.als_disk.specs.Slot.{IsSettled};
+ghost use Rattle.als_operate.specs.FaultNames.{kind_of};
 
 use crate::fault::Fault;
-use als_disk::FileDisk;
+use als_ckpt::read_state;
+use als_disk::{BlockDisk, FileDisk};
 use als_engine::{CONTROL_BLOCKS, Config, Disks, Engine, Refused};
-use als_folder::{Devices, Folder, Sizes};
+use als_fault::FaultKind;
+use als_folder::{Devices, Fault as FolderFault, Folder, LOG_LIMIT, Part, Sizes, Trouble, Wrong};
+use als_record::LogHeader;
 use std::alloc::Global;
 use std::fs::File;
 use std::rt::Files;
@@ -25,9 +29,110 @@ pub fn start<R: AllocGlobal + Files<File = File>>(
     }
 }
 
-/// The engine of the database that these devices hold.
-pub fn open(alloc: Global, devices: Devices, config: Config) -> Result<Engine<FileDisk>, Fault> {
+/// The engine of the database that these devices hold. Files that are too short for it are refused
+/// as damaged, before they are read further.
+fn open(alloc: Global, devices: Devices, config: Config) -> Result<Engine<FileDisk>, Fault>
+    requires { (k : ℕ) → IsSettled (⟦<FileDisk<File> as BlockDisk>⟧.slot devices.control k) }
+{
+    let mut devices = devices;
+    check_lengths(&mut devices, config.pages)?;
     engine_or_fault(Engine::open(alloc, disks(devices), config))
+}
+
+/// The engine of the folder's database, of as many pages as its log says.
+pub fn reopen<R: AllocGlobal + Files<File = File>>(
+    rt: &R,
+    folder: &Folder,
+    pending: u64,
+) -> Result<Engine<FileDisk>, Fault> {
+    let mut devices = folder.open(rt)?;
+    let pages = pages_of(&mut devices);
+    check_lengths(&mut devices, pages)?;
+    let config = Config {
+        pages,
+        frames: pages,
+        pending,
+        readers: 1,
+    };
+    engine_or_fault(Engine::open(rt.alloc(), disks(devices), config))
+}
+
+/// Refuses files that are too short for a database of so many pages, and for the mark that its
+/// control block has.
+fn check_lengths(devices: &mut Devices, pages: u64) -> Result<(), Fault>
+    requires { (k : ℕ) → IsSettled (⟦<FileDisk<File> as BlockDisk>⟧.slot devices.old.control k) }
+{
+    let found = devices.sizes();
+    if found.control < CONTROL_BLOCKS {
+        return Err(damaged(Part::Control, Wrong::Short));
+    }
+    let Ok(count) = u32::try_from(pages) else {
+        return Ok(());
+    };
+    let control = CONTROL_BLOCKS;
+    match read_state(&mut devices.control, count, LOG_LIMIT) {
+        Ok(state) => {
+            let log = state.mark.0.div_ceil(512);
+            let needed = Sizes {
+                log,
+                control,
+                pages,
+            };
+            match found.shorter_than(needed) {
+                Some(part) => Err(damaged(part, Wrong::Short)),
+                None => Ok(()),
+            }
+        }
+        // What the files should have is not known: the engine tells what is wrong with them.
+        Err(_) => {
+            let log = 1;
+            let needed = Sizes {
+                log,
+                control,
+                pages,
+            };
+            match found.shorter_than(needed) {
+                Some(_) => Err(damaged(Part::Control, Wrong::BadControl)),
+                None => Ok(()),
+            }
+        }
+    }
+}
+
+/// The files are not those of one database.
+fn damaged(part: Part, wrong: Wrong) -> Fault {
+    Fault::Folder(FolderFault::Damaged(Trouble { part, wrong }))
+}
+
+/// How many pages the database of these devices has: as its log's header says, or, where it says
+/// nothing, as the pages' device has blocks.
+fn pages_of(devices: &mut Devices) -> u64
+    ensures { devices.new.control ≡ devices.old.control }
+{
+    let blocks = devices.pages.blocks();
+    if devices.log.blocks() == 0 {
+        return blocks;
+    }
+    let mut block = [0; 512];
+    match devices.log.read(0, &mut block) {
+        Ok(()) => {}
+        Err(_) => return blocks,
+    }
+    let (front, _) = block.split_at(16);
+    match LogHeader::decode(front) {
+        Ok(Some(header)) => u64::from(header.pages),
+        Ok(None) | Err(_) => blocks,
+    }
+}
+
+/// The same refusal. Where a device failed, it tells which file that was, and what is wrong with it.
+pub fn named(folder: &Folder, fault: Fault) -> Fault
+    ensures { kind_of result ≡ kind_of fault }
+{
+    match (fault.kind(), folder.trouble()) {
+        (FaultKind::Device, Some(trouble)) => Fault::Folder(FolderFault::Device(trouble)),
+        _ => fault,
+    }
 }
 
 /// The engine of a new database. The folder has it once it is formatted.

@@ -1,10 +1,8 @@
 use crate::fault::Fault;
-use crate::opening::open;
+use crate::opening::{named, reopen};
 use crate::standby_command::PENDING;
 use crate::taking_over::take_over_telling;
-use als_disk::BlockDisk;
 use als_drive::{Progress, listing};
-use als_engine::Config;
 use als_folder::Folder;
 use std::fs::File;
 use std::io::Write;
@@ -23,15 +21,20 @@ pub fn takeover<R: AllocGlobal + Files<File = File>, P: Progress, O: Write>(
     output: &mut O,
 ) -> Result<(), Fault> {
     let folder = Folder::hold(rt, dir)?;
-    let devices = folder.open(rt)?;
-    let blocks = devices.pages.blocks();
-    let config = Config {
-        pages: blocks,
-        frames: blocks,
-        pending: PENDING,
-        readers: 1,
-    };
-    let mut engine = open(rt.alloc(), devices, config)?;
+    match takeover_in(rt, &folder, progress, output) {
+        Ok(()) => Ok(()),
+        Err(fault) => Err(named(&folder, fault)),
+    }
+}
+
+/// The takeover of a folder that is held.
+fn takeover_in<R: AllocGlobal + Files<File = File>, P: Progress, O: Write>(
+    rt: &R,
+    folder: &Folder,
+    progress: &mut P,
+    output: &mut O,
+) -> Result<(), Fault> {
+    let mut engine = reopen(rt, folder, PENDING)?;
     take_over_telling(&mut engine, progress)?;
     let records = listing(rt.alloc(), &mut engine)?;
     writeln!(output, "end={}", engine.status().end.0)?;

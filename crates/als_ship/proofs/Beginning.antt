@@ -18,7 +18,7 @@ begin_refused header end Stream old new fails = tt
 begin_refused header end (Refused cause) old new fails = absurd fails
 
 -- a text has one header
-same_header : (text : List ℕ) (h k : LogHeader) → take 16 text ≡ header_bytes h.pages → take 16 text ≡ header_bytes k.pages → h.pages ≤ 4096 → k.pages ≤ 4096 → h ≡ k
+pub same_header : (text : List ℕ) (h k : LogHeader) → take 16 text ≡ header_bytes h.pages → take 16 text ≡ header_bytes k.pages → h.pages ≤ 4096 → k.pages ≤ 4096 → h ≡ k
 same_header text h k first second low high =
     ap (λ (n : ℕ). record { pages = n }) (one_header h.pages k.pages [] [] (omega (arith, low)) (omega (arith, high)) (ap (λ (xs : List ℕ). xs ++ []) (sym first ∙ second))).0
 

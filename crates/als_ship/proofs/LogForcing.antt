@@ -29,15 +29,15 @@ same_equal old new e = subst (λ (m : Machine). SameText old m) (sym e) (same_re
 abbrev pub SameLog : Stored → Stored → Type 0
 SameLog old new = (new.pages ≡ old.pages) × (new.log ≡ old.log)
 
-same_changed : (old new : Machine) (event : Stored → Stored → Type 0) → ((h k : Stored) → event h k → SameLog h k) → Changes old event new → SameText old new
+pub same_changed : (old new : Machine) (event : Stored → Stored → Type 0) → ((h k : Stored) → event h k → SameLog h k) → Changes old event new → SameText old new
 same_changed old new event keeps c =
     let same = keeps old.held c.held c.becomes in
     record { pages = ap (λ (m : Machine). m.held.pages) c.after ∙ same.0; log = ap (λ (m : Machine). m.held.log) c.after ∙ same.1; partial = ap (λ (m : Machine). m.partial) c.after }
 
-by_equation : (old new is : Stored) → new ≡ is → SameLog old is → SameLog old new
+pub by_equation : (old new is : Stored) → new ≡ is → SameLog old is → SameLog old new
 by_equation old new is e same = subst (λ (s : Stored). SameLog old s) (sym e) same
 
-breaks_same : (old new : Stored) → Breaks old new → SameLog old new
+pub breaks_same : (old new : Stored) → Breaks old new → SameLog old new
 breaks_same old new b = by_equation old new _ b.after (refl, refl)
 
 writes_same : (old new : Stored) → WritesLog old new → SameLog old new

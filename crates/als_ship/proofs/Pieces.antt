@@ -1,10 +1,15 @@
 -- Pieces of a text that follow one another.
-use Rattle.std.proofs.Common.{◌≡◌, ℕ, ◌+◌, ◌-◌, ◌<◌, ◌≤◌, List, [], ◌∷◌, ◌++◌, length, drop, Option, refl, subst, sym, ap, ◌∙◌, append_assoc, append-nil, arith, take-append-drop, drop_of_length-le}
+use Rattle.std.proofs.Common.{◌≡◌, ℕ, ◌+◌, ◌-◌, ◌<◌, ◌≤◌, List, [], ◌∷◌, ◌++◌, length, drop, Option, Some, None, suc, refl, subst, sym, ap, ◌∙◌, append_assoc, append-nil, arith, take-append-drop, drop_of_length-le, length-append}
 use Rattle.std.proofs.lemmas.List.{length-take, length-drop, drop-drop, take_all}
-use Rattle.std.specs.Io.KnownBytes.{Appends}
-use Rattle.std.proofs.KnownBytes.{Appends-trans}
-use Rattle.als_ship.specs.Frames.{data_bytes}
-use Rattle.als_ship.specs.Wire.{bytes_at, pieces_bytes, ArePieces, joined}
+use Rattle.std.specs.Io.KnownBytes.{Appends, Consumes}
+use Rattle.std.proofs.KnownBytes.{Appends-trans, Appends-nil, Consumes-trans, Consumes-nil}
+use Rattle.std.specs.List.{flat_map}
+use Rattle.std.proofs.lemmas.List.Concat.{flat_map-cons, flat_map-append}
+use Rattle.als_record.specs.declared.lsn.Lsn.{Lsn}
+use Rattle.als_record.specs.declared.header.LogHeader.{LogHeader}
+use Rattle.als_ship.specs.Frames.{data_bytes, acknowledged_bytes, answers_bytes, resume_bytes}
+use Rattle.als_ship.specs.Sending.{Puts}
+use Rattle.als_ship.specs.Wire.{bytes_at, pieces_bytes, ArePieces, joined, last_answer, Ships, ShipsPart}
 
 pub pieces_push : (text : List ℕ) (at to end : ℕ) (pieces : List (List ℕ)) (piece : List ℕ) → ArePieces text at pieces to → 0 < length piece → length piece ≤ 65536 → piece ≡ bytes_at text to (length piece) → to + length piece ≡ end
     → ArePieces text at (pieces ++ piece ∷ []) end
@@ -31,6 +36,97 @@ one_more text from at len old mid new sent some few inside more =
       pieces_push text from at (at + len) pieces piece are (omega (arith, long, some)) (omega (arith, long, few)) (ap (λ (k : ℕ). bytes_at text at k) (sym long)) (ap (λ (k : ℕ). at + k) long),
       subst (Appends old new) (sym (bytes_push text from at pieces piece are)) (Appends-trans old mid new (pieces_bytes from pieces) (data_bytes at piece) so_far more),
     )
+
+-- ---- what was sent and answered so far
+
+last_push : (answers : List Lsn) (lsn : Lsn) → last_answer (answers ++ lsn ∷ []) ≡ Some lsn
+last_push [] lsn = refl
+last_push (a ∷ []) lsn = refl
+last_push (a ∷ b ∷ answers) lsn = last_push (b ∷ answers) lsn
+
+answers_push : (answers : List Lsn) (lsn : Lsn) → answers_bytes (answers ++ lsn ∷ []) ≡ answers_bytes answers ++ acknowledged_bytes lsn.0
+answers_push answers lsn =
+    flat_map-append (λ (a : Lsn). acknowledged_bytes a.0) answers (lsn ∷ [])
+    ∙ ap (λ (ys : List ℕ). answers_bytes answers ++ ys) (flat_map-cons (λ (a : Lsn). acknowledged_bytes a.0) lsn [] ∙ append-nil (acknowledged_bytes lsn.0))
+
+-- each piece was answered
+pub record Answered (text : List ℕ) (from at : ℕ) (old new asked behind : Option (List ℕ)) (kept : Option Lsn) : Type 0 where
+  pub pieces : List (List ℕ)
+  pub answers : List Lsn
+  pub are : ArePieces text from pieces at
+  pub sent : Appends old new (pieces_bytes from pieces)
+  pub each : length answers ≡ length pieces
+  pub heard : Consumes asked behind (answers_bytes answers)
+  pub last : kept ≡ last_answer answers
+
+pub answered_none : (text : List ℕ) (from : ℕ) (old asked : Option (List ℕ)) → Answered text from from old old asked asked None
+answered_none text from old asked = record { pieces = []; answers = []; are = refl; sent = Appends-nil old; each = refl; heard = Consumes-nil asked; last = refl }
+
+heard_more : (asked between behind : Option (List ℕ)) (answers : List Lsn) (lsn : Lsn) → Consumes asked between (answers_bytes answers) → Consumes between behind (acknowledged_bytes lsn.0) → Consumes asked behind (answers_bytes (answers ++ lsn ∷ []))
+heard_more asked between behind answers lsn so_far more =
+    subst (Consumes asked behind) (sym (answers_push answers lsn)) (Consumes-trans asked between behind (answers_bytes answers) (acknowledged_bytes lsn.0) so_far more)
+
+length_push : {X : Type 0} (xs : List X) (x : X) → length (xs ++ x ∷ []) ≡ suc (length xs)
+length_push xs x = omega (arith, length-append xs (x ∷ []))
+
+pub answered_more : (text : List ℕ) (from at len : ℕ) (old mid new asked between behind : Option (List ℕ)) (kept : Option Lsn) (lsn : Lsn)
+    → Answered text from at old mid asked between kept → 0 < len → len ≤ 65536 → at + len ≤ length text → Appends mid new (data_bytes at (bytes_at text at len)) → Consumes between behind (acknowledged_bytes lsn.0) → Answered text from (at + len) old new asked behind (Some lsn)
+answered_more text from at len old mid new asked between behind kept lsn so_far some few inside more answer =
+    let piece = bytes_at text at len in
+    let long : length piece ≡ len = long_enough text at len inside in
+    record {
+      pieces = so_far.pieces ++ piece ∷ [];
+      answers = so_far.answers ++ lsn ∷ [];
+      are = pieces_push text from at (at + len) so_far.pieces piece so_far.are (omega (arith, long, some)) (omega (arith, long, few)) (ap (λ (k : ℕ). bytes_at text at k) (sym long)) (ap (λ (k : ℕ). at + k) long);
+      sent = subst (Appends old new) (sym (bytes_push text from at so_far.pieces piece so_far.are)) (Appends-trans old mid new (pieces_bytes from so_far.pieces) (data_bytes at piece) so_far.sent more);
+      each = length_push so_far.answers lsn ∙ ap suc so_far.each ∙ sym (length_push so_far.pieces piece);
+      heard = heard_more asked between behind so_far.answers lsn so_far.heard answer;
+      last = sym (last_push so_far.answers lsn);
+    }
+
+pub answered_sent : (text : List ℕ) (from at : ℕ) (old new asked behind : Option (List ℕ)) (kept : Option Lsn) → Answered text from at old new asked behind kept → Sent text from at old new
+answered_sent text from at old new asked behind kept a = (a.pieces, a.are, a.sent)
+
+pub puts_all : (bytes : List ℕ) (old new : Option (List ℕ)) → Appends old new bytes → Puts bytes old new
+puts_all bytes old new all = (bytes, [], sym (append-nil bytes), all)
+
+-- a front of the next frame, or all of it
+pub ships_part : (text : List ℕ) (from pages at len : ℕ) (old mid new before asked behind : Option (List ℕ)) (kept : Option Lsn) → Consumes before asked (resume_bytes from pages) → Answered text from at old mid asked behind kept → Puts (data_bytes at (bytes_at text at len)) mid new → ShipsPart text before old new kept
+ships_part text from pages at len old mid new before asked behind kept resume a more = record {
+  from = from;
+  pages = pages;
+  at = at;
+  len = len;
+  pieces = a.pieces;
+  answers = a.answers;
+  behind = behind;
+  are = a.are;
+  sent = mid;
+  told = a.sent;
+  more = more;
+  each = a.each;
+  heard = Consumes-trans before asked behind (resume_bytes from pages) (answers_bytes a.answers) resume a.heard;
+  last = a.last;
+}
+
+-- all of it was sent, and the empty frame, and each frame answered
+pub ships_all : (text : List ℕ) (header own : LogHeader) (from end : ℕ) (old mid new before asked between behind : Option (List ℕ)) (kept : Option Lsn) (lsn : Lsn)
+    → own ≡ header → from ≤ length text → end ≡ length text → Consumes before asked (resume_bytes from own.pages) → Answered text from end old mid asked between kept → Appends mid new (data_bytes end []) → Consumes between behind (acknowledged_bytes lsn.0) → Ships text header before behind old new (end - from) (Some lsn)
+ships_all text header own from end old mid new before asked between behind kept lsn same within whole resume a closing answer =
+    let answers = a.answers ++ lsn ∷ [] in
+    record {
+      from = from;
+      pieces = a.pieces;
+      answers = answers;
+      within = within;
+      are = subst (ArePieces text from a.pieces) whole a.are;
+      sent = subst (λ (k : ℕ). Appends old new (pieces_bytes from a.pieces ++ data_bytes k [])) whole (Appends-trans old mid new (pieces_bytes from a.pieces) (data_bytes end []) a.sent closing);
+      each = length_push a.answers lsn ∙ ap suc a.each;
+      heard = subst (λ (h : LogHeader). Consumes before behind (resume_bytes from h.pages ++ answers_bytes answers)) same
+          (Consumes-trans before asked behind (resume_bytes from own.pages) (answers_bytes answers) resume (heard_more asked between behind a.answers lsn a.heard answer));
+      count = ap (λ (k : ℕ). k - from) whole;
+      last = sym (last_push a.answers lsn);
+    }
 
 -- the rest of a text from an offset on
 rest_is : (text : List ℕ) (at : ℕ) → bytes_at text at (length text - at) ≡ drop at text

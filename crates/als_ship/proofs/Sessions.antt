@@ -1,5 +1,5 @@
 -- Sessions, one frame after another.
-use Rattle.std.proofs.Common.{◌≡◌, ℕ, Bool, true, List, [], ◌∷◌, ◌++◌, Option, Ok, refl, sym, ap, subst, ◌∙◌, append-nil}
+use Rattle.std.proofs.Common.{◌≡◌, ℕ, Bool, true, List, [], ◌∷◌, ◌++◌, Option, Ok, refl, sym, ap, subst, ◌∙◌, append-nil, inl, inr}
 use Rattle.std.specs.List.{flat_map, AllByRecursion}
 use Rattle.std.proofs.lemmas.List.Concat.{flat_map-cons, flat_map-append}
 use Rattle.std.specs.Io.KnownBytes.{Consumes, Appends}
@@ -7,13 +7,16 @@ use Rattle.std.proofs.KnownBytes.{Consumes-trans, Consumes-nil, Appends-nil, App
 use Rattle.als_record.specs.declared.lsn.Lsn.{Lsn}
 use Rattle.als_record.specs.declared.header.LogHeader.{LogHeader}
 use Rattle.als_record.specs.LogText.{end_of}
+use Rattle.als_engine.specs.declared.fault.Fault.{Fault as EngineFault}
 use Rattle.als_engine.specs.Machine.{Machine}
 use Rattle.als_ship.specs.declared.frame.Frame.{Frame}
 use Rattle.als_ship.specs.declared.fault.Fault.{Fault}
 use Rattle.als_ship.specs.declared.fault.Fault.TheVariants.{BadHeader, Memory, Gap, BadFrame, Cut, Stream, Refused}
-use Rattle.als_ship.specs.Frames.{frame_bytes, acknowledged_bytes, resume_bytes}
-use Rattle.als_ship.specs.Follows.{held_text, IsFront, IsTrueFrame, SameText}
-use Rattle.als_ship.specs.Sessions.{frames_bytes, answers_bytes, KeepsFront, Turns, Session, TakesOne, Follows, Stops, StopsEarly, GivesUp}
+use Rattle.als_ship.specs.Frames.{frame_bytes, acknowledged_bytes, answers_bytes, resume_bytes}
+use Rattle.als_ship.specs.Follows.{held_text, IsFront, IsTrueFrame, Handles, SameText}
+use Rattle.als_ship.specs.Sessions.{frames_bytes, KeepsFront, Turns, Session, TakesOne, Follows, Stops, TellsPart, StopsEarly, GivesUp}
+use Rattle.als_ship.specs.Forcing.{Forces}
+use Rattle.als_ship.specs.Sending.{Puts}
 use Rattle.als_ship.proofs.LogForcing.{forces_text}
 use Rattle.als_ship.proofs.Fronts.{handles_front, same_front, resync_front}
 
@@ -37,7 +40,8 @@ session_push old mid new [] (a ∷ answers) frame answer s t = absurd s
 session_push old mid new (f ∷ frames) [] frame answer s t = absurd s
 
 turns_front : (old new : Machine) (frame : Frame) (answer : Lsn) (text : List ℕ) → Turns old frame answer new → IsTrueFrame text frame → IsFront (held_text old) text → IsFront (held_text new) text
-turns_front old new frame answer text t holds front = same_front t.0 new text (forces_text t.0 new answer t.3) (handles_front old t.0 frame (Ok t.1) text t.2 holds front)
+turns_front old new frame answer text t holds front =
+    same_front t.forced new text t.keeps (same_front t.taken t.forced text (forces_text t.taken t.forced answer t.forces) (handles_front old t.taken frame (Ok t.position) text t.handles holds front))
 
 pub session_front : (text : List ℕ) (frames : List Frame) (answers : List Lsn) (old new : Machine) → Session old frames answers new → AreTrueFrames text frames → IsFront (held_text old) text → IsFront (held_text new) text
 session_front text [] [] old new s holds front = subst (λ (m : Machine). IsFront (held_text m) text) (sym s) front
@@ -118,5 +122,31 @@ follows_all alone header from last before between behind asking written then mor
     }
 
 -- the next frame was not answered
-pub stops_early : (alone : Type 0) (before between written then : Option (List ℕ)) (old mid new : Machine) (f : Fault) → SoFar alone before between written then old mid → (alone → Stops mid f new) → StopsEarly alone f old new before
-stops_early alone before between written then old mid new f (frames, answers, read, told, session) stops = record { frames = frames; answers = answers; behind = between; read = read; taken = mid; session = session; stops = stops }
+pub stops_early : (alone : Type 0) (refuses : EngineFault → Machine → Type 0) (header : LogHeader) (from : Lsn) (before between asking written then more : Option (List ℕ)) (old mid new : Machine) (f : Fault)
+    → Appends asking written (resume_bytes from.0 header.pages) → (alone → from.0 ≡ end_of old.held.log) → SoFar alone before between written then old mid → (alone → Stops refuses mid f new) → TellsPart alone mid new then more → StopsEarly alone refuses header f old new before asking more
+stops_early alone refuses header from before between asking written then more old mid new f resume asked (frames, answers, read, told, session) stops part = record {
+  from = from;
+  frames = frames;
+  answers = answers;
+  behind = between;
+  read = read;
+  then = then;
+  told = Appends-trans asking written then (resume_bytes from.0 header.pages) (answers_bytes answers) resume told;
+  taken = mid;
+  asked = asked;
+  session = session;
+  stops = stops;
+  part = part;
+}
+
+-- ---- what was told of the frame at which a session ends
+
+pub tells_nothing : (alone : Type 0) (old new : Machine) (written : Option (List ℕ)) → TellsPart alone old new written written
+tells_nothing alone old new written = inl (Appends-nil written)
+
+pub turned : (old taken forced new : Machine) (frame : Frame) (position answer : Lsn) → Handles old frame (Ok position) taken → Forces taken answer forced → SameText forced new → Turns old frame answer new
+turned old taken forced new frame position answer handles forces keeps = record { position = position; taken = taken; forced = forced; handles = handles; forces = forces; keeps = keeps }
+
+-- a front of the answer, or all of it
+pub tells_part : (alone : Type 0) (old new : Machine) (written more : Option (List ℕ)) (frame : Frame) (answer : Lsn) → Puts (acknowledged_bytes answer.0) written more → (alone → Turns old frame answer new) → TellsPart alone old new written more
+tells_part alone old new written more frame answer puts turns = inr (answer, puts, λ a. (frame, turns a))

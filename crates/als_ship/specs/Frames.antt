@@ -1,6 +1,8 @@
 -- The one spelling of a frame as bytes. Numbers are big-endian.
 use Rattle.std.specs.Prelude.{◌≤◌, ◌<◌, ◌+◌, ◌^◌, ◌==◌, ℕ, Bool, false, List, ◌∷◌, ◌++◌, length}
 use Rattle.std.specs.Int.{w32, w64, to_be_bytes}
+use Rattle.std.specs.List.{flat_map}
+use Rattle.als_record.specs.declared.lsn.Lsn.{Lsn}
 use Rattle.als_record.specs.LogText.{header_bytes}
 use Rattle.als_ship.specs.declared.tag.Tag.{Tag}
 use Rattle.als_ship.specs.declared.tag.Tag.TheVariants as tag
@@ -29,6 +31,10 @@ data_bytes offset bytes = head_bytes offset (length bytes) ++ bytes
 -- an Acknowledged frame
 abbrev pub acknowledged_bytes : ℕ → List ℕ
 acknowledged_bytes lsn = 65 ∷ to_be_bytes w64 lsn
+
+-- the bytes of Acknowledged frames with these LSNs
+abbrev pub answers_bytes : List Lsn → List ℕ
+answers_bytes answers = flat_map (λ lsn. acknowledged_bytes lsn.0) answers
 
 -- the front of a Resume frame: its tag, and where the follower goes on
 abbrev pub resume_head : ℕ → List ℕ

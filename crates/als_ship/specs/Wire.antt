@@ -1,12 +1,14 @@
 -- What goes over the wire, as a list of frames of a text.
-use Rattle.std.specs.Prelude.{◌≡◌, ◌≢◌, ◌≤◌, ◌<◌, ◌+◌, ◌-◌, ◌⊎◌, ℕ, List, [], ◌∷◌, ◌++◌, length, take, drop, Option}
+use Rattle.std.specs.Prelude.{◌≡◌, ◌≢◌, ◌≤◌, ◌<◌, ◌+◌, ◌-◌, ◌⊎◌, ℕ, suc, List, [], ◌∷◌, ◌++◌, length, take, drop, Option, Some, None}
 use Rattle.std.specs.Io.KnownBytes.{Consumes, Appends}
 use Rattle.als_record.specs.declared.header.LogHeader.{LogHeader}
+use Rattle.als_record.specs.declared.lsn.Lsn.{Lsn}
 use Rattle.als_ship.specs.declared.tag.Tag.TheVariants as tag
 use Rattle.als_ship.specs.declared.fault.Fault.{Fault}
 use Rattle.als_ship.specs.declared.fault.Fault.TheVariants.{BadHeader, Memory, Gap, BadFrame, Cut, Stream, Refused}
-use Rattle.als_ship.specs.Frames.{data_bytes, resume_bytes}
+use Rattle.als_ship.specs.Frames.{data_bytes, resume_bytes, answers_bytes}
 use Rattle.als_ship.specs.Reading.{FailsToRead, IsHeader}
+use Rattle.als_ship.specs.Sending.{Puts}
 
 -- so many bytes of a text that stand at an offset
 abbrev pub bytes_at : List ℕ → ℕ → ℕ → List ℕ
@@ -27,17 +29,48 @@ abbrev pub joined : List (List ℕ) → List ℕ
 joined [] = []
 joined (piece ∷ pieces) = piece ++ joined pieces
 
--- A session has sent Data frames of the text from where the follower goes on to its end, an empty one last: n log bytes.
-pub record Ships (text : List ℕ) (header : LogHeader) (asked old new : Option (List ℕ)) (n : ℕ) : Type 0 where
-  pub from : ℕ
+-- the LSN of the last answer, if there was one
+abbrev pub last_answer : List Lsn → Option Lsn
+last_answer [] = None
+last_answer (lsn ∷ []) = Some lsn
+last_answer (lsn ∷ next ∷ rest) = last_answer (next ∷ rest)
+
+-- A session has sent Data frames of the text from where the follower goes on to its end, an empty one last: n log bytes. An answer to
+-- each of them was read, and the LSN of the last one is kept.
+pub record Ships (text : List ℕ) (header : LogHeader) (asked behind old new : Option (List ℕ)) (n : ℕ) (kept : Option Lsn) : Type 0 where
   -- the follower asked for it, and has the same header
-  pub behind : Option (List ℕ)
-  pub resume : Consumes asked behind (resume_bytes from header.pages)
+  pub from : ℕ
   pub pieces : List (List ℕ)
+  pub answers : List Lsn
   pub within : from ≤ length text
   pub are : ArePieces text from pieces (length text)
   pub sent : Appends old new (pieces_bytes from pieces ++ data_bytes (length text) [])
+  pub each : length answers ≡ suc (length pieces)
+  pub heard : Consumes asked behind (resume_bytes from header.pages ++ answers_bytes answers)
   pub count : n ≡ length text - from
+  pub last : kept ≡ last_answer answers
+
+-- A session that ended early: pieces were sent, each of which was answered before the next one was sent, and then a front of one frame
+-- more, or all of it. The LSN of the last answer is kept.
+pub record ShipsPart (text : List ℕ) (asked old new : Option (List ℕ)) (kept : Option Lsn) : Type 0 where
+  pub from : ℕ
+  pub pages : ℕ
+  pub at : ℕ
+  pub len : ℕ
+  pub pieces : List (List ℕ)
+  pub answers : List Lsn
+  pub behind : Option (List ℕ)
+  pub are : ArePieces text from pieces at
+  pub sent : Option (List ℕ)
+  pub told : Appends old sent (pieces_bytes from pieces)
+  pub more : Puts (data_bytes at (bytes_at text at len)) sent new
+  pub each : length answers ≡ length pieces
+  pub heard : Consumes asked behind (resume_bytes from pages ++ answers_bytes answers)
+  pub last : kept ≡ last_answer answers
+
+-- what was heard of a session that ended early: nothing was sent and no answer read, or a part was
+abbrev pub EndsServing : List ℕ → Option (List ℕ) → Option (List ℕ) → Option (List ℕ) → Option Lsn → Type 0
+EndsServing text asked old new kept = ((kept ≡ None) × Appends old new []) ⊎ ShipsPart text asked old new kept
 
 -- whole Data frames with bytes of the text that follow one another were written, and then a front of one more
 abbrev pub SendsTrue : List ℕ → Option (List ℕ) → Option (List ℕ) → Type 0

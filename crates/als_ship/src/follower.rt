@@ -1,18 +1,20 @@
-ghost use Rattle.std.specs.Prelude.{◌≡◌, ◌≤◌, ◌<◌, ◌+◌, ℕ, Option, List, length, IfOk, IfErr, OnOk};
+ghost use Rattle.std.specs.Prelude.{◌≡◌, ◌≤◌, ◌<◌, ◌+◌, ◌⊎◌, ℕ, Option, List, length, IfOk};
+ghost use Rattle.std.specs.Prelude.{IfErr, OnOk};
 ghost use Rattle.std.specs.Prelude.{Ok, Err};
 ghost use Rattle.als_engine.specs.declared.fault.Fault.{Fault as AnyFault};
 ghost use Rattle.als_ship.specs.declared.fault.Fault.TheVariants.{Refused};
 ghost use Rattle.als_ship.specs.declared.frame.Frame.TheVariants.{Data};
 ghost use Rattle.als_ship.specs.Frames.{IsPiece};
 ghost use Rattle.als_ship.specs.Follows.{held_text, position, IsFront, IsTrueFrame, FeedsRest};
-ghost use Rattle.als_ship.specs.Follows.{Takes, Handles, WasResynced};
+ghost use Rattle.als_ship.specs.Follows.{SameText, Takes, Handles, WasResynced};
 ghost use Rattle.als_ship.specs.Sessions.{KeepsFront, TakesOne, Follows, Stops, StopsEarly};
-ghost use Rattle.als_ship.specs.Sessions.{GivesUp, EndsEarly};
+ghost use Rattle.als_ship.specs.Sessions.{TellsPart, AsksInVain, GivesUp, EndsEarly};
 
 use crate::fault::Fault;
 use crate::forcing::force;
 use crate::frame::{Frame, is_piece};
 use crate::tag::Tag;
+use crate::upkeep::{NoUpkeep, Upkeep};
 use crate::writing::{write_acknowledged, write_resume};
 use als_engine::Events;
 use als_record::{LogHeader, Lsn};
@@ -79,14 +81,40 @@ impl Follower {
         ensures done { OnOk result (Follows E.alone self.now (E.machine events.old)
             (E.machine events.new) (R.remaining reader.old)
             (R.remaining reader.new) (W.contents writer.old) (W.contents writer.new)) }
-        ensures fails { IfErr result (λ f. EndsEarly E.alone f (E.machine events.old)
-            (E.machine events.new) (R.remaining reader.old)) }
+        // Each answer is what a force gave, also in a session that fails.
+        ensures fails { IfErr result (λ f. EndsEarly E.alone (λ _ _. ⊥) self.now f
+            (E.machine events.old) (E.machine events.new) (R.remaining reader.old)
+            (W.contents writer.old) (W.contents writer.new)) }
         // Over true frames the held text stays a front of the source's.
         ensures front { (behind : Option (List ℕ))
             × KeepsFront E.alone (R.remaining reader.old) behind (E.machine events.old)
             (E.machine events.new) }
     {
-        match session(alloc, self.header, events, reader, writer) {
+        self.follow_keeping(alloc, events, &mut NoUpkeep, reader, writer)
+    }
+
+    /// The same, and after each answer the upkeep is done. It ends with its first refusal too.
+    pub fn follow_keeping<E: Events, U: Upkeep, R: Read, W: Write>(
+        &self,
+        alloc: Global,
+        events: &mut E,
+        upkeep: &mut U,
+        reader: &mut R,
+        writer: &mut W,
+    ) -> Result<(), Fault>
+        ensures done { OnOk result (Follows E.alone self.now (E.machine events.old)
+            (E.machine events.new) (R.remaining reader.old)
+            (R.remaining reader.new) (W.contents writer.old) (W.contents writer.new)) }
+        // Each answer is what a force gave, also in a session that fails.
+        ensures fails { IfErr result (λ f. EndsEarly E.alone U.refuses self.now f
+            (E.machine events.old) (E.machine events.new) (R.remaining reader.old)
+            (W.contents writer.old) (W.contents writer.new)) }
+        // Over true frames the held text stays a front of the source's.
+        ensures front { (behind : Option (List ℕ))
+            × KeepsFront E.alone (R.remaining reader.old) behind (E.machine events.old)
+            (E.machine events.new) }
+    {
+        match session(alloc, self.header, events, upkeep, reader, writer) {
             Ok(()) => Ok(()),
             Err(fault) => {
                 give_up(events, fault);
@@ -109,18 +137,21 @@ fn give_up<E: Events>(events: &mut E, fault: Fault)
 }
 
 /// Asks for what is behind the held log, and takes frames to the end of the source.
-fn session<E: Events, R: Read, W: Write>(
+fn session<E: Events, U: Upkeep, R: Read, W: Write>(
     alloc: Global,
     header: LogHeader,
     events: &mut E,
+    upkeep: &mut U,
     reader: &mut R,
     writer: &mut W,
 ) -> Result<(), Fault>
     ensures done { OnOk result (Follows E.alone header (E.machine events.old) (E.machine events.new)
         (R.remaining reader.old)
         (R.remaining reader.new) (W.contents writer.old) (W.contents writer.new)) }
-    ensures fails { IfErr result (λ f. StopsEarly E.alone f (E.machine events.old)
-        (E.machine events.new) (R.remaining reader.old)) }
+    ensures fails { IfErr result (λ f. AsksInVain E.alone header f (E.machine events.old)
+        (E.machine events.new) (W.contents writer.old) (W.contents writer.new)
+        ⊎ StopsEarly E.alone U.refuses header f (E.machine events.old) (E.machine events.new)
+        (R.remaining reader.old) (W.contents writer.old) (W.contents writer.new)) }
     ensures front { (behind : Option (List ℕ))
         × KeepsFront E.alone (R.remaining reader.old) behind (E.machine events.old)
         (E.machine events.new) }
@@ -128,7 +159,7 @@ fn session<E: Events, R: Read, W: Write>(
     let from = events.status().end;
     write_resume(writer, from, header)?;
     for _ in 0..FRAME_LIMIT {
-        let last = turn(alloc, events, reader, writer)?;
+        let last = turn(alloc, events, upkeep, reader, writer)?;
         if last {
             return Ok(());
         }
@@ -136,10 +167,12 @@ fn session<E: Events, R: Read, W: Write>(
     Err(Fault::Stream)
 }
 
-/// Takes one frame, forces the log and acknowledges. It answers whether that was the last one.
-fn turn<E: Events, R: Read, W: Write>(
+/// Takes one frame, forces the log, acknowledges, and then does the upkeep. It answers whether that
+/// was the last frame.
+fn turn<E: Events, U: Upkeep, R: Read, W: Write>(
     alloc: Global,
     events: &mut E,
+    upkeep: &mut U,
     reader: &mut R,
     writer: &mut W,
 ) -> Result<bool, Fault>
@@ -147,7 +180,9 @@ fn turn<E: Events, R: Read, W: Write>(
         (E.machine events.new) (R.remaining reader.old)
         (R.remaining reader.new) (W.contents writer.old) (W.contents writer.new)) }
     ensures fails { IfErr result (λ f. E.alone
-        → Stops (E.machine events.old) f (E.machine events.new)) }
+        → Stops U.refuses (E.machine events.old) f (E.machine events.new)) }
+    ensures part { IfErr result (λ f. TellsPart E.alone (E.machine events.old)
+        (E.machine events.new) (W.contents writer.old) (W.contents writer.new)) }
     ensures front { (behind : Option (List ℕ))
         × KeepsFront E.alone (R.remaining reader.old) behind (E.machine events.old)
         (E.machine events.new) }
@@ -157,7 +192,20 @@ fn turn<E: Events, R: Read, W: Write>(
     handle(events, frame)?;
     let lsn = force(events)?;
     write_acknowledged(writer, lsn)?;
+    keep_up(events, upkeep)?;
     Ok(last)
+}
+
+/// Does the upkeep, whose refusal ends the session.
+fn keep_up<E: Events, U: Upkeep>(events: &mut E, upkeep: &mut U) -> Result<(), Fault>
+    ensures same { E.alone → SameText (E.machine events.old) (E.machine events.new) }
+    ensures fails { IfErr result (λ f. (cause : AnyFault) × (f ≡ Refused cause)
+        × (E.alone → U.refuses cause (E.machine events.new))) }
+{
+    match upkeep.keep_up(events) {
+        Ok(()) => Ok(()),
+        Err(fault) => Err(Fault::Refused(fault)),
+    }
 }
 
 /// Takes one frame, and answers the position after it.

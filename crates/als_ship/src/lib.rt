@@ -22,6 +22,8 @@ mod source;
 mod shipper;
 // A standby's log onto its devices.
 mod forcing;
+// What is done between the frames.
+mod upkeep;
 // The receiving end.
 mod follower;
 // What holds of all frames, and over every schedule of them.
@@ -37,3 +39,4 @@ pub use laws::{
 pub use shipper::Shipper;
 pub use source::{LogBytes, Source};
 pub use tag::Tag;
+pub use upkeep::{NoUpkeep, Upkeep};

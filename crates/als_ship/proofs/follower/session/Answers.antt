@@ -1,8 +1,8 @@
-use Rattle.std.proofs.Common.{refl}
+use Rattle.std.proofs.Common.{refl, inl, inr}
 use Rattle.std.proofs.lemmas.Result.{err_from_is_err_and}
 use Rattle.als_ship.proofs.Stopping.{stops_at_once}
 use Rattle.als_ship.proofs.LogForcing.{same_refl}
-use Rattle.als_ship.proofs.Sessions.{keeps_nothing, keeps_both, nothing_so_far, more_so_far, keeps_so_far, follows_all, stops_early}
+use Rattle.als_ship.proofs.Sessions.{keeps_nothing, keeps_both, nothing_so_far, more_so_far, keeps_so_far, follows_all, stops_early, tells_nothing}
 use Rattle.als_ship.specs.declared.fault.Fault.TheVariants.{Stream}
 use Rattle.als_ship.proofs.follower.session.Goals as goal
 
@@ -77,16 +77,32 @@ returns-clause-front g c =
 
 pub returns-in_err-write_resume-clause-fails : goal.returns-in_err-write_resume-clause-fails
 returns-in_err-write_resume-clause-fails g c =
+    let found = inl (record { from = c.status.result.end; failed = c.in_err-write_resume.ensures.fails; told = c.write_resume.ensures.part; asked = λ a. (c.status.ensures.tells a).end; same = λ a. refl }) in
+    let p = err_from_is_err_and c.from_residual.result c.from_residual.ensures.1 in rw (p.1, p.2) found
+
+pub returns-in_err-last-clause-fails : goal.returns-in_err-last-clause-fails
+returns-in_err-last-clause-fails g c =
     let alone = g.E.Events.alone in
     let before = g.R.Read.remaining c.args.reader.now in
-    let written = g.W.Write.contents c.args.writer.now in
-    let m = g.E.Events.machine c.args.events.now in
-    let found = stops_early alone before before written written m m m c.in_err-write_resume.field-0.0 (nothing_so_far alone before written m) (λ a. stops_at_once m c.in_err-write_resume.field-0.0 c.in_err-write_resume.ensures.fails) in
-    let p = err_from_is_err_and c.from_residual.result c.from_residual.ensures.1 in rw (p.1, p.2) found
+    let between = g.R.Read.remaining c.loop.reader in
+    let asking = g.W.Write.contents c.args.writer.now in
+    let written = g.W.Write.contents c.write_resume.new.writer in
+    let then = g.W.Write.contents c.loop.writer in
+    let more = g.W.Write.contents c.turn.new.writer in
+    let old = g.E.Events.machine c.args.events.now in
+    let mid = g.E.Events.machine c.loop.events in
+    let new = g.E.Events.machine c.turn.new.events in
+    let found = inr (stops_early alone g.U.Upkeep.refuses c.args.header c.status.result.end before between asking written then more old mid new c.in_err-last.field-0.0 c.in_ok-write_resume.ensures.all (λ a. (c.status.ensures.tells a).end) c.loop.invariant c.in_err-last.ensures.fails c.in_err-last.ensures.part) in
+    let p = err_from_is_err_and c.from_residual-in_err-last.result c.from_residual-in_err-last.ensures.1 in rw (p.1, p.2) found
 
 pub returns-clause-fails : goal.returns-clause-fails
 returns-clause-fails g c =
     let alone = g.E.Events.alone in
     let before = g.R.Read.remaining c.args.reader.now in
+    let between = g.R.Read.remaining c.loop.reader in
+    let asking = g.W.Write.contents c.args.writer.now in
+    let written = g.W.Write.contents c.write_resume.new.writer in
+    let then = g.W.Write.contents c.loop.writer in
+    let old = g.E.Events.machine c.args.events.now in
     let m = g.E.Events.machine c.loop.events in
-    stops_early alone before (g.R.Read.remaining c.loop.reader) (g.W.Write.contents c.write_resume.new.writer) (g.W.Write.contents c.loop.writer) (g.E.Events.machine c.args.events.now) m m Stream c.loop.invariant (λ a. stops_at_once m Stream refl)
+    inr (stops_early alone g.U.Upkeep.refuses c.args.header c.status.result.end before between asking written then then old m m Stream c.in_ok-write_resume.ensures.all (λ a. (c.status.ensures.tells a).end) c.loop.invariant (λ a. stops_at_once g.U.Upkeep.refuses m Stream refl) (tells_nothing alone m m then))

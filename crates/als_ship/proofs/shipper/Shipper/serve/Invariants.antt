@@ -1,5 +1,5 @@
-use Rattle.std.proofs.Common.{◌≡◌, ◌≤◌, ◌-◌, length}
-use Rattle.als_ship.proofs.Pieces.{Sent}
+use Rattle.std.proofs.Common.{◌≡◌, ◌≤◌, ◌-◌, true, length}
+use Rattle.als_ship.proofs.Pieces.{Answered}
 use Rattle.als_ship.proofs.shipper.Shipper.serve.Given as goal
 
 abbrev pub invariant-loop-at : goal.invariant-loop-at
@@ -8,7 +8,8 @@ invariant-loop-at g l = record {
   room : length l.room ≡ 65536;
   low : l.from ≤ l.at;
   high : l.at ≤ l.end;
-  sent : Sent (g.S.Source.text l.fn.source) l.from l.at (g.W.Write.contents l.fn.writer) (g.W.Write.contents l.writer);
+  begun : l.self.begun ≡ true;
+  sent : Answered (g.S.Source.text l.fn.source) l.from l.at (g.W.Write.contents l.fn.writer) (g.W.Write.contents l.writer) (g.R.Read.remaining l.initial.reader) (g.R.Read.remaining l.reader) l.self.acknowledged;
 }
 
 abbrev pub decreases-loop-at : goal.decreases-loop-at

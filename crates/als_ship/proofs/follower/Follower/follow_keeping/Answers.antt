@@ -1,5 +1,5 @@
 use Rattle.als_ship.proofs.Sessions.{keeps_given_up}
-use Rattle.als_ship.proofs.follower.Follower.follow.Goals as goal
+use Rattle.als_ship.proofs.follower.Follower.follow_keeping.Goals as goal
 
 pub returns-in-Err-clause-front : goal.returns-in-Err-clause-front
 returns-in-Err-clause-front g c =
