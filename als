@@ -63,7 +63,8 @@ help_page() {
             for command in make sim ship standby takeover dump verify; do
                 printf '  %-8s  %s\n' "$command" "$(text "${command^^}_ABOUT")"
             done
-            printf '  help      Print this message or the help of the given subcommand(s)\n\nOptions:\n  -h, --help  Print help\n\n'
+            printf '  help      Print this message or the help of the given subcommand(s)\n\nOptions:\n'
+            printf '  -h, --help     Print help\n  -V, --version  Print version\n\n'
             text STATUSES
             ;;
         make)
@@ -83,21 +84,25 @@ help_page() {
             ;;
         ship)
             text SHIP_ABOUT
-            printf '\nUsage: als ship --log <FILE> --listen <ADDR>\n\nOptions:\n'
-            option_row ship 13 log FILE
-            option_row ship 13 listen ADDR
-            help_row 13
+            printf '\nUsage: als ship [OPTIONS] --log <FILE> --listen <ADDR>\n\nOptions:\n'
+            option_row ship 17 log FILE
+            option_row ship 17 listen ADDR
+            option_row ship 17 timeout SECONDS
+            explain_row 17
+            help_row 17
             text SHIP_HELP
             ;;
         standby)
             text STANDBY_ABOUT
             printf '\nUsage: als standby [OPTIONS] --dir <DIR> --from <ADDR> --pages <N>\n\nOptions:\n'
-            option_row standby 14 dir DIR
-            option_row standby 14 from ADDR
-            option_row standby 14 pages N
-            option_row standby 14 log-blocks B
-            explain_row 14
-            help_row 14
+            option_row standby 17 dir DIR
+            option_row standby 17 from ADDR
+            option_row standby 17 pages N
+            option_row standby 17 log-blocks B
+            option_row standby 17 checkpoint-mb M
+            option_row standby 17 timeout SECONDS
+            explain_row 17
+            help_row 17
             text STANDBY_HELP
             ;;
         takeover)

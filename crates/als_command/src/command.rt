@@ -14,6 +14,8 @@ pub enum Command<'a> {
     Ship {
         log: &'a str,
         listen: &'a str,
+        timeout: u64,
+        explain: bool,
     },
     /// One session as the standby of a folder.
     Standby {
@@ -21,6 +23,8 @@ pub enum Command<'a> {
         from: &'a str,
         pages: u64,
         log_blocks: u64,
+        checkpoint_mb: u64,
+        timeout: u64,
         explain: bool,
     },
     /// A standby to a primary.

@@ -8,6 +8,7 @@ pub fn language<'a>(alloc: Global) -> Result<Command<'a>, AllocError> {
     Command::new(alloc, "als")
         .bin_name("als")?
         .about(texts::ABOUT)
+        .version(texts::VERSION)
         .after_help(texts::STATUSES)
         .subcommand_required(true)
         .subcommands(lines(alloc)?)

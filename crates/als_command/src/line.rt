@@ -41,6 +41,8 @@ pub(crate) const LINES: [Line; 7] = [
                 value: "ADDR",
                 help: "Where the follower comes to",
             },
+            TIMEOUT,
+            EXPLAIN,
         ],
     },
     Line {
@@ -66,6 +68,13 @@ pub(crate) const LINES: [Line; 7] = [
                 help: "Blocks of the log of a new database [default: 2048]",
                 is_wanted: false,
             },
+            Word::Long {
+                name: "checkpoint-mb",
+                value: "M",
+                help: "Megabytes of log from one checkpoint to the next [default: 4]",
+                is_wanted: false,
+            },
+            TIMEOUT,
             EXPLAIN,
         ],
     },
@@ -118,6 +127,14 @@ const HEX: Word = Word::Flag {
 const EXPLAIN: Word = Word::Flag {
     name: "explain",
     help: "Say more on standard error of what is wrong (so it is on a terminal)",
+};
+
+/// Bounds how long a connection may be silent.
+const TIMEOUT: Word = Word::Long {
+    name: "timeout",
+    value: "SECONDS",
+    help: "How long the other end may be silent, 0 without a limit [default: 60]",
+    is_wanted: false,
 };
 
 const PATH: Word = Word::Place {

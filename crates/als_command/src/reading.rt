@@ -9,6 +9,12 @@ use std::convert::AsStr;
 /// The log blocks of a new database, where the command line does not say.
 const LOG_BLOCKS: u64 = 2_048;
 
+/// The megabytes of log from one checkpoint to the next, where the command line does not say.
+const CHECKPOINT_MB: u64 = 4;
+
+/// The seconds that the other end may be silent, where the command line does not say.
+const TIMEOUT: u64 = 60;
+
 /// What the words ask for, of which the first is the program's name.
 pub fn args<'a, S: AsStr>(alloc: Global, words: &'a [S]) -> Result<Command<'a>, NoCommand> {
     match parsed(alloc, words) {
@@ -76,6 +82,8 @@ fn ship<'a>(matches: &ArgMatches<'a>) -> Option<Command<'a>> {
     Some(Command::Ship {
         log: matches.get_str("log")?,
         listen: matches.get_str("listen")?,
+        timeout: matches.get_one("timeout").unwrap_or(TIMEOUT),
+        explain: matches.get_flag("explain"),
     })
 }
 
@@ -85,6 +93,8 @@ fn standby<'a>(matches: &ArgMatches<'a>) -> Option<Command<'a>> {
         from: matches.get_str("from")?,
         pages: matches.get_one("pages")?,
         log_blocks: matches.get_one("log-blocks").unwrap_or(LOG_BLOCKS),
+        checkpoint_mb: matches.get_one("checkpoint-mb").unwrap_or(CHECKPOINT_MB),
+        timeout: matches.get_one("timeout").unwrap_or(TIMEOUT),
         explain: matches.get_flag("explain"),
     })
 }

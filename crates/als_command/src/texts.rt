@@ -3,6 +3,9 @@
 pub const ABOUT: &str =
     "A hot standby that redoes the log which its primary ships (ARIES, continuous redo).";
 
+/// What `--version` prints behind the program's name. The kit is the one that proved the program.
+pub const VERSION: &str = "0.2, proved with rattle-kit-13f";
+
 pub const STATUSES: &str = "Exit statuses:
   0  done (in sim also where a step was refused: its line says so)
   2  a fault of the command line, or `line N: bad line`
@@ -70,8 +73,11 @@ pub const SHIP_ABOUT: &str = "Serves a log file to one follower";
 pub const SHIP_HELP: &str =
     "Reads FILE whole, at most 2,147,483,648 bytes: a log text as `als make` writes it, of
 which nothing is checked but its header. Waits at ADDR, a host and a port, for a
-follower, and sends it the log from where it goes on to the end of FILE.
-Writes standard output: `sent=B`, the log bytes that it sent.
+follower, and sends it the log from where it goes on to the end of FILE. A connection that
+asks for no log is passed over.
+Writes standard output: `sent=B`, the log bytes that it sent. With --explain, or on a
+terminal, standard error says what was passed over, and up to where the follower has
+acknowledged the log: no crash of it loses what is below.
 
 Example:
   printf 'pages 4\\nu 1 0 0 - aa\\ncommit 1\\nend 1\\n' | als make > primary.log
@@ -83,17 +89,19 @@ Exit statuses: 0 done, 2 a fault of the command line, 3 `als: refused N Name`:
   40  the follower holds more than FILE has
   41  what came is no frame of a follower
   43  the follower went away before the end
-  44  FILE, ADDR, the network or standard output failed, or FILE is too long";
+  44  FILE, ADDR, the network or standard output failed, FILE is too long, or the
+      follower was silent for longer than SECONDS";
 
 pub const STANDBY_ABOUT: &str = "Follows a primary's log as the standby of a folder";
 
 pub const STANDBY_HELP: &str =
     "Needs DIR, a folder that is there, for itself alone. Opens the database in it: log.blk,
-control.blk and pages.blk. Where there is no control.blk, it first lays out an empty
-database of N pages with a log of B blocks of 512 bytes.
+control.blk and pages.blk. Where there is no control.blk, it lays out an empty database of
+N pages with a log of B blocks of 512 bytes, once it is connected.
 Redoes what was not redone, connects to ADDR, where `als ship` serves the primary's log,
-and follows it: each piece is stored, synced, redone and then acknowledged, up to the end
-of the log. However the session ends, the pages and a checkpoint are put on the files.
+and follows it: each piece is stored, synced, acknowledged and then redone, up to the end of
+the log. After M megabytes of log (0: never), and however the session ends, the pages and a
+checkpoint are put on the files.
 Writes standard output: `end=E ack=A`, where the held log ends, and up to where no crash
 can lose it.
 To follow on, run it again: it goes on where it was left, also after a crash.
@@ -106,12 +114,14 @@ Exit statuses: 0 done, 2 a fault of the command line, 3 `als: refused N Name`:
   2 to 16 a record of the primary may not follow: it is not held
   21  the database was taken over, and follows no more
   29  the log has no room for more: B is too small
-  30  DIR or a file of it failed, or another program has DIR
+  30  DIR or a file of it failed, or another program has DIR; or control.blk is missing,
+      but log.blk or pages.blk has data: nothing was touched
   34  DIR has a database of another number of pages, or a damaged one (1, 33 too)
   37  N is not 1 to 4,096, or B not 1 to 4,194,304; no file was touched
   40, 41 what came is no frame that may come
   43  the primary went away; it does so too where its log is another or a shorter one
-  44  nobody serves at ADDR, or the network or standard output failed: run it again";
+  44  nobody serves at ADDR, the network or standard output failed, or the primary was
+      silent for longer than SECONDS: run it again";
 
 pub const TAKEOVER_ABOUT: &str = "Makes a primary of the standby of a folder";
 
@@ -130,7 +140,7 @@ Example:
 Exit statuses: 0 done, 2 a fault of the command line, 3 `als: refused N Name`:
   30  DIR or a file of it failed, it has no database, or another program has DIR
   33, 34, 1 to 16 a file of it is damaged
-  37  pages.blk has more than 4,096 blocks, or none";
+  37  log.blk is longer than the largest log";
 
 pub const DUMP_ABOUT: &str = "Prints the records of a log file or of a standby";
 

@@ -26,7 +26,7 @@ pub fn dump<R: AllocGlobal + Files<File = File>, O: Write>(
     let mut text = if is_file {
         text_of_file(rt, path)?
     } else {
-        text_of_folder(rt, &Folder::hold(rt, path)?)?
+        text_of_folder(rt, &Folder::hold_to_read(rt, path)?)?
     };
     print(&mut text.records, wanted, is_file, output)
 }

@@ -6,7 +6,8 @@ use crate::copying::copy;
 use crate::fault::Fault;
 use als_ckpt::{Fault as ControlFault, read_state};
 use als_disk::MemDisk;
-use als_folder::{Fault as FolderFault, Folder, LOG_LIMIT, Part, Trouble, Wrong};
+use als_engine::CONTROL_BLOCKS;
+use als_folder::{Fault as FolderFault, Folder, LOG_LIMIT, Part, Sizes, Trouble, Wrong};
 use als_record::LogHeader;
 use als_scan::Scan;
 use std::alloc::Global;
@@ -65,41 +66,48 @@ pub fn text_of_file<R: AllocGlobal + Files<File = File>>(
         return Err(Fault::BadHeader);
     }
     let pages = pages_of(first_bytes(&file)?)?;
-    let disk = copy(rt.alloc(), &file, end)?;
+    let disk = copy(rt.alloc(), &file, end, end.div_ceil(512))?;
     text_in(rt.alloc(), disk, pages, end)
 }
 
 /// The text of a folder's log, as far as it is acknowledged.
 ///
 /// BadHeader: it begins with none. BadControl: nothing says how far it is acknowledged. Folder: the
-/// folder or a file of it failed, or another program has it. Memory: there was none for the text.
+/// folder or a file of it failed, the log or the control block's file is too short, or another
+/// program has it. Memory: there was none for the text.
 pub fn text_of_folder<R: AllocGlobal + Files<File = File>>(
     rt: &R,
     folder: &Folder,
 ) -> Result<LogText, Fault> {
     let files = folder.open_to_read(rt)?;
+    let found = files.sizes().map_err(of_folder)?;
+    if found.log == 0 {
+        return Err(damaged(Part::Log));
+    }
     let pages = pages_of(first_bytes(&files.log).map_err(of_log)?)?;
-    let blocks = files.log.metadata().map_err(of_log)?.len() / 512;
-    let end = mark(rt.alloc(), &files.control, pages, blocks)?;
-    match copy(rt.alloc(), &files.log, end) {
+    let end = mark(rt.alloc(), &files.control, pages, found)?;
+    match copy(rt.alloc(), &files.log, end, end.div_ceil(512)) {
         Ok(disk) => text_in(rt.alloc(), disk, pages, end),
         Err(e) => Err(Fault::Folder(of_log(e))),
     }
 }
 
-/// How far the log is acknowledged, as the control block says.
-fn mark(alloc: Global, control: &File, pages: u32, blocks: u64) -> Result<u64, Fault>
+/// How far the log is acknowledged, as the control block says. A log that ends in front of that is
+/// damaged.
+fn mark(alloc: Global, control: &File, pages: u32, found: Sizes) -> Result<u64, Fault>
     ensures { IfOk result (λ end. (16 ≤ end) × (end ≤ 2147483648)) }
 {
-    let mut disk = match copy(alloc, control, 512) {
+    if found.control < CONTROL_BLOCKS {
+        return Err(damaged(Part::Control));
+    }
+    let mut disk = match copy(alloc, control, 512, 1) {
         Ok(disk) => disk,
         Err(e) => return Err(Fault::Folder(FolderFault::of(Part::Control, e))),
     };
-    let bytes = blocks.saturating_mul(512);
-    match read_state(&mut disk, pages, bytes) {
+    match read_state(&mut disk, pages, LOG_LIMIT) {
         Ok(state) => {
-            if state.mark.0 > LOG_LIMIT {
-                return Err(Fault::BadControl);
+            if state.mark.0.div_ceil(512) > found.log {
+                return Err(damaged(Part::Log));
             }
             Ok(state.mark.0)
         }
@@ -109,6 +117,17 @@ fn mark(alloc: Global, control: &File, pages: u32, blocks: u64) -> Result<u64, F
         }))),
         Err(_) => Err(Fault::BadControl),
     }
+}
+
+/// A file of the folder is too short.
+pub fn damaged(part: Part) -> Fault {
+    let wrong = Wrong::Short;
+    Fault::Folder(FolderFault::Damaged(Trouble { part, wrong }))
+}
+
+/// What the failure of a question about the folder's files is.
+fn of_folder(e: io::Error) -> FolderFault {
+    FolderFault::of(Part::Itself, e)
 }
 
 /// What the failure of a call on the folder's log is.

@@ -1,19 +1,21 @@
+ghost use Rattle.std.specs.Prelude.{◌≤◌, ◌<◌, ◌*◌, ◌^◌, IfOk};
+
 use crate::copying::copy;
 use crate::fault::Fault;
-use crate::log_text::{LogText, text_of_file, text_of_folder};
+use crate::log_text::{LogText, damaged, text_of_file, text_of_folder};
 use crate::telling::told;
 use crate::unsound::Unsound;
 use als_disk::MemDisk;
 use als_drive::{listing, recover};
 use als_engine::{Config, Disks, Engine};
 use als_fault::FaultKind;
-use als_folder::{Fault as FolderFault, Folder, Part};
+use als_folder::{DeviceFiles, Fault as FolderFault, Folder, Part, Sizes};
 use als_scan::read_all;
 use std::alloc::Global;
+use std::fs;
 use std::fs::File;
 use std::io::Write;
 use std::rt::Files;
-use std::{fs, io};
 
 /// A sound log.
 #[derive(Clone, Copy)]
@@ -79,13 +81,13 @@ fn is_folder<R: Files<File = File>>(rt: &R, path: &str) -> Result<bool, Fault> {
 fn judge_folder<R: AllocGlobal + Files<File = File>>(rt: &R, path: &str) -> Result<Found, Unsound> {
     let folder = hold(rt, path)?;
     let found = judge_text(text_of_folder(rt, &folder)?, false)?;
-    restart(rt.alloc(), copies(rt, &folder)?, found.pages)?;
+    restart(rt.alloc(), copies(rt, &folder, found)?, found.pages)?;
     Ok(found)
 }
 
-/// The folder, for this program alone.
+/// The folder, for programs that read alone.
 fn hold<R: AllocGlobal + Files<File = File>>(rt: &R, path: &str) -> Result<Folder, Fault> {
-    Ok(Folder::hold(rt, path)?)
+    Ok(Folder::hold_to_read(rt, path)?)
 }
 
 /// Reads all records of a text.
@@ -107,32 +109,59 @@ fn judge_text(text: LogText, is_file: bool) -> Result<Found, Unsound> {
     }
 }
 
-/// The devices of a folder, copied into memory.
+/// The devices of a folder, copied into memory: of the log what is acknowledged, and zeros behind.
 fn copies<R: AllocGlobal + Files<File = File>>(
     rt: &R,
     folder: &Folder,
+    found: Found,
 ) -> Result<Disks<MemDisk>, Fault> {
     let files = folder.open_to_read(rt)?;
+    let sizes = sizes_of(&files)?;
+    if found.end.div_ceil(512) > sizes.log {
+        return Err(damaged(Part::Log));
+    }
+    if sizes.pages < u64::from(found.pages) {
+        return Err(damaged(Part::Pages));
+    }
     let alloc = rt.alloc();
     Ok(Disks {
-        log: copy_part(alloc, Part::Log, &files.log)?,
-        control: copy_part(alloc, Part::Control, &files.control)?,
-        pages: copy_part(alloc, Part::Pages, &files.pages)?,
+        log: copy_part(alloc, Part::Log, &files.log, found.end, sizes.log)?,
+        control: copy_whole(alloc, Part::Control, &files.control, sizes.control)?,
+        pages: copy_whole(alloc, Part::Pages, &files.pages, sizes.pages)?,
     })
 }
 
-/// The whole blocks of a part of the folder.
-fn copy_part(alloc: Global, part: Part, file: &File) -> Result<MemDisk, FolderFault> {
-    match copy_whole(alloc, file) {
-        Ok(disk) => Ok(disk),
-        Err(e) => Err(FolderFault::of(part, e)),
+/// How many whole blocks the files have.
+fn sizes_of(files: &DeviceFiles) -> Result<Sizes, FolderFault>
+    ensures { IfOk result (λ s. (s.control * 512 < 2 ^ 64) × (s.pages * 512 < 2 ^ 64)) }
+{
+    match files.sizes() {
+        Ok(sizes) => Ok(sizes),
+        Err(e) => Err(FolderFault::of(Part::Itself, e)),
     }
 }
 
-/// The whole blocks of a file.
-fn copy_whole(alloc: Global, file: &File) -> io::Result<MemDisk> {
-    let blocks = file.metadata()?.len() / 512;
-    copy(alloc, file, blocks * 512)
+/// The whole blocks of a part of the folder.
+fn copy_whole(alloc: Global, part: Part, file: &File, blocks: u64) -> Result<MemDisk, FolderFault>
+    requires { blocks * 512 < 2 ^ 64 }
+{
+    copy_part(alloc, part, file, blocks * 512, blocks)
+}
+
+/// So many bytes of a part of the folder, in a device of so many blocks.
+fn copy_part(
+    alloc: Global,
+    part: Part,
+    file: &File,
+    len: u64,
+    blocks: u64,
+) -> Result<MemDisk, FolderFault>
+    requires { len ≤ 512 * blocks }
+{
+    match copy(alloc, file, len, blocks) {
+        Ok(disk) => Ok(disk),
+        Err(e) => Err(FolderFault::of(part, e)),
+    }
 }
 
 /// Opens devices as a restart does, redoes what it would redo, and reads each page.

@@ -2,6 +2,7 @@ ghost use Rattle.std.specs.Prelude.{IfOk};
 ghost use Rattle.als_program.specs.Status.{IsStatus};
 
 use crate::failure::Failure;
+use crate::meeting_lines::MeetingLines;
 use crate::redo_lines::RedoLines;
 use crate::refusal::Refusal;
 use crate::terminals::Terminals;
@@ -9,7 +10,7 @@ use crate::troubles;
 use als_command::Command;
 use als_folder::Trouble;
 use als_inspect::{Wanted, dump, verify};
-use als_operate::{Following, ship, standby, takeover};
+use als_operate::{Following, Shipping, ship, standby, takeover};
 use als_record::{Lsn, TransId};
 use std::fs;
 use std::fs::File;
@@ -56,15 +57,29 @@ fn attempt<R: AllocGlobal + Files<File = File> + Net, O: Write, E: Write>(
     output: &mut O,
     errors: &mut E,
 ) -> Result<(), Refusal> {
-    let mut lines = RedoLines::new(errors, seen);
     match command {
         Command::Make { .. } | Command::Sim { .. } => {}
-        Command::Ship { log, listen } => ship(rt, log, listen, output)?,
+        Command::Ship {
+            log,
+            listen,
+            timeout,
+            explain,
+        } => {
+            let shipping = Shipping {
+                log,
+                listen,
+                timeout,
+            };
+            let mut lines = MeetingLines::new(errors, seen || explain);
+            ship(rt, shipping, &mut lines, output)?
+        }
         Command::Standby {
             dir,
             from,
             pages,
             log_blocks,
+            checkpoint_mb,
+            timeout,
             ..
         } => {
             let following = Following {
@@ -72,10 +87,16 @@ fn attempt<R: AllocGlobal + Files<File = File> + Net, O: Write, E: Write>(
                 from,
                 pages,
                 log_blocks,
+                checkpoint_mb,
+                timeout,
             };
+            let mut lines = RedoLines::new(errors, seen);
             standby(rt, following, &mut lines, output)?
         }
-        Command::Takeover { dir, .. } => takeover(rt, dir, &mut lines, output)?,
+        Command::Takeover { dir, .. } => {
+            let mut lines = RedoLines::new(errors, seen);
+            takeover(rt, dir, &mut lines, output)?
+        }
         Command::Dump {
             path,
             from,

@@ -11,6 +11,8 @@ mod refusal;
 mod troubles;
 // How a long redo goes on.
 mod redo_lines;
+// Whom a shipper meets.
+mod meeting_lines;
 // Why the program ends without having done what it was asked.
 mod failure;
 // `als make`.

@@ -23,12 +23,17 @@ fn say<W: Write>(errors: &mut W, trouble: Trouble) -> io::Result<()> {
     let of_folder = trouble.part == Part::Itself;
     let words = match trouble.wrong {
         Wrong::Missing if of_folder => "the folder is missing",
-        Wrong::Missing => "the file is missing",
+        Wrong::Missing => "the file is missing, or a link that leads nowhere",
         Wrong::NoFolder => "this is no folder",
         Wrong::Denied => "it may not be opened or written",
         Wrong::Locked => "another program has the folder",
+        Wrong::ReadOnly => "its file system is read-only",
         Wrong::Kept => "there is a database already",
+        Wrong::NoControl => {
+            "it has data, but control.blk is missing: bring that back, or move the data away"
+        }
         Wrong::NoRoom => "its disk has no room",
+        Wrong::Gone => "its disk gave an input or output error, or is gone",
         Wrong::Short => "the file ends too early",
         Wrong::Failed if of_folder => "a file or the folder could not be read, written or synced",
         Wrong::Failed => "the file could not be opened, read, written or synced",

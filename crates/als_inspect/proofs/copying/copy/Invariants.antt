@@ -1,8 +1,14 @@
-use Rattle.std.proofs.Common.{◌≡◌}
+use Rattle.std.proofs.Common.{◌≡◌, ◌≤◌, ◌-◌}
+use Rattle.std.specs.Prelude.{vec_len}
 use Rattle.als_disk.specs.MemDisk.{mem_blocks}
 use Rattle.als_inspect.proofs.copying.copy.Given as goal
 
-abbrev pub invariant-loop-i : goal.invariant-loop-i
-invariant-loop-i l = record {
+abbrev pub invariant-loop-first : goal.invariant-loop-first
+invariant-loop-first l = record {
   count : mem_blocks l.disk ≡ l.blocks;
+  room : vec_len l.piece ≡ 2048;
+  within : l.first ≤ l.end;
 }
+
+abbrev pub decreases-loop-first : goal.decreases-loop-first
+decreases-loop-first l = l.end - l.first

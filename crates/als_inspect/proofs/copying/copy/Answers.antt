@@ -1,5 +1,0 @@
-use Rattle.als_disk.specs.MemDisk.{mem_newest}
-use Rattle.als_inspect.proofs.copying.copy.Goals as goal
-
-pub returns-clause-settled : goal.returns-clause-settled
-returns-clause-settled c = λ k. (mem_newest c.loop-i.disk k, c.sync.ensures.newest k)

@@ -1,0 +1,43 @@
+use als_operate::Meetings;
+use als_record::Lsn;
+use als_ship::Fault;
+use std::io::Write;
+
+/// Says whom a shipper passed over, and how far its follower got.
+#[derive(Drop)]
+pub struct MeetingLines<W: Write> {
+    errors: W,
+    told: bool,
+}
+
+impl<W: Write> MeetingLines<W> {
+    /// Lines for who asked for them, if anybody did.
+    pub fn new(errors: W, told: bool) -> MeetingLines<W> {
+        MeetingLines { errors, told }
+    }
+}
+
+// Where it can't be said, the shipper goes on.
+impl<W: Write> Meetings for MeetingLines<W> {
+    fn passed_over(&mut self, fault: Fault) {
+        if self.told {
+            let _ = writeln!(
+                self.errors,
+                "als: passed over a connection that asked for no log: {fault}"
+            );
+        }
+    }
+
+    fn acknowledged(&mut self, lsn: Option<Lsn>) {
+        if self.told {
+            let _ = match lsn {
+                Some(lsn) => writeln!(
+                    self.errors,
+                    "als: the follower has acknowledged the log up to {}",
+                    lsn.0
+                ),
+                None => writeln!(self.errors, "als: the follower has acknowledged nothing"),
+            };
+        }
+    }
+}
