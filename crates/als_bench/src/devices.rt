@@ -1,8 +1,8 @@
 use als_bench_logs::PAGES;
-use als_disk::{BlockDisk, FileDisk, MemDisk};
+use als_disk::{BlockDisk, FileDisk, FirstError, MemDisk};
 use als_engine::{Config, Disks, Engine, Fault};
 use std::alloc::Global;
-use std::fs::File;
+use std::fs::{self, File};
 use std::io;
 use std::rt::Files;
 
@@ -53,10 +53,24 @@ pub fn in_folder<R: AllocGlobal + Files<File = File>>(
     let control = format!(in rt.alloc(); "{folder}/{name}-control.blk")?;
     let pages = format!(in rt.alloc(); "{folder}/{name}-pages.blk")?;
     Ok(Disks {
-        log: FileDisk::create(rt, log.as_str(), log_blocks(text))?,
-        control: FileDisk::create(rt, control.as_str(), CONTROL)?,
-        pages: FileDisk::create(rt, pages.as_str(), u64::from(size.pages))?,
+        log: anew(rt, log.as_str(), log_blocks(text))?,
+        control: anew(rt, control.as_str(), CONTROL)?,
+        pages: anew(rt, pages.as_str(), u64::from(size.pages))?,
     })
+}
+
+/// A device file, made anew.
+fn anew<R: AllocGlobal + Files<File = File>>(
+    rt: &R,
+    path: &str,
+    blocks: u64,
+) -> io::Result<FileDisk> {
+    match fs::remove_file(rt, path) {
+        Ok(()) => {}
+        Err(e) if e.kind() == io::ErrorKind::NotFound => {}
+        Err(e) => return Err(e),
+    }
+    FileDisk::create(rt, path, blocks, FirstError::new(rt.alloc())?)
 }
 
 /// What a standby is made with.

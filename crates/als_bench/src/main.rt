@@ -11,6 +11,8 @@ mod split;
 mod turn;
 // A log that is followed.
 mod followed;
+// A standby whose events are timed.
+mod timed;
 // A log that is followed over the network.
 mod shipped;
 // Feeds that are redone, and whose pages are stored.

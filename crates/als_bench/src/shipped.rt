@@ -1,15 +1,14 @@
 use crate::devices::{Size, in_folder, standby};
 use crate::followed::report;
-use crate::split::{Split, add};
-use crate::turn::{feed, force, settle, store};
-use als_bench_logs::PAGES;
+use crate::split::Split;
+use crate::timed::Timed;
 use als_disk::FileDisk;
-use als_engine::{Engine, Fault as EngineFault};
-use als_record::{FIRST_LSN, LogHeader};
-use als_ship::{Fault, Frame, LogBytes, Shipper, Tag};
+use als_engine::{Engine, Events};
+use als_operate::{Fault, follow};
+use als_ship::{LogBytes, Shipper};
 use std::alloc::Global;
 use std::fs::File;
-use std::net::{Ipv4Addr, Net, OpenListener, OpenStream, SocketAddr, TcpListener, TcpStream};
+use std::net::{Ipv4Addr, Net, SocketAddr, TcpListener, TcpStream};
 use std::rt::{Clock, Files};
 use std::thread::Threads;
 use std::time::Instant;
@@ -22,7 +21,7 @@ const SHIPPED: Size = Size {
 };
 
 /// Follows a log over a connection of this machine, on device files in a folder: one thread sends
-/// it, the other follows.
+/// it, the other follows, both by what the program calls.
 pub fn ship_all<R>(rt: &R, text: &[u8], folder: &str) -> io::Result<()>
 where
     R: Print + Clock + AllocGlobal + Files<File = File>,
@@ -40,20 +39,24 @@ where
     R: Print + Clock + AllocGlobal,
     R: Net<Listener = TcpListener, Stream = TcpStream> + Threads + Sync,
 {
-    let mut engine = engine;
-    let answer = session(rt, &mut engine, text);
+    let start = Instant::now(rt)?;
+    let mut timed = Timed::new(rt, engine);
+    let answer = session(rt, &mut timed, text);
+    let (engine, split) = timed.into_parts();
     drop(engine);
+    let moved = start.elapsed(rt)?.saturating_sub(split.whole());
+    let split = Split { moved, ..split };
     match answer {
-        Ok(split) => report(rt, "follow over loopback on files", text, Ok(split)),
-        Err(Fault::Refused(fault)) => println!(rt; "{fault}"),
+        Ok(()) => report(rt, "als standby over loopback on files", text, Ok(split)),
         Err(fault) => println!(rt; "{fault}"),
     }
 }
 
-/// A session of both ends.
-fn session<R>(rt: &R, engine: &mut Engine<FileDisk>, text: &[u8]) -> Result<Split, Fault>
+/// A session of both ends, as `als ship` and `als standby` run it.
+fn session<R, E>(rt: &R, events: &mut E, text: &[u8]) -> Result<(), Fault>
 where
-    R: Clock + AllocGlobal + Net<Listener = TcpListener, Stream = TcpStream> + Threads + Sync,
+    R: AllocGlobal + Net<Listener = TcpListener, Stream = TcpStream> + Threads + Sync,
+    E: Events + Send,
 {
     let alloc = rt.alloc();
     let mut source = LogBytes::new(Vec::from_slice(alloc, text)?)?;
@@ -63,7 +66,7 @@ where
     let (sent, followed) = thread::join(
         rt,
         move || serve(alloc, listener, source),
-        move || follow_at(rt, alloc, addr, engine),
+        move || follow_at(rt, alloc, addr, events),
     );
     let _bytes = sent?;
     followed
@@ -73,60 +76,18 @@ where
 fn serve(alloc: Global, listener: &TcpListener, source: &mut LogBytes) -> Result<u64, Fault> {
     let (stream, _) = listener.accept()?;
     stream.set_nodelay(true)?;
-    Shipper::serve(alloc, source, &mut &stream, &mut &stream)
+    let sent = Shipper::new().serve(alloc, source, &mut &stream, &mut &stream)?;
+    Ok(sent)
 }
 
-/// Follows the log that is served at an address.
-fn follow_at<R: Clock + Net<Stream = TcpStream>>(
+/// Follows the log that is served at an address, with a checkpoint each 4 MB.
+fn follow_at<R: Net<Stream = TcpStream>, E: Events>(
     rt: &R,
     alloc: Global,
     addr: SocketAddr,
-    engine: &mut Engine<FileDisk>,
-) -> Result<Split, Fault> {
+    events: &mut E,
+) -> Result<(), Fault> {
     let stream = TcpStream::connect(rt, addr)?;
     stream.set_nodelay(true)?;
-    let resume = Frame::Resume {
-        from: FIRST_LSN,
-        header: LogHeader { pages: PAGES },
-    };
-    resume.write(&mut &stream)?;
-    let mut split = Split::NOTHING;
-    for _ in 0..u64::MAX {
-        if take_frame(rt, alloc, &stream, engine, &mut split)? {
-            break;
-        }
-    }
-    refused(store(rt, engine, &mut split)?)?;
-    Ok(split)
-}
-
-/// Takes a frame and acknowledges it. Answers whether it was the last.
-fn take_frame<R: Clock>(
-    rt: &R,
-    alloc: Global,
-    stream: &TcpStream,
-    engine: &mut Engine<FileDisk>,
-    split: &mut Split,
-) -> Result<bool, Fault> {
-    let start = Instant::now(rt)?;
-    let frame = Frame::read(alloc, &mut &*stream, Tag::Data)?;
-    add(rt, &mut split.moved, start)?;
-    let last = frame.is_last();
-    if let Frame::Data { bytes, .. } = &frame {
-        refused(feed(rt, engine, split, bytes.as_slice())?)?;
-    }
-    let lsn = refused(force(rt, engine, split)?)?;
-    let start = Instant::now(rt)?;
-    Frame::Acknowledged(lsn).write(&mut &*stream)?;
-    add(rt, &mut split.moved, start)?;
-    refused(settle(rt, engine, split)?)?;
-    Ok(last)
-}
-
-/// A refusal of the standby, as the session tells it.
-fn refused<T: Drop>(answer: Result<T, EngineFault>) -> Result<T, Fault> {
-    match answer {
-        Ok(value) => Ok(value),
-        Err(fault) => Err(Fault::Refused(fault)),
-    }
+    follow(alloc, events, 4 << 20, &mut &stream, &mut &stream)
 }

@@ -1,6 +1,6 @@
 ghost use Rattle.std.specs.Prelude.{◌≡◌, ◌<◌, ◌⊎◌, ℕ, List, Contains, IfOk, OnOk};
 
-use als_disk::{BlockDisk, DeviceError, FailingDisk, FileDisk, Fuse, MemDisk, Restart};
+use als_disk::{BlockDisk, DeviceError, FailingDisk, FileDisk, FirstError, Fuse, MemDisk, Restart};
 use std::alloc::Global;
 use std::fs::{self, File, OpenOptions};
 use std::process::Abort;
@@ -301,14 +301,18 @@ fn expect_two_blocks<D: BlockDisk>(rt: &impl Abort, disk: &mut D) {
 /// refused.
 fn keeps_in_a_file<R: Abort + AllocGlobal + Files<File = File>>(rt: &R) -> Option<()> {
     let path = "device.blk";
-    let mut disk = FileDisk::create(rt, path, 3).ok()?;
+    let none = FirstError::new(rt.alloc()).ok()?;
+    let mut disk = FileDisk::create(rt, path, 3, none.clone().ok()?).ok()?;
     takes_two_blocks(rt, &mut disk)?;
     drop(disk);
-    let mut disk = FileDisk::open(rt, path).ok()?;
+    // What is there is never made anew.
+    assert!(rt; FileDisk::create(rt, path, 3, none.clone().ok()?).is_err());
+    let mut disk = FileDisk::open(rt, path, none.clone().ok()?).ok()?;
     expect_two_blocks(rt, &mut disk);
     drop(disk);
     fs::remove_file(rt, path).ok()?;
-    assert!(rt; FileDisk::open(rt, path).is_err());
+    assert!(rt; none.error().is_none());
+    assert!(rt; FileDisk::open(rt, path, none).is_err());
     Some(())
 }
 
@@ -345,8 +349,12 @@ fn stays_failed<R: Abort + AllocGlobal + Files<File = File>>(rt: &R) -> Option<(
     let path = "read_only.blk";
     fs::write(rt, path, filled(0).as_slice()).ok()?;
     let file = OpenOptions::new().read(true).open(rt, path).ok()?;
-    let mut disk = FileDisk::over(rt.alloc(), file).ok()?;
+    let first_error = FirstError::new(rt.alloc()).ok()?;
+    let mut disk = FileDisk::over(rt.alloc(), file, first_error.clone().ok()?).ok()?;
     fails_from_its_first_write(rt, &mut disk)?;
+    // EBADF: the file is not open for writing.
+    let error = first_error.error()?;
+    assert!(rt; error.raw_os_error() == Some(9));
     fs::remove_file(rt, path).ok()
 }
 

@@ -14,6 +14,9 @@ mod dirty;
 // als_disk.
 #[cfg(test)]
 mod disk;
+// als_disk: what a device calls its file for.
+#[cfg(test)]
+mod file_calls;
 // als_frames.
 #[cfg(test)]
 mod frames;

@@ -21,6 +21,7 @@ fn help_is_written(rt: HostRuntime) {
     for command in ["make", "sim", "standby", "takeover", "dump", "verify"] {
         asks(&rt, &["als", command, "--help"], "      --explain");
     }
+    asks(&rt, &["als", "--version"], "als 0.2, proved with");
 }
 
 /// A fault of the command line is told on standard error and ends with 2.

@@ -1,7 +1,7 @@
 use crate::folder::Folder;
 use crate::following::TEXT;
 use als_program::program;
-use std::fs::File;
+use std::fs::{File, OpenOptions};
 use std::net::Net;
 use std::process::Abort;
 use std::rt::Files;
@@ -171,6 +171,44 @@ fn files_are_told<R: Abort + AllocGlobal + Files<File = File> + Net>(rt: &R) {
     );
 }
 
+/// A folder whose file of this number is cut to so many bytes.
+fn cuts<R: AllocGlobal + Files<File = File>>(rt: &R, number: usize, len: u64) -> Option<()> {
+    lays_out(rt, [None, None, None])?;
+    let path = FILES.get(number)?;
+    let file = OpenOptions::new().write(true).open(rt, *path).ok()?;
+    file.set_len(len).ok()
+}
+
+/// A file that is shorter than its database is told as that one, and each command is refused so.
+fn a_short_file_is_told<R: Abort + AllocGlobal + Files<File = File> + Net>(rt: &R) {
+    let refusal = "als: refused 34 BadControl\n";
+    let rows = [
+        (0, 0, "als: damaged/log.blk: the file ends too early\n"),
+        (1, 0, "als: damaged/control.blk: the file ends too early\n"),
+        (
+            1,
+            320 * 512,
+            "als: damaged/control.blk: the file ends too early\n",
+        ),
+        (
+            2,
+            3 * 512,
+            "als: damaged/pages.blk: the file ends too early\n",
+        ),
+    ];
+    for (number, len, explained) in &rows {
+        assert!(rt; cuts(rt, *number, *len).is_some() || cuts(rt, *number, *len).is_some());
+        let short = Refusal {
+            printed: "",
+            refusal,
+            explained: *explained,
+        };
+        is_refused(rt, &TAKEOVER, short);
+        let printed = "unsound lsn=0 34 BadControl\n";
+        is_refused(rt, &VERIFY, Refusal { printed, ..short });
+    }
+}
+
 /// A folder without its control block.
 fn a_missing_file_is_told<R: Abort + AllocGlobal + Files<File = File> + Net>(rt: &R) {
     laid_out(rt, [None, None, None]);
@@ -178,17 +216,34 @@ fn a_missing_file_is_told<R: Abort + AllocGlobal + Files<File = File> + Net>(rt:
     let missing = Refusal {
         printed: "",
         refusal: "als: refused 30 Device\n",
-        explained: "als: damaged/control.blk: the file is missing\n",
+        explained: "als: damaged/control.blk: the file is missing, or a link that leads nowhere\n",
     };
     is_refused(rt, &TAKEOVER, missing);
     is_refused(rt, &VERIFY, missing);
     is_refused(rt, &DUMP, missing);
+    // Its log is not written over.
+    let before = fs::read(rt, FILES[0]);
+    let explained =
+        "als: damaged/log.blk: it has data, but control.blk is missing: bring that back, or move the data away\n";
+    is_refused(
+        rt,
+        &STANDBY,
+        Refusal {
+            explained,
+            ..missing
+        },
+    );
+    match (before, fs::read(rt, FILES[0])) {
+        (Ok(before), Ok(after)) => assert!(rt; before.as_slice() == after.as_slice()),
+        _ => {}
+    }
 }
 
 #[test]
 fn a_damaged_file_is_told(rt: HostRuntime) {
     assert!(rt; fs::create_dir(&rt, "damaged").is_ok());
     files_are_told(&rt);
+    a_short_file_is_told(&rt);
     a_missing_file_is_told(&rt);
     assert!(rt; fs::remove_dir_all(&rt, "damaged").is_ok());
     let missing = Refusal {

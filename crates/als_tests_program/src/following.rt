@@ -60,6 +60,16 @@ fn stands<R: AllocGlobal + Files<File = File> + Net>(rt: &R, addr: &str) -> bool
     false
 }
 
+/// Comes to the shipper and asks for nothing, once it listens.
+fn scans<R: Net>(rt: &R, addr: &str) -> bool {
+    for _ in 0..1_000_000 {
+        if let Ok(_stream) = TcpStream::connect(rt, addr) {
+            return true;
+        }
+    }
+    false
+}
+
 /// Serves a session: whether the sending end prints this. A growth that was refused is met by a
 /// second try.
 fn ships<R: AllocGlobal + Files<File = File> + Net>(rt: &R, addr: &str, sent: &str) -> bool {
@@ -114,7 +124,7 @@ fn a_standby_follows_and_takes_over(rt: HostRuntime) {
         let (shipped, stood) = thread::join(
             rt,
             move || ships(rt, addr, sent),
-            move || stands(rt, addr),
+            move || scans(rt, addr) && stands(rt, addr),
         );
         assert!(rt; shipped && stood);
     }
@@ -157,6 +167,47 @@ fn standbys_that_are_refused(rt: HostRuntime) {
     assert!(rt; refuses(&rt, &words, "", failed) || refuses(&rt, &words, "", failed));
     let words = ["als", "takeover", "--dir", "missing"];
     assert!(rt; refuses(&rt, &words, "", failed) || refuses(&rt, &words, "", failed));
+}
+
+/// A primary that says nothing is waited for as long as the command line says; one that is not
+/// there leaves the folder empty.
+#[test]
+fn silence_ends_a_session(rt: HostRuntime) {
+    let failed = "als: refused 44 Stream\n";
+    let missing = "als: refused 30 Device\n";
+    assert!(rt; fs::create_dir(&rt, "silent").is_ok());
+    let listener = TcpListener::bind(&rt, SocketAddr::from((Ipv4Addr::LOCALHOST, 0)));
+    let listener = listener.expect(&rt, "a port");
+    let addr = listener.local_addr().expect(&rt, "an address");
+    let addr = format!(in rt.alloc(); "{addr}").expect(&rt, "its text");
+    let addr = addr.as_str();
+    let nowhere = [
+        "als",
+        "standby",
+        "--dir",
+        "silent",
+        "--from",
+        "127.0.0.1:1",
+        "--pages",
+        "4",
+    ];
+    assert!(rt; refuses(&rt, &nowhere, "", failed) || refuses(&rt, &nowhere, "", failed));
+    let takeover = ["als", "takeover", "--dir", "silent"];
+    assert!(rt; refuses(&rt, &takeover, "", missing) || refuses(&rt, &takeover, "", missing));
+    let silent = [
+        "als",
+        "standby",
+        "--dir",
+        "silent",
+        "--from",
+        addr,
+        "--pages",
+        "4",
+        "--timeout",
+        "1",
+    ];
+    assert!(rt; refuses(&rt, &silent, "", failed) || refuses(&rt, &silent, "", failed));
+    assert!(rt; fs::remove_dir_all(&rt, "silent").is_ok());
 }
 
 /// A log file that is altered is told from the record on that is refused; what stands before it is

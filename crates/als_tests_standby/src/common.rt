@@ -24,6 +24,15 @@ pub const TOLD: [u8; 43] = [
     0x41, 0, 0, 0, 0, 0, 0, 0, 108,
 ];
 
+/// What a shipper of that log sends to a follower that holds nothing: the Data frame of the bytes
+/// from 16 to 108, and the last one, which has none.
+pub const SENT: [u8; 118] = [
+    68, 0, 0, 0, 0, 0, 0, 0, 16, 0, 0, 0, 92, 0, 0, 0, 36, 1, 0, 0, 0, 0, 0, 0, 0, 0, 0, 0, 16, 0,
+    0, 0, 0, 0, 0, 0, 0, 0, 0, 0, 1, 0, 0, 0, 0, 0, 255, 1, 170, 0, 0, 0, 28, 3, 0, 0, 0, 0, 0, 0,
+    0, 0, 0, 0, 52, 0, 0, 0, 0, 0, 0, 0, 16, 0, 0, 0, 1, 0, 0, 0, 28, 5, 0, 0, 0, 0, 0, 0, 0, 0, 0,
+    0, 80, 0, 0, 0, 0, 0, 0, 0, 52, 0, 0, 0, 1, 68, 0, 0, 0, 0, 0, 0, 0, 108, 0, 0, 0, 0,
+];
+
 /// A standby of four pages.
 pub const CONFIG: Config = Config {
     pages: 4,

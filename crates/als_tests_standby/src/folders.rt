@@ -5,6 +5,11 @@ use std::fs::File;
 use std::process::Abort;
 use std::rt::Files;
 
+// What a folder calls its files for.
+mod calls;
+// A folder of which a file was lost.
+mod losing;
+
 const SIZES: Sizes = Sizes {
     log: 3,
     control: 2,

@@ -1,9 +1,10 @@
-use crate::common::{CONFIG, TEXT, TOLD, devices_in_memory, listen, source};
+use crate::common::{CONFIG, SENT, TEXT, TOLD, devices_in_memory, listen, source};
 use als_drive::{Progress, drain_telling};
-use als_engine::{Engine, Fault as EngineFault};
+use als_engine::{Engine, Events, Fault as EngineFault};
 use als_folder::{Part, Trouble, Wrong};
-use als_operate::{Fault, serve, ship};
-use als_ship::LogBytes;
+use als_operate::{Fault, Shipping, Untold, follow as follow_session, serve, ship};
+use als_record::{Key, Lsn};
+use als_ship::{LogBytes, Shipper};
 use std::alloc::Global;
 use std::io::{Read, Write};
 use std::net::{Net, SocketAddr, TcpListener, TcpStream};
@@ -11,10 +12,6 @@ use std::process::Abort;
 use std::rt::Files;
 use std::test::Fail;
 use std::{fs, io, thread};
-
-// The session's bytes from the shipper: a Data frame of the 92 bytes from 16 on, and the last one,
-// which has none.
-const SENT: usize = 118;
 
 // Serves the next follower that comes, as `ship` does.
 fn serve_next(
@@ -26,7 +23,15 @@ fn serve_next(
     let (mut writer, _) = listener.accept()?;
     writer.set_nodelay(true)?;
     let mut reader = writer.try_clone()?;
-    serve(alloc, source, &mut reader, &mut writer, output)
+    let mut shipper = Shipper::new();
+    serve(
+        alloc,
+        &mut shipper,
+        source,
+        &mut reader,
+        &mut writer,
+        output,
+    )
 }
 
 // A follower that holds nothing and acknowledges all: how many bytes it is sent.
@@ -55,9 +60,18 @@ fn a_session_is_told(rt: HostRuntime) -> Result<(), Fail> {
         move || follow(rt, alloc, addr).unwrap_or(0),
     );
     assert!(rt; served == Ok(()));
-    assert!(rt; followed == SENT);
+    assert!(rt; followed == SENT.len());
     assert!(rt; printed.as_slice() == b"sent=92\n".as_slice());
     Ok(())
+}
+
+// A log file that is served at an address, to a follower that may be silent for a minute.
+fn shipping<'a>(log: &'a str, listen: &'a str) -> Shipping<'a> {
+    Shipping {
+        log,
+        listen,
+        timeout: 60,
+    }
 }
 
 // Whether shipping a file with these bytes to an address is refused so, with nothing printed. A
@@ -73,7 +87,7 @@ fn refuses<R: AllocGlobal + Files + Net>(
         return false;
     }
     let mut printed = Vec::new(rt.alloc());
-    let answer = ship(rt, path, listen, &mut printed);
+    let answer = ship(rt, shipping(path, listen), &mut Untold, &mut printed);
     let removed = fs::remove_file(rt, path).is_ok();
     removed && answer == Err(wanted) && printed.is_empty()
 }
@@ -90,11 +104,40 @@ fn what_is_not_served(rt: HostRuntime) {
         assert!(rt; refuses(&rt, bytes, listen, fault) || refuses(&rt, bytes, listen, fault));
     }
     let mut printed = Vec::new(rt.alloc());
-    let missing = ship(&rt, "no file", "127.0.0.1:0", &mut printed);
+    let missing = shipping("no file", "127.0.0.1:0");
+    let missing = ship(&rt, missing, &mut Untold, &mut printed);
     assert!(rt; matches!(missing, Err(Fault::Stream | Fault::Memory)));
     assert!(rt; bad.number() == 1);
     assert!(rt; Fault::Stream.number() == 44);
     assert!(rt; Fault::Memory.name() == "Memory");
+}
+
+// A session over memory, as `als standby` follows it over its engine: what it tells, and what it
+// leaves, with a checkpoint after each frame or with none on the way. `None`: memory was refused.
+fn follows_warm(rt: &impl Abort, alloc: Global, each: u64) -> Option<()> {
+    let mut engine = Engine::format(alloc, devices_in_memory(alloc), CONFIG).ok()?;
+    let mut told = Vec::new(alloc);
+    let mut reader = SENT.as_slice();
+    follow_session(alloc, &mut engine, each, &mut reader, &mut told).ok()?;
+    assert!(rt; told.as_slice() == TOLD.as_slice());
+    let status = engine.status();
+    assert!(rt; status.pending == 0);
+    assert!(rt; status.acknowledged == Lsn(108));
+    assert!(rt; Events::dirty(&engine, 0).is_none());
+    // The commit was published on the way.
+    let answer = engine.read(Key { page: 0, slot: 0 }).ok()?;
+    assert!(rt; answer.commits == 1);
+    Some(())
+}
+
+#[test]
+fn a_session_keeps_the_standby_warm(rt: HostRuntime) {
+    let alloc = rt.alloc();
+    for each in [0, 1] {
+        assert!(rt;
+            follows_warm(&rt, alloc, each).is_some() || follows_warm(&rt, alloc, each).is_some()
+        );
+    }
 }
 
 // How many changes waited at first, and at last.

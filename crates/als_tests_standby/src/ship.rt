@@ -1,4 +1,4 @@
-use crate::common::{CONFIG, TEXT, TOLD, devices_in_memory, listen, source};
+use crate::common::{CONFIG, SENT, TEXT, TOLD, devices_in_memory, listen, source};
 use als_disk::MemDisk;
 use als_engine::{Engine, Events};
 use als_record::{LogHeader, Lsn};
@@ -11,14 +11,6 @@ use std::test::Fail;
 use std::thread;
 
 const HEADER: LogHeader = LogHeader { pages: 4 };
-
-// The Data frame of the bytes from 16 to 108, and the last one, which has none.
-const SENT: [u8; 118] = [
-    68, 0, 0, 0, 0, 0, 0, 0, 16, 0, 0, 0, 92, 0, 0, 0, 36, 1, 0, 0, 0, 0, 0, 0, 0, 0, 0, 0, 16, 0,
-    0, 0, 0, 0, 0, 0, 0, 0, 0, 0, 1, 0, 0, 0, 0, 0, 255, 1, 170, 0, 0, 0, 28, 3, 0, 0, 0, 0, 0, 0,
-    0, 0, 0, 0, 52, 0, 0, 0, 0, 0, 0, 0, 16, 0, 0, 0, 1, 0, 0, 0, 28, 5, 0, 0, 0, 0, 0, 0, 0, 0, 0,
-    0, 80, 0, 0, 0, 0, 0, 0, 0, 52, 0, 0, 0, 1, 68, 0, 0, 0, 0, 0, 0, 0, 108, 0, 0, 0, 0,
-];
 
 // A standby of four pages with nothing in it. `None`: memory was refused.
 fn standby(alloc: Global) -> Option<Engine<MemDisk>> {
@@ -65,8 +57,14 @@ fn frames_come_again_and_overlap(rt: HostRuntime) {
 fn ships(rt: &impl Abort, alloc: Global) -> Option<Vec<u8>> {
     let mut source = source(alloc)?;
     let mut sent = Vec::new(alloc);
-    let count = Shipper::serve(alloc, &mut source, &mut TOLD.as_slice(), &mut sent).ok()?;
+    let mut shipper = Shipper::new();
+    let mut reader = TOLD.as_slice();
+    let count = shipper
+        .serve(alloc, &mut source, &mut reader, &mut sent)
+        .ok()?;
     assert!(rt; count == 92);
+    assert!(rt; shipper.has_begun());
+    assert!(rt; shipper.acknowledged() == Some(Lsn(108)));
     assert!(rt; sent.len() == 118);
     assert!(rt; sent.as_slice() == SENT.as_slice());
     Some(sent)
@@ -158,11 +156,14 @@ fn refuses(rt: &impl Abort, alloc: Global, asked: &[u8], wanted: Fault) -> Optio
     let mut source = source(alloc)?;
     let mut sent = Vec::new(alloc);
     let mut reader = asked;
-    match Shipper::serve(alloc, &mut source, &mut reader, &mut sent) {
+    let mut shipper = Shipper::new();
+    match shipper.serve(alloc, &mut source, &mut reader, &mut sent) {
         Err(Fault::Memory) => return None,
         answer => assert!(rt; answer == Err(wanted)),
     }
     assert!(rt; sent.len() == 0);
+    assert!(rt; !shipper.has_begun());
+    assert!(rt; shipper.acknowledged().is_none());
     Some(())
 }
 
@@ -204,7 +205,7 @@ fn faults_have_numbers_and_names(rt: HostRuntime) {
 fn serve_once(alloc: Global, listener: &TcpListener, source: &mut LogBytes) -> Result<u64, Fault> {
     let (stream, _) = listener.accept()?;
     stream.set_nodelay(true)?;
-    Shipper::serve(alloc, source, &mut &stream, &mut &stream)
+    Shipper::new().serve(alloc, source, &mut &stream, &mut &stream)
 }
 
 // Follows one session of the shipper at an address.

@@ -205,8 +205,8 @@ fn seals<D: BlockDisk + Drop>(rt: &impl Abort, store: &mut Store<D>) -> bool {
 }
 
 /// A transaction is not ended, or none is; and the tail is not stored.
-fn expect_tail<D: BlockDisk + Drop>(rt: &impl Abort, store: &Store<D>, has_unended: bool) {
-    assert!(rt; store.has_unended() == has_unended);
+fn expect_tail<D: BlockDisk + Drop>(rt: &impl Abort, store: &Store<D>, has_tail: bool) {
+    assert!(rt; store.has_tail() == has_tail);
     assert!(rt; !store.is_drained());
 }
 

@@ -35,3 +35,30 @@ fn recovers(rt: &impl Abort, alloc: Global) -> Option<()> {
 fn a_standby_that_is_opened_is_ready_once_its_pages_are(rt: HostRuntime) {
     assert!(rt; recovers(&rt, rt.alloc()).is_some() || recovers(&rt, rt.alloc()).is_some());
 }
+
+/// The end of the log after a crash with these picks, of a standby whose mark is written and not
+/// synced. None: memory was refused.
+fn end_after(rt: &impl Abort, alloc: Global, picks: &[u8]) -> Option<u64> {
+    let mut engine = Engine::format(alloc, devices_in_memory(alloc), CONFIG).ok()?;
+    engine.feed(&text()).ok()?;
+    engine.log_write().ok()?;
+    engine.log_sync().ok()?;
+    engine.mark_write().ok()?;
+    let (disks, used) = engine.crash(picks);
+    assert!(rt; used == picks.len().min(1));
+    let engine = Engine::open(alloc, disks, CONFIG).ok()?;
+    Some(engine.status().end.0)
+}
+
+/// The old state of the control block, or the new one. None: memory was refused.
+fn picks_choose(rt: &impl Abort, alloc: Global) -> Option<()> {
+    assert!(rt; end_after(rt, alloc, &[])? == 16);
+    assert!(rt; end_after(rt, alloc, &[0])? == 16);
+    assert!(rt; end_after(rt, alloc, &[1])? == 108);
+    Some(())
+}
+
+#[test]
+fn a_crash_leaves_the_control_state_that_its_pick_names(rt: HostRuntime) {
+    assert!(rt; picks_choose(&rt, rt.alloc()).is_some() || picks_choose(&rt, rt.alloc()).is_some());
+}

@@ -1,9 +1,13 @@
-ghost use Rattle.std.specs.Prelude.{◌<◌};
+ghost use Rattle.std.specs.Prelude.{◌≡◌, ◌+◌, ◌<◌, IfSome};
+ghost use Rattle.als_engine.specs.Formatting.{FormatsWorld};
+ghost use Rattle.als_engine.specs.Machine.{Machine};
+ghost use Rattle.als_world.specs.Runs.{Run};
+ghost use Rattle.als_world.specs.Standing.{Standing, Up, Shows, Keeps, IsTrue};
 
 use super::standby::CONFIG;
 use super::text::TEXT;
-use als_disk::{FailingDisk, Fuse, MemDisk};
-use als_engine::{Disks, Engine, Fault, Fed, FeedFault, Reply, Step};
+use als_disk::{FailingDisk, Fuse, MemDisk, Restart};
+use als_engine::{Config, Disks, Fault, Fed, FeedFault, Reply, Step};
 use als_record::Lsn;
 use als_world::{World, WorldReply, WorldStep, run};
 use std::alloc::{AllocError, Global};
@@ -29,11 +33,35 @@ fn world(alloc: Global, failing: u64) -> Option<World<Disk>>
     let Ok((disks, fuse)) = devices(alloc) else {
         return None;
     };
-    match Engine::format(alloc, disks, CONFIG) {
-        Ok(engine) => {
+    match World::format(alloc, disks, CONFIG) {
+        Ok(world) => {
             fuse.fail_at(failing);
-            Some(World::new(engine, CONFIG))
+            Some(world)
         }
+        Err(_) => None,
+    }
+}
+
+/// The theorem, from its beginning: a new database over these devices, and a run of it. None:
+/// memory was refused, or a device failed while it was formatted.
+fn run_anew<D: Restart + Drop>(
+    alloc: Global,
+    disks: Disks<D>,
+    config: Config,
+    steps: &[WorldStep],
+) -> Option<(World<D>, Vec<WorldReply>)>
+    ensures headline { IfSome result (λ x. (first : Machine)
+        × FormatsWorld config (D.block_count disks.log) (D.block_count disks.pages)
+        (D.failures disks.pages) (D.attempts disks.pages)
+        (D.failures disks.log + D.failures disks.control + D.failures disks.pages) first
+        × ((last : Standing) × Shows D.slot D.block_count x.0 last
+        × Run config (Up first) steps.now x.1.items last × Keeps (Up first) last × IsTrue last)) }
+{
+    match World::format(alloc, disks, config) {
+        Ok(world) => match run(alloc, world, steps) {
+            Ok(after) => Some(after),
+            Err(_) => None,
+        },
         Err(_) => None,
     }
 }
@@ -141,6 +169,34 @@ fn restarts(alloc: Global) -> Option<()> {
     // The steps make two calls of the control device, and each restart two: the seventh is the
     // third restart's sync.
     replies(alloc, 7, &steps, &wanted)
+}
+
+/// A new database is fed, forced and crashed, and its log is there again.
+fn begins_anew(alloc: Global) -> Option<()> {
+    let disks = Disks {
+        log: MemDisk::new(alloc, 8),
+        control: MemDisk::new(alloc, 321),
+        pages: MemDisk::new(alloc, 4),
+    };
+    let steps = [
+        WorldStep::Event(Step::Feed(&TEXT[..100])),
+        WorldStep::Event(Step::LogWrite),
+        WorldStep::Event(Step::LogSync),
+        WorldStep::Event(Step::MarkWrite),
+        WorldStep::Event(Step::ControlSync),
+        WorldStep::Crash(&[]),
+    ];
+    let (world, replies) = run_anew(alloc, disks, CONFIG, &steps)?;
+    drop(world);
+    match replies.as_slice().last() {
+        Some(WorldReply::Restarted(Lsn(116))) => Some(()),
+        _ => None,
+    }
+}
+
+#[test]
+fn a_new_database_is_run(rt: HostRuntime) {
+    assert!(rt; begins_anew(rt.alloc()).is_some() || begins_anew(rt.alloc()).is_some());
 }
 
 #[test]

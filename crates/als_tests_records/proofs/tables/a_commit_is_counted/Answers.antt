@@ -4,4 +4,4 @@ use Rattle.als_tests_records.proofs.tables.a_commit_is_counted.Goals as goal
 
 pub note-requires-clause-commits : goal.note-requires-clause-commits
 unfolding commit_count
-note-requires-clause-commits g c = rw c.new-tally.ensures.commits (omega arith)
+note-requires-clause-commits g c = rw c.new-count.ensures.commits (omega arith)

@@ -1,0 +1,204 @@
+use crate::split::{Split, add};
+use als_engine::{Answer, Events, Fault, Fed, FeedFault, Status};
+use als_page::Page;
+use als_record::{Key, LoggedPage, Lsn, Record, TransactionRow};
+use std::alloc::Global;
+use std::rt::Clock;
+use std::time::{Duration, Instant};
+
+/// A standby of which each event is timed by itself. A clock that fails counts as no time.
+pub struct Timed<'a, R: Clock, E: Events> {
+    rt: &'a R,
+    events: E,
+    split: Split,
+    /// A checkpoint was begun since the log was forced last.
+    in_checkpoint: bool,
+}
+
+impl<'a, R: Clock, E: Events> Timed<'a, R, E> {
+    /// The same standby, timed.
+    pub fn new(rt: &'a R, events: E) -> Timed<'a, R, E> {
+        Timed {
+            rt,
+            events,
+            split: Split::NOTHING,
+            in_checkpoint: false,
+        }
+    }
+
+    /// The standby, and what took so long.
+    pub fn into_parts(self) -> (E, Split) {
+        let Timed {
+            rt: _,
+            events,
+            split,
+            in_checkpoint: _,
+        } = self;
+        (events, split)
+    }
+
+    fn now(&self) -> Option<Instant> {
+        Instant::now(self.rt).ok()
+    }
+}
+
+/// Adds the time since then to a part.
+fn took<R: Clock>(rt: &R, part: &mut Duration, start: Option<Instant>) {
+    if let Some(start) = start {
+        let _ = add(rt, part, start);
+    }
+}
+
+// Each call is one of the standby's own.
+impl<R: Clock, E: Events> Events for Timed<'_, R, E> {
+    ghost alone = { E.alone };
+
+    ghost machine = { λ timed. E.machine timed.events };
+
+    fn feed(&mut self, piece: &[u8]) -> Result<Fed, FeedFault> {
+        let start = self.now();
+        let answer = self.events.feed(piece);
+        took(self.rt, &mut self.split.fed, start);
+        self.split.frames = self.split.frames.saturating_add(1);
+        if let Ok(fed) = &answer {
+            self.split.records = self.split.records.saturating_add(fed.records as u64);
+        }
+        answer
+    }
+
+    fn resync(&mut self) -> Result<(), Fault> {
+        self.events.resync()
+    }
+
+    fn apply(&mut self, page: u32) -> Result<Lsn, Fault> {
+        let start = self.now();
+        let answer = self.events.apply(page);
+        took(self.rt, &mut self.split.redone, start);
+        answer
+    }
+
+    fn flush(&mut self, page: u32) -> Result<(), Fault> {
+        let start = self.now();
+        let answer = self.events.flush(page);
+        took(self.rt, &mut self.split.flushed, start);
+        answer
+    }
+
+    fn sync_pages(&mut self) -> Result<(), Fault> {
+        let start = self.now();
+        let answer = self.events.sync_pages();
+        took(self.rt, &mut self.split.flushed, start);
+        answer
+    }
+
+    fn log_write(&mut self) -> Result<(), Fault> {
+        let start = self.now();
+        self.in_checkpoint = false;
+        let answer = self.events.log_write();
+        took(self.rt, &mut self.split.written, start);
+        answer
+    }
+
+    fn log_sync(&mut self) -> Result<(), Fault> {
+        let start = self.now();
+        let answer = self.events.log_sync();
+        took(self.rt, &mut self.split.synced, start);
+        answer
+    }
+
+    fn mark_write(&mut self) -> Result<(), Fault> {
+        let start = self.now();
+        let answer = self.events.mark_write();
+        took(self.rt, &mut self.split.marked, start);
+        answer
+    }
+
+    fn ckpt_begin(&mut self) -> Result<(), Fault> {
+        let start = self.now();
+        let answer = self.events.ckpt_begin();
+        took(self.rt, &mut self.split.checkpointed, start);
+        self.in_checkpoint = true;
+        answer
+    }
+
+    fn ckpt_block(&mut self) -> Result<(), Fault> {
+        let start = self.now();
+        let answer = self.events.ckpt_block();
+        took(self.rt, &mut self.split.checkpointed, start);
+        answer
+    }
+
+    fn ckpt_publish(&mut self) -> Result<(), Fault> {
+        let start = self.now();
+        let answer = self.events.ckpt_publish();
+        took(self.rt, &mut self.split.checkpointed, start);
+        answer
+    }
+
+    fn publish_view(&mut self) -> Result<(), Fault> {
+        let start = self.now();
+        let answer = self.events.publish_view();
+        took(self.rt, &mut self.split.published, start);
+        answer
+    }
+
+    // The control block is synced twice for a checkpoint.
+    fn ctl_sync(&mut self) -> Result<Lsn, Fault> {
+        let start = self.now();
+        let answer = self.events.ctl_sync();
+        if self.in_checkpoint {
+            took(self.rt, &mut self.split.checkpointed, start);
+        } else {
+            took(self.rt, &mut self.split.acknowledged, start);
+        }
+        answer
+    }
+
+    fn ready(&mut self) -> Result<(), Fault> {
+        self.events.ready()
+    }
+
+    fn seal(&mut self) -> Result<(), Fault> {
+        self.events.seal()
+    }
+
+    fn undo_one(&mut self) -> Result<Lsn, Fault> {
+        self.events.undo_one()
+    }
+
+    fn finish(&mut self) -> Result<(), Fault> {
+        self.events.finish()
+    }
+
+    fn status(&self) -> Status {
+        self.events.status()
+    }
+
+    fn table(&self, alloc: Global) -> Result<Vec<TransactionRow>, Fault> {
+        self.events.table(alloc)
+    }
+
+    fn pages(&self) -> u32 {
+        self.events.pages()
+    }
+
+    fn dirty(&self, from: u32) -> Option<LoggedPage> {
+        self.events.dirty(from)
+    }
+
+    fn next_pending(&self, from: u32) -> Option<u32> {
+        self.events.next_pending(from)
+    }
+
+    fn page_now(&mut self, page: u32) -> Result<Page, Fault> {
+        self.events.page_now(page)
+    }
+
+    fn read(&self, key: Key) -> Result<Answer, Fault> {
+        self.events.read(key)
+    }
+
+    fn record_at(&mut self, lsn: Lsn) -> Result<Option<Record>, Fault> {
+        self.events.record_at(lsn)
+    }
+}
