@@ -1,4 +1,5 @@
 pub mod Answered
 mod Full
 mod Maps
+mod MirrorLaws
 mod Picks

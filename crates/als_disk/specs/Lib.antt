@@ -2,7 +2,10 @@ pub mod Count
 pub mod Crash
 pub mod Failures
 pub mod MemDisk
+pub mod Mirror
+pub mod Pieces
 pub mod Slot
 pub mod SlotLaws
 pub mod Store
+pub mod Trail
 pub mod Unsynced

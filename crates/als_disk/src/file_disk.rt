@@ -12,14 +12,15 @@
 //! candidates of this run. The calls are generic, so that a test records them and their order.
 ghost use Rattle.std.specs.Prelude.{◌≡◌, ◌<◌, ◌+◌, ◌*◌, ◌^◌, ℕ, IfOk};
 ghost use Rattle.als_disk.specs.Count.{number};
-ghost use Rattle.als_disk.specs.MemDisk.{mem_blocks, mem_slot, mem_failures};
+ghost use Rattle.als_disk.specs.Mirror.{mirror_blocks, mirror_slot};
 ghost use Rattle.als_disk.specs.Slot.{only, IsSettled};
 ghost use Rattle.als_disk.specs.Store.{zeros};
 
 use crate::count::Count;
-use crate::mirror::{mirror_of, settle};
+use crate::mirror::Mirror;
 use crate::pieces::write_zeros;
-use crate::{BlockDisk, DeviceError, FirstError, MemDisk};
+use crate::reading::mirror_of;
+use crate::{BlockDisk, DeviceError, FirstError};
 use std::alloc::Global;
 use std::fs::{File, OpenFile, OpenOptions};
 use std::io;
@@ -30,12 +31,12 @@ use std::rt::Files;
 /// A device over a file, of its length / 512 blocks.
 pub struct FileDisk<F = File> {
     file: F,
-    mirror: MemDisk,
+    mirror: Mirror,
     first_error: FirstError,
     broken: bool,
     failed: Count,
     attempted: Count,
-    ghost fits: { mem_blocks mirror * 512 < 2 ^ 64 },
+    ghost fits: { mirror_blocks mirror * 512 < 2 ^ 64 },
 }
 
 // Written out: a derived drop is proved wherever a device is let go of, this one only here.
@@ -82,7 +83,7 @@ impl<F: OpenFile + FileExt + Drop> FileDisk<F> {
             .open(rt, path.path_text())?;
         write_zeros(rt.alloc(), &file, blocks)?;
         file.sync_all()?;
-        let mirror = MemDisk::new(rt.alloc(), blocks);
+        let mirror = Mirror::zeros(rt.alloc(), blocks)?;
         Ok(FileDisk {
             file,
             mirror,
@@ -143,18 +144,17 @@ impl<F: OpenFile + FileExt + Drop> FileDisk<F> {
 }
 
 impl<F: OpenFile + FileExt + Drop> BlockDisk for FileDisk<F> {
-    ghost use Rattle.als_disk.specs.Store.{slot_of-gives_candidates};
+    ghost use Rattle.als_disk.specs.Trail.{slot_in-gives_candidates};
 
-    ghost block_count = { λ disk. mem_blocks disk.mirror };
+    ghost block_count = { λ disk. mirror_blocks disk.mirror };
 
-    ghost slot = { λ disk. mem_slot disk.mirror };
+    ghost slot = { λ disk. mirror_slot disk.mirror };
 
-    ghost failures = { λ disk. mem_failures disk.mirror + number disk.failed };
+    ghost failures = { λ disk. number disk.failed };
 
     ghost attempts = { λ disk. number disk.attempted };
 
-    ghost gives_candidates = { λ disk. slot_of-gives_candidates disk.mirror.synced
-        disk.mirror.unsynced };
+    ghost gives_candidates = { λ disk. slot_in-gives_candidates disk.mirror.trail.value };
 
     ghost holds_blocks = { λ disk. disk.mirror.contents };
 
@@ -167,7 +167,8 @@ impl<F: OpenFile + FileExt + Drop> BlockDisk for FileDisk<F> {
             self.failed.step();
             return Err(DeviceError);
         }
-        self.mirror.read(i, into)
+        *into = self.mirror.read(i);
+        Ok(())
     }
 
     fn write(&mut self, i: u64, block: &[u8; 512]) -> Result<(), DeviceError> {
@@ -176,7 +177,10 @@ impl<F: OpenFile + FileExt + Drop> BlockDisk for FileDisk<F> {
             self.failed.step();
             return Err(DeviceError);
         }
-        self.mirror.write(i, block)?;
+        if self.mirror.write(i, block).is_err() {
+            self.failed.step();
+            return Err(DeviceError);
+        }
         match self.file.write_all_at(block, i * 512) {
             Ok(()) => Ok(()),
             Err(error) => {
@@ -194,11 +198,11 @@ impl<F: OpenFile + FileExt + Drop> BlockDisk for FileDisk<F> {
         }
         match self.file.sync_data() {
             Ok(()) => {
-                settle(&mut self.mirror);
+                self.mirror.settle();
                 Ok(())
             }
-            Err(error) => {
-                self.break_off(error);
+            Err(cause) => {
+                self.break_off(cause);
                 Err(DeviceError)
             }
         }

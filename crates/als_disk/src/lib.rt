@@ -26,8 +26,14 @@ mod failing_disk;
 mod first_error;
 // files, piece by piece
 mod pieces;
+// the writes and syncs of a device, for clauses
+mod trail;
+// 64 KiB of a file
+mod piece;
 // what a device over a file keeps in memory
 mod mirror;
+// the contents of a file, read once
+mod reading;
 // a device over a file
 mod file_disk;
 

@@ -1,76 +1,49 @@
-// What a device over a file keeps in memory.
-ghost use Rattle.std.specs.Prelude.{◌≡◌, ◌≤◌, ◌<◌, ◌+◌, ◌*◌, ◌^◌, ℕ, length, IfOk, OnOk};
-ghost use Rattle.als_disk.specs.MemDisk.{mem_blocks, mem_slot, mem_failures};
-ghost use Rattle.als_disk.specs.Slot.{only, IsSettled, KeepsReadable};
+//! What a device over a file keeps in memory.
+//!
+//! ```text
+//! pieces:   | 128 blocks | no block: zeros | 128 blocks | no block: zeros | ..
+//! trail:    each write and each sync, for clauses alone
+//! ```
+//!
+//! Rules:
+//! 1. A piece of 64 KiB is allocated at the first block in it that is not zeros.
+//! 2. The pieces hold the last content written to each block. A read gives it.
+//! 3. What a crash may leave is a matter of the trail: no code asks for it, so no content but the
+//!    last is kept, and a sync costs nothing here.
 
-use crate::pieces::{PIECE, zeros};
-use crate::{BlockDisk, DeviceError, MemDisk};
-use std::alloc::{AllocError, Global};
-use std::io;
-use std::os::unix::fs::FileExt;
+ghost use Rattle.std.specs.Prelude.{◌≤◌, ◌*◌, length};
+ghost use Rattle.als_disk.specs.Pieces.{HoldNewest};
+ghost use Rattle.als_disk.specs.Slot.{HoldsBlocks};
+ghost use Rattle.als_disk.specs.Trail.{slot_in};
 
-/// The contents of the file's blocks, each read once. What is not all zeros is written back as it
-/// is read: the caller's next sync then brings it to the disk.
-pub(crate) fn mirror_of<F: FileExt>(alloc: Global, file: &F, blocks: u64) -> io::Result<MemDisk>
-    requires { blocks * 512 < 2 ^ 64 }
-    ensures count { IfOk result (λ mirror. mem_blocks mirror ≡ blocks) }
-    ensures settled { IfOk result (λ mirror. (k : ℕ) → IsSettled (mem_slot mirror k)) }
-{
-    let mut mirror = MemDisk::new(alloc, blocks);
-    let mut piece = zeros(alloc)?;
-    let mut first = 0;
-    while first < blocks {
-        let count = (blocks - first).min(PIECE);
-        let held = &mut piece[..count as usize];
-        file.read_exact_at(held.as_flattened_mut(), first * 512)?;
-        if take_in(&mut mirror, first, held)? {
-            file.write_all_at(held.as_flattened(), first * 512)?;
-        }
-        first += count;
-    }
-    Ok(mirror)
+// What is done to it.
+mod holding;
+
+use crate::piece::Piece;
+use crate::trail::Trail;
+use als_past::Past;
+use std::alloc::Global;
+
+/// The contents of a file's blocks. Blocks of zeros take no room.
+pub(crate) struct Mirror {
+    alloc: Global,
+    blocks: u64,
+    pieces: Vec<Piece>,
+    trail: Past<Trail>,
+    ghost enough: { blocks ≤ length pieces.items * 128 },
+    ghost newest: { HoldNewest pieces.items trail.value },
+    ghost contents: { HoldsBlocks (slot_in trail.value) },
 }
 
-/// Keeps the blocks of a piece, from this one on, and tells whether one is not all zeros.
-fn take_in(mirror: &mut MemDisk, first: u64, piece: &[[u8; 512]]) -> Result<bool, AllocError>
-    requires within { first + length piece.now ≤ mem_blocks mirror.old }
-    requires settled { (k : ℕ) → IsSettled (mem_slot mirror.old k) }
-    ensures count { mem_blocks mirror.new ≡ mem_blocks mirror.old }
-    ensures settled { OnOk result ((k : ℕ) → IsSettled (mem_slot mirror.new k)) }
-{
-    let mut held = false;
-    for (i, block) in piece.iter().enumerate() {
-        if *block != [0; 512] {
-            keep(mirror, first + i as u64, block)?;
-            held = true;
-        }
-    }
-    Ok(held)
-}
-
-/// Makes this the one content of a block.
-fn keep(mirror: &mut MemDisk, i: u64, block: &[u8; 512]) -> Result<(), AllocError>
-    requires { i < mem_blocks mirror.old }
-    ensures count { mem_blocks mirror.new ≡ mem_blocks mirror.old }
-    ensures kept { OnOk result (mem_slot mirror.new i ≡ only block.now) }
-    ensures settled { OnOk result ((k : ℕ) → IsSettled (mem_slot mirror.new k)) }
-{
-    match mirror.write(i, block) {
-        Ok(()) => {}
-        Err(DeviceError) => return Err(AllocError),
-    }
-    settle(mirror);
-    Ok(())
-}
-
-/// Makes the newest content of each block the only one.
-pub(crate) fn settle(mirror: &mut MemDisk)
-    ensures kept { (k : ℕ) → KeepsReadable (mem_slot mirror.old k) (mem_slot mirror.new k) }
-    ensures count { mem_blocks mirror.new ≡ mem_blocks mirror.old }
-    ensures failures { mem_failures mirror.new ≡ mem_failures mirror.old }
-{
-    match mirror.sync() {
-        Ok(()) => {}
-        Err(DeviceError) => unreachable!(),
+// Written out: a derived drop is proved wherever a mirror is let go of, this one only here.
+impl Drop for Mirror {
+    fn drop(self) {
+        let Mirror {
+            alloc: _,
+            blocks: _,
+            pieces,
+            trail: _,
+        } = self;
+        drop(pieces);
     }
 }

@@ -1,0 +1,13 @@
+use Rattle.std.proofs.Common.{◌∙◌, sym, ◌+◌, ◌*◌}
+use Rattle.als_disk.specs.Trail.{KeepsReadable-last}
+use Rattle.als_disk.proofs.MirrorLaws.{contents-sync}
+use Rattle.als_disk.proofs.mirror.Mirror.settle.Goals as goal
+
+pub invariant_of-self-clause-newest : goal.invariant_of-self-clause-newest
+invariant_of-self-clause-newest c = λ p at below. c.args.self.now.newest p at below ∙ sym (c.note_sync.ensures.newest (p * 128 + at))
+
+pub invariant_of-self-clause-contents : goal.invariant_of-self-clause-contents
+invariant_of-self-clause-contents c = contents-sync c.args.self.now.trail.value c.note_sync.new.trail.value c.note_sync.ensures.slot c.args.self.now.contents
+
+pub returns-clause-kept : goal.returns-clause-kept
+returns-clause-kept c = λ k. KeepsReadable-last c.args.self.now.trail.value k _ (c.note_sync.ensures.slot k)
