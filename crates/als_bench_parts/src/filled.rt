@@ -1,6 +1,7 @@
 use crate::drawn::{PAGES, drawn_image, drawn_key};
+use als_commits::Commit;
 use als_record::{Image, Key, Lsn, SLOT_COUNT, TransId};
-use als_view::{Commit, Fault, View};
+use als_view::{Fault, View};
 use std::alloc::Global;
 
 /// A view in which each key has a value of eight bytes, by one commit for each page.

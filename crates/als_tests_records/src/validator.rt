@@ -1,9 +1,9 @@
 ghost use Rattle.als_validator.specs.Validated.{HasRoom};
 
 use crate::made::{Said, record, undo, update};
+use als_commits::Commit;
 use als_record::{Body, Cause, Lsn, PageRows, Record, TransId, TransactionRows};
 use als_validator::{Fault, Validator};
-use als_view::Commit;
 use std::alloc::Global;
 use std::process::Abort;
 

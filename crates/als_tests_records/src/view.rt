@@ -1,6 +1,7 @@
 use crate::made::image;
+use als_commits::Commit;
 use als_record::{BodyView, Image, ImageView, KeptUpdate, Key, Lsn, RecordView, TransId};
-use als_view::{Answer, Commit, Fault, View};
+use als_view::{Answer, Fault, View};
 use std::alloc::Global;
 use std::process::Abort;
 

@@ -13,7 +13,7 @@ use Rattle.als_record.proofs.Records.{to_undo-none, to_undo-own, has_ended-none,
 use Rattle.als_record.proofs.Numbers.{eqb-refl}
 use Rattle.als_record.proofs.Validity.{first_bad-none, is_valid-first_bad, is_valid-push, Admitted-may_follow}
 use Rattle.als_record.proofs.CommitSteps.{commit_by, commits_of-push}
-use Rattle.als_view.specs.Committing.{commit_with}
+use Rattle.als_commits.specs.Committing.{commit_with}
 use Rattle.als_validator.proofs.StateSteps.{known_of}
 
 -- a commit record is one of a transaction

@@ -12,8 +12,8 @@ ghost use Rattle.als_validator.specs.Validated.{IsValidatorOf};
 
 use crate::fault::Fault;
 use crate::validator::Validator;
+use als_commits::Commit;
 use als_record::{Body, BodyView, Record as AnyRecord, RecordView};
-use als_view::Commit;
 use std::alloc::Global;
 
 /// Whether a record commits its transaction.

@@ -8,7 +8,8 @@ use Rattle.als_record.specs.declared.key.Key.{Key}
 use Rattle.als_record.specs.Spelling.{Image}
 use Rattle.als_record.specs.Images.{same_key}
 use Rattle.als_record.specs.Commits.{Commit, Write, after_write, seen_after}
-use Rattle.als_view.specs.Fronts.{place_of, written, written_by, last_of, AreImagesAfter}
+use Rattle.als_commits.specs.Counting.{last_of}
+use Rattle.als_view.specs.Fronts.{place_of, written, written_by, AreImagesAfter}
 
 length-written : (images : List Image) (w : Write) → length (written images w) ≡ length images
 length-written images w = go (nat_lt w.key.slot 15 && nat_lt (place_of w.key) (length images))

@@ -1,4 +1,2 @@
-pub mod Counting
 pub mod Folding
-pub mod Rising
 pub mod ViewLaws

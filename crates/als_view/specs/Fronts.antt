@@ -1,27 +1,10 @@
 -- A view, and the front of commits that it shows.
-use Rattle.std.specs.Prelude.{◌≡◌, ℕ, suc, [], ◌∷◌, ◌+◌, ◌*◌, ◌<◌, ◌≤◌, ◌%◌, ◌^◌, Bool, List, length, slice_index_or, slice_set, nat_lt, ◌&&◌, fold, None, if◌then◌else◌}
+use Rattle.std.specs.Prelude.{◌≡◌, ℕ, ◌+◌, ◌*◌, ◌<◌, ◌≤◌, ◌%◌, ◌^◌, Bool, List, length, slice_index_or, slice_set, nat_lt, ◌&&◌, fold, None, if◌then◌else◌}
 use Rattle.als_record.specs.declared.key.Key.{Key}
-use Rattle.als_record.specs.declared.lsn.Lsn.{Lsn}
 use Rattle.als_record.specs.Spelling.{Image}
 use Rattle.als_record.specs.Commits.{Commit, Write, seen_after}
+use Rattle.als_commits.specs.Counting.{last_of}
 use Rattle.als_view.specs.declared.view.Answer.{Answer}
-
--- a key and what it gets
-abbrev pub write_of : Key × Image → Write
-write_of pair = record { key = pair.0; after = pair.1 }
-
--- the LSN of the last of these commits, that of the one before without one
-abbrev pub last_from : ℕ → List Commit → ℕ
-last_from before commits = fold (λ last c. c.lsn.0) before commits
-
--- the LSN of the last of these commits, 0 without one
-unfoldable pub last_of : List Commit → ℕ
-last_of commits = fold (λ last c. c.lsn.0) 0 commits
-
--- how many of the first commits have a commit record that begins below an LSN, up to the first that does not
-abbrev pub count_below : Lsn → List Commit → ℕ
-count_below lsn [] = 0
-count_below lsn (c ∷ rest) = if nat_lt c.lsn.0 lsn.0 then suc (count_below lsn rest) else 0
 
 -- where a key's image is: 15 slots a page
 abbrev pub place_of : Key → ℕ

@@ -1,4 +1,3 @@
-pub mod Committing
 pub mod FaultNames
 pub mod Fronts
 pub mod Showing

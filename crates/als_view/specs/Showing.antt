@@ -1,21 +1,14 @@
 -- What a view shows of a log.
-use Rattle.std.specs.Prelude.{◌≡◌, ℕ, ◌+◌, ◌≤◌, ◌⊎◌, nat_le, nat_lt, ◌&&◌, true, false, List, [], ◌∷◌, ◌++◌, length, filter, Option, Some, None, if◌then◌else◌}
+use Rattle.std.specs.Prelude.{◌≡◌, ℕ, nat_lt, ◌&&◌, false, List, [], ◌++◌, length, Option, Some, None, if◌then◌else◌}
 use Rattle.std.specs.List.{AllByRecursion}
 use Rattle.als_record.specs.declared.key.Key.{Key}
 use Rattle.als_record.specs.declared.record.Record.{Record}
-use Rattle.als_record.specs.Transactions.{is_commit}
 use Rattle.als_record.specs.Images.{won}
 use Rattle.als_record.specs.Commits.{Commit, commits_of}
-use Rattle.als_view.specs.Fronts.{View, HasPublished, last_of}
+use Rattle.als_commits.specs.Counting.{IsEnded, last_of}
+use Rattle.als_commits.specs.Fronts.{EndsWithCommit}
+use Rattle.als_view.specs.Fronts.{View, HasPublished}
 use Rattle.als_view.specs.declared.view.Answer.{Answer}
-
--- a commit whose record ends at or below an offset
-abbrev pub IsEnded : ℕ → Commit → Type 0
-IsEnded offset c = c.lsn.0 + 28 ≤ offset
-
--- how many of these commits have a record that ends at or below an offset
-unfoldable pub ended_count : ℕ → List Commit → ℕ
-ended_count offset commits = length (filter (λ c. nat_le (c.lsn.0 + 28) offset) commits)
 
 -- The view is of the log, of which an offset is acknowledged: the commits of the log are those published and then those queued, and
 -- those published end at or below the offset.
@@ -36,10 +29,6 @@ pub record IsWarming (pages : ℕ) (log : List Record) (view : View) : Type 0 wh
 -- how many commits are published; none where there is no list
 abbrev pub published_of : View → Option ℕ
 published_of view = if view.listed then Some view.commits else None
-
--- the log is empty, or its last record is a commit
-abbrev pub EndsWithCommit : List Record → Type 0
-EndsWithCommit log = (log ≡ []) ⊎ ((before : List Record) × (r : Record) × (log ≡ before ++ r ∷ []) × (is_commit r.body ≡ true))
 
 -- An answer is of a front of the log, which ends with a commit: the value that the committed transactions of this front left at the key,
 -- how many they are, and the LSN of the last one. They all end at or below what is acknowledged.

@@ -1,14 +1,12 @@
 ghost use Rattle.std.specs.Prelude.{◌≡◌, ◌+◌, ◌≤◌, [], IfOk, IfErr, fold, take, drop, length};
 ghost use Rattle.als_view.specs.declared.fault.Fault.TheVariants.{Memory};
-ghost use Rattle.std.specs.VecDeque.{deque_len, deque_capacity};
-ghost use Rattle.als_view.specs.Fronts.{AreImagesAfter, place_of, written, written_by, last_from};
-ghost use Rattle.als_view.specs.Fronts.{count_below};
+ghost use Rattle.als_commits.specs.Counting.{last_from};
+ghost use Rattle.als_view.specs.Fronts.{AreImagesAfter, place_of, written, written_by};
 
-use crate::commit::Commit;
 use crate::fault::Fault;
-use als_record::{Image, ImageView, KeptImage, Key, Lsn, SLOT_COUNT};
+use als_commits::{Commit, Waiting};
+use als_record::{Image, ImageView, KeptImage, Key, SLOT_COUNT};
 use std::alloc::Global;
-use std::collections::VecDeque;
 
 /// Where the image of a key is.
 pub(crate) fn place(key: Key) -> usize
@@ -56,36 +54,21 @@ pub(crate) fn write_all(images: &mut [KeptImage], commit: Commit) -> u64
 /// images, in order. Answers the LSN of the last of them, that of the one before without one.
 pub(crate) fn write_first(
     images: &mut [KeptImage],
-    queued: &mut VecDeque<Commit, Global>,
+    waiting: &mut Waiting,
     count: usize,
     before: u64,
 ) -> u64
-    requires { count ≤ length queued.old.items }
-    ensures images { images.new ≡ fold written_by images.old (take count queued.old.items) }
-    ensures left { queued.new.items ≡ drop count queued.old.items }
-    ensures len { deque_len queued.new + count ≡ deque_len queued.old }
-    ensures capacity { deque_capacity queued.new ≡ deque_capacity queued.old }
-    ensures last { result ≡ last_from before (take count queued.old.items) }
+    requires { count ≤ length waiting.old.queued }
+    ensures images { images.new ≡ fold written_by images.old (take count waiting.old.queued) }
+    ensures left { waiting.new.queued ≡ drop count waiting.old.queued }
+    ensures room { waiting.new.room ≡ waiting.old.room + count }
+    ensures last { result ≡ last_from before (take count waiting.old.queued) }
 {
     let mut last = before;
     for _ in 0..count {
-        if let Some(commit) = queued.pop_front() {
+        if let Some(commit) = waiting.pop() {
             last = write_all(images, commit);
         }
     }
     last
-}
-
-/// How many of the first commits have a commit record that begins below an LSN, up to the first
-/// that does not.
-pub(crate) fn count_below(queued: &VecDeque<Commit, Global>, lsn: Lsn) -> usize
-    ensures { result ≡ count_below lsn queued.now.items }
-{
-    for i in 0..queued.len() {
-        match queued.get(i) {
-            Some(commit) if commit.lsn.0 < lsn.0 => {}
-            _ => return i,
-        }
-    }
-    queued.len()
 }

@@ -2,10 +2,6 @@
 //! after another.
 #![tactic(auto)]
 
-// A committed transaction and what it writes.
-mod commit;
-// The commit that a record makes.
-mod committing;
 // Why a reader gets no answer.
 mod fault;
 // The keys' images.
@@ -17,9 +13,6 @@ mod showing;
 // The view.
 mod view;
 
-pub use commit::Commit;
 pub use fault::Fault;
-pub use laws::{
-    a_view_goes_on, all_commits_end, commits_are_few, counts_stay, published_are_ended,
-};
+pub use laws::{a_view_goes_on, published_are_ended};
 pub use view::{Answer, View};

@@ -6,23 +6,13 @@ ghost use Rattle.als_record.specs.LogText.{end_of};
 ghost use Rattle.als_record.specs.Validity.{is_valid};
 ghost use Rattle.als_record.specs.Commits.{commits_of};
 ghost use Rattle.als_view.specs.declared.fault.Fault.TheVariants.{Memory, Warming};
-ghost use Rattle.als_view.specs.Showing.{IsShowing, IsWarming, published_of, ended_count};
-ghost use Rattle.als_view.specs.Showing.{ReadsFront};
+ghost use Rattle.als_commits.specs.Counting.{ended_count};
+ghost use Rattle.als_view.specs.Showing.{IsShowing, IsWarming, published_of, ReadsFront};
 
-use crate::commit::Commit;
 use crate::fault::Fault;
 use crate::view::{Answer, View};
+use als_commits::Commit;
 use als_record::{Key, Lsn};
-
-/// A commit record has so many bytes but one.
-const ALL_BUT_ONE: u64 = 27;
-
-/// The commit records that end at or below an offset begin below this LSN.
-fn begins_below(acknowledged: Lsn) -> Lsn
-    ensures { result.0 ≡ acknowledged.0 - 27 }
-{
-    Lsn(acknowledged.0.saturating_sub(ALL_BUT_ONE))
-}
 
 impl View {
     /// Makes room for a commit, if there is one: it can then be taken with no memory. An `Err`
@@ -33,10 +23,8 @@ impl View {
         ensures err { IfErr result (λ e. e ≡ Memory) }
         ensures reserved { found.now ≡ None → IsOk result }
     {
-        match found {
-            None => Ok(()),
-            Some(_) => self.reserve(1),
-        }
+        self.waiting.make_room(found)?;
+        Ok(())
     }
 
     /// Queues the commit of a record that was added to the log, if it makes one. It takes no
@@ -54,13 +42,7 @@ impl View {
         ensures published { published_of self.new ≡ published_of self.old }
         ensures pages { self.new.pages ≡ self.old.pages }
     {
-        if let Some(commit) = found {
-            match self.queue(commit) {
-                Ok(()) => {}
-                // There is room.
-                Err(_) => unreachable!(),
-            }
-        }
+        self.waiting.take(found);
     }
 
     /// How many commits are not published yet whose record ends at or below an offset.
@@ -70,7 +52,7 @@ impl View {
             → end_of log < 2 ^ 64 → below ≤ acknowledged.0 → IsShowing log below self.now
             → self.now.commits + result ≡ ended_count acknowledged.0 (commits_of log) }
     {
-        self.count_below(begins_below(acknowledged))
+        self.waiting.count_ended(acknowledged)
     }
 
     /// Publishes each commit whose record ends at or below an offset, in order and at once, and
@@ -82,7 +64,7 @@ impl View {
             × (published_of self.new ≡ Some (ended_count acknowledged.0 (commits_of log))) }
         ensures pages { self.new.pages ≡ self.old.pages }
     {
-        let count = self.count_below(begins_below(acknowledged));
+        let count = self.waiting.count_ended(acknowledged);
         self.publish_first(count);
     }
 

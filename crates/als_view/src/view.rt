@@ -18,17 +18,18 @@
 ghost use Rattle.std.specs.Prelude.{◌≡◌, ℕ, ◌<◌, ◌%◌, ◌^◌, ◌++◌, ◌∷◌, ◌+◌, ◌-◌, ◌≤◌, [], List};
 ghost use Rattle.std.specs.Prelude.{take, drop, IsOk, true, false, Ok, Err, None, IfOk, IfErr};
 ghost use Rattle.std.specs.Prelude.{OnOk, OnErr, if◌then◌else◌, ◌&&◌, nat_lt, length, MatchResult};
-ghost use Rattle.als_record.specs.Commits.{Commit as AnyCommit, seen_after};
+ghost use Rattle.als_record.specs.declared.record.Record.{Record as AnyRecord};
+ghost use Rattle.als_record.specs.Commits.{Commit as AnyCommit, commits_of, seen_after};
+ghost use Rattle.als_commits.specs.Counting.{count_below};
 ghost use Rattle.als_view.specs.declared.fault.Fault.TheVariants.{Memory, Warming};
-ghost use Rattle.als_view.specs.Fronts.{HasPublished, Answers, count_below};
+ghost use Rattle.als_view.specs.Fronts.{HasPublished, Answers};
 ghost use Rattle.als_view.specs.Showing.{IsWarming};
 
-use crate::commit::Commit;
 use crate::fault::Fault;
 use crate::images;
+use als_commits::{Commit, Waiting};
 use als_record::{Image, KeptImage, Key, Lsn, SLOT_COUNT};
 use std::alloc::Global;
-use std::collections::VecDeque;
 use std::marker::Model;
 
 /// What a reader is answered: the value of a key after the published commits, how many these are,
@@ -50,12 +51,11 @@ pub struct View {
     // Modulo 2^64, which is exact for the commits of a device's log.
     commits: u64,
     last: Lsn,
-    queued: VecDeque<Commit, Global>,
-    // The queue takes so many more commits without memory.
-    room: usize,
+    // The commits that are not published yet.
+    pub(crate) waiting: Waiting,
 }
 
-// Written out: a derived drop is proved wherever a view is let go of, this one only here.
+// Written out: a derived drop is proved wherever a view is dropped, this one only here.
 impl Drop for View {
     fn drop(self) {
         let View {
@@ -64,17 +64,15 @@ impl Drop for View {
             images,
             commits: _,
             last: _,
-            queued,
-            room: _,
+            waiting,
         } = self;
         drop(images);
-        drop(queued);
+        drop(waiting);
     }
 }
 
 impl Model for View {
-    ghost use Rattle.std.specs.Prelude.{◌≡◌, ◌*◌, ◌+◌, ◌≤◌, length};
-    ghost use Rattle.std.specs.VecDeque.{deque_len, deque_capacity};
+    ghost use Rattle.std.specs.Prelude.{◌≡◌, ◌*◌, length};
     ghost use Rattle.als_view.specs.Fronts.{View};
 
     ghost Value = { View };
@@ -85,12 +83,11 @@ impl Model for View {
       images = v.images.items;
       commits = v.commits;
       last = v.last.0;
-      queued = v.queued.items;
-      room = v.room;
+      queued = v.waiting.queued;
+      room = v.waiting.room;
     } };
 
-    ghost invariant = { λ v. (length v.images.items ≡ v.pages * 15)
-        × (deque_len v.queued + v.room ≤ deque_capacity v.queued) };
+    ghost invariant = { λ v. length v.images.items ≡ v.pages * 15 };
 }
 
 impl View {
@@ -108,9 +105,37 @@ impl View {
             images: images::unwritten(alloc, pages)?,
             commits: 0,
             last: Lsn(0),
-            queued: VecDeque::new(alloc),
-            room: 0,
+            waiting: Waiting::new(alloc),
         })
+    }
+
+    /// The view of a log of which all commits wait here, made of that of the empty log. It takes no
+    /// memory.
+    pub fn with_waiting(self, waiting: Waiting) -> View
+        ensures queued { result ≡ record self {
+          queued = waiting.queued;
+          room = waiting.room;
+        } }
+        ensures warming { (pages : ℕ) (log : List AnyRecord) → IsWarming pages [] self
+            → waiting.queued ≡ commits_of log → IsWarming pages log result }
+    {
+        let View {
+            pages,
+            listed,
+            images,
+            commits,
+            last,
+            waiting: none,
+        } = self;
+        drop(none);
+        View {
+            pages,
+            listed,
+            images,
+            commits,
+            last,
+            waiting,
+        }
     }
 
     /// Makes room for so many more commits: the next so many `queue` take no memory. An `Err`
@@ -124,10 +149,7 @@ impl View {
         ensures err { IfErr result (λ e. (e ≡ Memory) × (self.new ≡ self.old)) }
         ensures reserved { count ≤ self.old.room → IsOk result }
     {
-        if self.room < count {
-            self.queued.reserve(count)?;
-            self.room = count;
-        }
+        self.waiting.reserve(count)?;
         Ok(())
     }
 
@@ -142,22 +164,14 @@ impl View {
         ensures err { IfErr result (λ back. (back ≡ commit) × (self.new ≡ self.old)) }
         ensures reserved { 0 < self.old.room → IsOk result }
     {
-        if self.room == 0 {
-            if self.queued.reserve(1).is_err() {
-                return Err(commit);
-            }
-            self.room = 1;
-        }
-        self.queued.push_back_reserved(commit);
-        self.room -= 1;
-        Ok(())
+        self.waiting.queue(commit)
     }
 
     /// How many commits are queued.
     pub fn queued(&self) -> usize
         ensures { result ≡ length self.now.queued }
     {
-        self.queued.len()
+        self.waiting.len()
     }
 
     /// How many of the first queued commits have a commit record that begins below an LSN, up to
@@ -165,7 +179,7 @@ impl View {
     pub fn count_below(&self, lsn: Lsn) -> usize
         ensures { result ≡ count_below lsn self.now.queued }
     {
-        images::count_below(&self.queued, lsn)
+        self.waiting.count_below(lsn)
     }
 
     /// Publishes so many of the first queued commits at once, in order, and opens the list if need
@@ -182,12 +196,11 @@ impl View {
     {
         self.last = Lsn(images::write_first(
             &mut self.images,
-            &mut self.queued,
+            &mut self.waiting,
             count,
             self.last.0,
         ));
         self.commits = self.commits.wrapping_add(count as u64);
-        self.room += count;
         self.listed = true;
     }
 
@@ -200,7 +213,7 @@ impl View {
         ensures pages { self.new.pages ≡ self.old.pages }
         ensures room { self.new.room ≡ self.old.room + length self.old.queued }
     {
-        let count = self.queued.len();
+        let count = self.waiting.len();
         self.publish_first(count);
     }
 

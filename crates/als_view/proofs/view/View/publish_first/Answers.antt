@@ -2,16 +2,17 @@ use Rattle.std.proofs.Common.{◌≡◌, ℕ, ◌+◌, ◌%◌, ◌^◌, ◌≤�
 use Rattle.std.proofs.lemmas.List.{take_at}
 use Rattle.als_record.specs.Commits.{Commit}
 use Rattle.als_record.specs.Spelling.{Image}
-use Rattle.als_view.specs.Fronts.{View, written_by, last_from, AreImagesAfter}
+use Rattle.als_commits.specs.Counting.{last_from}
+use Rattle.als_view.specs.Fronts.{View, written_by, AreImagesAfter}
 use Rattle.als_view.proofs.Folding.{length-written_by, images-after, count-after, last-after}
 use Rattle.als_view.proofs.view.View.publish_first.Goals as goal
 
 pub returns-clause-shown : goal.returns-clause-shown
 returns-clause-shown c =
-    let low : c.args.count ≤ length c.self.inside.queued.items = subst (λ (v : View). c.args.count ≤ length v.queued) (sym c.self.view_is) c.requires in
+    let low : c.args.count ≤ length c.self.inside.waiting.queued = subst (λ (v : View). c.args.count ≤ length v.queued) (sym c.self.view_is) c.requires in
     rw (← c.self.view_is) (λ commits h.
-    let queued : List Commit = take c.args.count c.self.inside.queued.items in
-    let n : c.args.count ≡ length queued = sym (length-take-le c.args.count c.self.inside.queued.items low) in
+    let queued : List Commit = take c.args.count c.self.inside.waiting.queued in
+    let n : c.args.count ≡ length queued = sym (length-take-le c.args.count c.self.inside.waiting.queued low) in
     let images : c.write_first.new.images ≡ fold written_by c.self.inside.images.items queued =
     c.write_first.ensures.images
     ∙ ap (λ (images : List Image). fold written_by images queued) c.deref_mut.ensures.value in

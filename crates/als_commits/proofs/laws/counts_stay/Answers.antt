@@ -1,6 +1,6 @@
 use Rattle.als_record.specs.Commits.{commits_of}
-use Rattle.als_view.proofs.Counting.{ended_count-limit, count-kept, count-rises}
-use Rattle.als_view.proofs.laws.counts_stay.Goals as goal
+use Rattle.als_commits.proofs.Counting.{ended_count-limit, count-kept, count-rises}
+use Rattle.als_commits.proofs.laws.counts_stay.Goals as goal
 
 pub returns-clause-limit : goal.returns-clause-limit
 returns-clause-limit c log offset = ended_count-limit offset (commits_of log)

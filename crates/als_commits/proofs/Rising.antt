@@ -14,8 +14,8 @@ use Rattle.als_record.proofs.Validity.{valid_induction, is_valid-push, may_follo
 use Rattle.als_record.proofs.Places.{end_of-push, record_len-head}
 use Rattle.als_record.proofs.CommitSteps.{commit_by, commits_of-push}
 use Rattle.std.proofs.lemmas.Bool.{and_from}
-use Rattle.als_view.specs.Fronts.{count_below}
-use Rattle.als_view.specs.Showing.{IsEnded, ended_count}
+use Rattle.als_commits.specs.Counting.{count_below}
+use Rattle.als_commits.specs.Counting.{IsEnded, ended_count}
 
 pub every : (P Q : Commit → Type 0) → ((c : Commit) → P c → Q c) → (cs : List Commit) → AllByRecursion P cs → AllByRecursion Q cs
 every P Q f [] a = tt

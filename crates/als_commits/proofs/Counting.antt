@@ -1,5 +1,5 @@
 -- How many commits of a log have ended at an offset, over a loss of its last records.
-use Rattle.std.proofs.Common.{◌≡◌, ℕ, ◌+◌, ◌^◌, ◌≤◌, ◌<◌, nat_le, Bool, true, false, cond, List, [], ◌∷◌, ◌++◌, length, length-append, filter, sym, ap, ◌∙◌, inl, inr, arith, append-nil, append_assoc}
+use Rattle.std.proofs.Common.{◌≡◌, ℕ, ◌+◌, ◌≤◌, ◌<◌, nat_le, Bool, true, false, cond, List, [], ◌∷◌, ◌++◌, length, length-append, filter, sym, ap, ◌∙◌, inl, inr, arith, append-nil, append_assoc}
 use Rattle.std.specs.List.{AllByRecursion}
 use Rattle.std.proofs.lemmas.Bool.{cases_Bool, leb-true, le-leb, and_parts}
 use Rattle.std.proofs.lemmas.List.Elements.{filter-append}
@@ -11,10 +11,8 @@ use Rattle.als_record.specs.Commits.{Commit, commits_of}
 use Rattle.als_record.proofs.Validity.{Admitted-may_follow, is_valid-front, is_valid-push}
 use Rattle.als_record.proofs.Places.{end_of-push}
 use Rattle.als_record.proofs.CommitSteps.{commit_by, commits_of-push}
-use Rattle.als_view.specs.Fronts.{View}
-use Rattle.als_view.specs.Showing.{IsEnded, IsShowing, ended_count}
-use Rattle.als_view.proofs.Rising.{every, every-append, all_ended, none_ended}
-use Rattle.als_view.proofs.ViewLaws.{front-count}
+use Rattle.als_commits.specs.Counting.{IsEnded, ended_count}
+use Rattle.als_commits.proofs.Rising.{every, every-append, all_ended, none_ended}
 
 -- ---- counts of commits
 
@@ -96,12 +94,7 @@ count-rises front lost more old new v w le up =
     let g : GoesOn front more = goes_on front more w in
     omega (arith, count-kept front lost old v le, ended_count-rises old new up (commits_of front), ap (ended_count new) g.parts, ended_count-append new (commits_of front) g.others)
 
--- ---- what is published
-
-ended_count-whole : (a : ℕ) (cs : List Commit) → AllByRecursion (IsEnded a) cs → ended_count a cs ≡ length cs
+-- where all of them have ended, each is counted
+pub ended_count-whole : (a : ℕ) (cs : List Commit) → AllByRecursion (IsEnded a) cs → ended_count a cs ≡ length cs
 unfolding ended_count
 ended_count-whole a cs e = all_ended a cs e
-
-pub published-ended : (log : List Record) (a : ℕ) (view : View) → is_valid log ≡ true → end_of log < 2 ^ 64 → IsShowing log a view → view.commits ≤ ended_count a (commits_of log)
-published-ended log a view v few h =
-    omega (arith, front-count log a view v few h, ended_count-whole a h.front h.ended, ap (ended_count a) h.parts, ended_count-append a h.front view.queued)

@@ -12,7 +12,7 @@ pub struct Commit {
 impl Model for Commit {
     ghost use Rattle.std.specs.Prelude.{map};
     ghost use Rattle.als_record.specs.Commits.{Commit};
-    ghost use Rattle.als_view.specs.Fronts.{write_of};
+    ghost use Rattle.als_commits.specs.Committing.{write_of};
 
     ghost Value = { Commit };
 

@@ -1,0 +1,4 @@
+pub mod CommitFronts
+pub mod Counting
+pub mod Queue
+pub mod Rising

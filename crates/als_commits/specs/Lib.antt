@@ -1,0 +1,4 @@
+pub mod Committing
+pub mod Counting
+pub mod Fronts
+pub mod Waiting

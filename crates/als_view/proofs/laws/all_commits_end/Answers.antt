@@ -1,5 +1,0 @@
-use Rattle.als_view.proofs.Rising.{ended_count-all}
-use Rattle.als_view.proofs.laws.all_commits_end.Goals as goal
-
-pub returns : goal.returns
-returns c = ended_count-all

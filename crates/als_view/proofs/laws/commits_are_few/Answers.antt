@@ -1,5 +1,0 @@
-use Rattle.als_view.proofs.Rising.{stands}
-use Rattle.als_view.proofs.laws.commits_are_few.Goals as goal
-
-pub returns : goal.returns
-returns c log v = (stands log v).few
