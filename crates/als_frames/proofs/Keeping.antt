@@ -76,7 +76,7 @@ module _ (log : List Record) (synced : ℕ → ℕ) (below : ℕ) where
       other p lt (inl same) = same_page p old.sure new.sure (slot_of old p) (slot_of new p) (frame_of old p) (frame_of new p) sure (slots p) same (h.each p lt)
       other p lt (inr (f, was, clean, gone)) =
           let before : IsFramedAt log p below (synced p) old.sure (slot_of old p) f = framed_page p old f was (h.each p lt) in
-          let after : IsPageAt log p below (synced p) old.sure (slot_of old p) None = replaced_page log p below (synced p) old.sure (slot_of old p) f before clean in
+          let after : IsPageAt log p below (synced p) old.sure (slot_of old p) None = replaced_page log p below (synced p) old.sure (slot_of old p) f before clean.0 in
           same_page p old.sure new.sure (slot_of old p) (slot_of new p) None (frame_of new p) sure (slots p) gone after
 
       each : (p : ℕ) → p < new.pages → IsPageAt log p below (synced p) new.sure (slot_of new p) (frame_of new p)

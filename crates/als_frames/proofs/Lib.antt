@@ -7,7 +7,7 @@ pub mod SlotsLaws
 pub mod PageBlocks
 pub mod LoadLaws
 pub mod ChangeLaws
-mod Redoing
 pub mod PageSteps
 pub mod Keeping
-pub mod BatchKeeping
+pub mod LeaseKeeping
+pub mod LeaseCounts

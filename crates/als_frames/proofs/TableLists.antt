@@ -124,7 +124,7 @@ module _ (z : Zones) (page : ℕ) (f : Framed) (fresh : IsFresh f) where
   -- a frame as its page's block has it may stand among the free ones
   fresh_stands : (i : ℕ) → z.dirty ≤ i → StandsAt z i f
   fresh_stands i past = record {
-    ordered = record { synced = omega (arith, fresh.0); written = omega (arith, fresh.0, fresh.1) };
+    ordered = record { synced = omega (arith, fresh.0); written = omega (arith, fresh.0, fresh.1.0) };
     dirty = λ lt. absurd (omega (arith, lt, past));
     free = λ le. fresh.1;
     unwritten = λ le. fresh.0;

@@ -1,13 +1,11 @@
 -- Frames stand where they may after each change of one of them.
-use Rattle.std.proofs.Common.{◌≡◌, ◌≢◌, ℕ, ◌<◌, ◌≤◌, ◌+◌, List, [], ◌∷◌, length, slice_get, Option, Some, None, fold, refl, sym, ap, subst, ◌∙◌, inl, inr, arith}
-use Rattle.std.proofs.lemmas.Bool.{cases_eq}
-use Rattle.als_record.specs.declared.change.Change.{Change}
-use Rattle.als_record.specs.Pages.{PageState, redone}
+use Rattle.std.proofs.Common.{◌≡◌, ◌≢◌, ℕ, ◌<◌, ◌≤◌, ◌+◌, List, length, slice_get, Option, Some, None, refl, sym, ap, subst, ◌∙◌, inl, inr, arith}
+use Rattle.std.proofs.lemmas.Bool.{cases_eq, cases_lt}
 use Rattle.als_frames.specs.declared.zones.Zones.{Zones}
 use Rattle.als_frames.specs.Frames.{Framed, IsFree}
 use Rattle.als_frames.specs.Outcomes.{synced_frame}
-use Rattle.als_page.specs.Changes.{AreNext}
-use Rattle.als_frames.specs.Batch.{redone_frame}
+use Rattle.als_frames.specs.declared.lent.Lent.{Lent}
+use Rattle.als_frames.specs.Leases.{lent_frame}
 use Rattle.als_frames.specs.Table.{Puts, written_frame}
 use Rattle.als_frames.specs.Zones.{IsOrdered, StandsAt, AreZoned, SetsAt, Swaps}
 
@@ -63,32 +61,33 @@ puts_swapped old mid new i k page f sets swaps = record {
   others = λ other apart. swaps.lookups other ∙ sets.puts.others other apart;
 }
 
--- ---- redo
+-- ---- a lease
 
--- the page_LSN does not fall
-redone_rises : (page : ℕ) (s : PageState) (changes : List Change) → AreNext page s.lsn changes → s.lsn ≤ (fold redone s changes).lsn
-redone_rises page s [] next = omega arith
-redone_rises page s (c ∷ cs) next = omega (arith, next.3, redone_rises page (redone s c) cs next.4)
+module _ (z : Zones) (i : ℕ) (f : Framed) (lent : Lent) (stands : StandsAt z i f) where
+  -- the frame of a lent page is not free
+  never_free : IsFree (lent_frame lent f) → ⊥
+  never_free free = let no' : Some lent ≡ None = free.1 in absurd cc
 
-module _ (z : Zones) (i page : ℕ) (f : Framed) (changes : List Change) (next : AreNext page f.content.lsn changes) (stands : StandsAt z i f) where
-  redone_ordered : IsOrdered (redone_frame f changes)
-  redone_ordered = record { synced = stands.ordered.synced; written = omega (arith, stands.ordered.written, redone_rises page f.content changes next) }
+  lent_ordered : IsOrdered (lent_frame lent f)
+  lent_ordered = record { synced = stands.ordered.synced; written = stands.ordered.written }
 
-  redone_dirty : i < z.dirty → IsFree (redone_frame f changes) → ⊥
-  redone_dirty lt free =
-      let same : f.content.lsn ≡ f.synced = omega (arith, stands.ordered.synced, stands.ordered.written, redone_rises page f.content changes next, free) in
-      stands.dirty lt same
+  pub lent_stays : i < z.dirty → StandsAt z i (lent_frame lent f)
+  lent_stays lt = record { ordered = lent_ordered; dirty = λ below. never_free; free = λ le. absurd (omega (arith, lt, le)); unwritten = stands.unwritten }
 
-  pub redone_stays : (z.dirty ≤ i → IsFree (redone_frame f changes)) → StandsAt z i (redone_frame f changes)
-  redone_stays free = record { ordered = redone_ordered; dirty = redone_dirty; free = free; unwritten = stands.unwritten }
-
-  pub redone_moves : (z' : Zones) → z'.written ≡ z.written → z'.dirty ≡ z.dirty + 1 → z.written ≤ z.dirty → z.dirty ≤ i → (IsFree (redone_frame f changes) → ⊥) → StandsAt z' z.dirty (redone_frame f changes)
-  redone_moves z' written dirty order past not_free = record {
-    ordered = redone_ordered;
-    dirty = λ lt. not_free;
+  pub lent_moves : (z' : Zones) → z'.written ≡ z.written → z'.dirty ≡ z.dirty + 1 → z.written ≤ z.dirty → z.dirty ≤ i → StandsAt z' z.dirty (lent_frame lent f)
+  lent_moves z' written dirty order past = record {
+    ordered = lent_ordered;
+    dirty = λ lt. never_free;
     free = λ le. absurd (omega (arith, le, dirty));
     unwritten = λ le. let from : z.written ≤ i = omega (arith, order, past) in stands.unwritten from;
   }
+
+-- the frame of a lent page stands with those that are not free
+pub lent_inside : (z : Zones) (i : ℕ) (f : Framed) → StandsAt z i f → (f.lent ≡ None → ⊥) → i < z.dirty
+lent_inside z i f stands lent = elim (cases_lt i z.dirty) [
+  | inl lt ↦ lt
+  | inr le ↦ absurd (lent (stands.free le).1)
+]
 
 -- where one frame more is not free, the others stand as they may
 module _ (z z' : Zones) (written : z'.written ≡ z.written) (dirty : z'.dirty ≡ z.dirty + 1) where
@@ -120,7 +119,7 @@ module _ (z : Zones) (i : ℕ) (f : Framed) (order : z.written ≤ z.dirty) (sta
     ordered = written_ordered;
     dirty = stands.dirty;
     free = stands.free;
-    unwritten = λ le. stands.free (so le);
+    unwritten = λ le. (stands.free (so le)).0;
   }
 
   pub written_moves : (z' : Zones) → z'.written ≡ z.written + 1 → z'.dirty ≡ z.dirty → z.written ≤ i → i < z.dirty → StandsAt z' z.written (written_frame f)

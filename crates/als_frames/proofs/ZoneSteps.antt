@@ -1,4 +1,4 @@
--- Frames stand where they may after a redo, a write and a sync.
+-- Frames stand where they may after a lease begins or ends, a write and a sync.
 use Rattle.std.proofs.Common.{◌≡◌, ℕ, zero, suc, ◌<◌, ◌≤◌, ◌+◌, Bool, false, true≢false, List, [], ◌∷◌, length, slice_get, Option, Some, None, nat_eq, refl, sym, ap, subst, ◌∙◌, arith}
 use Rattle.std.specs.Prelude.{IsTrue}
 use Rattle.std.proofs.lemmas.Bool.{cases_eq}
@@ -7,16 +7,16 @@ use Rattle.std.specs.Map.{lookup}
 use Rattle.std.specs.Option.{option_map}
 use Rattle.std.proofs.lemmas.Map.Entries.{place_from_lookup}
 use Rattle.std.proofs.lemmas.Option.{slice_get_within}
-use Rattle.als_record.specs.declared.change.Change.{Change}
 use Rattle.als_frames.specs.declared.zones.Zones.{Zones}
 use Rattle.als_frames.specs.Frames.{Framed, IsFree}
 use Rattle.als_frames.specs.Outcomes.{synced_frame}
-use Rattle.als_page.specs.Changes.{AreNext}
-use Rattle.als_frames.specs.Batch.{redone_frame}
+use Rattle.als_record.specs.Pages.{PageState}
+use Rattle.als_frames.specs.declared.lent.Lent.{Lent}
+use Rattle.als_frames.specs.Leases.{lent_frame, returned_frame}
 use Rattle.als_frames.specs.Table.{IsFreeAt, Puts, written_frame}
-use Rattle.als_frames.specs.Zones.{AreZoned, SetsAt, Swaps}
+use Rattle.als_frames.specs.Zones.{AreZoned, AreZonedBut, SetsAt, Swaps}
 use Rattle.als_frames.proofs.TableLists.{same_some}
-use Rattle.als_frames.proofs.ZoneLaws.{one_frame, zoned_set, zoned_swapped, redone_stays, redone_moves, more_dirty, first_free_moves, written_stays, written_moves, more_written, first_unwritten_moves, synced_stays, synced_moves, less_written, less_dirty, last_dirty_moves}
+use Rattle.als_frames.proofs.ZoneLaws.{one_frame, zoned_set, zoned_swapped, lent_stays, lent_moves, lent_inside, more_dirty, first_free_moves, written_stays, written_moves, more_written, first_unwritten_moves, synced_stays, synced_moves, less_written, less_dirty, last_dirty_moves}
 
 -- a frame stands at each place
 pub frame_at : (es : List (ℕ × Framed)) (i : ℕ) → i < length es → (page : ℕ) × (f : Framed) × (slice_get es i ≡ Some (page, f))
@@ -39,23 +39,37 @@ not_free_there es i page f b here found told no' free =
     true≢false (sym yes' ∙ no')
 
 module _ (z : Zones) (old mid : List (ℕ × Framed)) (i page : ℕ) (f : Framed) (zoned : AreZoned z old) (here : slice_get old i ≡ Some (page, f)) where
-  -- a redo that leaves the frame where it is
-  pub redo_stays : (changes : List Change) → AreNext page f.content.lsn changes → SetsAt old mid i page (redone_frame f changes)
-      → (z.dirty ≤ i → IsFree (redone_frame f changes)) → AreZoned z mid
-  redo_stays changes next sets free =
-      zoned_set z z old i page (redone_frame f changes) zoned zoned.order zoned.within mid sets
-      (redone_stays z i page f changes next (zoned.each i page f here) free) (λ j g apart stands. stands)
+  -- a page is lent whose frame was not free
+  pub lend_stays : (lent : Lent) → SetsAt old mid i page (lent_frame lent f) → i < z.dirty → AreZoned z mid
+  lend_stays lent sets lt =
+      zoned_set z z old i page (lent_frame lent f) zoned zoned.order zoned.within mid sets (lent_stays z i f lent (zoned.each i page f here) lt) (λ j g apart stands. stands)
 
-  -- a redo after which the frame is not free
-  pub redo_moves : (new : List (ℕ × Framed)) (changes : List Change) → AreNext page f.content.lsn changes → SetsAt old mid i page (redone_frame f changes)
-      → Swaps mid new i z.dirty → z.dirty ≤ i → (IsFree (redone_frame f changes) → ⊥) → AreZoned (record { written = z.written; dirty = z.dirty + 1 }) new
-  redo_moves new changes next sets swaps past not_free =
+  -- a page is lent whose frame was free
+  pub lend_moves : (new : List (ℕ × Framed)) (lent : Lent) → SetsAt old mid i page (lent_frame lent f) → Swaps mid new i z.dirty → z.dirty ≤ i
+      → AreZoned (record { written = z.written; dirty = z.dirty + 1 }) new
+  lend_moves new lent sets swaps past =
       let z' : Zones = record { written = z.written; dirty = z.dirty + 1 } in
       let within : i < length old = slice_get_within old i (page, f) here in
-      zoned_swapped z z' old i page (redone_frame f changes) zoned (omega (arith, zoned.order)) (omega (arith, past, within)) mid new z.dirty sets swaps
-      (redone_moves z i page f changes next (zoned.each i page f here) z' refl refl zoned.order past not_free)
+      zoned_swapped z z' old i page (lent_frame lent f) zoned (omega (arith, zoned.order)) (omega (arith, past, within)) mid new z.dirty sets swaps
+      (lent_moves z i f lent (zoned.each i page f here) z' refl refl zoned.order past)
       (λ g apart stands. first_free_moves z z' refl refl i g zoned.order past apart stands)
       (λ j g away apart stands. more_dirty z z' refl refl j g apart stands)
+
+  -- the lease of a page ends, and its content is not older
+  pub ended_but : (content : PageState) → SetsAt old mid i page (returned_frame content f) → (f.lent ≡ None → ⊥) → f.content.lsn ≤ content.lsn → AreZonedBut i z mid
+  ended_but content sets lent newer =
+      let stands = zoned.each i page f here in
+      record {
+        order = zoned.order;
+        within = omega (arith, zoned.within, sets.len);
+        inside = lent_inside z i f stands lent;
+        page = page;
+        f = returned_frame content f;
+        at = record { here = sets.here; found = sets.puts.frame };
+        ordered = record { synced = stands.ordered.synced; written = omega (arith, stands.ordered.written, newer) };
+        unwritten = stands.unwritten;
+        others = λ j other g apart at. zoned.each j other g (sym (sets.others j apart) ∙ at);
+      }
 
   -- a write that leaves the frame where it is
   pub write_stays : SetsAt old mid i page (written_frame f) → (z.written ≤ i → z.dirty ≤ i) → AreZoned z mid

@@ -1,27 +1,30 @@
 -- The pages of a database on a device, some of them in frames in memory, as callers see them.
-use Rattle.std.specs.Prelude.{◌≡◌, ℕ, zero, suc, ◌<◌, ◌≤◌, Bool, true, List, [], ◌∷◌, length, get_or, Option, Some, nat_eq}
+use Rattle.std.specs.Prelude.{◌≡◌, ℕ, zero, suc, ◌<◌, ◌≤◌, Bool, true, List, [], ◌∷◌, length, get_or, Option, Some, None, nat_eq}
 use Rattle.std.specs.Map.{lookup}
 use Rattle.als_record.specs.Pages.{PageState}
 use Rattle.als_disk.specs.Slot.{Slot, only}
+use Rattle.als_frames.specs.declared.lent.Lent.{Lent}
 
--- A frame: the number of its page, the page as it is now, and the page_LSNs of its images last written and last synced.
+-- A frame: the number of its page, the page as it is now, the page_LSNs of its images last written and last synced, and the
+-- lease of the page while it is lent.
 pub record Framed : Type 0 where
   pub id : ℕ
   pub content : PageState
   pub written : ℕ
   pub synced : ℕ
+  pub lent : Option Lent
 
 -- the page is the image last synced
 abbrev pub IsClean : Framed → Type 0
 IsClean f = f.content.lsn ≡ f.synced
 
--- a frame may be taken from its page
+-- a frame may be taken from its page: it is clean, and its page is not lent
 abbrev pub IsFree : Framed → Type 0
-IsFree f = IsClean f
+IsFree f = IsClean f × (f.lent ≡ None)
 
 -- the frame of a page as its block has it
 abbrev pub clean_frame : ℕ → PageState → Framed
-clean_frame page content = record { id = page; content = content; written = content.lsn; synced = content.lsn }
+clean_frame page content = record { id = page; content = content; written = content.lsn; synced = content.lsn; lent = None }
 
 -- The database's page count; how many frames there may be, and those that there are, by the numbers of their pages; what
 -- stands in the block of each page; how many blocks the device has, how often it has failed, and how often it was called to

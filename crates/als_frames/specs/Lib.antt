@@ -5,4 +5,4 @@ pub mod Images
 pub mod Kept
 pub mod Table
 pub mod Zones
-pub mod Batch
+pub mod Leases

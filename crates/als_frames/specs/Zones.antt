@@ -28,6 +28,18 @@ pub record IsFrameAt (frames : List (ℕ × Framed)) (i page : ℕ) (f : Framed)
   pub here : slice_get frames i ≡ Some (page, f)
   pub found : lookup (nat_eq page) frames ≡ Some f
 
+-- Each frame but one stands where it may. That one stood with those that are not free, and may be free now.
+pub record AreZonedBut (i : ℕ) (z : Zones) (frames : List (ℕ × Framed)) : Type 0 where
+  pub order : z.written ≤ z.dirty
+  pub within : z.dirty ≤ length frames
+  pub inside : i < z.dirty
+  pub page : ℕ
+  pub f : Framed
+  pub at : IsFrameAt frames i page f
+  pub ordered : IsOrdered f
+  pub unwritten : z.written ≤ i → f.written ≡ f.synced
+  pub others : (j other : ℕ) (g : Framed) → j ≢ i → slice_get frames j ≡ Some (other, g) → StandsAt z j g
+
 -- the frame at a place becomes this one of its page, and no other one changes
 pub record SetsAt (old new : List (ℕ × Framed)) (i page : ℕ) (f : Framed) : Type 0 where
   pub here : slice_get new i ≡ Some (page, f)

@@ -2,20 +2,22 @@ ghost use Rattle.std.specs.Prelude.{◌≡◌, ◌↔◌, IsTrue};
 ghost use Rattle.als_page.specs.Page.{id_of, state_of};
 ghost use Rattle.als_frames.specs.Frames.{IsFree, clean_frame};
 ghost use Rattle.als_frames.specs.Outcomes.{synced_frame};
-ghost use Rattle.als_page.specs.Changes.{AreNext};
-ghost use Rattle.als_frames.specs.Batch.{redone_frame};
+ghost use Rattle.als_frames.specs.Leases.{lent_frame, returned_frame, recalled_frame};
 
+use crate::lent::Lent;
 use crate::lsns::Lsns;
 use als_page::Page;
-use als_record::{Change, Lsn};
+use als_record::Lsn;
 use std::marker::Model;
 
-/// A page in memory, and the page_LSNs of its images last written and last synced.
+/// A page in memory, the page_LSNs of its images last written and last synced, and its lease while
+/// it is lent.
 #[derive(Drop)]
 pub struct Frame {
     page: Page,
     written: Lsn,
     synced: Lsn,
+    lent: Option<Lent>,
 }
 
 impl Model for Frame {
@@ -29,6 +31,7 @@ impl Model for Frame {
       content = state_of f.page;
       written = f.written.0;
       synced = f.synced.0;
+      lent = f.lent;
     } };
 }
 
@@ -42,6 +45,7 @@ impl Frame {
             page,
             written: lsn,
             synced: lsn,
+            lent: None,
         }
     }
 
@@ -66,11 +70,19 @@ impl Frame {
         }
     }
 
-    /// Whether the frame may be taken from its page: the page is the image last synced.
+    /// Whether the frame may be taken from its page: the page is the image last synced, and is not
+    /// lent.
     pub fn is_free(&self) -> bool
         ensures { IsTrue result ↔ IsFree self.now }
     {
-        self.page.lsn().0 == self.synced.0
+        self.lent.is_none() && self.page.lsn().0 == self.synced.0
+    }
+
+    /// The lease of the page, while it is lent.
+    pub fn lent(&self) -> Option<Lent>
+        ensures { result ≡ self.now.lent }
+    {
+        self.lent
     }
 
     /// Whether the page is the image last written.
@@ -80,14 +92,27 @@ impl Frame {
         self.written.0 == self.page.lsn().0
     }
 
-    /// Redoes changes of the page, one after another.
-    pub fn redo(&mut self, changes: &[Change])
-        requires { AreNext self.old.id self.old.content.lsn changes.now }
-        ensures { self.new ≡ redone_frame self.old changes.now }
+    /// Notes that the page is lent.
+    pub fn lend(&mut self, lent: Lent)
+        ensures { self.new ≡ lent_frame lent self.old }
     {
-        for change in changes {
-            self.page.redo(change);
-        }
+        self.lent = Some(lent);
+    }
+
+    /// Takes the page back as a lease has made it.
+    pub fn take_back(&mut self, page: &Page)
+        requires { id_of page.now ≡ self.old.id }
+        ensures { self.new ≡ returned_frame (state_of page.now) self.old }
+    {
+        self.page = *page;
+        self.recall();
+    }
+
+    /// Notes that the page is no longer lent.
+    pub fn recall(&mut self)
+        ensures { self.new ≡ recalled_frame self.old }
+    {
+        self.lent = None;
     }
 
     /// Notes that the page was written as it is now.

@@ -6,11 +6,14 @@
 //! ```
 //!
 //! Rules:
-//! 1. A frame is free where its page is the image last synced. Only free frames are replaced.
+//! 1. A frame is free where its page is the image last synced and is not lent. Only free frames are
+//!    replaced.
 //! 2. A write leaves its frame not free until a sync: a crash may still leave the older image.
 //! 3. A frame that changes its state swaps places at the border of its zone, so a look for a free
 //!    frame and the work of a sync do not walk all frames.
-//! 4. After a failed write the images are in doubt (`sure` is false), and no sync settles them.
+//! 4. A lent page keeps its frame and its content until it is taken back. So all that is said of
+//!    the pages holds while some of them are lent.
+//! 5. After a failed write the images are in doubt (`sure` is false), and no sync settles them.
 
 ghost use Rattle.std.specs.Prelude.{List, ◌++◌, Contains, IsTrue, ◌≡◌, ◌<◌, ◌≤◌, ◌+◌, ℕ, []};
 ghost use Rattle.std.specs.Prelude.{IsSome, IsOk, IfSome, IfOk, IfErr, OnOk, OnErr, Some, None};
@@ -23,24 +26,27 @@ ghost use Rattle.als_frames.specs.declared.fault.Fault.TheVariants.{PoolFull as 
 ghost use Rattle.als_frames.specs.declared.fault.Fault.TheVariants.{Memory as OutOfMemory};
 ghost use Rattle.als_frames.specs.Frames.{Framed, Paged, IsPaged, frame_of, slot_of};
 ghost use Rattle.als_frames.specs.Frames.{without_frames};
-ghost use Rattle.als_frames.specs.Batch.{CanRedo, Redoes};
+ghost use Rattle.als_frames.specs.Leases.{lent_of, leases_of, CanLend, IsLent, CanTakeBack, Lends};
+ghost use Rattle.als_frames.specs.Leases.{TakesBack, Recalls};
 ghost use Rattle.als_record.specs.declared.change.Change.{Change as AnyChange};
 ghost use Rattle.als_record.specs.declared.record.Record.{Record as AnyRecord};
 ghost use Rattle.als_record.specs.LogText.{end_of, IsLog};
 ghost use Rattle.als_record.specs.Pages.{page_at, changes_above};
+ghost use Rattle.als_page.specs.Changes.{redone_all};
 ghost use Rattle.als_frames.specs.Images.{AreFramesOf, IsStoredAt, IsImageOf, written_or};
 ghost use Rattle.als_frames.specs.Outcomes.{IsFull, IsFetched, RefusesFetch, PutsIn, IsFound};
 ghost use Rattle.als_frames.specs.Outcomes.{RefusesReading, Writes, RefusesWrite, Syncs, SyncFails};
 
 use crate::fault::Fault;
 use crate::frame::Frame;
+use crate::lent::Lent;
 use crate::lsns::Lsns;
 use crate::unformatted::Unformatted;
 use crate::zones::Zones;
 use crate::{blocks, table};
 use als_disk::BlockDisk;
 use als_page::Page;
-use als_record::{Change, Lsn};
+use als_record::Lsn;
 use indexmap::IndexMap;
 use std::alloc::Global;
 use std::marker::Model;
@@ -65,6 +71,8 @@ pub struct Frames<D: BlockDisk> {
     hand: usize,
     // No write has failed.
     sure: bool,
+    // How many pages are lent.
+    leases: usize,
 }
 
 // Written out: a derived drop is proved wherever the frames are let go of, this one only here.
@@ -79,6 +87,7 @@ impl<D: BlockDisk + Drop> Drop for Frames<D> {
             room: _,
             hand: _,
             sure: _,
+            leases: _,
         } = self;
         drop(disk);
         drop(frames);
@@ -107,7 +116,7 @@ impl<D: BlockDisk> Model for Frames<D> {
     } };
 
     ghost invariant = { λ f. IsHeld f.pages f.most
-        (D.block_count f.disk) f.frames.entries f.zones f.room (spare f.frames) };
+        (D.block_count f.disk) f.frames.entries f.zones f.room (spare f.frames) f.leases };
 }
 
 impl<D: BlockDisk> Frames<D> {
@@ -164,6 +173,7 @@ impl<D: BlockDisk> Frames<D> {
             room: 0,
             hand: 0,
             sure: true,
+            leases: 0,
         }
     }
 
@@ -268,21 +278,66 @@ impl<D: BlockDisk> Frames<D> {
         self.put_in(found);
     }
 
-    /// Redoes changes of a resident page, one after another. It takes no memory and always
-    /// succeeds.
-    pub fn redo(&mut self, page: u32, changes: &[Change])
-        requires { CanRedo self.old.paged page changes.now }
-        ensures redoes { Redoes self.old.paged self.new.paged page changes.now }
+    /// Lends a resident page that is not lent. It takes no memory and always succeeds.
+    pub fn lend(&mut self, page: u32, lent: Lent)
+        requires { CanLend self.old.paged page }
+        ensures lends { Lends self.old.paged self.new.paged page lent }
         ensures spare { self.new.spare ≡ self.old.spare }
-        // For every log that the pages are of, they stay so, where the changes are the page's next
-        // ones in the log.
-        ensures keeps { (log : List AnyRecord) (synced : ℕ → ℕ) (below : ℕ) (rest : List AnyChange)
-            → ((f : Framed) → frame_of self.old.paged page ≡ Some f
-            → changes_above log page f.content.lsn ≡ changes.now ++ rest)
+        // For every log that the pages are of, they stay so.
+        ensures keeps { (log : List AnyRecord) (synced : ℕ → ℕ) (below : ℕ)
             → AreFramesOf log synced below self.old.paged
             → AreFramesOf log synced below self.new.paged }
     {
-        self.redo_in(page, changes);
+        self.lend_in(page, lent);
+    }
+
+    /// Takes back a page that is lent, as a lease has made it. It takes no memory and always
+    /// succeeds.
+    pub fn take_back(&mut self, page: u32, found: &Page)
+        requires number { id_of found.now ≡ page }
+        requires can { CanTakeBack self.old.paged page (state_of found.now) }
+        ensures takes_back { TakesBack self.old.paged self.new.paged page (state_of found.now) }
+        ensures spare { self.new.spare ≡ self.old.spare }
+        // For every log that the pages are of, they stay so, where the page was made by the redo of
+        // its next changes in the log.
+        ensures keeps { (log : List AnyRecord) (synced : ℕ → ℕ) (below : ℕ)
+            (changes rest : List AnyChange)
+            → ((f : Framed) → frame_of self.old.paged page ≡ Some f
+            → (state_of found.now ≡ redone_all f.content changes)
+            × (changes_above log page f.content.lsn ≡ changes ++ rest))
+            → AreFramesOf log synced below self.old.paged
+            → AreFramesOf log synced below self.new.paged }
+    {
+        self.take_back_in(page, found);
+    }
+
+    /// Ends the lease of a page; its content stays as it was lent. It takes no memory and always
+    /// succeeds.
+    pub fn recall(&mut self, page: u32)
+        requires { IsLent self.old.paged page }
+        ensures recalls { Recalls self.old.paged self.new.paged page }
+        ensures spare { self.new.spare ≡ self.old.spare }
+        // For every log that the pages are of, they stay so.
+        ensures keeps { (log : List AnyRecord) (synced : ℕ → ℕ) (below : ℕ)
+            → AreFramesOf log synced below self.old.paged
+            → AreFramesOf log synced below self.new.paged }
+    {
+        self.recall_in(page);
+    }
+
+    /// The lease of a page, while it is lent.
+    pub fn lent_of(&self, page: u32) -> Option<Lent>
+        ensures { result ≡ lent_of self.now.paged page }
+    {
+        let frame = self.frames.get(&page)?;
+        frame.lent()
+    }
+
+    /// How many pages are lent.
+    pub fn leases(&self) -> usize
+        ensures { result ≡ leases_of self.now.paged }
+    {
+        self.leases
     }
 
     /// Writes a resident page to its block, by one write of the device. It takes no memory.
@@ -380,6 +435,7 @@ impl<D: BlockDisk> Frames<D> {
             room: _,
             hand: _,
             sure: _,
+            leases: _,
         } = self;
         drop(frames);
         disk
@@ -424,12 +480,32 @@ impl<D: BlockDisk> Frames<D> {
         }
     }
 
-    fn redo_in(&mut self, page: u32, changes: &[Change])
-        requires { CanRedo self.old.paged page changes.now }
-        ensures redoes { Redoes self.old.paged self.new.paged page changes.now }
+    fn lend_in(&mut self, page: u32, lent: Lent)
+        requires { CanLend self.old.paged page }
+        ensures lends { Lends self.old.paged self.new.paged page lent }
         ensures spare { self.new.spare ≡ self.old.spare }
     {
-        table::redo(&mut self.frames, &mut self.zones, page, changes);
+        table::lend(&mut self.frames, &mut self.zones, page, lent);
+        self.leases += 1;
+    }
+
+    fn take_back_in(&mut self, page: u32, found: &Page)
+        requires number { id_of found.now ≡ page }
+        requires can { CanTakeBack self.old.paged page (state_of found.now) }
+        ensures takes_back { TakesBack self.old.paged self.new.paged page (state_of found.now) }
+        ensures spare { self.new.spare ≡ self.old.spare }
+    {
+        table::take_back(&mut self.frames, &mut self.zones, page, found);
+        self.leases -= 1;
+    }
+
+    fn recall_in(&mut self, page: u32)
+        requires { IsLent self.old.paged page }
+        ensures recalls { Recalls self.old.paged self.new.paged page }
+        ensures spare { self.new.spare ≡ self.old.spare }
+    {
+        table::recall(&mut self.frames, &mut self.zones, page);
+        self.leases -= 1;
     }
 
     fn write_out(&mut self, page: u32) -> Result<(), Fault>

@@ -5,6 +5,8 @@
 mod fault;
 // The page_LSNs of a frame.
 mod lsns;
+// The lease of a page.
+mod lent;
 // A page in memory, and which of its images are on the device.
 mod frame;
 // In which order the frames stand.
@@ -23,5 +25,6 @@ mod laws;
 pub use fault::Fault;
 pub use frames::Frames;
 pub use laws::{mark_changes_no_page, record_changes_no_page, synced_lsn_is_spelled};
+pub use lent::Lent;
 pub use lsns::Lsns;
 pub use unformatted::Unformatted;

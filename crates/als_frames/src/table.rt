@@ -1,22 +1,23 @@
 // The frames, by the numbers of their pages.
-ghost use Rattle.std.specs.Prelude.{◌≡◌, ◌<◌, ◌≤◌, ◌+◌, ◌++◌, ◌∷◌, ℕ, min, [], length, slice_get};
+ghost use Rattle.std.specs.Prelude.{◌≡◌, ◌≢◌, ◌<◌, ◌≤◌, ◌+◌, ◌++◌, ◌∷◌, ℕ, min, [], length, slice_get};
 ghost use Rattle.std.specs.Prelude.{nat_eq, Some, None, IfSome, IfNone, IfOk, IfErr, IsSomeAnd};
-ghost use Rattle.std.specs.Prelude.{IsTrue, ◌↔◌, true};
+ghost use Rattle.std.specs.Prelude.{IsTrue, IsSome, ◌↔◌, true};
 ghost use Rattle.std.specs.Map.{lookup};
 ghost use Rattle.std.specs.Option.{option_map};
 ghost use Rattle.indexmap.specs.IndexMap.{index_map_len, spare, get};
 ghost use Rattle.als_frames.specs.Frames.{Framed};
 ghost use Rattle.als_frames.specs.Outcomes.{synced_frame};
-ghost use Rattle.als_page.specs.Changes.{AreNext};
-ghost use Rattle.als_frames.specs.Batch.{redone_frame};
+ghost use Rattle.als_page.specs.Page.{id_of, state_of};
+ghost use Rattle.als_frames.specs.Leases.{lent_frame, returned_frame, recalled_frame};
 ghost use Rattle.als_frames.specs.Table.{IsFreeAt, NoneIsFree, IsPlace, Puts, Replaces};
 ghost use Rattle.als_frames.specs.Table.{written_frame, IsFresh};
-ghost use Rattle.als_frames.specs.Zones.{AreZoned, IsFrameAt, SetsAt, Swaps};
+ghost use Rattle.als_frames.specs.Zones.{AreZoned, AreZonedBut, IsFrameAt, SetsAt, Swaps};
 
 use crate::fault::Fault;
 use crate::frame::Frame;
+use crate::lent::Lent;
 use crate::zones::Zones;
-use als_record::Change;
+use als_page::Page;
 use indexmap::IndexMap;
 
 /// The frames, by the numbers of their pages.
@@ -138,17 +139,41 @@ fn swap(frames: &mut Table, a: usize, b: usize)
     frames.swap_indices(a, b);
 }
 
-// Redoes changes of the page at a place.
-fn redo_at(frames: &mut Table, i: usize, changes: &[Change])
-    requires next { IsSomeAnd (slice_get frames.old.entries i)
-        (λ e. AreNext e.1.id e.1.content.lsn changes.now) }
+// Notes that the page at a place is lent.
+fn lend_at(frames: &mut Table, i: usize, lent: Lent)
     ensures sets { (page : ℕ) (f : Framed) → slice_get frames.old.entries i ≡ Some (page, f)
-        → SetsAt frames.old.entries frames.new.entries i page (redone_frame f changes.now) }
+        → SetsAt frames.old.entries frames.new.entries i page (lent_frame lent f) }
     ensures room { spare frames.new ≡ spare frames.old }
 {
     match frames.get_index_mut(i) {
-        Some(frame) => frame.redo(changes),
+        Some(frame) => frame.lend(lent),
+        None => {}
+    }
+}
+
+// Takes back the page at a place.
+fn take_back_at(frames: &mut Table, i: usize, found: &Page)
+    requires number { IsSomeAnd (slice_get frames.old.entries i) (λ e. id_of found.now ≡ e.1.id) }
+    ensures sets { (page : ℕ) (f : Framed) → slice_get frames.old.entries i ≡ Some (page, f)
+        → SetsAt frames.old.entries frames.new.entries i page
+        (returned_frame (state_of found.now) f) }
+    ensures room { spare frames.new ≡ spare frames.old }
+{
+    match frames.get_index_mut(i) {
+        Some(frame) => frame.take_back(found),
         None => unreachable!(),
+    }
+}
+
+// Notes that the page at a place is no longer lent.
+fn recall_at(frames: &mut Table, i: usize)
+    ensures sets { (page : ℕ) (f : Framed) → slice_get frames.old.entries i ≡ Some (page, f)
+        → SetsAt frames.old.entries frames.new.entries i page (recalled_frame f) }
+    ensures room { spare frames.new ≡ spare frames.old }
+{
+    match frames.get_index_mut(i) {
+        Some(frame) => frame.recall(),
+        None => {}
     }
 }
 
@@ -176,13 +201,12 @@ fn note_synced_at(frames: &mut Table, i: usize)
     }
 }
 
-/// Redoes changes of a page that has a frame. It moves at most one other frame.
-pub(crate) fn redo(frames: &mut Table, zones: &mut Zones, page: u32, changes: &[Change])
+/// Notes that a page that has a frame is lent. It moves at most one other frame.
+pub(crate) fn lend(frames: &mut Table, zones: &mut Zones, page: u32, lent: Lent)
     requires zoned { AreZoned zones.old frames.old.entries }
-    requires resident { IsSomeAnd (get nat_eq frames.old page) (λ f. (f.id ≡ page)
-        × AreNext page f.content.lsn changes.now) }
+    requires resident { IsSome (get nat_eq frames.old page) }
     ensures puts { (f : Framed) → get nat_eq frames.old page ≡ Some f
-        → Puts frames.old.entries frames.new.entries page (redone_frame f changes.now) }
+        → Puts frames.old.entries frames.new.entries page (lent_frame lent f) }
     ensures len { index_map_len frames.new ≡ index_map_len frames.old }
     ensures room { spare frames.old ≤ spare frames.new }
     ensures zoned { AreZoned zones.new frames.new.entries }
@@ -192,12 +216,64 @@ pub(crate) fn redo(frames: &mut Table, zones: &mut Zones, page: u32, changes: &[
     let Some(i) = place_of(frames, page) else {
         unreachable!();
     };
-    redo_at(frames, i, changes);
+    lend_at(frames, i, lent);
     let first = zones.dirty;
-    if first <= i && !is_free_at(frames, i) {
+    if first <= i {
         swap(frames, i, first);
         zones.dirty = first + 1;
     }
+}
+
+// Puts the frame at a place with the free ones, if it is free now.
+fn settle(frames: &mut Table, zones: &mut Zones, i: usize)
+    requires zoned { AreZonedBut i zones.old frames.old.entries }
+    ensures frames { (page : ℕ) → get nat_eq frames.new page ≡ get nat_eq frames.old page }
+    ensures len { index_map_len frames.new ≡ index_map_len frames.old }
+    ensures room { spare frames.old ≤ spare frames.new }
+    ensures zoned { AreZoned zones.new frames.new.entries }
+{
+    if is_free_at(frames, i) {
+        let last = zones.dirty - 1;
+        swap(frames, i, last);
+        zones.dirty = last;
+        zones.written = zones.written.min(last);
+    }
+}
+
+/// Takes back a page that is lent, as a lease has made it. It moves at most one other frame.
+pub(crate) fn take_back(frames: &mut Table, zones: &mut Zones, page: u32, found: &Page)
+    requires zoned { AreZoned zones.old frames.old.entries }
+    requires number { id_of found.now ≡ page }
+    requires resident { IsSomeAnd (get nat_eq frames.old page) (λ f. (f.id ≡ page)
+        × (f.lent ≢ None) × (f.content.lsn ≤ (state_of found.now).lsn)) }
+    ensures puts { (f : Framed) → get nat_eq frames.old page ≡ Some f
+        → Puts frames.old.entries frames.new.entries page (returned_frame (state_of found.now) f) }
+    ensures len { index_map_len frames.new ≡ index_map_len frames.old }
+    ensures room { spare frames.old ≤ spare frames.new }
+    ensures zoned { AreZoned zones.new frames.new.entries }
+{
+    let Some(i) = place_of(frames, page) else {
+        unreachable!();
+    };
+    take_back_at(frames, i, found);
+    settle(frames, zones, i);
+}
+
+/// Notes that a page that is lent is no longer lent. It moves at most one other frame.
+pub(crate) fn recall(frames: &mut Table, zones: &mut Zones, page: u32)
+    requires zoned { AreZoned zones.old frames.old.entries }
+    requires resident { IsSomeAnd (get nat_eq frames.old page) (λ f. f.lent ≢ None) }
+    ensures puts { (f : Framed) → get nat_eq frames.old page ≡ Some f
+        → Puts frames.old.entries frames.new.entries page (recalled_frame f) }
+    ensures len { index_map_len frames.new ≡ index_map_len frames.old }
+    ensures room { spare frames.old ≤ spare frames.new }
+    ensures zoned { AreZoned zones.new frames.new.entries }
+{
+    let Some(i) = place_of(frames, page) else {
+        unreachable!();
+    };
+    recall_at(frames, i);
+    settle(frames, zones, i);
 }
 
 /// Notes that a page was written as it is now. It moves at most one other frame.

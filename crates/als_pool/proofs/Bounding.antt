@@ -1,5 +1,5 @@
 -- How far the pages of a pool and what waits for them go, after each call.
-use Rattle.std.proofs.Common.{◌≡◌, ◌≢◌, ◌⊎◌, ℕ, ◌+◌, ◌-◌, ◌<◌, ◌≤◌, ◌^◌, List, [], ◌∷◌, ◌++◌, length, replicate, take, drop, Option, Some, None, inl, inr, refl, sym, ap, subst, ◌∙◌, length-set, arith}
+use Rattle.std.proofs.Common.{false, ◌≡◌, ◌≢◌, ◌⊎◌, ℕ, ◌+◌, ◌-◌, ◌<◌, ◌≤◌, ◌^◌, List, [], ◌∷◌, ◌++◌, length, replicate, take, drop, Option, Some, None, inl, inr, refl, sym, ap, subst, ◌∙◌, length-set, arith}
 use Rattle.std.specs.Prelude.{slice_set, nat_eq, MatchOption, Result, Ok, Err, IfOk, IfErr, OnOk, OnErr}
 use Rattle.std.specs.Map.{lookup}
 use Rattle.std.specs.Option.{option_map}
@@ -18,17 +18,20 @@ use Rattle.als_frames.specs.Frames.{Framed, Paged, frame_of}
 use Rattle.als_frames.specs.Images.{lsn_or, synced_lsn}
 use Rattle.als_frames.specs.Outcomes.{IsReplaced, synced_frame}
 use Rattle.als_page.specs.Changes.{AreNext}
-use Rattle.als_frames.specs.Batch.{redone_frame}
+use Rattle.als_page.specs.Changes.{redone_all}
 use Rattle.als_dirty.specs.Entries.{entry_of}
 use Rattle.als_pool.specs.declared.fault.Fault.{Fault}
-use Rattle.als_pool.specs.declared.fault.Fault.TheVariants.{LogBehind, PoolFull, NothingToDo, Device, Memory, BadPage}
+use Rattle.als_pool.specs.declared.fault.Fault.TheVariants.{LogBehind, PoolFull, PageLent, NothingToDo, Device, Memory, BadPage, NumbersSpent}
 use Rattle.als_pool.specs.Queues.{pending_of, total_waiting, above}
 use Rattle.als_pool.specs.Pooled.{Pooled, Held, unread_of, new_pool}
 use Rattle.als_pool.specs.Bounds.{WaitsBelow, EndsBelow}
-use Rattle.als_pool.specs.Outcomes.{CanRoute, with_change, Loads, Redoes, Applies, NotFetched, RefusesApply, StoresPage, Flushes, RefusesFlush, SyncsPages, SyncPagesFails, ReadRefused, RefusesPage}
+use Rattle.als_pool.specs.Outcomes.{CanRoute, with_change, Loads, Lends, RefusesLend, Gives, Recalls, NotFetched, StoresPage, Flushes, RefusesFlush, SyncsPages, SyncPagesFails, ReadRefused, RefusesPage}
 use Rattle.als_pool.specs.Images.{IsPageOf, IsPoolOf, IsQueueOf, QueuesOf}
 use Rattle.als_pool.specs.Restart.{row_in, IsOpened, IsUnreadRow, HasRowsFrom}
+use Rattle.als_lease.specs.Lease.{Leased}
+use Rattle.als_pool.specs.Refusals.{is_lent}
 use Rattle.als_pool.proofs.QueueLists.{some_inside}
+use Rattle.als_pool.proofs.LeaseSteps.{Marks, Redoes, lends-marks, recalls-marks, gives-redoes}
 use Rattle.als_pool.proofs.Waiting.{next-above, next_lower, next_behind, last-above, last-lower, last-append, last-under, next-push}
 use Rattle.als_pool.proofs.PageSteps.{change_lsn}
 use Rattle.als_pool.proofs.PoolSteps.{reached}
@@ -52,9 +55,10 @@ below-gone end page o w h =
     record { next = next_lower page (lsn_or o 0) 0 w h.next low; last = last-lower (lsn_or o 0) 0 end w low h.last }
 
 -- the first changes that wait are redone
-below-redone : (end page : ℕ) (f : Framed) (w front rest : List Change) → w ≡ front ++ rest → WaitsBelow end page (Some f) w → WaitsBelow end page (Some (redone_frame f front)) rest
+below-redone : (end page : ℕ) (f : Framed) (w front rest : List Change) → w ≡ front ++ rest → WaitsBelow end page (Some f) w
+    → WaitsBelow end page (Some (record f { content = redone_all f.content front; lent = None })) rest
 below-redone end page f w front rest is h =
-    let at : lsn_after f.content.lsn front ≡ (redone_frame f front).content.lsn = sym (lsn-fold f.content front) in
+    let at : lsn_after f.content.lsn front ≡ (redone_all f.content front).lsn = sym (lsn-fold f.content front) in
     record {
       next = subst (λ (n : ℕ). AreNext page n rest) at (next_behind page f.content.lsn front rest (subst (λ (cs : List Change). AreNext page f.content.lsn cs) is h.next));
       last = subst (λ (n : ℕ). lsn_after n rest < end) at (omega (arith, h.last, ap (λ (cs : List Change). lsn_after f.content.lsn cs) is, last-append f.content.lsn front rest));
@@ -117,10 +121,10 @@ ends-empty end v paged none lt = record { paged = paged; each = λ page inside. 
 no-frame : (v : Paged) (p : ℕ) → v.frames ≡ [] → frame_of v p ≡ None
 no-frame v p none = ap (λ (fs : List (ℕ × Framed)). lookup (nat_eq p) fs) none
 
-pub ends-new : (end : ℕ) (frames : Paged) (pages : ℕ) → frames.pages ≡ pages → frames.frames ≡ [] → 0 < end → EndsBelow end (new_pool frames pages)
-ends-new end frames pages count none lt =
+pub ends-new : (end : ℕ) (frames : Paged) (pages first : ℕ) → frames.pages ≡ pages → frames.frames ≡ [] → 0 < end → EndsBelow end (new_pool frames pages first)
+ends-new end frames pages first count none lt =
     let len : length (replicate {A = List Change} pages []) ≡ pages = length-replicate pages [] in
-    ends-empty end (new_pool frames pages) (count ∙ sym len) (λ page inside. (no-frame frames page none, get_or-replicate {A = List Change} pages page [] [] (omega (arith, inside, len)))) lt
+    ends-empty end (new_pool frames pages first) (count ∙ sym len) (λ page inside. (no-frame frames page none, get_or-replicate {A = List Change} pages page [] [] (omega (arith, inside, len)))) lt
 
 pub ends-opened : (end : ℕ) (stored : Paged) (position : Lsn) (rows : List LoggedPage) (v : Pooled) → IsOpened stored position rows v → stored.frames ≡ [] → 0 < end → EndsBelow end v
 ends-opened end stored position rows v h none lt =
@@ -191,7 +195,7 @@ ends-route log r v c can h at is =
     (record { next = can.next; last = omega (arith, lsn_after-last (lsn_or (frame_of v.frames c.key.page) 0) w c, place, longer log r) })
     (λ p lt ne. record { next = (h.each p lt).next; last = omega (arith, (h.each p lt).last, longer log r) }) h
 
--- ---- redo
+-- ---- leases
 
 module _ (limit : ℕ) where
   other-frame : (p : ℕ) (o o' : Option Framed) (w : List Change) → (o' ≡ o) ⊎ IsReplaced o o' → WaitsBelow limit p o w → WaitsBelow limit p o' w
@@ -213,33 +217,55 @@ module _ (limit : ℕ) where
   ends-resident old new page end None inside le made h = ends-loads old new page end inside le made h
   ends-resident old new page end (Some f) inside le made h = ends-same limit old new made h
 
-  ends-redoes : (old new : Pooled) (page : ℕ) (lsn : Lsn) → Redoes old new page lsn → EndsBelow limit old → EndsBelow limit new
-  ends-redoes old new page lsn done h =
+  ends-redoes : (old new : Pooled) (page count : ℕ) → Redoes old new page count → EndsBelow limit old → EndsBelow limit new
+  ends-redoes old new page count done h =
       let w : List Change = pending_of old.waits page in
-      let inside : page < length old.waits = some_inside old.waits page done.some in
-      let f : Framed = done.redoes.f in
-      let here : WaitsBelow limit page (Some f) w = subst (λ (o : Option Framed). WaitsBelow limit page o w) done.redoes.resident (h.each page inside) in
-      ends-set limit limit old new page (drop 64 w) inside (ap (λ (v : Paged). v.pages) done.redoes.same) (ap (λ (v : Pooled). v.waits) done.same)
-      (subst (λ (o : Option Framed). WaitsBelow limit page o (drop 64 w)) (sym done.redoes.sets.frame) (below-redone limit page f w (take 64 w) (drop 64 w) (sym (take-append-drop 64 w)) here))
-      (λ p lt ne. subst (λ (o : Option Framed). WaitsBelow limit p o (pending_of old.waits p)) (sym (done.redoes.sets.others p ne)) (h.each p lt)) h
+      let f : Framed = done.f in
+      let here : WaitsBelow limit page (Some f) w = subst (λ (o : Option Framed). WaitsBelow limit page o w) done.resident (h.each page done.inside) in
+      ends-set limit limit old new page (drop count w) done.inside (ap (λ (v : Paged). v.pages) done.framed) (ap (λ (v : Pooled). v.waits) done.same)
+      (subst (λ (o : Option Framed). WaitsBelow limit page o (drop count w)) (sym done.sets.frame) (below-redone limit page f w (take count w) (drop count w) (sym (take-append-drop count w)) here))
+      (λ p lt ne. subst (λ (o : Option Framed). WaitsBelow limit p o (pending_of old.waits p)) (sym (done.sets.others p ne)) (h.each p lt)) h
+
+  ends-marks : (old new : Pooled) (page : ℕ) → Marks old new page → EndsBelow limit old → EndsBelow limit new
+  ends-marks old new page done h = ends-lsns limit old new (ap (λ (v : Paged). v.pages) done.framed) (ap (λ (v : Pooled). v.waits) done.same) same h
+    where
+      same : (p : ℕ) → lsn_or (frame_of new.frames p) 0 ≡ lsn_or (frame_of old.frames p) 0
+      same p = elim (cases_eq p page) [
+        | inl is ↦ subst (λ (k : ℕ). lsn_or (frame_of new.frames k) 0 ≡ lsn_or (frame_of old.frames k) 0) (sym is)
+            (ap (λ (o : Option Framed). lsn_or o 0) done.sets.frame ∙ ap (λ (o : Option Framed). lsn_or o 0) (sym done.resident))
+        | inr ne ↦ ap (λ (o : Option Framed). lsn_or o 0) (done.sets.others p ne)
+      ]
 
   ends-not_fetched : (e : FramesFault) (old new : Pooled) (page end : ℕ) → NotFetched e old new page end → EndsBelow limit old → EndsBelow limit new
   ends-not_fetched e old new page end fails h = let same = fetch_refused e old.frames new.frames page end fails.refuses in ends-frames limit old new fails.same same.0 same.1 h
 
-  ends-refused_apply : (e : Fault) (old new : Held) (page end : ℕ) → end ≤ limit → RefusesApply e old new page end → EndsBelow limit old.pool → EndsBelow limit new.pool
-  ends-refused_apply NothingToDo old new page end le (inl r) h = ends-same limit old.pool new.pool (ap (λ (v : Held). v.pool) r.1) h
-  ends-refused_apply NothingToDo old new page end le (inr r) h = ends-loads old.pool new.pool page end (some_inside old.pool.waits page r.some) le r.loads h
-  ends-refused_apply PoolFull old new page end le r h = ends-not_fetched FullFrames old.pool new.pool page end r.1 h
-  ends-refused_apply Device old new page end le r h = ends-not_fetched DiskFailed old.pool new.pool page end r.1 h
-  ends-refused_apply Memory old new page end le r h = ends-same limit old.pool new.pool r.1.same h
-  ends-refused_apply (BadPage p) old new page end le r h = ends-not_fetched (NoPage p) old.pool new.pool page end r.1 h
-  ends-refused_apply LogBehind old new page end le r h = absurd r
+  ends-refused_lend : (e : Fault) (old new : Held) (page end : ℕ) → end ≤ limit → RefusesLend e old new page end → EndsBelow limit old.pool → EndsBelow limit new.pool
+  ends-refused_lend PageLent old new page end le r h = ends-same limit old.pool new.pool (ap (λ (v : Held). v.pool) r.1) h
+  ends-refused_lend NothingToDo old new page end le (inl r) h = ends-same limit old.pool new.pool (ap (λ (v : Held). v.pool) r.2) h
+  ends-refused_lend NothingToDo old new page end le (inr r) h = ends-loads old.pool new.pool page end (some_inside old.pool.waits page r.1.some) le r.1.loads h
+  ends-refused_lend NumbersSpent old new page end le r h = ends-same limit old.pool new.pool (ap (λ (v : Held). v.pool) r.3) h
+  ends-refused_lend PoolFull old new page end le r h = ends-not_fetched FullFrames old.pool new.pool page end r.1 h
+  ends-refused_lend Device old new page end le r h = ends-not_fetched DiskFailed old.pool new.pool page end r.1 h
+  ends-refused_lend Memory old new page end le r h = ends-same limit old.pool new.pool r.1.same h
+  ends-refused_lend (BadPage p) old new page end le r h = ends-not_fetched (NoPage p) old.pool new.pool page end r.1 h
+  ends-refused_lend LogBehind old new page end le r h = absurd r
 
-  pub ends-apply : (r : Result Lsn Fault) (old new : Held) (page end : ℕ) → end ≤ limit → IfOk r (λ lsn. Applies old.pool new.pool page end lsn) → IfErr r (λ e. RefusesApply e old new page end)
+  pub ends-lend : (r : Result Leased Fault) (old new : Held) (page end : ℕ) → end ≤ limit → IfOk r (λ lease. Lends old.pool new.pool page end lease) → IfErr r (λ e. RefusesLend e old new page end)
       → EndsBelow limit old.pool → EndsBelow limit new.pool
-  ends-apply (Ok lsn) old new page end le ok err h =
-      ends-redoes ok.loaded new.pool page lsn ok.redoes (ends-resident old.pool ok.loaded page end (frame_of old.pool.frames page) (some_inside old.pool.waits page ok.some) le ok.resident h)
-  ends-apply (Err e) old new page end le ok err h = ends-refused_apply e old new page end le err h
+  ends-lend (Ok lease) old new page end le ok err h =
+      ends-marks ok.loaded new.pool page (lends-marks ok.loaded new.pool page lease ok.first)
+      (ends-resident old.pool ok.loaded page end (frame_of old.pool.frames page) (some_inside old.pool.waits page ok.some) le ok.resident h)
+  ends-lend (Err e) old new page end le ok err h = ends-refused_lend e old new page end le err h
+
+  pub ends-give : (r : Result (Unit {0}) Leased) (old new : Held) (lease : Leased) → OnOk r (Gives old.pool new.pool lease) → IfErr r (λ l. (l ≡ lease) × (new ≡ old))
+      → EndsBelow limit old.pool → EndsBelow limit new.pool
+  ends-give (Ok x) old new lease ok err h = ends-redoes old.pool new.pool lease.page lease.done (gives-redoes old.pool new.pool lease ok) h
+  ends-give (Err l) old new lease ok err h = ends-same limit old.pool new.pool (ap (λ (v : Held). v.pool) err.1) h
+
+  pub ends-recall : (r : Result (Unit {0}) Fault) (old new : Held) (page : ℕ) → OnOk r (Recalls old.pool new.pool page) → IfErr r (λ e. (e ≡ NothingToDo) × (is_lent old.pool page ≡ false) × (new ≡ old))
+      → EndsBelow limit old.pool → EndsBelow limit new.pool
+  ends-recall (Ok x) old new page ok err h = ends-marks old.pool new.pool page (recalls-marks old.pool new.pool page ok) h
+  ends-recall (Err e) old new page ok err h = ends-same limit old.pool new.pool (ap (λ (v : Held). v.pool) err.2) h
 
   -- ---- images
 
@@ -254,9 +280,11 @@ module _ (limit : ℕ) where
       ]
 
   ends-refused_flush : (e : Fault) (old new : Pooled) (page : ℕ) (acknowledged : Lsn) → RefusesFlush e old new page acknowledged → EndsBelow limit old → EndsBelow limit new
-  ends-refused_flush NothingToDo old new page acknowledged r h = ends-same limit old new r.1 h
-  ends-refused_flush LogBehind old new page acknowledged r h = ends-same limit old new r.1 h
-  ends-refused_flush Device old new page acknowledged r h = ends-frames limit old new r.same (ap (λ (v : Paged). v.pages) r.fails.same) (λ p. ap (λ (v : Paged). frame_of v p) r.fails.same) h
+  ends-refused_flush PageLent old new page acknowledged r h = ends-same limit old new r.1 h
+  ends-refused_flush NumbersSpent old new page acknowledged r h = absurd r
+  ends-refused_flush NothingToDo old new page acknowledged r h = ends-same limit old new r.2 h
+  ends-refused_flush LogBehind old new page acknowledged r h = ends-same limit old new r.2 h
+  ends-refused_flush Device old new page acknowledged r h = ends-frames limit old new r.1.same (ap (λ (v : Paged). v.pages) r.1.fails.same) (λ p. ap (λ (v : Paged). frame_of v p) r.1.fails.same) h
   ends-refused_flush PoolFull old new page acknowledged r h = absurd r
   ends-refused_flush Memory old new page acknowledged r h = absurd r
   ends-refused_flush (BadPage p) old new page acknowledged r h = absurd r
@@ -289,6 +317,8 @@ module _ (limit : ℕ) where
   ends-refused_page Device old new page r h = ends-read DiskFailed old new page r h
   ends-refused_page (BadPage p) old new page r h = ends-read (NoPage p) old new page r h
   ends-refused_page LogBehind old new page r h = absurd r
+  ends-refused_page PageLent old new page r h = absurd r
+  ends-refused_page NumbersSpent old new page r h = absurd r
   ends-refused_page PoolFull old new page r h = absurd r
   ends-refused_page NothingToDo old new page r h = absurd r
   ends-refused_page Memory old new page r h = absurd r

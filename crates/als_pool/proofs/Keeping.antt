@@ -1,5 +1,5 @@
 -- Each call keeps the pool that of a log, by its answer.
-use Rattle.std.proofs.Common.{◌≡◌, ℕ, ◌<◌, ◌≤◌, IsTrue, List, [], ◌∷◌, ◌++◌, length, take, drop, Option, Some, None, inl, inr, refl, sym, ap, subst, ◌∙◌, arith}
+use Rattle.std.proofs.Common.{◌≡◌, ℕ, ◌<◌, ◌≤◌, IsTrue, List, [], ◌∷◌, ◌++◌, length, take, drop, Option, Some, None, inl, inr, refl, sym, ap, subst, ◌∙◌, length-set, false, arith}
 use Rattle.std.specs.Prelude.{MatchOption, Result, Ok, Err, IfOk, IfErr, OnOk, OnErr}
 use Rattle.std.specs.Result.{IsErrOf}
 use Rattle.std.proofs.lemmas.Option.{same_Some}
@@ -8,24 +8,27 @@ use Rattle.als_record.specs.declared.lsn.Lsn.{Lsn}
 use Rattle.als_record.specs.declared.change.Change.{Change}
 use Rattle.als_record.specs.declared.record.Record.{Record}
 use Rattle.als_record.specs.LogText.{end_of, IsLog}
-use Rattle.als_record.specs.Pages.{PageState, page_at, change_of}
+use Rattle.als_record.specs.Pages.{PageState, page_at, change_of, changes_above}
 use Rattle.als_frames.specs.declared.fault.Fault.{Fault as FramesFault}
 use Rattle.als_frames.specs.declared.fault.Fault.TheVariants.{PoolFull as FullFrames, NothingToDo as NoFrame, Device as DiskFailed, Memory as NoRoom, BadPage as NoPage}
 use Rattle.als_frames.specs.Frames.{Framed, Paged, frame_of, slot_of}
 use Rattle.als_frames.specs.Images.{synced_lsn, lsn_now, lsn_or, written_or, AreFramesOf}
 use Rattle.als_frames.specs.Outcomes.{IsFound, RefusesFetch}
 use Rattle.als_frames.proofs.Keeping.{reads, never_bad as bad_frame, never_bad_below, keeps_put, keeps_refused_fetch, keeps_write, keeps_failed_write, keeps_sync, keeps_failed_sync, keeps_record, keeps_mark, synced_is}
-use Rattle.als_frames.proofs.BatchKeeping.{keeps_redo}
+use Rattle.als_frames.proofs.LeaseKeeping.{keeps_take_back, keeps_marked}
 use Rattle.als_dirty.specs.Entries.{entry_of}
 use Rattle.als_pool.specs.declared.fault.Fault.{Fault}
-use Rattle.als_pool.specs.declared.fault.Fault.TheVariants.{LogBehind, PoolFull, NothingToDo, Device, Memory, BadPage}
+use Rattle.als_pool.specs.declared.fault.Fault.TheVariants.{LogBehind, PoolFull, PageLent, NothingToDo, Device, Memory, BadPage, NumbersSpent}
 use Rattle.als_pool.specs.Queues.{pending_of}
 use Rattle.als_pool.specs.Pooled.{Pooled, Held, unread_of}
-use Rattle.als_pool.specs.Outcomes.{with_change, Loads, Redoes, Applies, NotFetched, RefusesApply, IsDueAt, StoresPage, Flushes, FlushFails, RefusesFlush, SyncsPages, SyncPagesFails, IsPageNow, ReadRefused, RefusesPage}
+use Rattle.als_pool.specs.Refusals.{is_lent}
+use Rattle.als_pool.specs.Outcomes.{with_change, Loads, Lends, LendsFirst, RefusesLend, Gives, Recalls, NotFetched, IsDueAt, StoresPage, Flushes, FlushFails, RefusesFlush, SyncsPages, SyncPagesFails, IsPageNow, ReadRefused, RefusesPage}
 use Rattle.als_pool.specs.Images.{IsPageOf, IsPoolOf}
+use Rattle.als_lease.specs.Lease.{Leased, working_of}
 use Rattle.als_pool.proofs.QueueLists.{some_inside}
+use Rattle.als_pool.proofs.LeaseSteps.{Marks, lends-marks, recalls-marks, gives-content, gives-inside, gives-redoes}
 use Rattle.als_pool.proofs.PageSteps.{read-it}
-use Rattle.als_pool.proofs.PoolSteps.{framed, pool-frames, pool-loads, pool-redoes, pool-stores, pool-syncs, pool-raised, pool-other, pool-change}
+use Rattle.als_pool.proofs.PoolSteps.{framed, pool-frames, pool-loads, pool-redoes, pool-marks, pool-stores, pool-syncs, pool-raised, pool-other, pool-change}
 
 -- a page that was not fetched leaves the frames and the blocks as they were
 pub fetch_refused : (e : FramesFault) (old new : Paged) (page end : ℕ) → RefusesFetch e old new page end
@@ -40,7 +43,7 @@ module _ (log : List Record) (below : ℕ) where
   keeps_same : (old new : Pooled) → new ≡ old → IsPoolOf log below old → IsPoolOf log below new
   keeps_same old new is h = subst (λ (v : Pooled). IsPoolOf log below v) (sym is) h
 
-  -- ---- redo
+  -- ---- leases
 
   keeps_loads : (old new : Pooled) (page end : ℕ) → page < length old.waits → Loads old new page end → IsPoolOf log below old → IsPoolOf log below new
   keeps_loads old new page end inside loads h =
@@ -54,21 +57,31 @@ module _ (log : List Record) (below : ℕ) where
   keeps_resident old new page end None inside made h = keeps_loads old new page end inside made h
   keeps_resident old new page end (Some f) inside made h = keeps_same old new made h
 
-  keeps_redoes : (old new : Pooled) (page : ℕ) (lsn : Lsn) → Redoes old new page lsn → IsPoolOf log below old → IsPoolOf log below new
-  keeps_redoes old new page lsn done h =
-      let inside : page < length old.waits = some_inside old.waits page done.some in
-      pool-redoes log below old new page lsn inside done
-      (keeps_redo log (synced_lsn old.frames) below old.frames new.frames page (take 64 (pending_of old.waits page)) (drop 64 (pending_of old.waits page)) done.redoes
-      (λ f is.
-      let at : IsPageOf log page (Some f) (synced_lsn old.frames page) (entry_of old.dirty page) (pending_of old.waits page) (unread_of old.unread page)
-      = subst (λ (o : Option Framed). IsPageOf log page o (synced_lsn old.frames page) (entry_of old.dirty page) (pending_of old.waits page) (unread_of old.unread page)) is (h.each page inside) in
-      let it = (read-it log page f (synced_lsn old.frames page) (entry_of old.dirty page) (pending_of old.waits page) (unread_of old.unread page) at).1 in
-      sym it.wait ∙ sym (take-append-drop 64 (pending_of old.waits page))) h.frames) h
+  keeps_marks : (old new : Pooled) (page : ℕ) → Marks old new page → IsPoolOf log below old → IsPoolOf log below new
+  keeps_marks old new page done h =
+      pool-marks log below old new page done (keeps_marked log (synced_lsn old.frames) below old.frames new.frames page done.f done.lent done.resident done.sets done.framed h.frames) h
 
-  keeps_applies : (old new : Pooled) (page end : ℕ) (lsn : Lsn) → Applies old new page end lsn → IsPoolOf log below old → IsPoolOf log below new
-  keeps_applies old new page end lsn done h =
-      keeps_redoes done.loaded new page lsn done.redoes
+  keeps_lends : (old new : Pooled) (page end : ℕ) (lease : Leased) → Lends old new page end lease → IsPoolOf log below old → IsPoolOf log below new
+  keeps_lends old new page end lease done h =
+      keeps_marks done.loaded new page (lends-marks done.loaded new page lease done.first)
       (keeps_resident old done.loaded page end (frame_of old.frames page) (some_inside old.waits page done.some) done.resident h)
+
+  -- what waits for a resident page is what the log has for it above its page_LSN
+  pub waits-above : (v : Pooled) (page : ℕ) (f : Framed) → page < length v.waits → frame_of v.frames page ≡ Some f → IsPoolOf log below v → pending_of v.waits page ≡ changes_above log page f.content.lsn
+  waits-above v page f inside is h =
+      let at : IsPageOf log page (Some f) (synced_lsn v.frames page) (entry_of v.dirty page) (pending_of v.waits page) (unread_of v.unread page)
+      = subst (λ (o : Option Framed). IsPageOf log page o (synced_lsn v.frames page) (entry_of v.dirty page) (pending_of v.waits page) (unread_of v.unread page)) is (h.each page inside) in
+      (read-it log page f (synced_lsn v.frames page) (entry_of v.dirty page) (pending_of v.waits page) (unread_of v.unread page) at).1.wait
+
+  keeps_gives : (old new : Pooled) (lease : Leased) → Gives old new lease → IsPoolOf log below old → IsPoolOf log below new
+  keeps_gives old new lease done h =
+      let w : List Change = pending_of old.waits lease.page in
+      pool-redoes log below old new lease.page lease.done (gives-redoes old new lease done)
+      (keeps_take_back log (synced_lsn old.frames) below old.frames new.frames lease.page (working_of lease) (take lease.done w) (drop lease.done w) done.takes_back
+      (λ f is. (
+        gives-content old new lease done f is,
+        sym (waits-above old lease.page f (gives-inside old new lease done) is h) ∙ sym (take-append-drop lease.done w),
+      )) h.frames) h
 
   keeps_not_fetched : (e : FramesFault) (old new : Pooled) (page end : ℕ) → NotFetched e old new page end → IsPoolOf log below old → IsPoolOf log below new
   keeps_not_fetched e old new page end fails h =
@@ -76,25 +89,62 @@ module _ (log : List Record) (below : ℕ) where
       keeps_same (record old { frames = new.frames }) new fails.same
       (pool-frames log below old new.frames (keeps_refused_fetch log (synced_lsn old.frames) below e old.frames new.frames page end fails.refuses h.frames) same.0 same.1 h)
 
-  keeps_refused_apply : (e : Fault) (old new : Held) (page end : ℕ) → RefusesApply e old new page end → IsPoolOf log below old.pool → IsPoolOf log below new.pool
-  keeps_refused_apply NothingToDo old new page end (inl r) h = keeps_same old.pool new.pool (ap (λ (v : Held). v.pool) r.1) h
-  keeps_refused_apply NothingToDo old new page end (inr r) h = keeps_loads old.pool new.pool page end (some_inside old.pool.waits page r.some) r.loads h
-  keeps_refused_apply PoolFull old new page end r h = keeps_not_fetched FullFrames old.pool new.pool page end r.1 h
-  keeps_refused_apply Device old new page end r h = keeps_not_fetched DiskFailed old.pool new.pool page end r.1 h
-  keeps_refused_apply Memory old new page end r h = keeps_same old.pool new.pool r.1.same h
-  keeps_refused_apply (BadPage p) old new page end r h = keeps_not_fetched (NoPage p) old.pool new.pool page end r.1 h
-  keeps_refused_apply LogBehind old new page end r h = absurd r
+  keeps_refused_lend : (e : Fault) (old new : Held) (page end : ℕ) → RefusesLend e old new page end → IsPoolOf log below old.pool → IsPoolOf log below new.pool
+  keeps_refused_lend PageLent old new page end r h = keeps_same old.pool new.pool (ap (λ (v : Held). v.pool) r.1) h
+  keeps_refused_lend NothingToDo old new page end (inl r) h = keeps_same old.pool new.pool (ap (λ (v : Held). v.pool) r.2) h
+  keeps_refused_lend NothingToDo old new page end (inr r) h = keeps_loads old.pool new.pool page end (some_inside old.pool.waits page r.1.some) r.1.loads h
+  keeps_refused_lend NumbersSpent old new page end r h = keeps_same old.pool new.pool (ap (λ (v : Held). v.pool) r.3) h
+  keeps_refused_lend PoolFull old new page end r h = keeps_not_fetched FullFrames old.pool new.pool page end r.1 h
+  keeps_refused_lend Device old new page end r h = keeps_not_fetched DiskFailed old.pool new.pool page end r.1 h
+  keeps_refused_lend Memory old new page end r h = keeps_same old.pool new.pool r.1.same h
+  keeps_refused_lend (BadPage p) old new page end r h = keeps_not_fetched (NoPage p) old.pool new.pool page end r.1 h
+  keeps_refused_lend LogBehind old new page end r h = absurd r
 
-  pub keeps_apply : (r : Result Lsn Fault) (old new : Held) (page end : ℕ) → IfOk r (λ lsn. Applies old.pool new.pool page end lsn) → IfErr r (λ e. RefusesApply e old new page end)
+  pub keeps_lend : (r : Result Leased Fault) (old new : Held) (page end : ℕ) → IfOk r (λ lease. Lends old.pool new.pool page end lease) → IfErr r (λ e. RefusesLend e old new page end)
       → IsPoolOf log below old.pool → IsPoolOf log below new.pool
-  keeps_apply (Ok lsn) old new page end ok err h = keeps_applies old.pool new.pool page end lsn ok h
-  keeps_apply (Err e) old new page end ok err h = keeps_refused_apply e old new page end err h
+  keeps_lend (Ok lease) old new page end ok err h = keeps_lends old.pool new.pool page end lease ok h
+  keeps_lend (Err e) old new page end ok err h = keeps_refused_lend e old new page end err h
+
+  pub keeps_give : (r : Result (Unit {0}) Leased) (old new : Held) (lease : Leased) → OnOk r (Gives old.pool new.pool lease) → IfErr r (λ l. (l ≡ lease) × (new ≡ old))
+      → IsPoolOf log below old.pool → IsPoolOf log below new.pool
+  keeps_give (Ok x) old new lease ok err h = keeps_gives old.pool new.pool lease ok h
+  keeps_give (Err l) old new lease ok err h = keeps_same old.pool new.pool (ap (λ (v : Held). v.pool) err.1) h
+
+  pub keeps_recall : (r : Result (Unit {0}) Fault) (old new : Held) (page : ℕ) → OnOk r (Recalls old.pool new.pool page) → IfErr r (λ e. (e ≡ NothingToDo) × (is_lent old.pool page ≡ false) × (new ≡ old))
+      → IsPoolOf log below old.pool → IsPoolOf log below new.pool
+  keeps_recall (Ok x) old new page ok err h = keeps_marks old.pool new.pool page (recalls-marks old.pool new.pool page ok) h
+  keeps_recall (Err e) old new page ok err h = keeps_same old.pool new.pool (ap (λ (v : Held). v.pool) err.2) h
+
+  -- a lease has its page as history repeated, and the next changes that the log has for it
+  lends-history : (v new : Pooled) (page : ℕ) (lease : Leased) → LendsFirst v new page lease → page < length v.waits → IsPoolOf log below v
+      → (lease.base ≡ page_at log page lease.base.lsn) × (lease.batch ++ drop 64 (pending_of new.waits page) ≡ changes_above log page lease.base.lsn)
+  lends-history v new page lease done inside h =
+      let f = done.lends.f in
+      let base : lease.base ≡ f.content = ap (λ (l : Leased). l.base) done.lease_is in
+      let batch : lease.batch ≡ take 64 (pending_of v.waits page) = ap (λ (l : Leased). l.batch) done.lease_is in
+      let left : pending_of new.waits page ≡ pending_of v.waits page = ap (λ (u : Pooled). pending_of u.waits page) done.same in
+      let at : f.content ≡ page_at log page f.content.lsn = (framed log below v page f inside done.lends.resident h).content in (
+        base ∙ at ∙ ap (λ (s : PageState). page_at log page s.lsn) (sym base),
+        ap (λ (cs : List Change). cs ++ drop 64 (pending_of new.waits page)) batch ∙ ap (λ (cs : List Change). take 64 (pending_of v.waits page) ++ drop 64 cs) left
+            ∙ take-append-drop 64 (pending_of v.waits page) ∙ waits-above v page f inside done.lends.resident h ∙ ap (λ (s : PageState). changes_above log page s.lsn) (sym base),
+      )
+
+  resident-length : (old loaded : Pooled) (page end : ℕ) (o : Option Framed) → MatchOption o (Loads old loaded page end) (λ f. loaded ≡ old) → length loaded.waits ≡ length old.waits
+  resident-length old loaded page end None made = ap (λ (v : Pooled). length v.waits) made.same ∙ length-set old.waits page _
+  resident-length old loaded page end (Some f) made = ap (λ (v : Pooled). length v.waits) made
+
+  pub lend-history : (old new : Pooled) (page end : ℕ) (lease : Leased) → Lends old new page end lease → IsPoolOf log below old
+      → (lease.base ≡ page_at log page lease.base.lsn) × (lease.batch ++ drop 64 (pending_of new.waits page) ≡ changes_above log page lease.base.lsn)
+  lend-history old new page end lease done h =
+      let inside : page < length old.waits = some_inside old.waits page done.some in
+      let len : length done.loaded.waits ≡ length old.waits = resident-length old done.loaded page end (frame_of old.frames page) done.resident in
+      lends-history done.loaded new page lease done.first (omega (arith, inside, len)) (keeps_resident old done.loaded page end (frame_of old.frames page) inside done.resident h)
 
   -- the block of a page that changes wait for is never bad
-  pub never_bad : (r : Result Lsn Fault) (old new : Held) (page end p : ℕ) → end_of log ≤ end → IfErr r (λ e. RefusesApply e old new page end) → IsPoolOf log below old.pool → IsErrOf r (BadPage p) → ⊥
+  pub never_bad : (r : Result Leased Fault) (old new : Held) (page end p : ℕ) → end_of log ≤ end → IfErr r (λ e. RefusesLend e old new page end) → IsPoolOf log below old.pool → IsErrOf r (BadPage p) → ⊥
   never_bad r old new page end p le err h is =
-      let refused : RefusesApply (BadPage p) old new page end = subst (λ (r' : Result Lsn Fault). IfErr r' (λ e. RefusesApply e old new page end)) is err in
-      let inside : page < length old.pool.waits = some_inside old.pool.waits page refused.0 in
+      let refused : RefusesLend (BadPage p) old new page end = subst (λ (r' : Result Leased Fault). IfErr r' (λ e. RefusesLend e old new page end)) is err in
+      let inside : page < length old.pool.waits = some_inside old.pool.waits page refused.0.some in
       never_bad_below log (synced_lsn old.pool.frames) below old.pool.frames page end (omega (arith, inside, h.paged)) refused.1.absent le h.frames refused.1.refuses.2
 
   -- ---- images
@@ -122,9 +172,11 @@ module _ (log : List Record) (below : ℕ) where
       (ap (λ (v : Paged). v.pages) fails.fails.same) (λ p. ap (λ (v : Paged). frame_of v p) fails.fails.same) h)
 
   keeps_refused_flush : (e : Fault) (old new : Pooled) (page : ℕ) (acknowledged : Lsn) → acknowledged.0 ≤ below → RefusesFlush e old new page acknowledged → IsPoolOf log below old → IsPoolOf log below new
-  keeps_refused_flush NothingToDo old new page acknowledged le r h = keeps_same old new r.1 h
-  keeps_refused_flush LogBehind old new page acknowledged le r h = keeps_same old new r.1 h
-  keeps_refused_flush Device old new page acknowledged le r h = keeps_flush_fails old new page acknowledged le r h
+  keeps_refused_flush PageLent old new page acknowledged le r h = keeps_same old new r.1 h
+  keeps_refused_flush NumbersSpent old new page acknowledged le r h = absurd r
+  keeps_refused_flush NothingToDo old new page acknowledged le r h = keeps_same old new r.2 h
+  keeps_refused_flush LogBehind old new page acknowledged le r h = keeps_same old new r.2 h
+  keeps_refused_flush Device old new page acknowledged le r h = keeps_flush_fails old new page acknowledged le r.1 h
   keeps_refused_flush PoolFull old new page acknowledged le r h = absurd r
   keeps_refused_flush Memory old new page acknowledged le r h = absurd r
   keeps_refused_flush (BadPage p) old new page acknowledged le r h = absurd r
@@ -163,10 +215,12 @@ module _ (log : List Record) (below : ℕ) where
 
   refused_flush_grows : (e : Fault) (old new : Pooled) (page p : ℕ) (acknowledged : Lsn) → p < length old.waits → RefusesFlush e old new page acknowledged → acknowledged.0 ≤ below → IsPoolOf log below old
       → synced_lsn old.frames p ≤ synced_lsn new.frames p
-  refused_flush_grows NothingToDo old new page p acknowledged lt r le h = same-grows old new p r.1
-  refused_flush_grows LogBehind old new page p acknowledged lt r le h = same-grows old new p r.1
+  refused_flush_grows PageLent old new page p acknowledged lt r le h = same-grows old new p r.1
+  refused_flush_grows NumbersSpent old new page p acknowledged lt r le h = absurd r
+  refused_flush_grows NothingToDo old new page p acknowledged lt r le h = same-grows old new p r.2
+  refused_flush_grows LogBehind old new page p acknowledged lt r le h = same-grows old new p r.2
   refused_flush_grows Device old new page p acknowledged lt r le h =
-      flushed-lsns old new p lt (ap (λ (v : Paged). v.pages) r.fails.same) (failed-frames old new page acknowledged le r h) h
+      flushed-lsns old new p lt (ap (λ (v : Paged). v.pages) r.1.fails.same) (failed-frames old new page acknowledged le r.1 h) h
   refused_flush_grows PoolFull old new page p acknowledged lt r le h = absurd r
   refused_flush_grows Memory old new page p acknowledged lt r le h = absurd r
   refused_flush_grows (BadPage q) old new page p acknowledged lt r le h = absurd r
@@ -221,6 +275,8 @@ module _ (log : List Record) (below : ℕ) where
   refused_page Device old new page r h = read_frames DiskFailed old new page r h
   refused_page (BadPage p) old new page r h = read_frames (NoPage p) old new page r h
   refused_page LogBehind old new page r h = absurd r
+  refused_page PageLent old new page r h = absurd r
+  refused_page NumbersSpent old new page r h = absurd r
   refused_page PoolFull old new page r h = absurd r
   refused_page NothingToDo old new page r h = absurd r
   refused_page Memory old new page r h = absurd r

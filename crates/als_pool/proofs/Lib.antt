@@ -2,6 +2,7 @@ pub mod QueueLists
 pub mod QueueSteps
 pub mod Waiting
 pub mod Ordering
+pub mod LeaseSteps
 pub mod PageSteps
 pub mod PoolSteps
 pub mod Keeping

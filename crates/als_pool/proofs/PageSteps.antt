@@ -14,7 +14,8 @@ use Rattle.als_record.proofs.PageLaws.{end_of-push, changes_on-same, changes_abo
 use Rattle.als_frames.specs.Frames.{Framed, clean_frame}
 use Rattle.als_frames.specs.Images.{lsn_or, written_or}
 use Rattle.als_frames.specs.Outcomes.{synced_frame}
-use Rattle.als_frames.specs.Batch.{redone_frame}
+use Rattle.als_frames.specs.declared.lent.Lent.{Lent}
+use Rattle.als_page.specs.Changes.{redone_all}
 use Rattle.als_dirty.specs.declared.dirty_page.DirtyPage.{DirtyPage}
 use Rattle.als_dirty.specs.Entries.{first_of, after_record, after_write, after_sync, after_load}
 use Rattle.als_dirty.specs.Images.{first_lsn, IsDirtyPageOf}
@@ -135,15 +136,22 @@ module _ (log : List Record) (p : ℕ) where
 
   -- the first changes that wait are redone
   pub redone-page : (f : Framed) (s : ℕ) (e : DirtyPage) (w front left : List Change) (u : Option Lsn) (pages : ℕ) → IsLog pages log → w ≡ front ++ left
-      → IsPageOf log p (Some f) s e w u → IsPageOf log p (Some (redone_frame f front)) s e left u
+      → IsPageOf log p (Some f) s e w u → IsPageOf log p (Some (record f { content = redone_all f.content front; lent = None })) s e left u
   redone-page f s e w front left u pages is_log waited h =
       let (none, it) = read-it f s e w u h in
       let passes = changes_above-front log p f.content.lsn front left is_log.laid_out (sym it.wait ∙ waited) in
-      let lsn-is : lsn_after f.content.lsn front ≡ (redone_frame f front).content.lsn = sym (lsn-fold f.content front) in
-      subst (λ (x : Option Lsn). IsPageOf log p (Some (redone_frame f front)) s e left x) (sym none) (record {
+      let lsn-is : lsn_after f.content.lsn front ≡ (redone_all f.content front).lsn = sym (lsn-fold f.content front) in
+      subst (λ (x : Option Lsn). IsPageOf log p (Some (record f { content = redone_all f.content front; lent = None })) s e left x) (sym none) (record {
         row = it.row;
         wait = sym passes.changes_then ∙ ap (λ (n : ℕ). changes_above log p n) lsn-is;
       })
+
+  -- the lease of the page begins or ends
+  pub marked-page : (f : Framed) (l : Option Lent) (s : ℕ) (e : DirtyPage) (w : List Change) (u : Option Lsn)
+      → IsPageOf log p (Some f) s e w u → IsPageOf log p (Some (record f { lent = l })) s e w u
+  marked-page f l s e w u h =
+      let (none, it) = read-it f s e w u h in
+      subst (λ (x : Option Lsn). IsPageOf log p (Some (record f { lent = l })) s e w x) (sym none) (record { row = it.row; wait = it.wait })
 
   -- the page is written
   pub stored-page : (f : Framed) (s : ℕ) (e : DirtyPage) (w : List Change) (u : Option Lsn) → f.written ≤ f.content.lsn → f.content.lsn < end_of log

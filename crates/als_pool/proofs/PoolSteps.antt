@@ -15,7 +15,7 @@ use Rattle.als_record.proofs.PageLaws.{changes_on-none, changes_on-other, change
 use Rattle.als_frames.specs.Frames.{Framed, Paged, frame_of, slot_of}
 use Rattle.als_frames.specs.Images.{synced_lsn, lsn_or, written_or, IsFramedAt, IsStoredAt, IsPageAt, AreFramesOf}
 use Rattle.als_frames.specs.Outcomes.{IsReplaced, synced_frame}
-use Rattle.als_frames.specs.Batch.{redone_frame}
+use Rattle.als_page.specs.Changes.{redone_all}
 use Rattle.als_frames.proofs.Keeping.{synced_is}
 use Rattle.als_dirty.specs.declared.dirty_page.DirtyPage.{DirtyPage}
 use Rattle.als_dirty.specs.Entries.{untouched_page, entry_of, after_record, after_write, after_sync, after_load}
@@ -23,9 +23,10 @@ use Rattle.als_dirty.specs.Images.{first_lsn}
 use Rattle.als_dirty.proofs.TableSteps.{page-load}
 use Rattle.als_pool.specs.Queues.{pending_of, above}
 use Rattle.als_pool.specs.Pooled.{Pooled, unread_of, new_pool}
-use Rattle.als_pool.specs.Outcomes.{with_change, Loads, Redoes, IsDueAt, StoresPage, SyncsPages}
+use Rattle.als_pool.specs.Outcomes.{with_change, Loads, IsDueAt, StoresPage, SyncsPages}
 use Rattle.als_pool.specs.Images.{IsPageOf, IsPooledPageOf, IsPoolOf}
-use Rattle.als_pool.proofs.PageSteps.{page-cong, pushed, passed, redone-page, stored-page, synced-page, loaded-page, replaced-page}
+use Rattle.als_pool.proofs.LeaseSteps.{Marks, Redoes}
+use Rattle.als_pool.proofs.PageSteps.{page-cong, pushed, passed, redone-page, marked-page, stored-page, synced-page, loaded-page, replaced-page}
 
 -- the same pages, by another function of the page_LSNs last synced
 pub frames-cong : (log : List Record) (s s' : ℕ → ℕ) (below : ℕ) (v : Paged) → ((p : ℕ) → p < v.pages → s p ≡ s' p) → AreFramesOf log s below v → AreFramesOf log s' below v
@@ -108,7 +109,7 @@ module _ (log : List Record) (below : ℕ) where
           page-cong log p None (frame_of new.frames p) (synced_lsn old.frames p) (synced_lsn new.frames p) (entry_of old.dirty p) (entry_of old.dirty p) (pending_of old.waits p) (pending_of old.waits p)
           (unread_of old.unread p) (unread_of old.unread p) gone (spelled p) refl refl refl
           (replaced-page log p f (synced_lsn old.frames p) (entry_of old.dirty p) (pending_of old.waits p) (unread_of old.unread p)
-          (omega (arith, f-at.synced_is, f-at.from, f-at.order, clean)) (omega (arith, f-at.synced_is, clean)) before)
+          (omega (arith, f-at.synced_is, f-at.from, f-at.order, clean.0)) (omega (arith, f-at.synced_is, clean.0)) before)
 
       e' : DirtyPage
       e' = after_load (first_lsn left)
@@ -134,10 +135,9 @@ module _ (log : List Record) (below : ℕ) where
           ]
 
   -- the first changes that wait for a page are redone
-  pub pool-redoes : (old new : Pooled) (page : ℕ) (lsn : Lsn) → page < length old.waits → Redoes old new page lsn
-      → AreFramesOf log (synced_lsn old.frames) below new.frames → IsPoolOf log below old → IsPoolOf log below new
-  pool-redoes old new page lsn inside done are h = subst (λ (v : Pooled). IsPoolOf log below v) (sym done.same) (record {
-    paged = ap (λ (v : Paged). v.pages) done.redoes.same ∙ h.paged ∙ sym (length-set old.waits page left);
+  pub pool-redoes : (old new : Pooled) (page count : ℕ) → Redoes old new page count → AreFramesOf log (synced_lsn old.frames) below new.frames → IsPoolOf log below old → IsPoolOf log below new
+  pool-redoes old new page count done are h = subst (λ (v : Pooled). IsPoolOf log below v) (sym done.same) (record {
+    paged = ap (λ (v : Paged). v.pages) done.framed ∙ h.paged ∙ sym (length-set old.waits page left);
     tabled = h.tabled ∙ sym (length-set old.waits page left);
     told = h.told ∙ sym (length-set old.waits page left);
     frames = respelled log (synced_lsn old.frames) below new.frames are;
@@ -145,28 +145,55 @@ module _ (log : List Record) (below : ℕ) where
   })
     where
       left : List Change
-      left = drop 64 (pending_of old.waits page)
+      left = drop count (pending_of old.waits page)
 
       spelled : (p : ℕ) → synced_lsn new.frames p ≡ synced_lsn old.frames p
-      spelled p = ap (λ (v : Paged). synced_lsn v p) done.redoes.same
+      spelled p = ap (λ (v : Paged). synced_lsn v p) done.framed
 
       at : (p : ℕ) → p < length old.waits
           → IsPageOf log p (frame_of new.frames p) (synced_lsn new.frames p) (entry_of old.dirty p) (pending_of (slice_set old.waits page left) p) (unread_of old.unread p)
       at p lt =
           elim (cases_eq p page) [
             | inl same ↦
-                let f = done.redoes.f in
+                let f = done.f in
+                let front : List Change = take count (pending_of old.waits page) in
                 let before : IsPageOf log page (Some f) (synced_lsn old.frames page) (entry_of old.dirty page) (pending_of old.waits page) (unread_of old.unread page)
-                = subst (λ (o : Option Framed). IsPageOf log page o (synced_lsn old.frames page) (entry_of old.dirty page) (pending_of old.waits page) (unread_of old.unread page)) done.redoes.resident (h.each page inside) in
+                = subst (λ (o : Option Framed). IsPageOf log page o (synced_lsn old.frames page) (entry_of old.dirty page) (pending_of old.waits page) (unread_of old.unread page)) done.resident (h.each page done.inside) in
                 subst (λ (k : ℕ). IsPageOf log k (frame_of new.frames k) (synced_lsn new.frames k) (entry_of old.dirty k) (pending_of (slice_set old.waits page left) k) (unread_of old.unread k)) (sym same)
-                (page-cong log page (Some (redone_frame f (take 64 (pending_of old.waits page)))) (frame_of new.frames page) (synced_lsn old.frames page) (synced_lsn new.frames page) (entry_of old.dirty page) (entry_of old.dirty page)
-                left (pending_of (slice_set old.waits page left) page) (unread_of old.unread page) (unread_of old.unread page) done.redoes.sets.frame (spelled page) refl (get_or-set_same old.waits page left [] inside) refl
-                (redone-page log page f (synced_lsn old.frames page) (entry_of old.dirty page) (pending_of old.waits page) (take 64 (pending_of old.waits page)) left (unread_of old.unread page) old.frames.pages h.frames.is_log
-                (sym (take-append-drop 64 (pending_of old.waits page))) before))
+                (page-cong log page (Some (record f { content = redone_all f.content front; lent = None })) (frame_of new.frames page) (synced_lsn old.frames page) (synced_lsn new.frames page) (entry_of old.dirty page) (entry_of old.dirty page)
+                left (pending_of (slice_set old.waits page left) page) (unread_of old.unread page) (unread_of old.unread page) done.sets.frame (spelled page) refl (get_or-set_same old.waits page left [] done.inside) refl
+                (redone-page log page f (synced_lsn old.frames page) (entry_of old.dirty page) (pending_of old.waits page) front left (unread_of old.unread page) old.frames.pages h.frames.is_log
+                (sym (take-append-drop count (pending_of old.waits page))) before))
             | inr ne ↦
                 page-cong log p (frame_of old.frames p) (frame_of new.frames p) (synced_lsn old.frames p) (synced_lsn new.frames p) (entry_of old.dirty p) (entry_of old.dirty p)
-                (pending_of old.waits p) (pending_of (slice_set old.waits page left) p) (unread_of old.unread p) (unread_of old.unread p) (done.redoes.sets.others p ne) (spelled p) refl
+                (pending_of old.waits p) (pending_of (slice_set old.waits page left) p) (unread_of old.unread p) (unread_of old.unread p) (done.sets.others p ne) (spelled p) refl
                 (get_or-set_other old.waits page p left [] ne) refl (h.each p lt)
+          ]
+
+  -- the lease of a page begins or ends
+  pub pool-marks : (old new : Pooled) (page : ℕ) → Marks old new page → AreFramesOf log (synced_lsn old.frames) below new.frames → IsPoolOf log below old → IsPoolOf log below new
+  pool-marks old new page done are h = subst (λ (v : Pooled). IsPoolOf log below v) (sym done.same) (record {
+    paged = ap (λ (v : Paged). v.pages) done.framed ∙ h.paged;
+    tabled = h.tabled;
+    told = h.told;
+    frames = respelled log (synced_lsn old.frames) below new.frames are;
+    each = at;
+  })
+    where
+      spelled : (p : ℕ) → synced_lsn new.frames p ≡ synced_lsn old.frames p
+      spelled p = ap (λ (v : Paged). synced_lsn v p) done.framed
+
+      at : (p : ℕ) → p < length old.waits → IsPageOf log p (frame_of new.frames p) (synced_lsn new.frames p) (entry_of old.dirty p) (pending_of old.waits p) (unread_of old.unread p)
+      at p lt =
+          elim (cases_eq p page) [
+            | inl same ↦
+                let f = done.f in
+                let before : IsPageOf log p (Some f) (synced_lsn old.frames p) (entry_of old.dirty p) (pending_of old.waits p) (unread_of old.unread p)
+                = subst (λ (o : Option Framed). IsPageOf log p o (synced_lsn old.frames p) (entry_of old.dirty p) (pending_of old.waits p) (unread_of old.unread p)) (ap (λ (k : ℕ). frame_of old.frames k) same ∙ done.resident) (h.each p lt) in
+                page-cong log p (Some (record f { lent = done.lent })) (frame_of new.frames p) (synced_lsn old.frames p) (synced_lsn new.frames p) (entry_of old.dirty p) (entry_of old.dirty p)
+                (pending_of old.waits p) (pending_of old.waits p) (unread_of old.unread p) (unread_of old.unread p) (ap (λ (k : ℕ). frame_of new.frames k) same ∙ done.sets.frame) (spelled p) refl refl refl
+                (marked-page log p f done.lent (synced_lsn old.frames p) (entry_of old.dirty p) (pending_of old.waits p) (unread_of old.unread p) before)
+            | inr ne ↦ same-page old new.frames p (done.sets.others p ne) (spelled p) (h.each p lt)
           ]
 
   -- a page is written
@@ -291,9 +318,9 @@ no_frame : (v : Paged) (p : ℕ) → v.frames ≡ [] → frame_of v p ≡ None
 no_frame v p none = ap (λ (fs : List (ℕ × Framed)). lookup (nat_eq p) fs) none
 
 -- empty pages, of which none is in a frame
-pub pool_of_empty : (frames : Paged) (pages below : ℕ) → frames.pages ≡ pages → frames.frames ≡ []
-    → AreFramesOf [] (λ _. 0) below frames → IsPoolOf [] below (new_pool frames pages)
-pool_of_empty frames pages below count none are = record {
+pub pool_of_empty : (frames : Paged) (pages first below : ℕ) → frames.pages ≡ pages → frames.frames ≡ []
+    → AreFramesOf [] (λ _. 0) below frames → IsPoolOf [] below (new_pool frames pages first)
+pool_of_empty frames pages first below count none are = record {
   paged = count ∙ sym len;
   tabled = length-replicate pages untouched_page ∙ sym len;
   told = length-replicate {A = Option Lsn} pages None ∙ sym len;
@@ -304,7 +331,7 @@ pool_of_empty frames pages below count none are = record {
     len : length (replicate {A = List Change} pages []) ≡ pages
     len = length-replicate pages []
 
-    one : (p : ℕ) → p < pages → IsPooledPageOf [] (new_pool frames pages) p
+    one : (p : ℕ) → p < pages → IsPooledPageOf [] (new_pool frames pages first) p
     one p lt =
         page-cong [] p None (frame_of frames p) 0 (synced_lsn frames p) untouched_page (entry_of (replicate pages untouched_page) p) [] (pending_of (replicate pages []) p) None (unread_of (replicate pages None) p)
         (no_frame frames p none) (synced_is [] (λ _. 0) below frames p (omega (arith, lt, count)) are) (get_or-replicate pages p untouched_page untouched_page lt) (get_or-replicate {A = List Change} pages p [] [] lt)

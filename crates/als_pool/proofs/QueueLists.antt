@@ -7,7 +7,8 @@ use Rattle.std.proofs.lemmas.List.{get_or-map}
 use Rattle.std.proofs.lemmas.List.Sums.{sum_by-set, sum_by-cons}
 use Rattle.als_record.specs.declared.change.Change.{Change}
 use Rattle.als_dirty.specs.Images.{first_lsn}
-use Rattle.als_pool.specs.Queues.{Queue, empty_queue, pending_of, total_waiting}
+use Rattle.als_lease.specs.Queue.{Queue, empty_queue}
+use Rattle.als_pool.specs.Queues.{pending_of, total_waiting}
 
 -- what the queue that an index gave shows
 pub queue_at : (queues : List Queue) (page : ℕ) (q : Queue) → page < length queues → q ≡ get_or queues page q → pending_of (map (λ x. x.pending) queues) page ≡ q.pending

@@ -5,7 +5,8 @@ use Rattle.std.proofs.lemmas.Bool.{cases_lt, cond-true, cond-false, lt-leb, le-l
 use Rattle.std.proofs.lemmas.List.{map-set, length-map, get_or-set_same, set-get_or, drop_all, take_min, length-replicate}
 use Rattle.als_record.specs.declared.lsn.Lsn.{Lsn}
 use Rattle.als_record.specs.declared.change.Change.{Change}
-use Rattle.als_pool.specs.Queues.{Queue, Waiting, empty_queue, pending_of, has_place, total_waiting, count_up_to, flag_of, flags_of}
+use Rattle.als_lease.specs.Queue.{Queue, empty_queue, count_up_to, flag_of}
+use Rattle.als_pool.specs.Queues.{Waiting, pending_of, has_place, total_waiting, flags_of}
 use Rattle.als_pool.proofs.QueueLists.{queue_at, place_at, total-set, total-empty, map-empty, map-no_place}
 
 abbrev pub waits_in : List Queue → List (List Change)

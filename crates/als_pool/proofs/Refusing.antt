@@ -1,16 +1,34 @@
--- The tests by which a page is not redone, or not written, are exact.
-use Rattle.std.proofs.Common.{◌≡◌, ℕ, true, false, true≢false, cond, List, [], ◌∷◌, length, Option, Some, None, nat_eq, inl, inr, refl, sym, ap, subst, ◌∙◌}
-use Rattle.std.specs.Prelude.{not, ◌&&◌, ◌↔◌, nat_le, is_none, is_some}
+-- The tests by which a page is not lent, or not written, are exact.
+use Rattle.std.proofs.Common.{◌≡◌, ℕ, true, false, true≢false, cond, List, [], ◌∷◌, length, Option, Some, None, nat_eq, inl, inr, refl, sym, ap, ap₂, subst, ◌∙◌}
+use Rattle.std.specs.Prelude.{Bool, not, ◌||◌, ◌&&◌, ◌↔◌, nat_le, is_none, is_some}
 use Rattle.std.specs.Map.{lookup}
-use Rattle.std.proofs.lemmas.Bool.{eqb-true, eqb-false, eq-eqb, ne_eqb, le-leb, leb-true, cases_Bool, and_parts, and_from, not-true, not-false, not_from_false, not_from_true, false_from_ne_true}
+use Rattle.std.proofs.lemmas.Bool.{eqb-true, eq-eqb, le-leb, leb-true, cases_Bool, and_parts, and_from, not-false, not_from_true, false_from_ne_true}
 use Rattle.std.proofs.lemmas.Option.{same_Some}
 use Rattle.als_record.specs.declared.change.Change.{Change}
+use Rattle.als_frames.specs.declared.lent.Lent.{Lent}
+use Rattle.als_frames.specs.Leases.{lent_of}
 use Rattle.als_frames.specs.Frames.{Framed, IsFree, Paged, frame_of}
 use Rattle.als_frames.specs.Images.{lsn_or, written_or, synced_lsn}
 use Rattle.als_frames.specs.Outcomes.{IsFull, NothingIsDue}
 use Rattle.als_pool.specs.Queues.{pending_of}
 use Rattle.als_pool.specs.Pooled.{Pooled, view_of}
-use Rattle.als_pool.specs.Refusals.{are_some, has_waiting, is_taken, are_taken, is_full, is_due}
+use Rattle.als_pool.specs.Refusals.{is_lent, are_spent, are_some, has_waiting, is_taken, are_taken, is_full, is_due}
+
+-- ---- leases
+
+is_none_so : {T : Type 0} (o : Option T) → is_some o ≡ false → o ≡ None
+is_none_so None e = refl
+is_none_so (Some x) e = absurd (true≢false e)
+
+pub not_lent : (v : Pooled) (page : ℕ) → (is_lent v page ≡ false) ↔ (lent_of v.frames page ≡ None)
+not_lent v page = (is_none_so (lent_of v.frames page), λ e. ap (λ (o : Option Lent). is_some o) e)
+
+all_given : (o : Option ℕ) → is_none o ≡ true → o ≡ None
+all_given None e = refl
+all_given (Some x) e = absurd (true≢false (sym e))
+
+pub spent : (v : Pooled) → (are_spent v ≡ true) ↔ (v.next ≡ None)
+spent v = (all_given v.next, λ e. ap (λ (o : Option ℕ). is_none o) e)
 
 -- ---- what waits
 
@@ -34,9 +52,14 @@ none_from : {T : Type 0} (o : Option T) → is_none o ≡ true → o ≡ None
 none_from None e = refl
 none_from (Some x) e = absurd (true≢false (sym e))
 
+taken-by : (l : Option Lent) (clean : Bool) → (l ≡ None → clean ≡ true → ⊥) → (is_some l || not clean) ≡ true
+taken-by None true h = absurd (h refl refl)
+taken-by None false h = refl
+taken-by (Some x) clean h = refl
+
 taken : (o : Option Framed) → ((f : Framed) → o ≡ Some f → IsFree f → ⊥) → is_taken o ≡ true
 taken None h = refl
-taken (Some f) h = not_from_false (nat_eq f.content.lsn f.synced) (ne_eqb f.content.lsn f.synced (h f refl))
+taken (Some f) h = taken-by f.lent (nat_eq f.content.lsn f.synced) (λ none clean. h f refl (eqb-true f.content.lsn f.synced clean, none))
 
 all_taken : (v : Paged) (es : List (ℕ × Framed)) → ((other : ℕ) (f : Framed) → frame_of v other ≡ Some f → IsFree f → ⊥) → are_taken v es ≡ true
 all_taken v [] h = refl
@@ -54,10 +77,13 @@ each_taken v (e ∷ es) other f h found =
       | inr no' ↦ each_taken v es other f p.1 (sym (ap (λ b. cond b (Some e.1) (lookup (nat_eq other) es)) no') ∙ found)
     ]
 
+not-taken : (l : Option Lent) (clean : Bool) → l ≡ None → clean ≡ true → (is_some l || not clean) ≡ true → ⊥
+not-taken l clean none is h = let no' : false ≡ true = sym (ap₂ (λ (x : Option Lent) (c : Bool). is_some x || not c) none is) ∙ h in absurd (true≢false (sym no'))
+
 not_free : (o : Option Framed) (f : Framed) → is_taken o ≡ true → o ≡ Some f → IsFree f → ⊥
 not_free o f h is free =
-    let dirty : not (nat_eq f.content.lsn f.synced) ≡ true = subst (λ (x : Option Framed). is_taken x ≡ true) is h in
-    eqb-false f.content.lsn f.synced (not-true (nat_eq f.content.lsn f.synced) dirty) free
+    let dirty : (is_some f.lent || not (nat_eq f.content.lsn f.synced)) ≡ true = subst (λ (x : Option Framed). is_taken x ≡ true) is h in
+    not-taken f.lent (nat_eq f.content.lsn f.synced) free.1 (eq-eqb f.content.lsn f.synced free.0) dirty
 
 full_from : (v : Pooled) (page : ℕ) → IsFull v.frames page → is_full v page ≡ true
 full_from v page full =

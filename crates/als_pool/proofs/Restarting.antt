@@ -1,5 +1,5 @@
 -- A pool that was opened at a restart: where what waits begins, and the rows of pages that were not read yet.
-use Rattle.std.proofs.Common.{◌≡◌, ◌⊎◌, ℕ, ◌+◌, ◌-◌, ◌<◌, ◌≤◌, ◌^◌, ◌==◌, max, if◌then◌else◌, List, [], ◌∷◌, ◌++◌, length, replicate, map, drop, Option, Some, None, inl, inr, refl, sym, ap, subst, ◌∙◌, length-set, eq-eqb, ne_eqb, arith}
+use Rattle.std.proofs.Common.{false, ◌≡◌, ◌⊎◌, ℕ, ◌+◌, ◌-◌, ◌<◌, ◌≤◌, ◌^◌, ◌==◌, max, if◌then◌else◌, List, [], ◌∷◌, ◌++◌, length, replicate, map, drop, Option, Some, None, inl, inr, refl, sym, ap, subst, ◌∙◌, length-set, eq-eqb, ne_eqb, arith}
 use Rattle.std.specs.Prelude.{slice_set, MatchOption, Result, Ok, Err, IfOk, IfErr, OnOk, OnErr, nat_eq}
 use Rattle.std.specs.List.{fold}
 use Rattle.std.specs.Map.{lookup}
@@ -24,13 +24,16 @@ use Rattle.als_dirty.specs.Entries.{untouched_page, entry_of, first_of, after_re
 use Rattle.als_dirty.specs.Images.{first_lsn}
 use Rattle.als_dirty.specs.Rows.{rec_lsn_of}
 use Rattle.als_pool.specs.declared.fault.Fault.{Fault}
-use Rattle.als_pool.specs.declared.fault.Fault.TheVariants.{LogBehind, PoolFull, NothingToDo, Device, Memory, BadPage}
+use Rattle.als_pool.specs.declared.fault.Fault.TheVariants.{LogBehind, PoolFull, PageLent, NothingToDo, Device, Memory, BadPage, NumbersSpent}
 use Rattle.als_pool.specs.Queues.{pending_of, total_waiting, above}
 use Rattle.als_pool.specs.Pooled.{Pooled, Held, unread_of, WaitsInOrder, IsPooled}
-use Rattle.als_pool.specs.Outcomes.{CanRoute, with_change, Loads, Redoes, Applies, NotFetched, RefusesApply, StoresPage, Flushes, RefusesFlush, SyncsPages, SyncPagesFails, ReadRefused, RefusesPage}
+use Rattle.als_pool.specs.Outcomes.{CanRoute, with_change, Loads, Lends, RefusesLend, Gives, Recalls, NotFetched, StoresPage, Flushes, RefusesFlush, SyncsPages, SyncPagesFails, ReadRefused, RefusesPage}
 use Rattle.als_pool.specs.Images.{IsPageOf, IsPoolOf, IsQueueOf, QueuesOf, IsFromOn}
 use Rattle.als_pool.specs.Restart.{at_first, row_after, row_in, or_from, or_first, start_of, IsOpened, IsUnreadRow, HasRowsFrom, IsRowOfRestart, Started, started_at, with_row}
+use Rattle.als_lease.specs.Lease.{Leased}
+use Rattle.als_pool.specs.Refusals.{is_lent}
 use Rattle.als_pool.proofs.QueueLists.{some_inside}
+use Rattle.als_pool.proofs.LeaseSteps.{Marks, Redoes, lends-marks, recalls-marks, gives-redoes}
 use Rattle.als_pool.proofs.Waiting.{next_lower}
 use Rattle.als_pool.proofs.PageSteps.{more_waits, change_lsn, first_lsn-push}
 use Rattle.als_pool.proofs.PoolLaws.{next-list, change_inside}
@@ -78,7 +81,7 @@ all-rows (row ∷ rows) s page found from lt len h =
     (length-set s.dirty row.page row-is ∙ len ∙ sym len') (one-row s row page found from lt len h)
 
 pub is_opened : (stored : Paged) (position : Lsn) (rows : List LoggedPage) (s : Started) → s ≡ fold with_row (started_at stored.pages position) rows
-    → IsOpened stored position rows (record { frames = stored; dirty = s.dirty; waits = replicate stored.pages []; unread = s.unread })
+    → IsOpened stored position rows (record { frames = stored; dirty = s.dirty; waits = replicate stored.pages []; unread = s.unread; next = Some 1 })
 is_opened stored position rows s is = record {
   frames = refl;
   waits = refl;
@@ -86,6 +89,7 @@ is_opened stored position rows s is = record {
   told = ap (λ (x : Started). length x.unread) is ∙ lengths.1 ∙ told;
   starts = λ page lt. ap (λ (x : Started). unread_of x.unread page) is ∙ (each page lt).0;
   given = λ page lt. ap (λ (x : Started). entry_of x.dirty page) is ∙ (each page lt).1;
+  first = refl;
 }
   where
     s0 : Started
@@ -136,6 +140,9 @@ or-none : (given : Option Lsn) → given ≡ or_first given None
 or-none None = refl
 or-none (Some row) = refl
 
+none_is_some : (f : Framed) → None ≡ Some f → ⊥
+none_is_some f e = cc
+
 no_frame : (v : Paged) (p : ℕ) → v.frames ≡ [] → frame_of v p ≡ None
 no_frame v p none = ap (λ (fs : List (ℕ × Framed)). lookup (nat_eq p) fs) none
 
@@ -147,12 +154,13 @@ module _ (stored : Paged) (position : Lsn) (rows : List LoggedPage) (v : Pooled)
   nothing page lt = ap (λ (ws : List (List Change)). pending_of ws page) h.waits ∙ get_or-replicate {A = List Change} stored.pages page [] [] lt
 
   -- nothing waits, so all that waits can be redone
-  pub opened_pooled : IsPooled v
-  opened_pooled = record {
+  pub opened_pooled : stored.frames ≡ [] → IsPooled v
+  opened_pooled none = record {
     paged = ap (λ (f : Paged). f.pages) h.frames ∙ sym opened-length;
     tabled = h.tabled ∙ sym opened-length;
     told = h.told ∙ sym opened-length;
     ordered = λ page lt. subst (λ (w : List Change). WaitsInOrder v.frames page w) (sym (nothing page (omega (arith, lt, opened-length)))) tt;
+    lent = λ page f l is. absurd (none_is_some f (sym (ap (λ (x : Paged). frame_of x page) h.frames ∙ no_frame stored page none) ∙ is));
   }
 
   pub opened_reads : QueuesOf [] v
@@ -316,25 +324,44 @@ module _ (position : Lsn) (rows : List LoggedPage) where
   rows-resident old new page end (Some f) inside made h = subst (λ (v : Pooled). HasRowsFrom position rows v) (sym made) h
 
   -- the first changes that wait for a page are redone
-  rows-redoes : (old new : Pooled) (page : ℕ) (lsn : Lsn) → Redoes old new page lsn → HasRowsFrom position rows old → HasRowsFrom position rows new
-  rows-redoes old new page lsn done h = subst (λ (v : Pooled). HasRowsFrom position rows v) (sym done.same) (record {
-    paged = ap (λ (v : Paged). v.pages) done.redoes.same ∙ h.paged ∙ sym (length-set old.waits page left);
+  rows-redoes : (old new : Pooled) (page count : ℕ) → Redoes old new page count → HasRowsFrom position rows old → HasRowsFrom position rows new
+  rows-redoes old new page count done h = subst (λ (v : Pooled). HasRowsFrom position rows v) (sym done.same) (record {
+    paged = ap (λ (v : Paged). v.pages) done.framed ∙ h.paged ∙ sym (length-set old.waits page left);
     tabled = h.tabled ∙ sym (length-set old.waits page left);
     told = h.told ∙ sym (length-set old.waits page left);
     each = λ p lt. at p (omega (arith, length-set old.waits page left, lt));
   })
     where
       left : List Change
-      left = drop 64 (pending_of old.waits page)
+      left = drop count (pending_of old.waits page)
 
       at : (p : ℕ) → p < length old.waits → IsRowAt (row_in rows p) (frame_of new.frames p) (entry_of old.dirty p) (pending_of (slice_set old.waits page left) p) (unread_of old.unread p)
       at p lt = elim (cases_eq p page) [
         | inl same ↦
-            resident (row_in rows p) (frame_of old.frames p) (frame_of new.frames p) done.redoes.f (entry_of old.dirty p) (entry_of old.dirty p) (pending_of old.waits p) (pending_of (slice_set old.waits page left) p) (unread_of old.unread p)
-            (ap (λ (k : ℕ). frame_of old.frames k) same ∙ done.redoes.resident) (h.each p lt)
+            resident (row_in rows p) (frame_of old.frames p) (frame_of new.frames p) done.f (entry_of old.dirty p) (entry_of old.dirty p) (pending_of old.waits p) (pending_of (slice_set old.waits page left) p) (unread_of old.unread p)
+            (ap (λ (k : ℕ). frame_of old.frames k) same ∙ done.resident) (h.each p lt)
         | inr ne ↦
             row-cong (row_in rows p) (frame_of old.frames p) (frame_of new.frames p) (entry_of old.dirty p) (entry_of old.dirty p) (pending_of old.waits p) (pending_of (slice_set old.waits page left) p)
-            (unread_of old.unread p) (unread_of old.unread p) (λ none. done.redoes.sets.others p ne ∙ none) refl (get_or-set_other old.waits page p left [] ne) refl (h.each p lt)
+            (unread_of old.unread p) (unread_of old.unread p) (λ none. done.sets.others p ne ∙ none) refl (get_or-set_other old.waits page p left [] ne) refl (h.each p lt)
+      ]
+
+  -- the lease of a page begins or ends
+  rows-marks : (old new : Pooled) (page : ℕ) → Marks old new page → HasRowsFrom position rows old → HasRowsFrom position rows new
+  rows-marks old new page done h = subst (λ (v : Pooled). HasRowsFrom position rows v) (sym done.same) (record {
+    paged = ap (λ (v : Paged). v.pages) done.framed ∙ h.paged;
+    tabled = h.tabled;
+    told = h.told;
+    each = at;
+  })
+    where
+      at : (p : ℕ) → p < length old.waits → IsRowAt (row_in rows p) (frame_of new.frames p) (entry_of old.dirty p) (pending_of old.waits p) (unread_of old.unread p)
+      at p lt = elim (cases_eq p page) [
+        | inl same ↦
+            resident (row_in rows p) (frame_of old.frames p) (frame_of new.frames p) done.f (entry_of old.dirty p) (entry_of old.dirty p) (pending_of old.waits p) (pending_of old.waits p) (unread_of old.unread p)
+            (ap (λ (k : ℕ). frame_of old.frames k) same ∙ done.resident) (h.each p lt)
+        | inr ne ↦
+            row-cong (row_in rows p) (frame_of old.frames p) (frame_of new.frames p) (entry_of old.dirty p) (entry_of old.dirty p) (pending_of old.waits p) (pending_of old.waits p)
+            (unread_of old.unread p) (unread_of old.unread p) (λ none. done.sets.others p ne ∙ none) refl refl refl (h.each p lt)
       ]
 
   rows-not_fetched : (e : FramesFault) (old new : Pooled) (page end : ℕ) → NotFetched e old new page end → HasRowsFrom position rows old → HasRowsFrom position rows new
@@ -342,20 +369,33 @@ module _ (position : Lsn) (rows : List LoggedPage) where
       let same = fetch_refused e old.frames new.frames page end fails.refuses in
       rows-frames old new new.frames fails.same same.0 same.1 h
 
-  rows-refused_apply : (e : Fault) (old new : Held) (page end : ℕ) → RefusesApply e old new page end → HasRowsFrom position rows old.pool → HasRowsFrom position rows new.pool
-  rows-refused_apply NothingToDo old new page end (inl r) h = subst (λ (v : Held). HasRowsFrom position rows v.pool) (sym r.1) h
-  rows-refused_apply NothingToDo old new page end (inr r) h = rows-loads old.pool new.pool page end (some_inside old.pool.waits page r.some) r.loads h
-  rows-refused_apply PoolFull old new page end r h = rows-not_fetched FullFrames old.pool new.pool page end r.1 h
-  rows-refused_apply Device old new page end r h = rows-not_fetched DiskFailed old.pool new.pool page end r.1 h
-  rows-refused_apply Memory old new page end r h = subst (λ (v : Pooled). HasRowsFrom position rows v) (sym r.1.same) h
-  rows-refused_apply (BadPage p) old new page end r h = rows-not_fetched (NoPage p) old.pool new.pool page end r.1 h
-  rows-refused_apply LogBehind old new page end r h = absurd r
+  rows-refused_lend : (e : Fault) (old new : Held) (page end : ℕ) → RefusesLend e old new page end → HasRowsFrom position rows old.pool → HasRowsFrom position rows new.pool
+  rows-refused_lend PageLent old new page end r h = subst (λ (v : Held). HasRowsFrom position rows v.pool) (sym r.1) h
+  rows-refused_lend NothingToDo old new page end (inl r) h = subst (λ (v : Held). HasRowsFrom position rows v.pool) (sym r.2) h
+  rows-refused_lend NothingToDo old new page end (inr r) h = rows-loads old.pool new.pool page end (some_inside old.pool.waits page r.1.some) r.1.loads h
+  rows-refused_lend NumbersSpent old new page end r h = subst (λ (v : Held). HasRowsFrom position rows v.pool) (sym r.3) h
+  rows-refused_lend PoolFull old new page end r h = rows-not_fetched FullFrames old.pool new.pool page end r.1 h
+  rows-refused_lend Device old new page end r h = rows-not_fetched DiskFailed old.pool new.pool page end r.1 h
+  rows-refused_lend Memory old new page end r h = subst (λ (v : Pooled). HasRowsFrom position rows v) (sym r.1.same) h
+  rows-refused_lend (BadPage p) old new page end r h = rows-not_fetched (NoPage p) old.pool new.pool page end r.1 h
+  rows-refused_lend LogBehind old new page end r h = absurd r
 
-  pub rows-apply : (r : Result Lsn Fault) (old new : Held) (page end : ℕ) → IfOk r (λ lsn. Applies old.pool new.pool page end lsn) → IfErr r (λ e. RefusesApply e old new page end)
+  pub rows-lend : (r : Result Leased Fault) (old new : Held) (page end : ℕ) → IfOk r (λ lease. Lends old.pool new.pool page end lease) → IfErr r (λ e. RefusesLend e old new page end)
       → HasRowsFrom position rows old.pool → HasRowsFrom position rows new.pool
-  rows-apply (Ok lsn) old new page end ok err h =
-      rows-redoes ok.loaded new.pool page lsn ok.redoes (rows-resident old.pool ok.loaded page end (frame_of old.pool.frames page) (some_inside old.pool.waits page ok.some) ok.resident h)
-  rows-apply (Err e) old new page end ok err h = rows-refused_apply e old new page end err h
+  rows-lend (Ok lease) old new page end ok err h =
+      rows-marks ok.loaded new.pool page (lends-marks ok.loaded new.pool page lease ok.first)
+      (rows-resident old.pool ok.loaded page end (frame_of old.pool.frames page) (some_inside old.pool.waits page ok.some) ok.resident h)
+  rows-lend (Err e) old new page end ok err h = rows-refused_lend e old new page end err h
+
+  pub rows-give : (r : Result (Unit {0}) Leased) (old new : Held) (lease : Leased) → OnOk r (Gives old.pool new.pool lease) → IfErr r (λ l. (l ≡ lease) × (new ≡ old))
+      → HasRowsFrom position rows old.pool → HasRowsFrom position rows new.pool
+  rows-give (Ok x) old new lease ok err h = rows-redoes old.pool new.pool lease.page lease.done (gives-redoes old.pool new.pool lease ok) h
+  rows-give (Err l) old new lease ok err h = subst (λ (v : Held). HasRowsFrom position rows v.pool) (sym err.1) h
+
+  pub rows-recall : (r : Result (Unit {0}) Fault) (old new : Held) (page : ℕ) → OnOk r (Recalls old.pool new.pool page) → IfErr r (λ e. (e ≡ NothingToDo) × (is_lent old.pool page ≡ false) × (new ≡ old))
+      → HasRowsFrom position rows old.pool → HasRowsFrom position rows new.pool
+  rows-recall (Ok x) old new page ok err h = rows-marks old.pool new.pool page (recalls-marks old.pool new.pool page ok) h
+  rows-recall (Err e) old new page ok err h = subst (λ (v : Held). HasRowsFrom position rows v.pool) (sym err.2) h
 
   -- a page is written
   rows-stores : (old new : Pooled) (page : ℕ) (lsn : Lsn) → StoresPage old new page lsn → HasRowsFrom position rows old → HasRowsFrom position rows new
@@ -380,10 +420,12 @@ module _ (position : Lsn) (rows : List LoggedPage) where
       ]
 
   rows-refused_flush : (e : Fault) (old new : Pooled) (page : ℕ) (acknowledged : Lsn) → RefusesFlush e old new page acknowledged → HasRowsFrom position rows old → HasRowsFrom position rows new
-  rows-refused_flush NothingToDo old new page acknowledged r h = subst (λ (v : Pooled). HasRowsFrom position rows v) (sym r.1) h
-  rows-refused_flush LogBehind old new page acknowledged r h = subst (λ (v : Pooled). HasRowsFrom position rows v) (sym r.1) h
+  rows-refused_flush PageLent old new page acknowledged r h = subst (λ (v : Pooled). HasRowsFrom position rows v) (sym r.1) h
+  rows-refused_flush NumbersSpent old new page acknowledged r h = absurd r
+  rows-refused_flush NothingToDo old new page acknowledged r h = subst (λ (v : Pooled). HasRowsFrom position rows v) (sym r.2) h
+  rows-refused_flush LogBehind old new page acknowledged r h = subst (λ (v : Pooled). HasRowsFrom position rows v) (sym r.2) h
   rows-refused_flush Device old new page acknowledged r h =
-      rows-frames old new new.frames r.same (ap (λ (v : Paged). v.pages) r.fails.same) (λ p. ap (λ (v : Paged). frame_of v p) r.fails.same) h
+      rows-frames old new new.frames r.1.same (ap (λ (v : Paged). v.pages) r.1.fails.same) (λ p. ap (λ (v : Paged). frame_of v p) r.1.fails.same) h
   rows-refused_flush PoolFull old new page acknowledged r h = absurd r
   rows-refused_flush Memory old new page acknowledged r h = absurd r
   rows-refused_flush (BadPage p) old new page acknowledged r h = absurd r
@@ -421,6 +463,8 @@ module _ (position : Lsn) (rows : List LoggedPage) where
   rows-refused_page Device old new page r h = rows-read DiskFailed old new page r h
   rows-refused_page (BadPage p) old new page r h = rows-read (NoPage p) old new page r h
   rows-refused_page LogBehind old new page r h = absurd r
+  rows-refused_page PageLent old new page r h = absurd r
+  rows-refused_page NumbersSpent old new page r h = absurd r
   rows-refused_page PoolFull old new page r h = absurd r
   rows-refused_page NothingToDo old new page r h = absurd r
   rows-refused_page Memory old new page r h = absurd r

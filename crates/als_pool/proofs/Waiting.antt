@@ -7,7 +7,8 @@ use Rattle.als_record.specs.declared.change.Change.{Change}
 use Rattle.als_record.specs.declared.record.Record.{Record}
 use Rattle.als_record.specs.Pages.{changes_on, changes_above, lsn_after, IsChangeAbove}
 use Rattle.als_page.specs.Changes.{AreNext}
-use Rattle.als_pool.specs.Queues.{count_up_to, above}
+use Rattle.als_lease.specs.Queue.{count_up_to}
+use Rattle.als_pool.specs.Queues.{above}
 
 above-in : (lsn : ℕ) (c : Change) (cs : List Change) → lsn < c.lsn.0 → above lsn (c ∷ cs) ≡ c ∷ above lsn cs
 above-in lsn c cs lt = cond-true (nat_lt lsn c.lsn.0) (c ∷ above lsn cs) (above lsn cs) (lt-ltb lsn c.lsn.0 lt)

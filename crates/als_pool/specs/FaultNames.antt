@@ -9,10 +9,12 @@ use Rattle.als_pool.specs.declared.fault.Fault.TheVariants as fault
 abbrev pub kind_of : Fault → FaultKind
 kind_of fault.LogBehind = kind.LogBehind
 kind_of fault.PoolFull = kind.PoolFull
+kind_of fault.PageLent = kind.PageLent
 kind_of fault.NothingToDo = kind.NothingToDo
 kind_of fault.Device = kind.Device
 kind_of fault.Memory = kind.Memory
 kind_of (fault.BadPage page) = kind.BadPage page
+kind_of fault.NumbersSpent = kind.NumbersSpent
 
 -- what a fault of the frames is here
 abbrev pub of_frames : FramesFault → Fault

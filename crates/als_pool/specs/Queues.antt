@@ -1,17 +1,8 @@
 -- The changes that wait for pages.
-use Rattle.std.specs.Prelude.{◌≡◌, ℕ, suc, ◌<◌, ◌≤◌, Bool, false, List, [], ◌∷◌, length, map, nat_le, nat_lt, if◌then◌else◌, slice_index_or, filter, Option, Some, None}
+use Rattle.std.specs.Prelude.{◌≡◌, ℕ, ◌<◌, ◌≤◌, Bool, false, List, [], length, map, nat_lt, slice_index_or, filter, Option, Some, None}
 use Rattle.std.specs.List.{sum_by}
 use Rattle.als_record.specs.declared.change.Change.{Change}
-use Rattle.als_record.specs.declared.lsn.Lsn.{Lsn}
-
--- the changes of a page that are not redone yet, in order, and whether there is room for one more
-pub record Queue : Type 0 where
-  pub pending : List Change
-  pub has_room : Bool
-
--- a queue in which nothing waits, with no room
-abbrev pub empty_queue : Queue
-empty_queue = record { pending = []; has_room = false }
+use Rattle.als_lease.specs.Queue.{flag_of}
 
 -- what waits for each page, and for which pages there is room for one more change
 pub record Waiting : Type 0 where
@@ -26,11 +17,7 @@ pending_of waits page = slice_index_or waits page []
 abbrev pub has_place : List Bool → ℕ → Bool
 has_place places page = slice_index_or places page false
 
--- 1 where changes wait for a page, else 0
-abbrev pub flag_of : List Change → ℕ
-flag_of [] = 0
-flag_of (c ∷ rest) = 1
-
+-- for each page 1 where changes wait for it, else 0
 abbrev pub flags_of : List (List Change) → List ℕ
 flags_of waits = map flag_of waits
 
@@ -49,11 +36,6 @@ abbrev pub WaitsFirst : List (List Change) → ℕ → Option ℕ → Type 0
 WaitsFirst waits from None = (page : ℕ) → from ≤ page → pending_of waits page ≡ []
 WaitsFirst waits from (Some page) = (from ≤ page) × (page < length waits) × (pending_of waits page ≡ [] → ⊥)
     × ((other : ℕ) → from ≤ other → other < page → pending_of waits other ≡ [])
-
--- how many of the first changes stand at or below an LSN, up to the first above it
-abbrev pub count_up_to : Lsn → List Change → ℕ
-count_up_to lsn [] = 0
-count_up_to lsn (c ∷ rest) = if nat_le c.lsn.0 lsn.0 then suc (count_up_to lsn rest) else 0
 
 -- the changes above an LSN
 abbrev pub above : ℕ → List Change → List Change

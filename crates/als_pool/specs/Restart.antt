@@ -49,7 +49,7 @@ start_of position rows page = or_from (row_in rows page) (at_first position)
 
 -- ---- a pool that was opened
 
--- No page was read, nothing waits, and the rows are those of the checkpoint.
+-- No page was read, nothing waits, the rows are those of the checkpoint, and the first lease gets number 1.
 pub record IsOpened (stored : Paged) (position : Lsn) (rows : List LoggedPage) (v : Pooled) : Type 0 where
   pub frames : v.frames ≡ stored
   pub waits : v.waits ≡ replicate stored.pages []
@@ -57,6 +57,7 @@ pub record IsOpened (stored : Paged) (position : Lsn) (rows : List LoggedPage) (
   pub told : length v.unread ≡ stored.pages
   pub starts : (page : ℕ) → page < stored.pages → unread_of v.unread page ≡ Some (start_of position rows page)
   pub given : (page : ℕ) → page < stored.pages → entry_of v.dirty page ≡ after_load (row_in rows page)
+  pub first : v.next ≡ Some 1
 
 -- ---- the rows of unread pages
 

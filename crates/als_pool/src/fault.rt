@@ -14,6 +14,8 @@ pub enum Fault {
     LogBehind,
     /// All frames are used, and none is free.
     PoolFull,
+    /// The page is lent.
+    PageLent,
     /// There is nothing for the call to do.
     NothingToDo,
     /// The device failed.
@@ -22,6 +24,8 @@ pub enum Fault {
     Memory,
     /// The block of this page holds no image of it that the call can take.
     BadPage { page: u32 },
+    /// All numbers of leases are given.
+    NumbersSpent,
 }
 
 impl Fault {
@@ -32,10 +36,12 @@ impl Fault {
         match self {
             Fault::LogBehind => FaultKind::LogBehind,
             Fault::PoolFull => FaultKind::PoolFull,
+            Fault::PageLent => FaultKind::PageLent,
             Fault::NothingToDo => FaultKind::NothingToDo,
             Fault::Device => FaultKind::Device,
             Fault::Memory => FaultKind::Memory,
             Fault::BadPage { page } => FaultKind::BadPage { page },
+            Fault::NumbersSpent => FaultKind::NumbersSpent,
         }
     }
 

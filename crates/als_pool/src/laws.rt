@@ -11,8 +11,9 @@ ghost use Rattle.als_frames.specs.Outcomes.{IsFull, NothingIsDue};
 ghost use Rattle.als_frames.specs.Images.{synced_content, synced_lsn, AreFramesOf};
 ghost use Rattle.als_dirty.specs.Rows.{rec_lsn_of, rows_of};
 ghost use Rattle.als_pool.specs.Queues.{total_waiting, pending_of};
-ghost use Rattle.als_pool.specs.Pooled.{Pooled, unread_of, view_of};
-ghost use Rattle.als_pool.specs.Refusals.{has_waiting, is_full, is_due};
+ghost use Rattle.als_frames.specs.Leases.{lent_of};
+ghost use Rattle.als_pool.specs.Pooled.{Pooled, IsPooled, leases_of, unread_of, view_of};
+ghost use Rattle.als_pool.specs.Refusals.{is_lent, are_spent, has_waiting, is_full, is_due};
 ghost use Rattle.als_pool.specs.Bounds.{EndsBelow};
 ghost use Rattle.als_pool.specs.Outcomes.{CanRoute};
 ghost use Rattle.als_pool.specs.Queues.{pending_of};
@@ -45,15 +46,27 @@ pub fn each_row_is_exact()
         (synced_content (slot_of pool.frames page)) }
 {}
 
-/// A law: the tests by which redo and a write of a page are refused are exact. Nothing waits for
-/// the page; or it has no frame, and none can be had for it; or there is nothing to write.
+/// A law: the tests by which a lease and a write of a page are refused are exact. The page is lent;
+/// nothing waits for it; the numbers are spent; it has no frame, and none can be had for it; or
+/// there is nothing to write.
 pub fn refusals_compute()
+    ensures lent { (pool : Pooled) (page : ℕ)
+        → (is_lent pool page ≡ false) ↔ (lent_of pool.frames page ≡ None) }
+    ensures spent { (pool : Pooled) → (are_spent pool ≡ true) ↔ (pool.next ≡ None) }
     ensures waiting { (pool : Pooled) (page : ℕ)
         → (has_waiting pool page ≡ false) ↔ (pending_of pool.waits page ≡ []) }
     ensures full { (pool : Pooled) (page : ℕ)
         → (is_full pool page ≡ true) ↔ IsFull pool.frames page }
     ensures due { (pool : Pooled) (page : ℕ)
         → (is_due (view_of pool page) ≡ false) ↔ NothingIsDue pool.frames page }
+{}
+
+/// A law: the changes of a lease wait until it ends, so where nothing waits, no page is lent.
+pub fn leases_wait()
+    ensures none { (pool : Pooled) (page : ℕ) → IsPooled pool → total_waiting pool.waits ≡ 0
+        → is_lent pool page ≡ false }
+    ensures count { (pool : Pooled) → IsPooled pool → total_waiting pool.waits ≡ 0
+        → leases_of pool ≡ 0 }
 {}
 
 /// A law: the change of a record at the log's end can go behind those that its page waits for.

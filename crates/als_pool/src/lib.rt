@@ -4,8 +4,6 @@
 
 // Why a call is refused.
 mod fault;
-// What waits for a page.
-mod page_queue;
 // What waits for each page.
 mod queues;
 // A device that could not be laid out.
@@ -22,9 +20,9 @@ mod laws;
 pub use fault::Fault;
 pub use laws::{
     a_log_is_taken_in, change_can_be_read, change_can_be_routed, change_can_follow,
-    each_row_is_exact, each_row_is_sound, mark_changes_nothing, opened_pages_are_covered,
-    other_records_pass, other_records_wait_nowhere, pool_ends_below, queues_join_images,
-    refusals_compute, rows_make_a_checkpoint, stopped_pages_hold_images,
+    each_row_is_exact, each_row_is_sound, leases_wait, mark_changes_nothing,
+    opened_pages_are_covered, other_records_pass, other_records_wait_nowhere, pool_ends_below,
+    queues_join_images, refusals_compute, rows_make_a_checkpoint, stopped_pages_hold_images,
     unread_rows_are_the_checkpoints,
 };
 pub use new_pool::NewPool;

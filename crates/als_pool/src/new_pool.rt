@@ -14,16 +14,17 @@ pub struct NewPool {
     pub(crate) dirty: DirtyTable,
     pub(crate) queues: Queues,
     pub(crate) unread: Vec<Option<Lsn>>,
+    pub(crate) first: u64,
 }
 
 impl Model for NewPool {
     ghost use Rattle.std.specs.Prelude.{ℕ, ◌≡◌, ◌≤◌, replicate, None, false, []};
     ghost use Rattle.als_dirty.specs.Entries.{untouched_page};
+    ghost use Rattle.als_pool.specs.Pooled.{Prepared};
 
-    /// Its database's page count.
-    ghost Value = { ℕ };
+    ghost Value = { Prepared };
 
-    ghost view = { λ new. new.pages };
+    ghost view = { λ new. record { pages = new.pages; first = new.first } };
 
     ghost invariant = { λ new. (new.pages ≤ 4096) × (new.dirty ≡ replicate new.pages untouched_page)
         × (new.queues ≡ record {
@@ -33,10 +34,18 @@ impl Model for NewPool {
 }
 
 impl NewPool {
-    /// The memory of a pool of so many empty pages.
+    /// The memory of a pool of so many empty pages, whose first lease gets number 1.
     pub fn new(alloc: Global, pages: u32) -> Result<NewPool, AllocError>
         requires { pages ≤ 4096 }
-        ensures { IfOk result (λ new. new ≡ pages) }
+        ensures { IfOk result (λ new. new ≡ record { pages = pages; first = 1 }) }
+    {
+        NewPool::numbered(alloc, pages, 1)
+    }
+
+    /// The same, where the first lease gets this number.
+    pub fn numbered(alloc: Global, pages: u32, first: u64) -> Result<NewPool, AllocError>
+        requires { pages ≤ 4096 }
+        ensures { IfOk result (λ new. new ≡ record { pages = pages; first = first }) }
     {
         let dirty = DirtyTable::new(alloc, pages)?;
         let queues = Queues::new(alloc, pages)?;
@@ -47,6 +56,7 @@ impl NewPool {
             dirty,
             queues,
             unread,
+            first,
         })
     }
 }

@@ -1,20 +1,17 @@
-ghost use Rattle.std.specs.Prelude.{◌≡◌, ◌≢◌, ℕ, ◌<◌, ◌≤◌, ◌+◌, ◌^◌, ◌++◌, ◌∷◌, [], true, false};
-ghost use Rattle.std.specs.Prelude.{length, replicate, take, drop, slice_set, IsOk, IfOk, OnOk};
+ghost use Rattle.std.specs.Prelude.{◌≡◌, ℕ, ◌<◌, ◌≤◌, ◌+◌, ◌^◌, ◌++◌, ◌∷◌, [], true, false};
+ghost use Rattle.std.specs.Prelude.{length, replicate, drop, slice_set, IsOk, IfOk, OnOk};
 ghost use Rattle.std.specs.Prelude.{OnErr, IsTrue, ◌↔◌};
 ghost use Rattle.std.specs.Vec.{vec_len};
-ghost use Rattle.als_record.specs.Pages.{lsn_after};
 ghost use Rattle.als_dirty.specs.Images.{first_lsn};
-ghost use Rattle.als_pool.specs.Queues.{empty_queue, pending_of, has_place, total_waiting};
-ghost use Rattle.als_pool.specs.Queues.{count_up_to, WaitsFirst, IsNextFlag};
+ghost use Rattle.als_lease.specs.Queue.{empty_queue, count_up_to};
+ghost use Rattle.als_pool.specs.Queues.{pending_of, has_place, total_waiting};
+ghost use Rattle.als_pool.specs.Queues.{WaitsFirst, IsNextFlag};
 
-use crate::page_queue::PageQueue;
+use als_lease::PageQueue;
 use als_record::{Change, Lsn};
 use memchr::memchr;
 use std::alloc::{AllocError, Global};
 use std::marker::Model;
-
-// How many changes one batch has at most.
-const BATCH: usize = 64;
 
 /// The changes that wait for each page.
 pub struct Queues {
@@ -92,14 +89,12 @@ impl Queues {
         queue.first()
     }
 
-    /// The first changes that wait for a page, at most 64.
-    pub fn front(&self, page: u32) -> &[Change]
+    /// The changes that wait for a page.
+    pub fn waiting(&self, page: u32) -> &[Change]
         requires { page < length self.now.waits }
-        ensures { result.now ≡ take 64 (pending_of self.now.waits page) }
+        ensures { result.now ≡ pending_of self.now.waits page }
     {
-        let waiting = self.queues[page as usize].waiting();
-        let count = waiting.len().min(BATCH);
-        &waiting[..count]
+        self.queues[page as usize].waiting()
     }
 
     /// The first page from there on for which changes wait.
@@ -163,15 +158,6 @@ impl Queues {
     {
         self.queues[page as usize].count_up_to(lsn)
     }
-}
-
-/// The LSN of the last of some changes.
-pub fn last_lsn(changes: &[Change]) -> Lsn
-    requires { changes.now ≢ [] }
-    ensures { (lsn : ℕ) → result.0 ≡ lsn_after lsn changes.now }
-{
-    let count = changes.len();
-    changes[count - 1].lsn
 }
 
 // The first page from a number on whose flag is set.

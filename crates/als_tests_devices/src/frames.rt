@@ -1,8 +1,9 @@
-ghost use Rattle.std.specs.Prelude.{◌≡◌, ◌<◌};
+ghost use Rattle.std.specs.Prelude.{◌≡◌, ◌<◌, ◌≤◌};
+ghost use Rattle.als_page.specs.Page.{id_of, state_of};
 
 use als_disk::{BlockDisk, FailingDisk, Fuse, MemDisk};
 use als_frames::{
-    Fault, Frames, mark_changes_no_page, record_changes_no_page, synced_lsn_is_spelled,
+    Fault, Frames, Lent, mark_changes_no_page, record_changes_no_page, synced_lsn_is_spelled,
 };
 use als_page::Page;
 use als_record::{Change, Image, ImageView, KeptImage, Key, Lsn, Value};
@@ -107,21 +108,39 @@ fn one_byte(byte: u8) -> Image {
     }
 }
 
-// Redoes an update of slot 0 of a page by the record at an offset.
+// A page with an update of its slot 0 by the record at an offset.
+fn redone(rt: &impl Abort, found: &Page, at: u64) -> Page
+    ensures number { id_of result ≡ id_of found.now }
+    ensures newer { (state_of found.now).lsn ≤ (state_of result).lsn }
+{
+    assert!(rt; 16 <= at && found.lsn().0 < at);
+    let mut page = *found;
+    page.redo(&Change {
+        lsn: Lsn(at),
+        key: Key {
+            page: found.id(),
+            slot: 0,
+        },
+        after: KeptImage::of(&ImageView::of(&one_byte(0xaa))),
+    });
+    page
+}
+
+// Lends a page, redoes an update of its slot 0 by the record at an offset, and takes it back.
 fn redo<D: BlockDisk + Drop>(rt: &impl Abort, frames: &mut Frames<D>, page: u32, at: u64) {
-    assert!(rt; 16 <= at);
-    match frames.lsns(page) {
-        Some(lsns) => {
-            assert!(rt; lsns.now.0 < at);
-            let change = Change {
-                lsn: Lsn(at),
-                key: Key { page, slot: 0 },
-                after: KeptImage::of(&ImageView::of(&one_byte(0xaa))),
-            };
-            frames.redo(page, &[change]);
-        }
-        None => panic!(rt; "not resident"),
-    }
+    let Some(found) = frames.frame(page) else {
+        panic!(rt; "not resident");
+    };
+    let page_then = redone(rt, found, at);
+    assert!(rt; frames.lent_of(page).is_none());
+    frames.lend(
+        page,
+        Lent {
+            number: 7,
+            count: 1,
+        },
+    );
+    frames.take_back(page, &page_then);
 }
 
 // The page_LSNs of a page: now, last written, last synced.
@@ -291,6 +310,41 @@ fn a_free_frame_is_taken_before_a_clean_one(rt: HostRuntime) {
     expect_each_loaded(&rt, &mut frames, &[2, 3, 1, 2], 52);
     expect_lsns(&rt, &frames, 0, 16, 0, 0);
     assert!(rt; !has_frame(&frames, 1) && !has_frame(&frames, 3));
+}
+
+// Page 0 is lent while it is clean; its frame is not taken until the lease ends.
+fn keeps_a_lent_page<D: BlockDisk + Drop>(rt: &impl Abort, mut frames: Frames<D>) {
+    expect_loaded(rt, &mut frames, 0, 108);
+    assert!(rt; frames.leases() == 0);
+    lend(rt, &mut frames, 0);
+    assert!(rt; frames.leases() == 1);
+    expect_pool_full(rt, &mut frames, 1);
+    recall(rt, &mut frames, 0);
+    assert!(rt; frames.leases() == 0);
+    expect_loaded(rt, &mut frames, 1, 108);
+}
+
+fn lend<D: BlockDisk + Drop>(rt: &impl Abort, frames: &mut Frames<D>, page: u32) {
+    assert!(rt; frames.is_resident(page));
+    assert!(rt; frames.lent_of(page).is_none());
+    let lent = Lent {
+        number: 7,
+        count: 1,
+    };
+    frames.lend(page, lent);
+    assert!(rt; frames.lent_of(page) == Some(lent));
+}
+
+fn recall<D: BlockDisk + Drop>(rt: &impl Abort, frames: &mut Frames<D>, page: u32) {
+    assert!(rt; frames.lent_of(page).is_some());
+    frames.recall(page);
+    assert!(rt; frames.lent_of(page).is_none());
+}
+
+#[test]
+fn a_lent_page_keeps_its_frame(rt: HostRuntime) {
+    let disk = MemDisk::new(rt.alloc(), 4);
+    keeps_a_lent_page(&rt, formatted(&rt, rt.alloc(), disk, 1));
 }
 
 // A device of which block 1 is no page, for its page_LSN is 15.

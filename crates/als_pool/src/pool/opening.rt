@@ -20,6 +20,7 @@ use crate::starts::Starts;
 use crate::unformatted::Unformatted;
 use als_disk::BlockDisk;
 use als_frames::Frames;
+use als_lease::Numbers;
 use als_record::{LoggedPage, Lsn};
 use std::alloc::{AllocError, Global};
 
@@ -39,7 +40,7 @@ impl<D: BlockDisk> Pool<D> {
         requires limit { pages ≤ 4096 }
         ensures ok { IfOk result (λ p. p.pool
             ≡ new_pool (without_frames pages frames (λ _. only zeros)
-            (D.block_count disk) (D.failures disk) (D.attempts disk + pages + 1)) pages) }
+            (D.block_count disk) (D.failures disk) (D.attempts disk + pages + 1)) pages 1) }
         ensures keeps { IfOk result (λ p. (below : ℕ) → IsPoolOf [] below p.pool) }
         ensures ends { IfOk result (λ p. (end : ℕ) → 0 < end → EndsBelow end p.pool) }
         ensures err { IfErr result (λ u. RefusesFormat u.fault (D.failures disk)
@@ -64,10 +65,11 @@ impl<D: BlockDisk> Pool<D> {
     /// most `frames` can be in memory at once: writes the block of each page, and syncs. The device
     /// comes back where it failed.
     pub fn lay_out(disk: D, new: NewPool, frames: usize) -> Result<Pool<D>, D>
-        requires { new ≤ D.block_count disk }
+        requires { new.pages ≤ D.block_count disk }
         ensures ok { IfOk result (λ p. p.pool
-            ≡ new_pool (without_frames new frames (λ _. only zeros)
-            (D.block_count disk) (D.failures disk) (D.attempts disk + new + 1)) new) }
+            ≡ new_pool (without_frames new.pages frames (λ _. only zeros)
+            (D.block_count disk) (D.failures disk) (D.attempts disk + new.pages + 1)) new.pages
+            new.first) }
         ensures keeps { IfOk result (λ p. (below : ℕ) → IsPoolOf [] below p.pool) }
         ensures ends { IfOk result (λ p. (end : ℕ) → 0 < end → EndsBelow end p.pool) }
         ensures err { IfErr result (λ d. D.failures disk < D.failures d) }
@@ -79,6 +81,7 @@ impl<D: BlockDisk> Pool<D> {
             dirty,
             queues,
             unread,
+            first,
         } = new;
         match Frames::format(alloc, disk, pages, frames) {
             Ok(frames) => Ok(Pool {
@@ -86,6 +89,9 @@ impl<D: BlockDisk> Pool<D> {
                 dirty,
                 queues,
                 unread,
+                numbers: Numbers::from(first),
+                rooms: Vec::new(alloc),
+                alloc,
             }),
             Err(refused) => Err(refused.disk),
         }
@@ -132,6 +138,9 @@ impl<D: BlockDisk> Pool<D> {
             dirty,
             queues,
             unread,
+            numbers: Numbers::from(1),
+            rooms: Vec::new(alloc),
+            alloc,
         })
     }
 }

@@ -21,10 +21,12 @@ use als_disk::BlockDisk;
 use als_record::Lsn;
 
 impl<D: BlockDisk> Pool<D> {
-    /// Writes a resident page to its block, if the log is acknowledged past its page_LSN.
+    /// Writes a resident page that is not lent to its block, if the log is acknowledged past its
+    /// page_LSN.
     ///
-    /// `NothingToDo`: the page has no frame, or it is the image last written. `LogBehind`: its
-    /// page_LSN is not below the acknowledged LSN. `Device`: the one write has failed.
+    /// `PageLent`: the page is lent. `NothingToDo`: it has no frame, or it is the image last
+    /// written. `LogBehind`: its page_LSN is not below the acknowledged LSN. `Device`: the one
+    /// write has failed. They come in this order.
     pub fn flush_one(&mut self, page: u32, acknowledged: Lsn) -> Result<(), Fault>
         ensures ok { OnOk result (Flushes self.old.pool self.new.pool page acknowledged) }
         ensures err { IfErr result (λ e. RefusesFlush e self.old.pool self.new.pool page
@@ -51,6 +53,9 @@ impl<D: BlockDisk> Pool<D> {
             acknowledged) }
         ensures room { self.new.room ≡ self.old.room }
     {
+        if self.frames.lent_of(page).is_some() {
+            return Err(Fault::PageLent);
+        }
         let Some(lsn) = self.due(page) else {
             return Err(Fault::NothingToDo);
         };
@@ -147,6 +152,9 @@ impl<D: BlockDisk> Pool<D> {
             dirty: _,
             queues: _,
             unread: _,
+            numbers: _,
+            rooms: _,
+            alloc: _,
         } = self;
         frames.into_disk()
     }

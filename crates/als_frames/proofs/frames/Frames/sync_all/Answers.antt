@@ -1,8 +1,20 @@
+use Rattle.std.proofs.Common.{rules, sym, ◌∙◌, arith}
 use Rattle.als_frames.specs.Frames.{Paged, slots_from}
 use Rattle.als_frames.specs.Outcomes.{Syncs}
+use Rattle.als_frames.proofs.LeaseCounts.{count_synced}
 use Rattle.als_frames.proofs.LoadLaws.{paged}
 use Rattle.als_frames.proofs.ChangeLaws.{keeps_slot}
 use Rattle.als_frames.proofs.frames.Frames.sync_all.Goals as goal
+
+pub invariant_of-self-2 : goal.invariant_of-self-2
+invariant_of-self-2 g c =
+    let s = c.self.inside in
+    record {
+      kept = search rules;
+      zoned = c.note_synced.ensures.zoned;
+      has_room = omega (arith, c.self.invariant.has_room, c.note_synced.ensures.room);
+      counted = c.self.invariant.counted ∙ sym (count_synced s.pages s.frames.entries c.note_synced.new.frames.entries c.note_synced.ensures.frames);
+    }
 
 pub returns-clause-ok : goal.returns-clause-ok
 returns-clause-ok g c =

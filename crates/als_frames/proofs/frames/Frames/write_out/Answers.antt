@@ -1,12 +1,29 @@
-use Rattle.std.proofs.Common.{◌≡◌, Some, false, sym, ap, ap₂, subst, ◌∙◌, true≢false}
+use Rattle.std.proofs.Common.{rules, nat_eq, refl, arith, ◌≡◌, Some, false, sym, ap, ap₂, subst, ◌∙◌, true≢false}
 use Rattle.als_disk.specs.Slot.{written, FailsToWrite}
 use Rattle.als_page.specs.Block.{block_of}
 use Rattle.als_page.specs.Page.{id_of}
 use Rattle.als_frames.specs.Frames.{Paged, frame_of, slots_from}
 use Rattle.als_frames.specs.Outcomes.{Writes, WriteFails}
+use Rattle.std.specs.Map.{lookup}
+use Rattle.als_frames.specs.Table.{written_frame}
+use Rattle.als_frames.proofs.LeaseCounts.{count_kept}
 use Rattle.als_frames.proofs.LoadLaws.{paged}
 use Rattle.als_frames.proofs.ChangeLaws.{sets, changes_slot}
 use Rattle.als_frames.proofs.frames.Frames.write_out.Goals as goal
+
+pub invariant_of-self : goal.invariant_of-self
+invariant_of-self g c =
+    let s = c.self.inside in
+    let frame = c.in-Some.frame.now in
+    let resident : lookup (nat_eq c.args.page) s.frames.entries ≡ Some frame = sym c.in-Some.ensures.value in
+    let numbered = c.self.invariant.kept.numbered c.args.page frame resident in
+    let puts = c.note_written.ensures.puts frame resident in
+    record {
+      kept = search rules;
+      zoned = c.note_written.ensures.zoned;
+      has_room = omega (arith, c.self.invariant.has_room, c.note_written.ensures.room);
+      counted = c.self.invariant.counted ∙ sym (count_kept s.pages c.args.page s.frames.entries c.note_written.new.frames.entries frame (written_frame frame) resident puts refl);
+    }
 
 pub returns-in-Ok-clause-ok : goal.returns-in-Ok-clause-ok
 returns-in-Ok-clause-ok g c =

@@ -13,17 +13,17 @@ returns-in-Ok-clause-keeps g c below =
     let frames = c.in-Ok.frames.paged in
     let n = c.new.inside in
     let waits = ap (λ (w : Waiting). w.waits) c.new.invariant.2 in
-    let made : Pooled = record { frames = frames; dirty = n.dirty; waits = n.queues.waits; unread = n.unread.items } in
-    let is : made ≡ new_pool frames n.pages = λ j. record { frames = frames; dirty = c.new.invariant.1 j; waits = waits j; unread = c.new.invariant.3 j } in
+    let made : Pooled = record { frames = frames; dirty = n.dirty; waits = n.queues.waits; unread = n.unread.items; next = c.from.result } in
+    let is : made ≡ new_pool frames n.pages n.first = λ j. record { frames = frames; dirty = c.new.invariant.1 j; waits = waits j; unread = c.new.invariant.3 j; next = c.from.ensures j } in
     subst (λ (v : Pooled). IsPoolOf [] below v) (sym is)
-    (pool_of_empty frames n.pages below (ap (λ (v : Paged). v.pages) c.in-Ok.ensures.ok) (ap (λ (v : Paged). v.frames) c.in-Ok.ensures.ok) (c.in-Ok.ensures.keeps below))
+    (pool_of_empty frames n.pages n.first below (ap (λ (v : Paged). v.pages) c.in-Ok.ensures.ok) (ap (λ (v : Paged). v.frames) c.in-Ok.ensures.ok) (c.in-Ok.ensures.keeps below))
 
 pub returns-in-Ok-clause-ends : goal.returns-in-Ok-clause-ends
 returns-in-Ok-clause-ends g c end lt =
     let frames = c.in-Ok.frames.paged in
     let n = c.new.inside in
     let waits = ap (λ (w : Waiting). w.waits) c.new.invariant.2 in
-    let made : Pooled = record { frames = frames; dirty = n.dirty; waits = n.queues.waits; unread = n.unread.items } in
-    let is : made ≡ new_pool frames n.pages = λ j. record { frames = frames; dirty = c.new.invariant.1 j; waits = waits j; unread = c.new.invariant.3 j } in
+    let made : Pooled = record { frames = frames; dirty = n.dirty; waits = n.queues.waits; unread = n.unread.items; next = c.from.result } in
+    let is : made ≡ new_pool frames n.pages n.first = λ j. record { frames = frames; dirty = c.new.invariant.1 j; waits = waits j; unread = c.new.invariant.3 j; next = c.from.ensures j } in
     subst (λ (v : Pooled). EndsBelow end v) (sym is)
-    (ends-new end frames n.pages (ap (λ (v : Paged). v.pages) c.in-Ok.ensures.ok) (ap (λ (v : Paged). v.frames) c.in-Ok.ensures.ok) lt)
+    (ends-new end frames n.pages n.first (ap (λ (v : Paged). v.pages) c.in-Ok.ensures.ok) (ap (λ (v : Paged). v.frames) c.in-Ok.ensures.ok) lt)

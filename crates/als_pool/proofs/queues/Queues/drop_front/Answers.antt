@@ -1,6 +1,6 @@
 use Rattle.std.proofs.Common.{◌≡◌, ◌<◌, ◌-◌, length, drop, ap, sym, ◌∙◌, arith, List, length-drop}
 use Rattle.als_record.specs.declared.change.Change.{Change}
-use Rattle.als_pool.specs.Queues.{Queue}
+use Rattle.als_lease.specs.Queue.{Queue}
 use Rattle.als_pool.proofs.QueueLists.{queue_at}
 use Rattle.als_pool.proofs.QueueSteps.{waits-set, places-same, kept-total, inside_of, fits_in, flags-after}
 use Rattle.als_pool.proofs.queues.Queues.drop_front.Goals as goal

@@ -1,5 +1,5 @@
 use Rattle.std.proofs.Common.{◌≡◌, replicate}
-use Rattle.als_pool.specs.Queues.{empty_queue}
+use Rattle.als_lease.specs.Queue.{empty_queue}
 use Rattle.als_pool.proofs.queues.Queues.new.Given as goal
 
 abbrev pub invariant-loop-page : goal.invariant-loop-page

@@ -1,6 +1,6 @@
 use Rattle.std.proofs.Common.{◌≡◌, ◌<◌, ◌+◌, ◌++◌, ◌∷◌, [], length, false, ap, sym, ◌∙◌, arith, List, length-append}
 use Rattle.als_record.specs.declared.change.Change.{Change}
-use Rattle.als_pool.specs.Queues.{Queue, flag_of}
+use Rattle.als_lease.specs.Queue.{Queue, flag_of}
 use Rattle.als_pool.proofs.QueueLists.{queue_at}
 use Rattle.als_pool.proofs.QueueSteps.{waits-set, places-set, kept-total, inside_of, flags-after, flag-more}
 use Rattle.als_pool.proofs.queues.Queues.push.Goals as goal

@@ -1,6 +1,7 @@
 use Rattle.std.proofs.Common.{◌≡◌, ◌<◌, length, true, ap, ap₂, arith, List, Bool}
 use Rattle.als_record.specs.declared.change.Change.{Change}
-use Rattle.als_pool.specs.Queues.{Queue, Waiting}
+use Rattle.als_lease.specs.Queue.{Queue}
+use Rattle.als_pool.specs.Queues.{Waiting}
 use Rattle.als_pool.proofs.QueueSteps.{waits-same, places-set, kept-total, inside_of, place-set, flags-same}
 use Rattle.als_pool.proofs.queues.Queues.reserve.Goals as goal
 

@@ -1,0 +1,4 @@
+pub mod Lease
+pub mod Work
+pub mod Numbers
+pub mod Queue
