@@ -1,7 +1,7 @@
 mod Devices
 mod Fronts
 mod Nodes
-mod Warming
+mod Waits
 mod WholeLogs
 mod Steps
 mod Texts

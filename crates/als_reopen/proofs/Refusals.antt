@@ -1,8 +1,8 @@
 -- The first fault that is met in reading devices.
-use Rattle.std.proofs.Common.{◌≡◌, ◌≢◌, ℕ, zero, suc, ◌+◌, ◌*◌, ◌/◌, ◌%◌, ◌<◌, ◌≤◌, Bool, true, false, List, [], ◌∷◌, ◌++◌, Option, Some, None, refl, sym, ap, subst, ◌∙◌, inl, inr, arith, append-nil}
+use Rattle.std.proofs.Common.{◌≡◌, ℕ, zero, suc, ◌+◌, ◌*◌, ◌/◌, ◌%◌, ◌<◌, ◌≤◌, Bool, true, false, List, [], ◌∷◌, Option, Some, None, refl, sym, ap, subst, ◌∙◌, inl, inr, arith, append-nil}
 use Rattle.std.specs.Prelude.{IfSome, IsSomeAnd, MatchBool, slice_index, slice_index_or}
 use Rattle.als_record.specs.declared.record.Record.{Record}
-use Rattle.als_record.specs.LogText.{log_text, end_of}
+use Rattle.als_record.specs.LogText.{end_of}
 use Rattle.als_record.specs.Tail.{reserve_of}
 use Rattle.als_disk.specs.Slot.{Slot}
 use Rattle.als_scan.specs.declared.fault.Fault.{Fault as ScanFault}

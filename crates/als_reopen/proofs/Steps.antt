@@ -94,8 +94,8 @@ module _ (checkpoint : Option Checkpoint) (s : Scanned) (pool : Pooled) (count :
 
   -- and it is taken in
   pub read_on : (new : Scanned) (next : Pooled) (counted : CommitCount) → new ≡ record s { log = s.log ++ r ∷ [] } → IsScanned new → QueuesOf (s.log ++ r ∷ []) next
-      → HasRowsFrom (position_of checkpoint) (rows_of checkpoint) next → total_waiting next.waits ≤ total_waiting pool.waits + 1 → next.frames ≡ pool.frames → IsCountOf counted (s.log ++ r ∷ []) → IsReading checkpoint new next counted
-  read_on new next counted is facts queues rows few frames counts =
+      → HasRowsFrom (position_of checkpoint) (rows_of checkpoint) next → total_waiting next.waits ≤ total_waiting pool.waits + 1 → next.frames ≡ pool.frames → next.next ≡ pool.next → IsCountOf counted (s.log ++ r ∷ []) → IsReading checkpoint new next counted
+  read_on new next counted is facts queues rows few frames numbers counts =
       let log : new.log ≡ s.log ++ r ∷ [] = ap (λ (x : Scanned). x.log) is in
       record {
         facts = facts;
@@ -103,6 +103,7 @@ module _ (checkpoint : Option Checkpoint) (s : Scanned) (pool : Pooled) (count :
         queues = subst (λ (l : List Record). QueuesOf l next) (sym log) queues;
         rows = rows;
         few = omega (arith, few, reading.few, ap (λ (l : List Record). length l) log, length-append s.log (r ∷ []));
+        numbered = numbers ∙ reading.numbered;
         counted = subst (IsCountOf counted) (sym log) counts;
       }
 

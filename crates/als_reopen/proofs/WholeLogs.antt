@@ -56,6 +56,7 @@ reopened blocks old new state checkpoint pool count log validator counted pooled
       queues = reading.queues;
       rows = reading.rows;
       few = reading.few;
+      numbered = reading.numbered;
     } in
     subst (λ (l : List Record). IsReopened old.pages blocks (record { state = state; checkpoint = checkpoint }) l validator counted pooled.pool) (sym same)
     (subst (λ (t : CommitCount). IsReopened old.pages blocks (record { state = state; checkpoint = checkpoint }) new.log validator t pooled.pool) (sym same_count)

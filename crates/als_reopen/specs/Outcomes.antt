@@ -1,5 +1,5 @@
 -- What is taken up again of three devices, and why they are not.
-use Rattle.std.specs.Prelude.{◌≡◌, ◌⊎◌, ℕ, ◌+◌, ◌*◌, ◌<◌, ◌≤◌, List, length, IfSome}
+use Rattle.std.specs.Prelude.{◌≡◌, ◌⊎◌, ℕ, ◌+◌, ◌*◌, ◌<◌, ◌≤◌, List, length, Some, IfSome}
 use Rattle.als_record.specs.declared.record.Record.{Record}
 use Rattle.als_record.specs.LogText.{end_of}
 use Rattle.als_record.specs.Tail.{reserve_of}
@@ -88,6 +88,7 @@ pub record AreUnread (pages most : ℕ) (old : ℕ → Slot) (blocks failures at
 
 -- The log is valid and ends at the mark; it fits the device with the tail that a takeover would append; and the checkpoint is that of a
 -- front of it. The validator and the counts are those of the log, and what waits for each page are its changes from where a restart looks.
+-- No lease number is used.
 pub record IsReopened (pages blocks : ℕ) (said : Said) (log : List Record) (validator : Validator) (count : CommitCount) (pool : Pooled) : Type 0 where
   pub valid : IsValidLog pages log
   pub ends : end_of log ≡ said.state.mark.0
@@ -99,6 +100,7 @@ pub record IsReopened (pages blocks : ℕ) (said : Said) (log : List Record) (va
   pub queues : QueuesOf log pool
   pub rows : HasRowsFrom (position_in said) (rows_in said) pool
   pub few : total_waiting pool.waits ≤ length log
+  pub numbered : pool.next ≡ Some 1
 
 -- ---- why not
 

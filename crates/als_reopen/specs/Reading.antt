@@ -1,5 +1,5 @@
 -- The log of stopped devices, on the way from its first record to its last.
-use Rattle.std.specs.Prelude.{◌≡◌, ℕ, ◌+◌, ◌*◌, ◌<◌, ◌≤◌, Bool, true, false, List, [], ◌∷◌, ◌++◌, length, Option, IfSome}
+use Rattle.std.specs.Prelude.{◌≡◌, ℕ, ◌+◌, ◌*◌, ◌<◌, ◌≤◌, Bool, true, false, List, [], ◌∷◌, ◌++◌, length, Option, Some, IfSome}
 use Rattle.als_record.specs.declared.record.Record.{Record}
 use Rattle.als_record.specs.LogText.{log_text, end_of}
 use Rattle.als_record.specs.Tail.{reserve_of}
@@ -21,12 +21,14 @@ use Rattle.als_reopen.specs.declared.fault.Fault.TheVariants.{Shape, Invalid, Ba
 use Rattle.als_reopen.specs.Node.{position_of, rows_of}
 
 -- The records handed out are counted, and their changes wait, each from where a restart with this checkpoint looks for those of its page.
+-- No lease number is used.
 pub record IsReading (checkpoint : Option Checkpoint) (s : Scanned) (pool : Pooled) (count : CommitCount) : Type 0 where
   pub facts : IsScanned s
   pub paged : pool.frames.pages ≡ s.pages
   pub queues : QueuesOf s.log pool
   pub rows : HasRowsFrom (position_of checkpoint) (rows_of checkpoint) pool
   pub few : total_waiting pool.waits ≤ length s.log
+  pub numbered : pool.next ≡ Some 1
   pub counted : IsCountOf count s.log
 
 -- the checkpoint's position was met, and it is that of a front of these records; or they do not end past its position
@@ -106,8 +108,9 @@ pub record IsDiskLeft (below : ℕ) (old new : ℕ → Slot) (blocks attempts co
   pub count_is : count ≡ blocks
   pub calls_are : calls ≡ attempts
 
--- The pages as they are opened: nothing waits yet, and the rows are those of the checkpoint.
+-- The pages as they are opened: nothing waits yet, the rows are those of the checkpoint, and no lease number is used.
 pub record IsPoolOpened (checkpoint : Option Checkpoint) (v : Pooled) : Type 0 where
   pub queues : QueuesOf [] v
   pub rows : HasRowsFrom (position_of checkpoint) (rows_of checkpoint) v
   pub none : total_waiting v.waits ≡ 0
+  pub numbered : v.next ≡ Some 1

@@ -1,14 +1,14 @@
 // The commits of a log's records, on their way to the readers.
 ghost use Rattle.std.specs.Prelude.{◌≡◌, ℕ, List, [], ◌∷◌, ◌++◌, IfErr, OnOk};
 ghost use Rattle.als_record.specs.declared.record.Record.{Record as AnyRecord};
+ghost use Rattle.als_record.specs.Commits.{commits_of};
 ghost use Rattle.als_record.specs.Validity.{IsValidLog};
 ghost use Rattle.als_validator.specs.Validated.{IsValidatorOf};
-ghost use Rattle.als_view.specs.Showing.{IsWarming};
 
 use crate::fault::Fault;
+use als_commits::Waiting;
 use als_record::Record;
 use als_validator::Validator;
-use als_view::View;
 use std::alloc::Global;
 
 /// Lets the commit that the last record of the log made, if it made one, wait for the readers.
@@ -16,22 +16,23 @@ use std::alloc::Global;
 /// `Memory`: a growth was refused.
 pub(crate) fn take_commit(
     alloc: Global,
-    view: &mut View,
+    waiting: &mut Waiting,
     validator: &Validator,
     logged: &Record,
 ) -> Result<(), Fault>
-    ensures warming { OnOk result ((pages : ℕ) (front : List AnyRecord)
+    ensures waits { OnOk result ((pages : ℕ) (front : List AnyRecord)
         → IsValidatorOf pages validator.now (front ++ logged.now ∷ [])
         → IsValidLog pages (front ++ logged.now ∷ [])
-        → IsWarming pages front view.old → IsWarming pages (front ++ logged.now ∷ []) view.new) }
+        → waiting.old.queued ≡ commits_of front
+        → waiting.new.queued ≡ commits_of (front ++ logged.now ∷ [])) }
     ensures err { IfErr result (λ fault. fault ≡ Fault.Memory) }
 {
     let Ok(made) = validator.commit_made(alloc, logged) else {
         return Err(Fault::Memory);
     };
-    if view.make_room(&made).is_err() {
+    if waiting.make_room(&made).is_err() {
         return Err(Fault::Memory);
     }
-    view.take(made);
+    waiting.take(made);
     Ok(())
 }

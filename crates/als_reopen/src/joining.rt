@@ -3,13 +3,13 @@ ghost use Rattle.std.specs.Prelude.{◌≡◌, ℕ, ◌<◌, ◌≤◌, ◌+◌,
 ghost use Rattle.std.specs.Prelude.{IfSome};
 ghost use Rattle.als_record.specs.declared.record.Record.{Record as AnyRecord};
 ghost use Rattle.als_record.specs.LogText.{log_text, end_of};
+ghost use Rattle.als_record.specs.Commits.{commits_of};
 ghost use Rattle.als_record.specs.Validity.{IsValidLog};
 ghost use Rattle.als_record.specs.Tail.{reserve_of};
 ghost use Rattle.als_frames.specs.Frames.{without_frames};
 ghost use Rattle.als_scan.specs.Scanned.{scanned};
 ghost use Rattle.als_scan.specs.Texts.{text_of};
 ghost use Rattle.als_pool.specs.Restart.{HoldsImagesFrom, HoldsImagesOf};
-ghost use Rattle.als_view.specs.Showing.{IsWarming};
 ghost use Rattle.als_reopen.specs.Node.{position_of, rows_of};
 ghost use Rattle.als_reopen.specs.Outcomes.{AreSettled, all_synced, IsReopened, IsBare};
 ghost use Rattle.als_reopen.specs.Reading.{IsReading, IsMet};
@@ -23,12 +23,12 @@ use crate::reading::Reading;
 use crate::unread_log::UnreadLog;
 use als_ckpt::ControlState;
 use als_ckpt_codec::Checkpoint;
+use als_commits::Waiting;
 use als_disk::BlockDisk;
 use als_pool::Pool;
 use als_record::{LoggedPage, Lsn};
 use als_scan::{Scan, Unread};
 use als_tables::CommitCount;
-use als_view::View;
 use std::alloc::Global;
 
 /// Where a restart begins to look for what the pages lack.
@@ -75,7 +75,7 @@ fn finish<D: BlockDisk>(
     blocks: u64,
 ) -> Result<ReadLog<D>, UnreadLog<D>>
     requires reading { IsReading checkpoint.now reading.scan reading.pool.pool reading.count }
-    requires view { IsWarming reading.scan.pages reading.scan.log reading.view }
+    requires waiting { reading.waiting.queued ≡ commits_of reading.scan.log }
     requires met { IsMet reading.met reading.scan.log checkpoint.now }
     requires low { IfSome checkpoint.now (λ c. c.numbers.position.0 ≤ reading.scan.mark) }
     requires mark { reading.scan.mark ≡ state.mark.0 }
@@ -85,7 +85,7 @@ fn finish<D: BlockDisk>(
       checkpoint = checkpoint.now;
     })
         x.log.log x.validator x.count x.pool.pool) }
-    ensures view { IfOk result (λ x. IsWarming reading.scan.pages x.log.log x.view) }
+    ensures waiting { IfOk result (λ x. x.waiting.queued ≡ commits_of x.log.log) }
     ensures log { IfOk result (λ x. x.log
         ≡ all_synced reading.scan.pages x.log.log blocks reading.scan.failures reading.scan.attempts
         x.log.room) }
@@ -167,7 +167,7 @@ fn begin<D: BlockDisk>(
     requires opened { IsPoolOpened checkpoint.now pool.pool }
     requires paged { pool.pool.frames.pages ≡ pages }
     ensures reading { IfOk result (λ r. IsReading checkpoint.now r.scan r.pool.pool r.count) }
-    ensures view { IfOk result (λ r. IsWarming pages r.scan.log r.view) }
+    ensures waiting { IfOk result (λ r. r.waiting.queued ≡ commits_of r.scan.log) }
     ensures met { IfOk result (λ r. IsMet r.met r.scan.log checkpoint.now) }
     ensures scan { IfOk result (λ r. r.scan
         ≡ scanned pages [] mark.0 (D.slot log) (D.block_count log) (D.failures log)
@@ -186,20 +186,12 @@ fn begin<D: BlockDisk>(
 {
     // For the prover alone: there are as many blocks as pages that wait for changes.
     let _ = pool.pages();
-    let Ok(view) = View::new(alloc, pages, false) else {
-        let fault = Fault::Memory;
-        return Err(UnreadLog {
-            log,
-            pages: pool.into_disk(),
-            fault,
-        });
-    };
     match Scan::new(alloc, log, pages, mark.0) {
         Ok(scan) => Ok(Reading {
             scan,
             pool,
             count: CommitCount::new(),
-            view,
+            waiting: Waiting::new(alloc),
             met: false,
         }),
         Err(unread) => {
@@ -239,7 +231,7 @@ pub(crate) fn read_log<D: BlockDisk>(
       checkpoint = checkpoint.now;
     })
         x.log.log x.validator x.count x.pool.pool) }
-    ensures view { IfOk result (λ x. IsWarming pages x.log.log x.view) }
+    ensures waiting { IfOk result (λ x. x.waiting.queued ≡ commits_of x.log.log) }
     ensures log { IfOk result (λ x. x.log
         ≡ all_synced pages x.log.log (D.block_count log) (D.failures log)
         (D.attempts log) x.log.room) }

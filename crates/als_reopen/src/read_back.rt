@@ -1,8 +1,8 @@
 // Synced devices are read.
 ghost use Rattle.std.specs.Prelude.{◌≡◌, ℕ, ◌<◌, ◌≤◌, ◌+◌, IfOk, IfErr};
+ghost use Rattle.als_record.specs.Commits.{commits_of};
 ghost use Rattle.als_frames.specs.Frames.{without_frames};
 ghost use Rattle.als_pool.specs.Images.{IsPoolOf};
-ghost use Rattle.als_view.specs.Showing.{IsWarming};
 ghost use Rattle.als_reopen.specs.Node.{Node, HoldsLog, IsNode};
 ghost use Rattle.als_reopen.specs.Outcomes.{AreSettled, all_synced, said_now, IsControlRead};
 ghost use Rattle.als_reopen.specs.Outcomes.{IsReopened, IsBare};
@@ -36,7 +36,7 @@ pub(crate) fn read_back<D: BlockDisk>(
     requires settled_control { AreSettled (D.slot disks.control) }
     ensures ok { IfOk result (λ x. IsReopened pages (D.block_count disks.log)
         (said_now x.control) x.log.log x.validator x.count x.pool.pool) }
-    ensures view { IfOk result (λ x. IsWarming pages x.log.log x.view) }
+    ensures waiting { IfOk result (λ x. x.waiting.queued ≡ commits_of x.log.log) }
     ensures log { IfOk result (λ x. x.log
         ≡ all_synced pages x.log.log (D.block_count disks.log) (D.failures disks.log)
         (D.attempts disks.log) x.log.room) }

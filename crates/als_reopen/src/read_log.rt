@@ -2,12 +2,12 @@ ghost use Rattle.std.specs.Prelude.{◌≡◌};
 
 use crate::reopened::Reopened;
 use als_ckpt::Control;
+use als_commits::Waiting;
 use als_disk::BlockDisk;
 use als_log::LocalLog;
 use als_pool::Pool;
 use als_tables::CommitCount;
 use als_validator::Validator;
-use als_view::View;
 
 /// A log that was read whole, with what a restart takes of it.
 pub(crate) struct ReadLog<D: BlockDisk> {
@@ -15,7 +15,7 @@ pub(crate) struct ReadLog<D: BlockDisk> {
     pub(crate) pool: Pool<D>,
     pub(crate) validator: Validator,
     pub(crate) count: CommitCount,
-    pub(crate) view: View,
+    pub(crate) waiting: Waiting,
 }
 
 // Written out: a derived drop is proved wherever a log that was read is let go of, this one only
@@ -27,12 +27,12 @@ impl<D: BlockDisk + Drop> Drop for ReadLog<D> {
             pool,
             validator,
             count: _,
-            view,
+            waiting,
         } = self;
         drop(log);
         drop(pool);
         drop(validator);
-        drop(view);
+        drop(waiting);
     }
 }
 
@@ -41,14 +41,14 @@ impl<D: BlockDisk> ReadLog<D> {
     pub(crate) fn with_control(self, control: Control<D>) -> Reopened<D>
         ensures { (result.log ≡ self.log) × (result.control ≡ control) × (result.pool ≡ self.pool)
             × (result.validator ≡ self.validator) × (result.count ≡ self.count)
-            × (result.view ≡ self.view) }
+            × (result.waiting ≡ self.waiting) }
     {
         let ReadLog {
             log,
             pool,
             validator,
             count,
-            view,
+            waiting,
         } = self;
         Reopened {
             log,
@@ -56,7 +56,7 @@ impl<D: BlockDisk> ReadLog<D> {
             pool,
             validator,
             count,
-            view,
+            waiting,
         }
     }
 }

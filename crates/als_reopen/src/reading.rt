@@ -3,11 +3,11 @@ ghost use Rattle.std.specs.Prelude.{◌≡◌, ◌⊎◌, ℕ, ◌<◌, ◌≤�
 ghost use Rattle.std.specs.Prelude.{IfErr, MatchBool, IfSome, IsSomeAnd};
 ghost use Rattle.als_record.specs.declared.record.Record.{Record as AnyRecord};
 ghost use Rattle.als_record.specs.LogText.{log_text, end_of};
+ghost use Rattle.als_record.specs.Commits.{commits_of};
 ghost use Rattle.als_record.specs.Validity.{IsValidLog};
 ghost use Rattle.als_validator.specs.Validated.{IsValidatorOf};
 ghost use Rattle.als_scan.specs.Scanned.{IsWhole, taken_up};
 ghost use Rattle.als_tables.specs.Fronts.{IsOfFront};
-ghost use Rattle.als_view.specs.Showing.{IsWarming};
 ghost use Rattle.als_reopen.specs.Outcomes.{IsBare};
 ghost use Rattle.als_reopen.specs.Reading.{IsReading, IsMet, IsMetBefore};
 ghost use Rattle.als_reopen.specs.Reading.{ScansOn, KeepsImages, IsOneMore, IsFrontOf};
@@ -21,11 +21,11 @@ use crate::read_log::ReadLog;
 use crate::taking_in::take_change;
 use crate::unread_log::UnreadLog;
 use als_ckpt_codec::Checkpoint;
+use als_commits::Waiting;
 use als_disk::BlockDisk;
 use als_pool::{Pool, change_can_be_read};
 use als_scan::{Scan, Unread};
 use als_tables::CommitCount;
-use als_view::View;
 use std::alloc::Global;
 
 /// A log that is being read: the records handed out so far are counted, their changes wait for the
@@ -35,7 +35,7 @@ pub(crate) struct Reading<D: BlockDisk> {
     pub(crate) pool: Pool<D>,
     pub(crate) count: CommitCount,
     /// The commits of the records, which wait for the readers.
-    pub(crate) view: View,
+    pub(crate) waiting: Waiting,
     /// The position of the checkpoint was met, and it is that of the records in front of it.
     pub(crate) met: bool,
 }
@@ -47,12 +47,12 @@ impl<D: BlockDisk + Drop> Drop for Reading<D> {
             scan,
             pool,
             count: _,
-            view,
+            waiting,
             met: _,
         } = self;
         drop(scan);
         drop(pool);
-        drop(view);
+        drop(waiting);
     }
 }
 
@@ -113,8 +113,8 @@ impl<D: BlockDisk> Reading<D> {
     fn take_one(&mut self, alloc: Global, checkpoint: &Option<Checkpoint>) -> Result<bool, Fault>
         requires reading { IsReading checkpoint.now self.old.scan self.old.pool.pool
             self.old.count }
-        requires view { IsWarming self.old.scan.pages self.old.scan.log self.old.view }
-        ensures view { OnOk result (IsWarming self.new.scan.pages self.new.scan.log self.new.view) }
+        requires waiting { self.old.waiting.queued ≡ commits_of self.old.scan.log }
+        ensures waiting { OnOk result (self.new.waiting.queued ≡ commits_of self.new.scan.log) }
         ensures reading { OnOk result (IsReading checkpoint.now self.new.scan self.new.pool.pool
             self.new.count) }
         ensures more { IfOk result (λ more. MatchBool more
@@ -144,7 +144,7 @@ impl<D: BlockDisk> Reading<D> {
             return Ok(false);
         };
         self.count.note(&logged.view());
-        take_commit(alloc, &mut self.view, self.scan.validator(), &logged)?;
+        take_commit(alloc, &mut self.waiting, self.scan.validator(), &logged)?;
         take_change(&mut self.pool, &logged)?;
         Ok(true)
     }
@@ -154,10 +154,10 @@ impl<D: BlockDisk> Reading<D> {
     fn step(&mut self, alloc: Global, checkpoint: &Option<Checkpoint>) -> Result<bool, Fault>
         requires reading { IsReading checkpoint.now self.old.scan self.old.pool.pool
             self.old.count }
-        requires view { IsWarming self.old.scan.pages self.old.scan.log self.old.view }
+        requires waiting { self.old.waiting.queued ≡ commits_of self.old.scan.log }
         requires met { IsMet self.old.met self.old.scan.log checkpoint.now }
         requires low { IfSome checkpoint.now (λ c. c.numbers.position.0 ≤ self.old.scan.mark) }
-        ensures view { OnOk result (IsWarming self.new.scan.pages self.new.scan.log self.new.view) }
+        ensures waiting { OnOk result (self.new.waiting.queued ≡ commits_of self.new.scan.log) }
         ensures reading { OnOk result (IsReading checkpoint.now self.new.scan self.new.pool.pool
             self.new.count) }
         ensures met { OnOk result (IsMet self.new.met self.new.scan.log checkpoint.now) }
@@ -194,10 +194,10 @@ impl<D: BlockDisk> Reading<D> {
     ) -> Result<(), Fault>
         requires reading { IsReading checkpoint.now self.old.scan self.old.pool.pool
             self.old.count }
-        requires view { IsWarming self.old.scan.pages self.old.scan.log self.old.view }
+        requires waiting { self.old.waiting.queued ≡ commits_of self.old.scan.log }
         requires met { IsMet self.old.met self.old.scan.log checkpoint.now }
         requires low { IfSome checkpoint.now (λ c. c.numbers.position.0 ≤ self.old.scan.mark) }
-        ensures view { OnOk result (IsWarming self.new.scan.pages self.new.scan.log self.new.view) }
+        ensures waiting { OnOk result (self.new.waiting.queued ≡ commits_of self.new.scan.log) }
         ensures reading { OnOk result (IsReading checkpoint.now self.new.scan self.new.pool.pool
             self.new.count) }
         ensures whole { OnOk result (IsWhole self.new.scan) }
@@ -235,7 +235,7 @@ impl<D: BlockDisk> Reading<D> {
             scan,
             pool,
             count: _,
-            view: _,
+            waiting: _,
             met: _,
         } = self;
         // For the prover alone: there are as many blocks as pages that wait for changes.
@@ -254,7 +254,7 @@ impl<D: BlockDisk> Reading<D> {
         ensures judged { IfOk result (λ x. IsValidatorOf self.scan.pages x.validator
             self.scan.log) }
         ensures pool { IfOk result (λ x. (x.pool ≡ self.pool) × (x.count ≡ self.count)
-            × (x.view ≡ self.view)) }
+            × (x.waiting ≡ self.waiting)) }
         ensures fault { IfErr result (λ u. IsBare u.fault
             × CountsLog u.fault self.scan.failures (D.failures u.log)) }
         ensures left_log { IfErr result (λ u. IsScanLeft self.scan (D.slot u.log)
@@ -266,7 +266,7 @@ impl<D: BlockDisk> Reading<D> {
             scan,
             pool,
             count,
-            view,
+            waiting,
             met: _,
         } = self;
         // For the prover alone: there are as many blocks as pages that wait for changes.
@@ -277,7 +277,7 @@ impl<D: BlockDisk> Reading<D> {
                 pool,
                 validator,
                 count,
-                view,
+                waiting,
             }),
             Err(unread) => {
                 let Unread { disk, fault } = unread;

@@ -1,12 +1,12 @@
 ghost use Rattle.std.specs.Prelude.{◌≡◌};
 
 use als_ckpt::Control;
+use als_commits::Waiting;
 use als_disk::BlockDisk;
 use als_log::LocalLog;
 use als_pool::Pool;
 use als_tables::CommitCount;
 use als_validator::Validator;
-use als_view::View;
 
 /// What was read of the devices of a standby.
 pub struct Reopened<D: BlockDisk> {
@@ -20,8 +20,8 @@ pub struct Reopened<D: BlockDisk> {
     pub validator: Validator,
     /// The log's records, counted.
     pub count: CommitCount,
-    /// The log's commits, which all wait; readers have no list yet.
-    pub view: View,
+    /// The log's commits, which all wait for the readers.
+    pub waiting: Waiting,
 }
 
 // Written out: a derived drop is proved wherever what was read is let go of, this one only here.
@@ -33,18 +33,18 @@ impl<D: BlockDisk + Drop> Drop for Reopened<D> {
             pool,
             validator,
             count: _,
-            view,
+            waiting,
         } = self;
         drop(log);
         drop(control);
         drop(pool);
         drop(validator);
-        drop(view);
+        drop(waiting);
     }
 }
 
 impl<D: BlockDisk> Reopened<D> {
-    /// The log, the control state, the pages, the validator, the counts and the view.
+    /// The log, the control state, the pages, the validator, the counts and the commits.
     pub fn into_parts(
         self,
     ) -> (
@@ -53,11 +53,11 @@ impl<D: BlockDisk> Reopened<D> {
         Pool<D>,
         Validator,
         CommitCount,
-        View,
+        Waiting,
     )
         ensures { (result.0 ≡ self.log) × (result.1 ≡ self.control) × (result.2 ≡ self.pool)
             × (result.3 ≡ self.validator) × (result.4 ≡ self.count)
-            × (result.5 ≡ self.view) }
+            × (result.5 ≡ self.waiting) }
     {
         let Reopened {
             log,
@@ -65,8 +65,8 @@ impl<D: BlockDisk> Reopened<D> {
             pool,
             validator,
             count,
-            view,
+            waiting,
         } = self;
-        (log, control, pool, validator, count, view)
+        (log, control, pool, validator, count, waiting)
     }
 }

@@ -1,7 +1,7 @@
 // Stopped devices are synced, and read.
 ghost use Rattle.std.specs.Prelude.{◌≡◌, ◌⊎◌, ℕ, ◌<◌, ◌≤◌, ◌+◌, IfOk, IfErr};
+ghost use Rattle.als_record.specs.Commits.{commits_of};
 ghost use Rattle.als_pool.specs.Images.{IsPoolOf};
-ghost use Rattle.als_view.specs.Showing.{IsWarming};
 ghost use Rattle.als_reopen.specs.Node.{Node, HoldsLog, IsNode};
 ghost use Rattle.als_reopen.specs.Outcomes.{AreSettled, AreLeft, IsOnceAtMost, all_synced};
 ghost use Rattle.als_reopen.specs.Outcomes.{Synced};
@@ -37,8 +37,8 @@ pub fn reopen<D: BlockDisk>(
     requires page_blocks { pages ≤ D.block_count disks.pages }
     ensures ok { IfOk result (λ x. IsReopened pages (D.block_count disks.log)
         (said_now x.control) x.log.log x.validator x.count x.pool.pool) }
-    // All commits of the log wait for the readers, who have no list yet.
-    ensures view { IfOk result (λ x. IsWarming pages x.log.log x.view) }
+    // All commits of the log wait for the readers.
+    ensures waiting { IfOk result (λ x. x.waiting.queued ≡ commits_of x.log.log) }
     ensures log { IfOk result (λ x. x.log
         ≡ all_synced pages x.log.log (D.block_count disks.log) (D.failures disks.log)
         (D.attempts disks.log + 1) x.log.room) }

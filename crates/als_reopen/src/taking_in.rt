@@ -44,6 +44,7 @@ fn route<D: BlockDisk>(pool: &mut Pool<D>, change: Change) -> Result<(), Fault>
     ensures images { KeepsImages pool.old.pool pool.new.pool }
     ensures few { total_waiting pool.new.pool.waits ≤ total_waiting pool.old.pool.waits + 1 }
     ensures frames { pool.new.pool.frames ≡ pool.old.pool.frames }
+    ensures numbers { pool.new.pool.next ≡ pool.old.pool.next }
     ensures err { IfErr result (λ fault. fault ≡ Fault.Memory) }
 {
     pool.reserve(change.key.page)?;
@@ -69,6 +70,7 @@ pub(crate) fn take_change<D: BlockDisk>(pool: &mut Pool<D>, logged: &Record) -> 
     ensures images { KeepsImages pool.old.pool pool.new.pool }
     ensures few { total_waiting pool.new.pool.waits ≤ total_waiting pool.old.pool.waits + 1 }
     ensures frames { pool.new.pool.frames ≡ pool.old.pool.frames }
+    ensures numbers { pool.new.pool.next ≡ pool.old.pool.next }
     ensures err { IfErr result (λ fault. fault ≡ Fault.Memory) }
 {
     other_records_wait_nowhere();

@@ -10,7 +10,7 @@ use Rattle.als_store.specs.Origin.{origin_of}
 use Rattle.als_store.specs.Warm.{IsWarm}
 use Rattle.als_store.proofs.StoredParts.{warm-new}
 
-pub warm-laid : (pages blocks log_failures log_attempts control_blocks control_failures
+pub warm-laid : (pages first blocks log_failures log_attempts control_blocks control_failures
     control_attempts : ℕ) (l : Local) (c : Controlled) (pool : Pooled) (frames : Paged)
     → l ≡ record {
       pages = pages;
@@ -25,9 +25,9 @@ pub warm-laid : (pages blocks log_failures log_attempts control_blocks control_f
     }
     → c ≡ new_control pages (512 * blocks) first_state control_blocks control_failures
     control_attempts
-    → pool ≡ new_pool frames pages → ((below : ℕ) → IsPoolOf [] below pool)
+    → pool ≡ new_pool frames pages first → ((below : ℕ) → IsPoolOf [] below pool)
     → IsWarm true (origin_of l c pool)
-warm-laid pages blocks log_failures log_attempts control_blocks control_failures control_attempts l
+warm-laid pages first blocks log_failures log_attempts control_blocks control_failures control_attempts l
     c pool frames el ec ep is =
     let fresh_log : Local =
     record {
@@ -43,4 +43,4 @@ warm-laid pages blocks log_failures log_attempts control_blocks control_failures
     } in
     subst (λ (x : Local). IsWarm true (origin_of x c pool)) (sym el) (
     subst (λ (y : Controlled). IsWarm true (origin_of fresh_log y pool)) (sym ec)
-    (warm-new true pages pool frames ep is))
+    (warm-new true pages first pool frames ep is))

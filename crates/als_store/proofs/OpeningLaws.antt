@@ -1,5 +1,5 @@
 -- A store that was opened.
-use Rattle.std.proofs.Common.{◌≡◌, ℕ, ◌+◌, ◌*◌, ◌≤◌, List, [], ◌∷◌, ◌++◌, Option, Some, None, refl}
+use Rattle.std.proofs.Common.{◌≡◌, ℕ, zero, suc, ◌+◌, ◌*◌, ◌≤◌, List, [], ◌∷◌, ◌++◌, Option, Some, None, refl}
 use Rattle.std.proofs.Common.{sym, ap, subst, ◌∙◌, arith, append-nil}
 use Rattle.std.specs.Prelude.{true, false, Contains, IfSome, MatchOption}
 use Rattle.std.specs.List.{AllByRecursion}
@@ -27,6 +27,7 @@ use Rattle.als_tables.specs.declared.commit_count.CommitCount.{CommitCount}
 use Rattle.als_tables.specs.Fronts.{IsOfFront}
 use Rattle.als_frames.specs.Frames.{Paged, frame_of}
 use Rattle.als_frames.specs.Images.{synced_lsn}
+use Rattle.als_frames.specs.Leases.{count_lent}
 use Rattle.als_dirty.specs.Entries.{entry_of}
 use Rattle.als_pool.specs.Queues.{pending_of}
 use Rattle.als_pool.specs.Pooled.{Pooled, unread_of}
@@ -92,6 +93,12 @@ covers_unread log below position rows pool is queues given page lt =
         e (is.each page lt) in
         subst (λ (l : Lsn). AllByRecursion (λ c. l.0 ≤ c.lsn.0)
         (changes_above log page (synced_lsn pool.frames page))) row.start at.lacks
+
+-- where no page has a frame none is lent
+none_lent : (pages : ℕ) → count_lent pages [] ≡ 0
+unfolding count_lent
+none_lent zero = refl
+none_lent (suc pages) = omega (arith, none_lent pages)
 
 -- ---- the checkpoint
 
@@ -231,6 +238,8 @@ module _ (pages blocks most log_failures log_attempts control_blocks control_fai
     count = r.pages_are;
     queues = r.queues;
     rows = r.rows;
+    unlent = ap (λ (v : Paged). count_lent v.pages v.frames) u.is ∙ none_lent pages;
+    numbered = r.numbered;
   }
 
   module _ (n : Node) (same_log : l.log ≡ n.log) (same_said : said_now c ≡ n.said)

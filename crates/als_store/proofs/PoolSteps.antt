@@ -8,13 +8,14 @@ use Rattle.std.proofs.lemmas.Bool.{cases_lt}
 use Rattle.std.proofs.lemmas.List.Filters.{length-filter_both}
 use Rattle.std.proofs.Common.{length-append}
 use Rattle.als_record.specs.declared.change.Change.{Change}
-use Rattle.als_record.specs.declared.lsn.Lsn.{Lsn}
+use Rattle.als_lease.specs.Lease.{Leased}
 use Rattle.als_frames.specs.Frames.{Framed, Paged, frame_of}
 use Rattle.als_pool.specs.declared.fault.Fault.{Fault as PoolFault}
 use Rattle.als_pool.specs.declared.fault.Fault.TheVariants as pool_fault
 use Rattle.als_pool.specs.Queues.{pending_of, total_waiting, above}
 use Rattle.als_pool.specs.Pooled.{Pooled, Held}
-use Rattle.als_pool.specs.Outcomes.{Loads, MakesResident, Redoes, Applies, RefusesApply, CanRoute}
+use Rattle.als_pool.specs.Outcomes.{Loads, MakesResident, Lends, RefusesLend, Gives, Recalls}
+use Rattle.als_pool.specs.Outcomes.{CanRoute}
 use Rattle.als_pool.proofs.QueueLists.{total-set}
 use Rattle.als_frames.specs.declared.fault.Fault.TheVariants.{Device as DiskFailed}
 use Rattle.als_pool.specs.Outcomes.{ReadRefused}
@@ -30,6 +31,8 @@ Counts pool_fault.PoolFull before now = now ≡ before
 Counts pool_fault.NothingToDo before now = now ≡ before
 Counts pool_fault.Memory before now = now ≡ before
 Counts (pool_fault.BadPage page) before now = now ≡ before
+Counts pool_fault.PageLent before now = now ≡ before
+Counts pool_fault.NumbersSpent before now = now ≡ before
 
 -- of a pool after a call that writes nothing and syncs nothing
 pub record IsCalm (old new : Pooled) : Type 0 where
@@ -104,32 +107,6 @@ calm_resident old new page end (Some f) e made =
           (λ (v : Pooled). v.frames.failures) same,
     )
 
-calm_redoes : (old new : Pooled) (page : ℕ) (lsn : Lsn) → Redoes old new page lsn
-    → IsCalm old new × (new.frames.failures ≡ old.frames.failures)
-calm_redoes old new page lsn r = (
-  record {
-    count = ap (λ (v : Pooled). length v.waits) r.same
-        ∙ length-set old.waits page (drop 64 (pending_of old.waits page));
-    few = omega (
-      arith,
-      ap (λ (v : Pooled). total_waiting v.waits) r.same,
-      few-set old.waits page
-          (drop 64 (pending_of old.waits page))
-          (omega (arith, length-drop 64 (pending_of old.waits page))),
-    );
-    attempts = ap (λ (v : Paged). v.attempts) r.redoes.same;
-    sure = ap (λ (v : Paged). v.sure) r.redoes.same;
-  },
-  ap (λ (v : Paged). v.failures) r.redoes.same,
-)
-
-pub calm_applies : (old new : Pooled) (page end : ℕ) (lsn : Lsn) → Applies old new page end lsn
-    → IsCalm old new × (new.frames.failures ≡ old.frames.failures)
-calm_applies old new page end lsn a =
-    let first = calm_resident old a.loaded page end (frame_of old.frames page) refl a.resident in
-    let second = calm_redoes a.loaded new page lsn a.redoes in
-    (calm_twice old a.loaded new first.0 second.0, second.1 ∙ first.1)
-
 -- a pool of which the frames alone changed
 pub calm_frames : (old new : Pooled) → new ≡ record old { frames = new.frames }
     → new.frames.attempts ≡ old.frames.attempts → new.frames.sure ≡ old.frames.sure → IsCalm old new
@@ -139,6 +116,47 @@ calm_frames old new same attempts sure = record {
   attempts = attempts;
   sure = sure;
 }
+
+pub calm_lends : (old new : Pooled) (page end : ℕ) (lease : Leased) → Lends old new page end lease
+    → IsCalm old new × (new.frames.failures ≡ old.frames.failures)
+calm_lends old new page end lease l =
+    let first = calm_resident old l.loaded page end (frame_of old.frames page) refl l.resident in
+    let second : IsCalm l.loaded new = record {
+      count = ap (λ (v : Pooled). length v.waits) l.first.same;
+      few = omega (arith, ap (λ (v : Pooled). total_waiting v.waits) l.first.same);
+      attempts = ap (λ (v : Paged). v.attempts) l.first.lends.same;
+      sure = ap (λ (v : Paged). v.sure) l.first.lends.same;
+    } in (
+      calm_twice old l.loaded new first.0 second,
+      ap (λ (v : Paged). v.failures) l.first.lends.same ∙ first.1,
+    )
+
+pub calm_gives : (old new : Pooled) (lease : Leased) → Gives old new lease
+    → IsCalm old new × (new.frames.failures ≡ old.frames.failures)
+calm_gives old new lease g =
+    let left = drop lease.done (pending_of old.waits lease.page) in (
+      record {
+        count = ap (λ (v : Pooled). length v.waits) g.same
+            ∙ length-set old.waits lease.page left;
+        few = omega (
+          arith,
+          ap (λ (v : Pooled). total_waiting v.waits) g.same,
+          few-set old.waits lease.page left
+              (omega (arith, length-drop lease.done (pending_of old.waits lease.page))),
+        );
+        attempts = ap (λ (v : Paged). v.attempts) g.takes_back.same;
+        sure = ap (λ (v : Paged). v.sure) g.takes_back.same;
+      },
+      ap (λ (v : Paged). v.failures) g.takes_back.same,
+    )
+
+pub calm_recalls : (old new : Pooled) (page : ℕ) → Recalls old new page
+    → IsCalm old new × (new.frames.failures ≡ old.frames.failures)
+calm_recalls old new page r = (
+  calm_frames old new r.same (ap (λ (v : Paged). v.attempts) r.recalls.same)
+      (ap (λ (v : Paged). v.sure) r.recalls.same),
+  ap (λ (v : Paged). v.failures) r.recalls.same,
+)
 
 -- the pool is as it was
 equal : (old new : Pooled) → new ≡ old
@@ -150,12 +168,16 @@ equal old new e = (
 )
 
 pub calm_refused : (reason : PoolFault) (old new : Held) (page end : ℕ)
-    → RefusesApply reason old new page end → IsCalm old.pool new.pool
+    → RefusesLend reason old new page end → IsCalm old.pool new.pool
     × Counts reason old.pool.frames.failures new.pool.frames.failures
+calm_refused pool_fault.PageLent old new page end r =
+    equal old.pool new.pool (ap (λ (h : Held). h.pool) r.1)
 calm_refused pool_fault.NothingToDo old new page end r = elim r [
-  | inl none ↦ equal old.pool new.pool (ap (λ (h : Held). h.pool) none.1)
-  | inr all ↦ calm_loads old.pool new.pool page end all.loads
+  | inl none ↦ equal old.pool new.pool (ap (λ (h : Held). h.pool) none.2)
+  | inr all ↦ calm_loads old.pool new.pool page end all.1.loads
 ]
+calm_refused pool_fault.NumbersSpent old new page end r =
+    equal old.pool new.pool (ap (λ (h : Held). h.pool) r.3)
 calm_refused pool_fault.PoolFull old new page end r =
     let e = r.1.refuses.1 in (
       calm_frames old.pool new.pool r.1.same (ap (λ (v : Paged). v.attempts) e)
@@ -204,6 +226,8 @@ bad_page_from pool_fault.PoolFull page e = absurd cc
 bad_page_from pool_fault.NothingToDo page e = absurd cc
 bad_page_from pool_fault.Device page e = absurd cc
 bad_page_from pool_fault.Memory page e = absurd cc
+bad_page_from pool_fault.PageLent page e = absurd cc
+bad_page_from pool_fault.NumbersSpent page e = absurd cc
 bad_page_from (pool_fault.BadPage p) page e = let same : p ≡ page = cc in ap pool_fault.BadPage same
 
 pub calm_show : (old new : Pooled) (page : ℕ) → ReadRefused DiskFailed old new page → IsCalm old new

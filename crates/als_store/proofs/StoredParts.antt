@@ -721,10 +721,10 @@ module _ (pages : ℕ) (held : CommitCount) (l : Local) (c : Controlled) (pool :
   }
 
 -- nothing is untrue of a store that was just formatted
-pub warm-new : (recovering : Bool) (pages : ℕ) (pool : Pooled) (frames : Paged)
-    → pool ≡ new_pool frames pages → ((below : ℕ) → IsPoolOf [] below pool)
+pub warm-new : (recovering : Bool) (pages first : ℕ) (pool : Pooled) (frames : Paged)
+    → pool ≡ new_pool frames pages first → ((below : ℕ) → IsPoolOf [] below pool)
     → IsWarm recovering (new_origin pool)
-warm-new recovering pages pool frames ep is = record {
+warm-new recovering pages first pool frames ep is = record {
   is_pool = is 16;
   taken = subst (λ (n : ℕ). AreTaken [] first_state [] recovering n)
       (sym (ap (λ (v : Pooled). total_waiting v.waits) ep ∙ total-empty pages))
@@ -734,9 +734,9 @@ warm-new recovering pages pool frames ep is = record {
 
 -- a store just formatted
 pub stored-new : (origin : Origin) (recovering : Bool)
-    (pages blocks log_failures log_attempts control_blocks control_failures control_attempts : ℕ)
-    (l : Local) (c : Controlled) (pool : Pooled) (frames : Paged) (validator : Validator)
-    (held : CommitCount) → IsCountOf held [] → pages ≤ 4096 → 1 ≤ blocks
+    (pages first blocks log_failures log_attempts control_blocks control_failures
+    control_attempts : ℕ) (l : Local) (c : Controlled) (pool : Pooled) (frames : Paged)
+    (validator : Validator) (held : CommitCount) → IsCountOf held [] → pages ≤ 4096 → 1 ≤ blocks
     → l ≡ record {
       pages = pages;
       log = [];
@@ -750,11 +750,11 @@ pub stored-new : (origin : Origin) (recovering : Bool)
     }
     → c ≡ new_control pages (512 * blocks) first_state control_blocks control_failures
     control_attempts
-    → pool ≡ new_pool frames pages → frames.sure ≡ true → ((below : ℕ) → IsPoolOf [] below pool)
+    → pool ≡ new_pool frames pages first → frames.sure ≡ true → ((below : ℕ) → IsPoolOf [] below pool)
     → EndsBelow (end_of []) pool → IsValidatorOf pages validator []
     → IsStored pages l held c pool validator false origin recovering
-stored-new origin recovering pages blocks log_failures log_attempts control_blocks control_failures
-    control_attempts l c pool frames validator held counted le some el ec ep sure is ends judged =
+stored-new origin recovering pages first blocks log_failures log_attempts control_blocks
+    control_failures control_attempts l c pool frames validator held counted le some el ec ep sure is ends judged =
     let fresh_log : Local =
     record {
       pages = pages;
@@ -799,7 +799,7 @@ stored-new origin recovering pages blocks log_failures log_attempts control_bloc
         };
       };
       rise = tt;
-      warm = λ was. warm-new recovering pages pool frames ep is;
+      warm = λ was. warm-new recovering pages first pool frames ep is;
       sure = λ e. refl;
     }))
 

@@ -18,6 +18,8 @@ calm_unshown pool_fault.LogBehind old new page r = absurd r
 calm_unshown pool_fault.PoolFull old new page r = absurd r
 calm_unshown pool_fault.NothingToDo old new page r = absurd r
 calm_unshown pool_fault.Memory old new page r = absurd r
+calm_unshown pool_fault.PageLent old new page r = absurd r
+calm_unshown pool_fault.NumbersSpent old new page r = absurd r
 
 pub grows_unshown : (reason : PoolFault) (old new : Pooled) (page : ℕ)
     → RefusesPage reason old new page → Grows old new
@@ -29,3 +31,5 @@ grows_unshown pool_fault.LogBehind old new page r p lt = absurd r
 grows_unshown pool_fault.PoolFull old new page r p lt = absurd r
 grows_unshown pool_fault.NothingToDo old new page r p lt = absurd r
 grows_unshown pool_fault.Memory old new page r p lt = absurd r
+grows_unshown pool_fault.PageLent old new page r p lt = absurd r
+grows_unshown pool_fault.NumbersSpent old new page r p lt = absurd r

@@ -7,8 +7,10 @@ use Rattle.als_log.specs.Reading.{HasRowsAt}
 use Rattle.als_ckpt.specs.declared.control_state.ControlState.{ControlState}
 use Rattle.als_ckpt.specs.Regions.{blocks_synced}
 use Rattle.als_pool.specs.Pooled.{view_of}
-use Rattle.als_pool.specs.Refusals.{has_waiting, is_full, is_due, is_behind}
-use Rattle.als_pool.specs.Outcomes.{Applies, HasAll, Flushes, FlushFails, SyncsPages}
+use Rattle.als_lease.specs.Lease.{Leased}
+use Rattle.als_pool.specs.Refusals.{is_lent, has_waiting, are_spent, is_full, is_due, is_behind}
+use Rattle.als_pool.specs.Outcomes.{Lends, IsOutstanding, HasAll, Gives, Recalls, Flushes}
+use Rattle.als_pool.specs.Outcomes.{FlushFails, SyncsPages}
 use Rattle.als_pool.specs.Outcomes.{SyncPagesFails, ReadRefused}
 use Rattle.als_frames.specs.Frames.{slot_of}
 use Rattle.als_frames.specs.Outcomes.{IsBad, IsBadBelow}
@@ -104,18 +106,21 @@ pub record SyncsControl (old : Stored) (lsn : Lsn) (new : Stored) : Type 0 where
     attempts = old.attempts + 1;
   }
 
--- ---- redo
+-- ---- leases
 
--- changes wait for a page, and it has a frame or can get one
-pub record CanApply (s : Stored) (page : ℕ) : Type 0 where
+-- a page is not lent, changes wait for it, a lease number is left, and it has a frame or can get one
+pub record CanLend (s : Stored) (page : ℕ) : Type 0 where
+  pub free : is_lent s.pool page ≡ false
   pub waiting : has_waiting s.pool page ≡ true
+  pub numbered : are_spent s.pool ≡ false
   pub room : is_full s.pool page ≡ false
 
--- The first changes that wait for a page are redone, at most 64; it was read into a frame if it had
--- none.
-pub record AppliesFirst (old : Stored) (page : ℕ) (lsn : Lsn) (new : Stored) : Type 0 where
-  pub can : CanApply old page
-  pub applies : Applies old.pool new.pool page (end_of old.log) lsn
+-- A page is lent, with the first changes that wait for it, at most 64; it was read into a frame if
+-- it had none. Its lease is out from now on.
+pub record LendsPage (old : Stored) (page : ℕ) (lease : Leased) (new : Stored) : Type 0 where
+  pub can : CanLend old page
+  pub lends : Lends old.pool new.pool page (end_of old.log) lease
+  pub out : IsOutstanding new.pool lease
   pub after : new ≡ record old { pool = new.pool }
 
 -- a page was read into a frame, and all that waited for it is in it
@@ -123,48 +128,84 @@ pub record FindsAll (old : Stored) (page : ℕ) (new : Stored) : Type 0 where
   pub finds : HasAll old.pool new.pool page (end_of old.log)
   pub after : new ≡ record old { pool = new.pool }
 
--- the pages' device failed in a read, which is counted: nothing else changed
-pub record FailsToFetch (old new : Stored) : Type 0 where
+-- a page has no frame, and the pages' device failed in a read, which is counted: nothing else changed
+pub record FailsToFetch (old : Stored) (page : ℕ) (new : Stored) : Type 0 where
+  pub absent : (view_of old.pool page).resident ≡ false
   pub failed : old.failures < new.failures
   pub counted : new.pool ≡ record old.pool {
     frames = record old.pool.frames { failures = new.pool.frames.failures };
   }
   pub after : new ≡ record old { pool = new.pool; failures = new.failures }
 
--- by the fault, what reading a page came to: it has all that waited; the device failed; a read may
--- give what is no block of the page with a page_LSN below the log's end; or a growth was refused
+-- a page has no frame, and a read may give what is no block of it with a page_LSN below the log's
+-- end: nothing changed
+pub record IsNoImage (old : Stored) (page p : ℕ) (new : Stored) : Type 0 where
+  pub number : p ≡ page
+  pub absent : (view_of old.pool page).resident ≡ false
+  pub bad : IsBadBelow (slot_of old.pool.frames page) page (end_of old.log)
+  pub after : new ≡ old
+
+-- by the fault, what reading a page came to: it has all that waited; the device failed; its block
+-- has no image of it; or memory was wanted, for its frame or for its lease
 abbrev pub ReadsInVain : Stored → ℕ → Fault → Stored → Type 0
 ReadsInVain old page fault.NothingToDo new = FindsAll old page new
-ReadsInVain old page fault.Device new = FailsToFetch old new
-ReadsInVain old page (fault.BadPage p) new =
-    (p ≡ page) × IsBadBelow (slot_of old.pool.frames page) page (end_of old.log) × (new ≡ old)
+ReadsInVain old page fault.Device new = FailsToFetch old page new
+ReadsInVain old page (fault.BadPage p) new = IsNoImage old page p new
 ReadsInVain old page fault.Memory new = new ≡ old
 ReadsInVain old page (fault.Invalid cause) new = ⊥
 ReadsInVain old page fault.LogBehind new = ⊥
 ReadsInVain old page fault.CkptBusy new = ⊥
 ReadsInVain old page fault.PoolFull new = ⊥
 ReadsInVain old page fault.LogFull new = ⊥
+ReadsInVain old page fault.PageLent new = ⊥
+ReadsInVain old page fault.NumbersSpent new = ⊥
 
--- Nothing was redone of a page for which changes wait and which can get a frame: it had none, and
--- was to be read.
-pub record IsNotRedone (old : Stored) (page : ℕ) (answer : Fault) (new : Stored) : Type 0 where
-  pub can : CanApply old page
-  pub absent : (view_of old.pool page).resident ≡ false
+-- A page that can be lent was not: it has all that waited, or it could not be read, or memory was
+-- wanted.
+pub record IsNotLent (old : Stored) (page : ℕ) (answer : Fault) (new : Stored) : Type 0 where
+  pub can : CanLend old page
   pub reads : ReadsInVain old page answer new
 
--- Nothing was redone: no change waits for the page; or it has no frame and none can be had, which
--- is found before it is read; or it was read in vain.
-abbrev pub NotApplied : Stored → ℕ → Fault → Stored → Type 0
-NotApplied old page answer new =
-    ((has_waiting old.pool page ≡ false) × (answer ≡ fault.NothingToDo) × (new ≡ old))
-    ⊎ (((has_waiting old.pool page ≡ true) × (is_full old.pool page ≡ true)
-    × (answer ≡ fault.PoolFull) × (new ≡ old))
-    ⊎ IsNotRedone old page answer new)
+-- No lease is out for the page, and nothing changed: no change waits for it; or else the numbers are
+-- spent; or else it has no frame and none can be had.
+abbrev pub IsUnlendable : Stored → ℕ → Fault → Type 0
+IsUnlendable s page answer =
+    ((has_waiting s.pool page ≡ false) × (answer ≡ fault.NothingToDo))
+    ⊎ (((has_waiting s.pool page ≡ true) × (are_spent s.pool ≡ true) × (answer ≡ fault.NumbersSpent))
+    ⊎ ((has_waiting s.pool page ≡ true) × (are_spent s.pool ≡ false) × (is_full s.pool page ≡ true)
+    × (answer ≡ fault.PoolFull)))
+
+-- A page was not lent: it is lent already; or it can't be, which is found before it is read; or it
+-- was read in vain.
+abbrev pub NotLent : Stored → ℕ → Fault → Stored → Type 0
+NotLent old page answer new =
+    ((is_lent old.pool page ≡ true) × (answer ≡ fault.PageLent) × (new ≡ old))
+    ⊎ (((is_lent old.pool page ≡ false) × IsUnlendable old page answer × (new ≡ old))
+    ⊎ IsNotLent old page answer new)
+
+-- An outstanding lease is given back: its page is the lease's working image, and what the lease has
+-- done waits no more.
+pub record GivesBack (old : Stored) (lease : Leased) (new : Stored) : Type 0 where
+  pub gives : Gives old.pool new.pool lease
+  pub after : new ≡ record old { pool = new.pool }
+
+-- A lease is recalled: its page is lent no more, and all that waited for it still waits.
+pub record RecallsPage (old : Stored) (page : ℕ) (new : Stored) : Type 0 where
+  pub lent : is_lent old.pool page ≡ true
+  pub recalls : Recalls old.pool new.pool page
+  pub after : new ≡ record old { pool = new.pool }
+
+-- no lease is recalled: none is out for the page
+abbrev pub NotRecalled : Stored → ℕ → Fault → Stored → Type 0
+NotRecalled old page answer new =
+    (is_lent old.pool page ≡ false) × (answer ≡ fault.NothingToDo) × (new ≡ old)
 
 -- ---- images
 
--- a page is resident and not written as it is now, and the log is acknowledged past its page_LSN
+-- a page is not lent, is resident and not written as it is now, and the log is acknowledged past its
+-- page_LSN
 pub record CanFlush (s : Stored) (page : ℕ) : Type 0 where
+  pub free : is_lent s.pool page ≡ false
   pub due : is_due (view_of s.pool page) ≡ true
   pub logged : is_behind (view_of s.pool page) (acknowledged s) ≡ false
 
@@ -186,12 +227,14 @@ pub record BreaksFlush (old : Stored) (page : ℕ) (new : Stored) : Type 0 where
     attempts = old.attempts + 1;
   }
 
--- a page was not written: there is nothing to write, or the log is not acknowledged past its
--- page_LSN, or the device failed
+-- a page was not written: it is lent; or else there is nothing to write, or the log is not
+-- acknowledged past its page_LSN, or the device failed
 abbrev pub NotFlushed : Stored → ℕ → Fault → Stored → Type 0
-NotFlushed old page fault.NothingToDo new = (is_due (view_of old.pool page) ≡ false) × (new ≡ old)
+NotFlushed old page fault.PageLent new = (is_lent old.pool page ≡ true) × (new ≡ old)
+NotFlushed old page fault.NothingToDo new =
+    (is_lent old.pool page ≡ false) × (is_due (view_of old.pool page) ≡ false) × (new ≡ old)
 NotFlushed old page fault.LogBehind new =
-    (is_due (view_of old.pool page) ≡ true)
+    (is_lent old.pool page ≡ false) × (is_due (view_of old.pool page) ≡ true)
     × (is_behind (view_of old.pool page) (acknowledged old) ≡ true) × (new ≡ old)
 NotFlushed old page fault.Device new = BreaksFlush old page new
 NotFlushed old page (fault.Invalid cause) new = ⊥
@@ -200,6 +243,7 @@ NotFlushed old page fault.CkptBusy new = ⊥
 NotFlushed old page fault.PoolFull new = ⊥
 NotFlushed old page fault.Memory new = ⊥
 NotFlushed old page (fault.BadPage p) new = ⊥
+NotFlushed old page fault.NumbersSpent new = ⊥
 
 -- the pages' device is synced, and the rows move
 pub record SyncsDevice (old new : Stored) : Type 0 where
@@ -242,3 +286,5 @@ NotShown old page fault.LogBehind new = ⊥
 NotShown old page fault.CkptBusy new = ⊥
 NotShown old page fault.PoolFull new = ⊥
 NotShown old page fault.LogFull new = ⊥
+NotShown old page fault.PageLent new = ⊥
+NotShown old page fault.NumbersSpent new = ⊥

@@ -12,17 +12,21 @@ kind_of (fault.Invalid cause) = kind_of_cause cause
 kind_of fault.LogBehind = kind.LogBehind
 kind_of fault.CkptBusy = kind.CkptBusy
 kind_of fault.PoolFull = kind.PoolFull
+kind_of fault.PageLent = kind.PageLent
 kind_of fault.NothingToDo = kind.NothingToDo
 kind_of fault.LogFull = kind.LogFull
 kind_of fault.Device = kind.Device
 kind_of fault.Memory = kind.Memory
 kind_of (fault.BadPage page) = kind.BadPage page
+kind_of fault.NumbersSpent = kind.NumbersSpent
 
 -- what a fault of the pool is here
 abbrev pub of_pool : PoolFault → Fault
 of_pool pool_fault.LogBehind = fault.LogBehind
 of_pool pool_fault.PoolFull = fault.PoolFull
+of_pool pool_fault.PageLent = fault.PageLent
 of_pool pool_fault.NothingToDo = fault.NothingToDo
 of_pool pool_fault.Device = fault.Device
 of_pool pool_fault.Memory = fault.Memory
 of_pool (pool_fault.BadPage page) = fault.BadPage page
+of_pool pool_fault.NumbersSpent = fault.NumbersSpent

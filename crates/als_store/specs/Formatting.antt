@@ -3,14 +3,15 @@ use Rattle.std.specs.Prelude.{◌≡◌, ◌⊎◌, ◌+◌, ℕ, List, Contains
 use Rattle.als_disk.specs.Slot.{Slot, SameBlocks}
 use Rattle.als_disk.specs.Store.{zeros}
 use Rattle.als_ckpt.specs.Control.{Spells, first_state}
-use Rattle.als_store.specs.Stored.{Stored, formatted, formatted_pool}
+use Rattle.als_store.specs.Stored.{Stored, formatted, numbered_pool}
 
--- The store of a new database of so many pages and frames. The pages' device has so many blocks,
--- had failed and was called so often before; the log's has so many blocks; all had failed so often.
-abbrev pub FormatsStore : ℕ → ℕ → ℕ → ℕ → ℕ → ℕ → ℕ → Stored → Type 0
-FormatsStore pages frames page_blocks page_failures page_attempts log_blocks failures s =
+-- The store of a new database of so many pages and frames, whose first lease gets this number. The
+-- pages' device has so many blocks, had failed and was called so often before; the log's has so many
+-- blocks; all had failed so often.
+abbrev pub FormatsStore : ℕ → ℕ → ℕ → ℕ → ℕ → ℕ → ℕ → ℕ → Stored → Type 0
+FormatsStore first pages frames page_blocks page_failures page_attempts log_blocks failures s =
     s ≡ formatted pages
-    (formatted_pool pages frames page_blocks page_failures (page_attempts + pages + 1))
+    (numbered_pool first pages frames page_blocks page_failures (page_attempts + pages + 1))
     log_blocks failures s.attempts
 
 -- a block that is no control block any more, or that of the new database

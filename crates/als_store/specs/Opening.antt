@@ -1,12 +1,12 @@
 -- A store over devices that were stopped.
-use Rattle.std.specs.Prelude.{◌≡◌, ℕ, ◌+◌, ◌*◌, ◌≤◌, true, false, List, [], length, None, IfSome}
+use Rattle.std.specs.Prelude.{◌≡◌, ℕ, ◌+◌, ◌*◌, ◌≤◌, true, false, List, [], length, Some, None, IfSome}
 use Rattle.als_record.specs.declared.record.Record.{Record}
 use Rattle.als_record.specs.LogText.{end_of}
 use Rattle.als_record.specs.Tail.{reserve_of}
 use Rattle.als_record.specs.Validity.{IsValidLog}
 use Rattle.als_ckpt.specs.Regions.{Said, IsPublished, held_of, held_at}
 use Rattle.als_tables.specs.Fronts.{IsOfFront}
-use Rattle.als_pool.specs.Pooled.{Pooled}
+use Rattle.als_pool.specs.Pooled.{Pooled, leases_of}
 use Rattle.als_pool.specs.Images.{QueuesOf}
 use Rattle.als_pool.specs.Restart.{HasRowsFrom}
 use Rattle.als_reopen.specs.Node.{Node, position_in, rows_in}
@@ -47,7 +47,7 @@ said_in s = record { state = s.control; checkpoint = held_at s.held s.control.pu
 -- What an opened store is, whatever the devices held: its log is valid, ends at the mark, and fits
 -- the device with its tail; the checkpoint is the published one, none where none is published, and
 -- that of a front of it; no page was read, and what waits for each are its changes from where a
--- restart looks for them.
+-- restart looks for them. No page is lent, and the first lease gets number 1.
 pub record IsOpened (pages blocks failures attempts : ℕ) (s : Stored) : Type 0 where
   pub said : Said
   pub is : s ≡ opened pages blocks s.log said s.pool failures attempts
@@ -59,6 +59,8 @@ pub record IsOpened (pages blocks failures attempts : ℕ) (s : Stored) : Type 0
   pub count : length s.pool.waits ≡ pages
   pub queues : QueuesOf s.log s.pool
   pub rows : HasRowsFrom (position_in said) (rows_in said) s.pool
+  pub unlent : leases_of s.pool ≡ 0
+  pub numbered : s.pool.next ≡ Some 1
 
 -- the store holds what the devices held, and all that is true of what sound devices hold
 pub record TakesUp (n : Node) (s : Stored) : Type 0 where

@@ -8,8 +8,8 @@ use Rattle.als_pool.specs.Outcomes.{HasPlace}
 use Rattle.als_store.specs.Stored.{Stored}
 
 -- how many bytes of the log, whether the transaction table has room for one more record, how many
--- commits, and the pool's room: for how many frames, and for which pages there is room for one more
--- change
+-- commits, and the pool's room: for how many frames, for which pages there is room for one more
+-- change, and how many leases
 pub record Spare : Type 0 where
   pub bytes : ℕ
   pub table : Bool
@@ -22,6 +22,11 @@ pub record HasSpare (spare : Spare) (r : Record) : Type 0 where
   pub table : spare.table ≡ true
   pub commits : 0 < spare.commits
   pub place : IfSome (change_of r) (λ c. HasPlace spare.pool c.key.page)
+
+-- what could be taken with no memory still can, and for the pool's leases perhaps more
+pub record KeepsRoom (old new : Spare) : Type 0 where
+  pub leases : old.pool.leases ≤ new.pool.leases
+  pub same : new ≡ record old { pool = record old.pool { leases = new.pool.leases } }
 
 -- what a caller sees of a store: what it holds, and what it can take with no memory
 pub record Holding : Type 0 where

@@ -77,10 +77,16 @@ with_records s records = record s {
   pool = fold (λ pool r. routed pool (change_of r)) s.pool records;
 }
 
--- the pages of a database that was just formatted: so many, and so many frames at most
+-- the pages of a database that was just formatted: so many, and so many frames at most; the first
+-- lease gets this number
+abbrev pub numbered_pool : ℕ → ℕ → ℕ → ℕ → ℕ → ℕ → Pooled
+numbered_pool first pages frames blocks failures attempts =
+    new_pool (without_frames pages frames (λ _. only zeros) blocks failures attempts) pages first
+
+-- the same, whose leases are numbered from 1
 abbrev pub formatted_pool : ℕ → ℕ → ℕ → ℕ → ℕ → Pooled
 formatted_pool pages frames blocks failures attempts =
-    new_pool (without_frames pages frames (λ _. only zeros) blocks failures attempts) pages
+    numbered_pool 1 pages frames blocks failures attempts
 
 -- no records, the first control state, no checkpoint, and these pages
 abbrev pub new_origin : Pooled → Origin

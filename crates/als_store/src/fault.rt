@@ -15,8 +15,10 @@ pub enum Fault {
     Invalid(Cause),
     /// The log is not acknowledged past the page_LSN of the page.
     LogBehind,
-    /// All frames are used, and none is clean.
+    /// All frames are used, and none is free.
     PoolFull,
+    /// A worker has the page.
+    PageLent,
     /// There is nothing for the event to do.
     NothingToDo,
     /// The log device has no room for the record and for what a takeover would then append.
@@ -29,6 +31,8 @@ pub enum Fault {
     Memory,
     /// The block of this page holds no image of it that the event can take.
     BadPage { page: u32 },
+    /// No lease number is left.
+    NumbersSpent,
 }
 
 impl Fault {
@@ -40,12 +44,14 @@ impl Fault {
             Fault::Invalid(cause) => cause.kind(),
             Fault::LogBehind => FaultKind::LogBehind,
             Fault::PoolFull => FaultKind::PoolFull,
+            Fault::PageLent => FaultKind::PageLent,
             Fault::NothingToDo => FaultKind::NothingToDo,
             Fault::LogFull => FaultKind::LogFull,
             Fault::CkptBusy => FaultKind::CkptBusy,
             Fault::Device => FaultKind::Device,
             Fault::Memory => FaultKind::Memory,
             Fault::BadPage { page } => FaultKind::BadPage { page },
+            Fault::NumbersSpent => FaultKind::NumbersSpent,
         }
     }
 
@@ -82,10 +88,12 @@ impl From<als_pool::Fault> for Fault {
         match e {
             als_pool::Fault::LogBehind => Fault::LogBehind,
             als_pool::Fault::PoolFull => Fault::PoolFull,
+            als_pool::Fault::PageLent => Fault::PageLent,
             als_pool::Fault::NothingToDo => Fault::NothingToDo,
             als_pool::Fault::Device => Fault::Device,
             als_pool::Fault::Memory => Fault::Memory,
             als_pool::Fault::BadPage { page } => Fault::BadPage { page },
+            als_pool::Fault::NumbersSpent => Fault::NumbersSpent,
         }
     }
 }

@@ -1,7 +1,7 @@
 ghost use Rattle.std.specs.Prelude.{◌≡◌, ◌<◌, ◌≤◌, ◌+◌, ◌*◌, [], ℕ, IfOk, IfErr};
 ghost use Rattle.als_ckpt.specs.Control.{first_state, new_control};
 ghost use Rattle.als_pool.specs.Images.{IsPoolOf};
-ghost use Rattle.als_store.specs.Stored.{formatted_pool};
+ghost use Rattle.als_store.specs.Stored.{numbered_pool};
 ghost use Rattle.als_store.specs.Formatting.{IsHalfFormatted};
 
 use als_ckpt::{Control, clear};
@@ -30,7 +30,8 @@ pub(crate) fn lay_out<D: BlockDisk>(
     new: NewLog,
     new_pool: NewPool,
 ) -> Result<LaidOut<D>, Disks<D>>
-    requires pages { (1 ≤ pages) × (pages ≤ 4096) × (new ≡ pages) × (new_pool ≡ pages) }
+    requires pages { (1 ≤ pages) × (pages ≤ 4096) × (new ≡ pages)
+        × (new_pool.pages ≡ pages) }
     requires log { (1 ≤ D.block_count disks.log) × (D.block_count disks.log ≤ 4194304) }
     requires control { 321 ≤ D.block_count disks.control }
     requires page_blocks { pages ≤ D.block_count disks.pages }
@@ -48,8 +49,8 @@ pub(crate) fn lay_out<D: BlockDisk>(
         ≡ new_control pages (512 * D.block_count disks.log) first_state
         (D.block_count disks.control) (D.failures disks.control) laid.control.attempts) }
     ensures pool { IfOk result (λ laid. laid.pool.pool
-        ≡ formatted_pool pages frames (D.block_count disks.pages) (D.failures disks.pages)
-        (D.attempts disks.pages + pages + 1)) }
+        ≡ numbered_pool new_pool.first pages frames (D.block_count disks.pages)
+        (D.failures disks.pages) (D.attempts disks.pages + pages + 1)) }
     ensures is_pool { IfOk result (λ laid. (below : ℕ) → IsPoolOf [] below laid.pool.pool) }
     ensures device { IfErr result (λ d. D.failures disks.log + D.failures disks.control
         + D.failures disks.pages < D.failures d.log + D.failures d.control + D.failures d.pages) }

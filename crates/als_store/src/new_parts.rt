@@ -17,17 +17,19 @@ pub(crate) struct NewParts {
 }
 
 impl NewParts {
-    /// The memory of an empty store of a database of so many pages. Memory: a growth was refused.
-    pub(crate) fn new(alloc: Global, pages: u32) -> Result<NewParts, Fault>
+    /// The memory of an empty store of a database of so many pages, whose first lease gets this
+    /// number. Memory: there was none.
+    pub(crate) fn numbered(alloc: Global, pages: u32, first: u64) -> Result<NewParts, Fault>
         requires some { 1 ≤ pages }
         requires few { pages ≤ 4096 }
         ensures log { IfOk result (λ parts. parts.log ≡ pages) }
-        ensures pool { IfOk result (λ parts. parts.pool ≡ pages) }
+        ensures pool { IfOk result (λ parts. parts.pool
+            ≡ record { pages = pages; first = first }) }
         ensures validator { IfOk result (λ parts. IsValidatorOf pages parts.validator []) }
         ensures err { IfErr result (λ f. f ≡ fault.Memory) }
     {
         let log = new_log(alloc, pages)?;
-        let pool = NewPool::new(alloc, pages)?;
+        let pool = NewPool::numbered(alloc, pages, first)?;
         let validator = new_validator(alloc, pages)?;
         Ok(NewParts {
             log,

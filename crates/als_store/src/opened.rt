@@ -1,31 +1,31 @@
 ghost use Rattle.std.specs.Prelude.{◌≡◌};
 
 use crate::store::Store;
+use als_commits::Waiting;
 use als_disk::BlockDisk;
-use als_view::View;
 
-/// A store over devices that were stopped, with what readers may see of its log.
+/// A store over devices that were stopped, with the commits of its log.
 pub struct Opened<D: BlockDisk> {
     pub store: Store<D>,
-    /// The log's commits, which all wait; readers have no list yet.
-    pub view: View,
+    /// The log's commits, which all wait for the readers.
+    pub waiting: Waiting,
 }
 
 // Written out: a derived drop is proved wherever what was opened is let go of, this one only here.
 impl<D: BlockDisk + Drop> Drop for Opened<D> {
     fn drop(self) {
-        let Opened { store, view } = self;
+        let Opened { store, waiting } = self;
         drop(store);
-        drop(view);
+        drop(waiting);
     }
 }
 
 impl<D: BlockDisk> Opened<D> {
-    /// The store and the view.
-    pub fn into_parts(self) -> (Store<D>, View)
-        ensures { (result.0 ≡ self.store) × (result.1 ≡ self.view) }
+    /// The store and the commits.
+    pub fn into_parts(self) -> (Store<D>, Waiting)
+        ensures { (result.0 ≡ self.store) × (result.1 ≡ self.waiting) }
     {
-        let Opened { store, view } = self;
-        (store, view)
+        let Opened { store, waiting } = self;
+        (store, waiting)
     }
 }

@@ -40,7 +40,7 @@ pub(crate) mod crashing;
 mod holding;
 // Devices that were stopped are taken up again.
 mod opening;
-// Pages are redone, written and synced.
+// Pages are lent for redo, written and synced.
 mod paging;
 // The takeover.
 mod takeover;
@@ -139,7 +139,40 @@ impl<D: BlockDisk> Store<D> {
         requires few_blocks { D.block_count disks.log ≤ 4194304 }
         requires control { 321 ≤ D.block_count disks.control }
         requires page_blocks { pages ≤ D.block_count disks.pages }
-        ensures ok { IfOk result (λ s. FormatsStore pages frames (D.block_count disks.pages)
+        ensures ok { IfOk result (λ s. FormatsStore 1 pages frames (D.block_count disks.pages)
+            (D.failures disks.pages) (D.attempts disks.pages) (D.block_count disks.log)
+            (D.failures disks.log + D.failures disks.control + D.failures disks.pages) s.stored) }
+        ensures fault { IfErr result (λ u. (u.fault ≡ fault.Memory) ⊎ (u.fault ≡ fault.Device)) }
+        ensures memory { IfErr result (λ u. u.fault ≡ fault.Memory → u.disks ≡ disks) }
+        ensures warm { IfOk result (λ s. WasWarm s.stored) }
+        ensures device { IfErr result (λ u. u.fault ≡ fault.Device
+            → D.failures disks.log + D.failures disks.control + D.failures disks.pages
+            < D.failures u.disks.log + D.failures u.disks.control + D.failures u.disks.pages) }
+        ensures left { IfErr result (λ u. u.fault ≡ fault.Device
+            → IsHalfFormatted pages (D.slot disks.log) (D.slot u.disks.log) (D.slot disks.pages)
+            (D.slot u.disks.pages) (D.slot u.disks.control)) }
+        ensures counts { IfErr result (λ u. (D.block_count u.disks.log ≡ D.block_count disks.log)
+            × (D.block_count u.disks.control ≡ D.block_count disks.control)
+            × (D.block_count u.disks.pages ≡ D.block_count disks.pages)) }
+    {
+        Store::format_numbered(alloc, disks, pages, frames, 1)
+    }
+
+    /// The same, with this number for the first lease.
+    pub fn format_numbered(
+        alloc: Global,
+        disks: Disks<D>,
+        pages: u32,
+        frames: usize,
+        first: u64,
+    ) -> Result<Store<D>, Unformatted<D>>
+        requires some_pages { 1 ≤ pages }
+        requires few_pages { pages ≤ 4096 }
+        requires some_blocks { 1 ≤ D.block_count disks.log }
+        requires few_blocks { D.block_count disks.log ≤ 4194304 }
+        requires control { 321 ≤ D.block_count disks.control }
+        requires page_blocks { pages ≤ D.block_count disks.pages }
+        ensures ok { IfOk result (λ s. FormatsStore first pages frames (D.block_count disks.pages)
             (D.failures disks.pages) (D.attempts disks.pages) (D.block_count disks.log)
             (D.failures disks.log + D.failures disks.control + D.failures disks.pages) s.stored) }
         ensures fault { IfErr result (λ u. (u.fault ≡ fault.Memory) ⊎ (u.fault ≡ fault.Device)) }
@@ -159,7 +192,7 @@ impl<D: BlockDisk> Store<D> {
             log,
             pool,
             validator,
-        } = match NewParts::new(alloc, pages) {
+        } = match NewParts::numbered(alloc, pages, first) {
             Ok(parts) => parts,
             Err(fault) => return Err(Unformatted { disks, fault }),
         };

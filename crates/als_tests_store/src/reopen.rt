@@ -216,13 +216,14 @@ fn expect_seen(rt: &impl Abort, view: &View, slot: u8, first: Option<u8>, commit
     assert!(rt; seen(view, slot) == Some((first, commits, Lsn(lsn))));
 }
 
-// What readers have of the log with two commits. `None`: a growth was refused.
+// The view of the log with two commits. `None`: a growth was refused.
 fn two_commits(alloc: Global) -> Option<View> {
     let mut log = [0; 512];
     log[..223].copy_from_slice(&COMMITS);
     let disks = laid_out(alloc, &log, &control_block(223, 0), &[0; 512])?;
     let found = reopen(alloc, disks, 4, 2).ok()?;
-    Some(found.into_parts().5)
+    let waiting = found.into_parts().5;
+    Some(View::new(alloc, 4, false).ok()?.with_waiting(waiting))
 }
 
 // The commits of the log wait, and readers see them once they are published. `None`: a growth was

@@ -10,9 +10,9 @@ ghost use Rattle.als_store.specs.declared.fault.Fault.TheVariants as fault;
 
 use super::Store;
 use crate::fault::Fault;
+use als_commits::Commit;
 use als_disk::BlockDisk;
 use als_record::RecordView;
-use als_view::Commit;
 use std::alloc::Global;
 
 impl<D: BlockDisk> Store<D> {

@@ -1,8 +1,8 @@
 ghost use Rattle.std.specs.Prelude.{◌≡◌, ◌⊎◌, ℕ, ◌≤◌, ◌+◌, true, false, IfOk, IfErr};
+ghost use Rattle.als_record.specs.Commits.{commits_of};
 ghost use Rattle.als_reopen.specs.Node.{Node, HoldsLog, IsNode};
 ghost use Rattle.als_reopen.specs.Outcomes.{AreSettled, AreLeft, IsOnceAtMost, RefusesOpen, IsBare};
 ghost use Rattle.als_reopen.specs.Outcomes.{Synced};
-ghost use Rattle.als_view.specs.Showing.{IsWarming};
 ghost use Rattle.als_store.specs.Opening.{IsOpened, TakesUp, said_in};
 ghost use Rattle.als_store.specs.Staying.{StaysNode};
 
@@ -39,8 +39,8 @@ impl<D: BlockDisk> Store<D> {
             + (D.attempts disks.pages + 1)) o.store.stored) }
         // So many frames there may be, none fewer and none more.
         ensures frames { IfOk result (λ o. o.store.stored.pool.frames.most ≡ frames) }
-        // All commits of the log wait for the readers, who have no list yet.
-        ensures view { IfOk result (λ o. IsWarming pages o.store.stored.log o.view) }
+        // All commits of the log wait for the readers.
+        ensures waiting { IfOk result (λ o. o.waiting.queued ≡ commits_of o.store.stored.log) }
         // Devices that hold a log are taken up with it; only a failed device and want of memory are
         // in the way.
         ensures only { (n : Node) → AreSettled (D.slot disks.log)
@@ -98,7 +98,7 @@ impl<D: BlockDisk> Store<D> {
         pool_ends_below();
         match reopen(alloc, disks, pages, frames) {
             Ok(reopened) => {
-                let (log, control, pool, validator, count, view) = reopened.into_parts();
+                let (log, control, pool, validator, count, waiting) = reopened.into_parts();
                 let origin = Origin::of(&log, &control, &pool);
                 let store = Store {
                     pages,
@@ -111,7 +111,7 @@ impl<D: BlockDisk> Store<D> {
                     recovering: true,
                     origin,
                 };
-                Ok(Opened { store, view })
+                Ok(Opened { store, waiting })
             }
             Err(refused) => Err(refused),
         }

@@ -3,6 +3,7 @@ ghost use Rattle.als_record.specs.Spelling.{IsRecord};
 
 use super::spelled;
 use als_disk::{BlockDisk, FailingDisk, Fuse, MemDisk};
+use als_lease::PageLease;
 use als_record::{Body, Key, LoggedPage, Lsn, Record, TransId};
 use als_store::{Disks, Fault, Store};
 use std::alloc::{AllocError, Global};
@@ -61,13 +62,18 @@ fn update(
     }
 }
 
-/// A store over failing devices that holds an update of page 0 and one of page 1. None: memory was
-/// refused.
-fn updated(rt: &impl Abort, alloc: Global, fuse: &Fuse) -> Option<Store<FailingDisk<MemDisk>>> {
+/// A store over failing devices that holds an update of page 0 and one of page 1. Its first lease
+/// gets this number. None: memory was refused.
+fn updated(
+    rt: &impl Abort,
+    alloc: Global,
+    fuse: &Fuse,
+    number: u64,
+) -> Option<Store<FailingDisk<MemDisk>>> {
     let Ok(disks) = failing(alloc, fuse) else {
         return None;
     };
-    let Ok(mut store) = Store::format(alloc, disks, 4, 1) else {
+    let Ok(mut store) = Store::format_numbered(alloc, disks, 4, 1, number) else {
         return None;
     };
     let first = update(rt, alloc, &mut store, Lsn(0), 0)?;
@@ -75,41 +81,61 @@ fn updated(rt: &impl Abort, alloc: Global, fuse: &Fuse) -> Option<Store<FailingD
     Some(store)
 }
 
-/// Redo of a page is refused.
-fn expect_no_redo<D: BlockDisk + Drop>(
+/// A lend of a page is refused.
+fn expect_no_lease<D: BlockDisk + Drop>(
     rt: &impl Abort,
     store: &mut Store<D>,
     page: u32,
     fault: Fault,
 ) {
-    assert!(rt; store.apply(page) == Err(fault));
-}
-
-/// Redo of a page changes it. None: memory was refused.
-fn redone<D: BlockDisk + Drop>(rt: &impl Abort, store: &mut Store<D>, page: u32) -> Option<Lsn> {
-    match store.apply(page) {
-        Ok(lsn) => Some(lsn),
-        Err(Fault::Memory) => None,
-        Err(fault) => panic!(rt; "redo: {fault}"),
+    match store.lend(page) {
+        Ok(_) => panic!(rt; "page {page} is lent"),
+        Err(found) => assert!(rt; found == fault),
     }
 }
 
-/// Redo is refused in the order of its causes, though the device would fail. None: memory was
+/// Lends a page. None: memory was refused.
+fn lent<D: BlockDisk + Drop>(
+    rt: &impl Abort,
+    store: &mut Store<D>,
+    page: u32,
+) -> Option<PageLease> {
+    match store.lend(page) {
+        Ok(lease) => Some(lease),
+        Err(Fault::Memory) => None,
+        Err(fault) => panic!(rt; "lend: {fault}"),
+    }
+}
+
+/// Lends are refused in the order of their causes, though the device would fail. None: memory was
 /// refused.
-fn refuses_redo<D: BlockDisk + Drop>(
+fn refuses_lends<D: BlockDisk + Drop>(
     rt: &impl Abort,
     fuse: &Fuse,
     store: &mut Store<D>,
 ) -> Option<()> {
     fuse.fail_at(1);
-    expect_no_redo(rt, store, 2, Fault::NothingToDo);
-    expect_no_redo(rt, store, 9, Fault::NothingToDo);
-    expect_no_redo(rt, store, 0, Fault::Device);
-    assert!(rt; redone(rt, store, 0)?.0 == 16);
+    expect_no_lease(rt, store, 2, Fault::NothingToDo);
+    expect_no_lease(rt, store, 9, Fault::NothingToDo);
+    expect_no_lease(rt, store, 0, Fault::Device);
+    let lease = lent(rt, store, 0)?;
     fuse.fail_at(1);
-    expect_no_redo(rt, store, 1, Fault::PoolFull);
-    expect_no_redo(rt, store, 0, Fault::NothingToDo);
+    expect_no_lease(rt, store, 0, Fault::PageLent);
+    expect_no_lease(rt, store, 1, Fault::PoolFull);
+    expect_no_write(rt, store, 0, Fault::PageLent);
+    give(rt, store, lease);
     Some(())
+}
+
+/// Redoes the one change of a lease of page 0 and gives it back, which leaves nothing to be lent.
+fn give<D: BlockDisk + Drop>(rt: &impl Abort, store: &mut Store<D>, mut lease: PageLease) {
+    assert!(rt; lease.redo_next());
+    assert!(rt; !lease.redo_next());
+    assert!(rt; store.leases() == 1);
+    assert!(rt; store.give(lease).is_ok());
+    assert!(rt; store.leases() == 0);
+    expect_no_lease(rt, store, 1, Fault::PoolFull);
+    expect_no_lease(rt, store, 0, Fault::NothingToDo);
 }
 
 /// A write of a page is refused, and the store was not broken before it.
@@ -141,14 +167,14 @@ fn refuses_writes<D: BlockDisk + Drop>(rt: &impl Abort, store: &mut Store<D>) {
     fails_a_sync(rt, store);
 }
 
-/// Redo, a write and a sync are refused in the order of their causes, though the device would fail.
+/// Lends, a write and a sync are refused in the order of their causes, though the device would fail.
 /// None: memory was refused.
 fn refuses(rt: &impl Abort, alloc: Global) -> Option<()> {
     let Ok(fuse) = Fuse::new(alloc) else {
         return None;
     };
-    let mut store = updated(rt, alloc, &fuse)?;
-    refuses_redo(rt, &fuse, &mut store)?;
+    let mut store = updated(rt, alloc, &fuse, 1)?;
+    refuses_lends(rt, &fuse, &mut store)?;
     refuses_writes(rt, &mut store);
     Some(())
 }
@@ -156,4 +182,35 @@ fn refuses(rt: &impl Abort, alloc: Global) -> Option<()> {
 #[test]
 fn pages_are_refused_in_order(rt: HostRuntime) {
     assert!(rt; refuses(&rt, rt.alloc()).is_some() || refuses(&rt, rt.alloc()).is_some());
+}
+
+/// After the last lease number no page is lent, though one could be. The lease with that number was
+/// recalled, and is not taken back.
+fn spends_the_numbers<D: BlockDisk + Drop>(rt: &impl Abort, store: &mut Store<D>) -> Option<()> {
+    let lease = lent(rt, store, 0)?;
+    assert!(rt; lease.number() == u64::MAX);
+    expect_no_lease(rt, store, 0, Fault::PageLent);
+    expect_no_lease(rt, store, 1, Fault::NumbersSpent);
+    expect_no_lease(rt, store, 2, Fault::NothingToDo);
+    assert!(rt; store.recall(0).is_ok());
+    assert!(rt; store.recall(0) == Err(Fault::NothingToDo));
+    assert!(rt; store.give(lease).is_err());
+    expect_no_lease(rt, store, 0, Fault::NumbersSpent);
+    Some(())
+}
+
+/// The same of a store that has one lease number. None: memory was refused.
+fn has_one_number(rt: &impl Abort, alloc: Global) -> Option<()> {
+    let Ok(fuse) = Fuse::new(alloc) else {
+        return None;
+    };
+    let mut store = updated(rt, alloc, &fuse, u64::MAX)?;
+    spends_the_numbers(rt, &mut store)
+}
+
+#[test]
+fn lease_numbers_are_spent(rt: HostRuntime) {
+    assert!(rt;
+        has_one_number(&rt, rt.alloc()).is_some() || has_one_number(&rt, rt.alloc()).is_some()
+    );
 }

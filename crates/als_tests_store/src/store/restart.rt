@@ -38,8 +38,8 @@ fn reopened(
 {
     match Store::open(alloc, disks, 4, 2) {
         Ok(opened) => {
-            let (store, view) = opened.into_parts();
-            assert!(rt; view.queued() == 1);
+            let (store, commits) = opened.into_parts();
+            assert!(rt; commits.len() == 1);
             Ok(store)
         }
         Err(refused) => Err(refused.fault),

@@ -1,7 +1,10 @@
-use Rattle.als_reopen.proofs.Warming.{warming_room}
+use Rattle.std.proofs.Common.{◌++◌, List, option_to_list, sym, ap, ◌∙◌}
+use Rattle.als_record.specs.Commits.{Commit}
+use Rattle.als_commits.specs.Waiting.{Waiting}
 use Rattle.als_reopen.proofs.committing.take_commit.Goals as goal
 
-pub returns-clause-warming : goal.returns-clause-warming
-returns-clause-warming c pages front known valid h =
-    c.take.ensures.warming pages front c.args.logged.now (c.in-Ok.ensures.ok pages front known valid)
-    (warming_room pages front c.args.view.now c.make_room.new.self c.make_room.ensures.same h)
+pub returns-clause-waits : goal.returns-clause-waits
+returns-clause-waits c pages front known valid h =
+    c.take.ensures
+    ∙ ap (λ (queued : List Commit). queued ++ option_to_list c.in-Ok.made) (ap (λ (w : Waiting). w.queued) c.make_room.ensures.same ∙ h)
+    ∙ sym (c.in-Ok.ensures.ok pages front known valid)

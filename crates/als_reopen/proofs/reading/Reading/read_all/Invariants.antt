@@ -2,17 +2,17 @@ use Rattle.std.proofs.Common.{◌≡◌, ◌-◌, ◌+◌, false, List}
 use Rattle.std.specs.Prelude.{IfSome, if◌then◌else◌}
 use Rattle.als_record.specs.declared.record.Record.{Record}
 use Rattle.als_record.specs.LogText.{log_text, end_of}
+use Rattle.als_record.specs.Commits.{commits_of}
 use Rattle.als_record.specs.Validity.{IsValidLog}
 use Rattle.als_scan.specs.Scanned.{IsWhole}
 use Rattle.als_tables.specs.Fronts.{IsOfFront}
-use Rattle.als_view.specs.Showing.{IsWarming}
 use Rattle.als_reopen.specs.Reading.{IsReading, IsMet, ScansOn, KeepsImages, IsFrontOf}
 use Rattle.als_reopen.proofs.reading.Reading.read_all.Given as goal
 
 abbrev pub invariant-loop-more : goal.invariant-loop-more
 invariant-loop-more g l = record {
   reading : IsReading l.checkpoint l.self.scan l.self.pool.pool l.self.count;
-  view : IsWarming l.self.scan.pages l.self.scan.log l.self.view;
+  waiting : l.self.waiting.queued ≡ commits_of l.self.scan.log;
   met : IsMet l.self.met l.self.scan.log l.checkpoint;
   ended : l.more ≡ false → IsWhole l.self.scan × IfSome l.checkpoint (IsOfFront l.self.scan.log);
   scan : ScansOn l.fn.self.scan l.self.scan;

@@ -35,9 +35,9 @@ invariant_of-self-in-Err-Device g c =
     let new = c.flush_one.new.self.pool in
     let mark = c.acknowledged-acknowledged.result in
     let at = ap (λ (l : Lsn). l.0) c.acknowledged-acknowledged.ensures.mark in
-    let fails : FlushFails s.pool.pool new c.args.page mark
-    = subst (λ (f : Fault). RefusesFlush f s.pool.pool new c.args.page mark)
+    let refused = subst (λ (f : Fault). RefusesFlush f s.pool.pool new c.args.page mark)
     c.in-Err-Device.field-0-is e.err in
+    let fails : FlushFails s.pool.pool new c.args.page mark = refused.1 in
     stored-pool s.pages s.count s.log s.control s.pool.pool s.validator s.broken s.origin
     s.recovering h new true
     (pool-broken s.pages s.log.log s.pool.pool new s.broken h.paged fails.same

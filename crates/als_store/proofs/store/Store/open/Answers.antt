@@ -41,11 +41,11 @@ returns-in-Ok-clause-ok g c =
     (g.D.BlockDisk.attempts disks.pages + 1) (g.D.BlockDisk.slot disks.pages) x.log x.control
     x.pool.pool x.validator x.count e.log e.control e.stored e.ok)
 
-pub returns-in-Ok-clause-view : goal.returns-in-Ok-clause-view
-returns-in-Ok-clause-view g c =
+pub returns-in-Ok-clause-waiting : goal.returns-in-Ok-clause-waiting
+returns-in-Ok-clause-waiting g c =
     let p = c.into_parts-log.ensures in
     rw (p.0, p.5)
-    c.in-Ok.ensures.view
+    c.in-Ok.ensures.waiting
 
 pub returns-in-Ok-clause-only : goal.returns-in-Ok-clause-only
 returns-in-Ok-clause-only g c =
