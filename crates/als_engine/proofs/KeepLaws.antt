@@ -40,6 +40,10 @@ keeps_same m = record {
 pub keeps_equal : (old new : Machine) → new ≡ old → Keeps old new
 keeps_equal old new e = subst (λ (m : Machine). Keeps old m) (sym e) (keeps_same old)
 
+-- what is counted is no part of the machine
+pub keeps_then : (old mid new : Machine) → new ≡ mid → Keeps old mid → Keeps old new
+keeps_then old mid new e k = subst (λ (m : Machine). Keeps old m) (sym e) k
+
 -- readers see the same
 pub record IsReadAlike (old new : Machine) : Type 0 where
   pub listed : new.listed ≡ old.listed

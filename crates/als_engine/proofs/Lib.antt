@@ -5,6 +5,7 @@ pub mod FeedLaws
 pub mod KeepLaws
 pub mod RefusalLaws
 pub mod PageLaws
+pub mod LeaseLaws
 pub mod StepLaws
 pub mod CheckpointLaws
 pub mod RestartLaws

@@ -1,4 +1,4 @@
--- Redo and the write of a page, refused or not, and what they keep.
+-- The write of a page and the queries of pages and records, refused or not, and what they keep.
 use Rattle.std.proofs.Common.{◌≡◌, ℕ, ◌+◌, ◌≤◌, true, false, [], Option, Some, None, Err, Ok, inl}
 use Rattle.std.proofs.Common.{inr, refl, sym, ap, subst, ◌∙◌, append-nil, arith}
 use Rattle.std.specs.Prelude.{Result, MatchOption}
@@ -10,8 +10,7 @@ use Rattle.als_store.specs.declared.fault.Fault.TheVariants as store_fault
 use Rattle.als_ckpt.specs.declared.control_state.ControlState.{ControlState}
 use Rattle.als_store.specs.Stored.{Stored}
 use Rattle.als_store.specs.Takeover.{GoesOn}
-use Rattle.als_store.specs.Events.{CanApply, AppliesFirst, ReadsInVain, NotApplied, CanFlush}
-use Rattle.als_store.specs.Events.{FlushesPage, NotShown}
+use Rattle.als_store.specs.Events.{CanFlush, FlushesPage, NotShown}
 use Rattle.als_store.specs.Warm.{WasWarm}
 use Rattle.als_engine.specs.declared.fault.Fault.{Fault}
 use Rattle.als_engine.specs.declared.fault.Fault.TheVariants as fault
@@ -21,7 +20,7 @@ use Rattle.als_engine.specs.declared.step.Step.TheVariants as step
 use Rattle.als_engine.specs.Readers.{ended_in}
 use Rattle.als_engine.specs.Machine.{Machine, IsStopped, Keeps}
 use Rattle.als_engine.specs.Refusals.{refusal, Does}
-use Rattle.als_engine.specs.Events.{Applies, Redoes, FlushesOne, WritesPage, ShowsPage, Reads}
+use Rattle.als_engine.specs.Events.{FlushesOne, WritesPage, ShowsPage, Reads}
 use Rattle.als_engine.specs.Events.{Changes}
 use Rattle.als_engine.proofs.KeepLaws.{goes_on_same, keeps_equal, IsReadAlike, none_opened}
 use Rattle.als_engine.proofs.KeepLaws.{IsAsMade, as_made}
@@ -49,51 +48,11 @@ with_held m held = record m { held = held }
 pub same_held : (m : Machine) (held : Stored) → held ≡ m.held → with_held m held ≡ m
 same_held m held e = ap (λ (h : Stored). with_held m h) e
 
--- ---- redo
-
-apply_not_refused : (m : Machine) (page : ℕ) → m.held.broken ≡ false → CanApply m.held page
-    → refusal m (step.Apply page) ≡ None
-apply_not_refused m page running can = rw (running, can.waiting, can.room) refl
-
-pub applies : (m : Machine) (page : ℕ) (lsn : Lsn) (held : Stored) → m.held.broken ≡ false
-    → AppliesFirst m.held page lsn held → Applies m page (Ok lsn) (record m { held = held })
-applies m page lsn held running done =
-    acting m (step.Apply page) (Redoes m page) (Ok lsn) (with_held m held)
-    (apply_not_refused m page running done.can)
-    (record { held = held; becomes = done; after = refl })
-
-pub not_applied : (m : Machine) (page : ℕ) (cause : StoreFault) (held : Stored)
-    → m.held.broken ≡ false → (WasWarm m.held → cause ≡ store_fault.BadPage page → ⊥)
-    → NotApplied m.held page cause held
-    → Applies m page (Err (from_store cause)) (record m { held = held })
-not_applied m page cause held running sound n = elim n [
-  | inl none ↦
-      subst (λ (f : StoreFault). Applies m page (Err (from_store f)) (with_held m held))
-      (sym none.1)
-      (refusing m (step.Apply page) (Redoes m page) fault.NothingToDo (with_held m held)
-      (rw (running, none.0) refl) (same_held m held none.2))
-  | inr (inl full) ↦
-      subst (λ (f : StoreFault). Applies m page (Err (from_store f)) (with_held m held))
-      (sym full.2)
-      (refusing m (step.Apply page) (Redoes m page) fault.PoolFull (with_held m held)
-      (rw (running, full.0, full.1) refl) (same_held m held full.3))
-  | inr (inr vain) ↦
-      acting m (step.Apply page) (Redoes m page) (Err (from_store cause)) (with_held m held)
-      (apply_not_refused m page running vain.can)
-      (record {
-        cause = cause;
-        answer = refl;
-        sound = sound;
-        changes =
-            record { held = held; becomes = vain; after = refl };
-      })
-]
-
 -- ---- images
 
 flush_not_refused : (m : Machine) (page : ℕ) → m.held.broken ≡ false → CanFlush m.held page
     → refusal m (step.Flush page) ≡ None
-flush_not_refused m page running can = rw (running, can.due, can.logged) refl
+flush_not_refused m page running can = rw (running, can.free, can.due, can.logged) refl
 
 pub flushes : (m : Machine) (page : ℕ) (held : Stored) → m.held.broken ≡ false
     → FlushesPage m.held page held → FlushesOne m page (Ok tt) (record m { held = held })
@@ -124,6 +83,8 @@ not_shown m page (store_fault.Invalid c) held sound n = absurd n
 not_shown m page store_fault.LogBehind held sound n = absurd n
 not_shown m page store_fault.CkptBusy held sound n = absurd n
 not_shown m page store_fault.PoolFull held sound n = absurd n
+not_shown m page store_fault.PageLent held sound n = absurd n
+not_shown m page store_fault.NumbersSpent held sound n = absurd n
 not_shown m page store_fault.LogFull held sound n = absurd n
 
 -- ---- what they keep
@@ -148,91 +109,13 @@ keeps_log old new control log stopped made limit alike = record {
   shown = none_opened old new alike (ended_in old.held);
 }
 
-keeps_pool : (old new : Machine) (held : Stored) → new ≡ record old { held = held }
+pub keeps_pool : (old new : Machine) (held : Stored) → new ≡ record old { held = held }
     → held.control ≡ old.held.control → held.log ≡ old.held.log
     → (old.held.broken ≡ true → held.broken ≡ true) → IsAsMade old.held held → Keeps old new
 keeps_pool old new held after control log stopped made =
     subst (λ (m : Machine). Keeps old m) (sym after)
     (keeps_log old (with_held old held) control log stopped made refl
     (record { listed = refl; published = refl }))
-
--- a page that was read in vain: all but the pages is as it was
-in_vain : (old held : Stored) (page : ℕ) (cause : StoreFault) → ReadsInVain old page cause held
-    → (held.control ≡ old.control) × (held.log ≡ old.log) × (held.broken ≡ old.broken)
-    × (held.attempts ≡ old.attempts) × IsAsMade old held
-in_vain old held page store_fault.NothingToDo r = (
-  ap (λ (s : Stored). s.control) r.after,
-  ap (λ (s : Stored). s.log) r.after,
-  ap
-      (λ (s : Stored). s.broken) r.after,
-  ap (λ (s : Stored). s.attempts) r.after,
-  as_made old
-      held _ r.after refl (λ w. w) (λ r. r),
-)
-in_vain old held page store_fault.Device r = (
-  ap (λ (s : Stored). s.control) r.after,
-  ap (λ (s : Stored). s.log) r.after,
-  ap
-      (λ (s : Stored). s.broken) r.after,
-  ap (λ (s : Stored). s.attempts) r.after,
-  as_made old
-      held _ r.after refl (λ w. w) (λ r. r),
-)
-in_vain old held page (store_fault.BadPage p) r = (
-  ap (λ (s : Stored). s.control) r.2,
-  ap (λ (s : Stored). s.log) r.2,
-  ap
-      (λ (s : Stored). s.broken) r.2,
-  ap (λ (s : Stored). s.attempts) r.2,
-  as_made old held _ r.2
-      refl (λ w. w) (λ r. r),
-)
-in_vain old held page store_fault.Memory r = (
-  ap (λ (s : Stored). s.control) r,
-  ap (λ (s : Stored). s.log) r,
-  ap (λ (s : Stored). s.broken)
-      r,
-  ap (λ (s : Stored). s.attempts) r,
-  as_made old held _ r refl (λ w. w) (λ r. r),
-)
-in_vain old held page (store_fault.Invalid c) r = absurd r
-in_vain old held page store_fault.LogBehind r = absurd r
-in_vain old held page store_fault.CkptBusy r = absurd r
-in_vain old held page store_fault.PoolFull r = absurd r
-in_vain old held page store_fault.LogFull r = absurd r
-
-same_attempts : (old new : Machine) → new ≡ old → new.held.attempts ≤ old.held.attempts + 1
-same_attempts old new is = omega (arith, ap (λ (m : Machine). m.held.attempts) is)
-
-refused_keeps : (old new : Machine) (page : ℕ) (f : Fault) (o : Option Fault)
-    → MatchOption o (Redoes old page (Err f) new)
-    (λ cause. (◌≡◌ {A = Result Lsn Fault} (Err f) (Err cause)) × (new ≡ old))
-    → Keeps old new × (new.held.attempts ≤ old.held.attempts + 1)
-refused_keeps old new page f None r =
-    let c = r.changes in
-    let v = in_vain old.held c.held page r.cause c.becomes.reads in (
-      keeps_pool old new c.held c.after v.0 v.1 (λ s. v.2 ∙ s) v.4,
-      omega (arith, ap (λ (m : Machine). m.held.attempts) c.after, v.3),
-    )
-refused_keeps old new page f (Some cause) r = (keeps_equal old new r.1, same_attempts old new r.1)
-
-pub not_applied_keeps : (old new : Machine) (page : ℕ) (f : Fault) → Applies old page (Err f) new
-    → Keeps old new × (new.held.attempts ≤ old.held.attempts + 1)
-not_applied_keeps old new page f r = refused_keeps old new page f (refusal old (step.Apply page)) r
-
-redone_keeps : (old new : Machine) (page : ℕ) (lsn : Lsn) (o : Option Fault)
-    → MatchOption o (Redoes old page (Ok lsn) new)
-    (λ cause. (◌≡◌ {A = Result Lsn Fault} (Ok lsn) (Err cause)) × (new ≡ old)) → Keeps old new
-redone_keeps old new page lsn None r =
-    keeps_pool old new r.held r.after (ap (λ (s : Stored). s.control) r.becomes.after)
-    (ap (λ (s : Stored). s.log) r.becomes.after)
-    (λ s. ap (λ (h : Stored). h.broken) r.becomes.after ∙ s)
-    (as_made old.held r.held _ r.becomes.after refl (λ w. w) (λ x. x))
-redone_keeps old new page lsn (Some cause) r = keeps_equal old new r.1
-
-pub applied_keeps : (old new : Machine) (page : ℕ) (lsn : Lsn) → Applies old page (Ok lsn) new
-    → Keeps old new
-applied_keeps old new page lsn r = redone_keeps old new page lsn (refusal old (step.Apply page)) r
 
 flush_keeps : (old new : Machine) (page : ℕ) (answer : Result (Unit {0}) Fault) (o : Option Fault)
     → MatchOption o (WritesPage old page answer new) (λ cause. (answer ≡ Err cause) × (new ≡ old))
@@ -254,11 +137,6 @@ pub flushes_keeps : (old new : Machine) (page : ℕ) (answer : Result (Unit {0})
     → FlushesOne old page answer new → Keeps old new
 flushes_keeps old new page answer r =
     flush_keeps old new page answer (refusal old (step.Flush page)) r
-
-pub apply_keeps : (old new : Machine) (page : ℕ) (answer : Result Lsn Fault)
-    → Applies old page answer new → Keeps old new
-apply_keeps old new page (Ok lsn) r = applied_keeps old new page lsn r
-apply_keeps old new page (Err f) r = (not_applied_keeps old new page f r).0
 
 -- ---- queries that may read a device
 

@@ -17,9 +17,10 @@ use Rattle.als_record.specs.Transactions.{is_commit}
 use Rattle.als_record.specs.Commits.{Commit as Committed, commits_of}
 use Rattle.als_record.specs.Tail.{TailStep, Ends, Undoes, undone, record_for, numbered, tail_steps}
 use Rattle.als_record.specs.Tail.{tail_of}
+use Rattle.als_commits.specs.Counting.{ended_count}
 use Rattle.als_view.specs.Fronts.{View, HasPublished}
-use Rattle.als_view.specs.Showing.{IsShowing, IsWarming, published_of, ended_count}
-use Rattle.als_view.proofs.ViewLaws.{counts}
+use Rattle.als_view.specs.Showing.{IsShowing, IsWarming, published_of}
+use Rattle.als_view.proofs.ViewLaws.{published-ended}
 use Rattle.als_receiver.specs.Reception.{Reception, fresh}
 use Rattle.als_ckpt.specs.declared.control_state.ControlState.{ControlState}
 use Rattle.als_store.specs.Stored.{Stored, acknowledged, newest, pending_of}
@@ -29,7 +30,7 @@ use Rattle.als_store.specs.declared.fault.Fault.{Fault as StoreFault}
 use Rattle.als_store.specs.declared.fault.Fault.TheVariants as store_fault
 use Rattle.als_store.specs.CheckpointEvents.{Publishes, BreaksPublish, NotPublished, NotBegun}
 use Rattle.als_store.specs.CheckpointEvents.{NoBlock}
-use Rattle.als_store.specs.Events.{HasUnmarked, BreaksMark, SyncsControl, ReadsInVain, NotApplied}
+use Rattle.als_store.specs.Events.{HasUnmarked, BreaksMark, SyncsControl, ReadsInVain, NotLent}
 use Rattle.als_store.specs.Events.{NotFlushed, NotShown}
 use Rattle.als_store.specs.Takeover.{UndoesOne, NotUndone}
 use Rattle.als_store.specs.Opening.{IsOpened}
@@ -125,12 +126,7 @@ ended_in-few held =
 few_published : (held : Stored) (view : View) → is_valid held.log ≡ true → end_of held.log < 2 ^ 64
     → IsShowing held.log (acknowledged held) view → view.commits ≤ ended_in held
 few_published held view valid few shows =
-    let at : Lsn = record { 0 = acknowledged held - 27 } in
-    omega (
-      arith,
-      counts held.log (acknowledged held) (acknowledged held) at view refl valid few
-          (omega arith) shows,
-    )
+    published-ended held.log (acknowledged held) view valid few shows
 
 pub counted : (held : Stored) (view : View) → is_valid held.log ≡ true → end_of held.log < 2 ^ 64
     → IsSeen held view → count_in (published_of view) ≤ ended_in held
@@ -194,6 +190,8 @@ seen_no_checkpoint old new view store_fault.Device seen n =
 seen_no_checkpoint old new view store_fault.Memory seen n = absurd n
 seen_no_checkpoint old new view (store_fault.Invalid cause) seen n = absurd n
 seen_no_checkpoint old new view store_fault.PoolFull seen n = absurd n
+seen_no_checkpoint old new view store_fault.PageLent seen n = absurd n
+seen_no_checkpoint old new view store_fault.NumbersSpent seen n = absurd n
 seen_no_checkpoint old new view store_fault.LogFull seen n = absurd n
 seen_no_checkpoint old new view (store_fault.BadPage page) seen n = absurd n
 
@@ -249,22 +247,24 @@ serving_in_vain old new receiver refused view page store_fault.NothingToDo s r =
 serving_in_vain old new receiver refused view page store_fault.Device s r =
     serving_still old new receiver refused view s _ r.after refl refl refl refl refl
 serving_in_vain old new receiver refused view page (store_fault.BadPage p) s r =
-    serving_still old new receiver refused view s old r.2 refl refl refl refl refl
+    serving_still old new receiver refused view s old r.after refl refl refl refl refl
 serving_in_vain old new receiver refused view page store_fault.Memory s r =
     serving_still old new receiver refused view s old r refl refl refl refl refl
 serving_in_vain old new receiver refused view page (store_fault.Invalid cause) s r = absurd r
 serving_in_vain old new receiver refused view page store_fault.LogBehind s r = absurd r
 serving_in_vain old new receiver refused view page store_fault.CkptBusy s r = absurd r
 serving_in_vain old new receiver refused view page store_fault.PoolFull s r = absurd r
+serving_in_vain old new receiver refused view page store_fault.PageLent s r = absurd r
+serving_in_vain old new receiver refused view page store_fault.NumbersSpent s r = absurd r
 serving_in_vain old new receiver refused view page store_fault.LogFull s r = absurd r
 
-pub serving_not_applied : (old new : Stored) (receiver : Reception) (refused : Option Fault)
+pub serving_not_lent : (old new : Stored) (receiver : Reception) (refused : Option Fault)
     (view : View) (page : ℕ) (cause : StoreFault) → IsServing old receiver refused view
-    → NotApplied old page cause new → IsServing new receiver refused view
-serving_not_applied old new receiver refused view page cause s n = elim n [
-  | inl none ↦ serving_still old new receiver refused view s old none.2 refl refl refl refl refl
+    → NotLent old page cause new → IsServing new receiver refused view
+serving_not_lent old new receiver refused view page cause s n = elim n [
+  | inl lent ↦ serving_still old new receiver refused view s old lent.2 refl refl refl refl refl
   | inr other ↦ elim other [
-    | inl full ↦ serving_still old new receiver refused view s old full.3 refl refl refl refl refl
+    | inl none ↦ serving_still old new receiver refused view s old none.2 refl refl refl refl refl
     | inr vain ↦ serving_in_vain old new receiver refused view page cause s vain.reads
   ]
 ]
@@ -272,16 +272,19 @@ serving_not_applied old new receiver refused view page cause s n = elim n [
 pub serving_not_flushed : (old new : Stored) (receiver : Reception) (refused : Option Fault)
     (view : View) (page : ℕ) (cause : StoreFault) → IsServing old receiver refused view
     → NotFlushed old page cause new → IsServing new receiver refused view
-serving_not_flushed old new receiver refused view page store_fault.NothingToDo s n =
+serving_not_flushed old new receiver refused view page store_fault.PageLent s n =
     serving_still old new receiver refused view s old n.1 refl refl refl refl refl
-serving_not_flushed old new receiver refused view page store_fault.LogBehind s n =
+serving_not_flushed old new receiver refused view page store_fault.NothingToDo s n =
     serving_still old new receiver refused view s old n.2 refl refl refl refl refl
+serving_not_flushed old new receiver refused view page store_fault.LogBehind s n =
+    serving_still old new receiver refused view s old n.3 refl refl refl refl refl
 serving_not_flushed old new receiver refused view page store_fault.Device s n =
     serving_still old new receiver refused view s _ n.after refl refl refl refl refl
 serving_not_flushed old new receiver refused view page (store_fault.Invalid cause) s n = absurd n
 serving_not_flushed old new receiver refused view page store_fault.LogFull s n = absurd n
 serving_not_flushed old new receiver refused view page store_fault.CkptBusy s n = absurd n
 serving_not_flushed old new receiver refused view page store_fault.PoolFull s n = absurd n
+serving_not_flushed old new receiver refused view page store_fault.NumbersSpent s n = absurd n
 serving_not_flushed old new receiver refused view page store_fault.Memory s n = absurd n
 serving_not_flushed old new receiver refused view page (store_fault.BadPage p) s n = absurd n
 
@@ -296,6 +299,8 @@ serving_not_begun old new receiver refused view store_fault.NothingToDo s n = ab
 serving_not_begun old new receiver refused view (store_fault.Invalid cause) s n = absurd n
 serving_not_begun old new receiver refused view store_fault.LogBehind s n = absurd n
 serving_not_begun old new receiver refused view store_fault.PoolFull s n = absurd n
+serving_not_begun old new receiver refused view store_fault.PageLent s n = absurd n
+serving_not_begun old new receiver refused view store_fault.NumbersSpent s n = absurd n
 serving_not_begun old new receiver refused view store_fault.LogFull s n = absurd n
 serving_not_begun old new receiver refused view store_fault.Device s n = absurd n
 serving_not_begun old new receiver refused view (store_fault.BadPage p) s n = absurd n
@@ -312,6 +317,8 @@ serving_no_block old new receiver refused view store_fault.Memory s n = absurd n
 serving_no_block old new receiver refused view (store_fault.Invalid cause) s n = absurd n
 serving_no_block old new receiver refused view store_fault.LogBehind s n = absurd n
 serving_no_block old new receiver refused view store_fault.PoolFull s n = absurd n
+serving_no_block old new receiver refused view store_fault.PageLent s n = absurd n
+serving_no_block old new receiver refused view store_fault.NumbersSpent s n = absurd n
 serving_no_block old new receiver refused view store_fault.LogFull s n = absurd n
 serving_no_block old new receiver refused view (store_fault.BadPage p) s n = absurd n
 
@@ -326,6 +333,8 @@ serving_not_undone old new receiver refused view store_fault.CkptBusy s n = absu
 serving_not_undone old new receiver refused view (store_fault.Invalid cause) s n = absurd n
 serving_not_undone old new receiver refused view store_fault.LogBehind s n = absurd n
 serving_not_undone old new receiver refused view store_fault.PoolFull s n = absurd n
+serving_not_undone old new receiver refused view store_fault.PageLent s n = absurd n
+serving_not_undone old new receiver refused view store_fault.NumbersSpent s n = absurd n
 serving_not_undone old new receiver refused view store_fault.LogFull s n = absurd n
 serving_not_undone old new receiver refused view store_fault.Device s n = absurd n
 serving_not_undone old new receiver refused view (store_fault.BadPage p) s n = absurd n
@@ -343,6 +352,8 @@ serving_not_shown old new receiver refused view page (store_fault.Invalid cause)
 serving_not_shown old new receiver refused view page store_fault.LogBehind s n = absurd n
 serving_not_shown old new receiver refused view page store_fault.CkptBusy s n = absurd n
 serving_not_shown old new receiver refused view page store_fault.PoolFull s n = absurd n
+serving_not_shown old new receiver refused view page store_fault.PageLent s n = absurd n
+serving_not_shown old new receiver refused view page store_fault.NumbersSpent s n = absurd n
 serving_not_shown old new receiver refused view page store_fault.LogFull s n = absurd n
 
 -- ---- what is seen then

@@ -96,6 +96,8 @@ started config n m blocks failures attempts r t counted most = record {
   count = r.held.count;
   queues = t.queues;
   rows = t.rows;
+  unlent = r.held.unlent;
+  numbered = r.held.numbered;
   origin = ap (λ (h : Stored). h.origin) r.held.is
       ∙ sym (ap (λ (h : Stored). now_of h) r.held.is);
   since = ap (λ (h : Stored). h.since) r.held.is;

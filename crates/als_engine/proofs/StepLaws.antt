@@ -449,3 +449,51 @@ attempts_not_undone old new fault does = go (refusal old step.UndoOne) does
         → new.held.attempts ≤ old.held.attempts + 1
     go None h = omega (arith, ap (λ (m : Machine). m.held.attempts) h.1)
     go (Some cause) h = omega (arith, ap (λ (m : Machine). m.held.attempts) h.1)
+
+-- an event that is refused calls no device
+attempts_does : {A : Type 0} (old new : Machine) (event : Step) (acts : Result A Fault → Machine
+    → Type 0) (result : Result A Fault) → Does old event acts result new
+    → (acts result new → new.held.attempts ≤ old.held.attempts + 1)
+    → new.held.attempts ≤ old.held.attempts + 1
+attempts_does {A} old new event acts result does k = go (refusal old event) does
+  where
+    go : (r : Option Fault)
+        → MatchOption r (acts result new) (λ fault. (result ≡ Err fault) × (new ≡ old))
+        → new.held.attempts ≤ old.held.attempts + 1
+    go None h = k h
+    go (Some fault) h = omega (arith, ap (λ (m : Machine). m.held.attempts) h.1)
+
+pub attempts_resync : (old new : Machine) (result : Result (Unit {0}) Fault)
+    → Resyncs old result new → new.held.attempts ≤ old.held.attempts + 1
+attempts_resync old new result does =
+    attempts_does old new step.Resync (DropsPartial old) result does (go result)
+  where
+    go : (r : Result (Unit {0}) Fault) → DropsPartial old r new
+        → new.held.attempts ≤ old.held.attempts + 1
+    go (Ok done) e = omega (arith, ap (λ (m : Machine). m.held.attempts) e)
+    go (Err fault) e = absurd e
+
+pub attempts_log_write : (old new : Machine) (result : Result (Unit {0}) Fault)
+    → LogWrites old result new → new.held.attempts ≤ old.held.attempts + 1
+attempts_log_write old new result does =
+    attempts_does old new step.LogWrite (WritesBlock old) result does (go result)
+  where
+    go : (r : Result (Unit {0}) Fault) → WritesBlock old r new
+        → new.held.attempts ≤ old.held.attempts + 1
+    go (Ok done) c = omega (arith, ap (λ (m : Machine). m.held.attempts) c.after, ap (λ (h : Stored). h.attempts) c.becomes.after)
+    go (Err fault) c = omega (arith, ap (λ (m : Machine). m.held.attempts) c.1.after, ap (λ (h : Stored). h.attempts) c.1.becomes.after)
+
+pub attempts_ready : (old new : Machine) (result : Result (Unit {0}) Fault)
+    → Readies old result new → new.held.attempts ≤ old.held.attempts + 1
+attempts_ready old new result does =
+    attempts_does old new step.Ready (BecomesReady old) result does (go result)
+  where
+    go : (r : Result (Unit {0}) Fault) → BecomesReady old r new
+        → new.held.attempts ≤ old.held.attempts + 1
+    go (Ok done) e = omega (arith, ap (λ (m : Machine). m.held.attempts) e)
+    go (Err fault) e = absurd e
+
+pub seals_step : (old new : Machine) (result : Result (Unit {0}) Fault)
+    → Seals old result new → Steps old step.Seal (reply_of result) new
+seals_step old new (Ok done) does = does
+seals_step old new (Err fault) does = does

@@ -9,14 +9,11 @@ use Rattle.als_frames.specs.Frames.{slot_of}
 use Rattle.als_frames.specs.Outcomes.{IsBad}
 use Rattle.als_pool.specs.Outcomes.{IsPageNow}
 use Rattle.als_pool.specs.Pooled.{view_of}
-use Rattle.als_store.specs.declared.fault.Fault.{Fault as StoreFault}
-use Rattle.als_store.specs.declared.fault.Fault.TheVariants.{BadPage as NotThePage}
 use Rattle.als_store.specs.Stored.{Stored, StandsAt, IsShown}
 use Rattle.als_store.specs.Warm.{WasWarm}
 use Rattle.als_store.specs.Events.{Breaks, FailsToRead, WritesLog, SyncsLog, WritesMark, BreaksMark}
-use Rattle.als_store.specs.Events.{SyncsControl, AppliesFirst, IsNotRedone, FlushesPage}
+use Rattle.als_store.specs.Events.{SyncsControl, FlushesPage}
 use Rattle.als_store.specs.Events.{BreaksFlush, SyncsDevice, BreaksSync, FailsToShow}
-use Rattle.als_engine.specs.Faults.{from_store}
 use Rattle.als_engine.specs.declared.fault.Fault.{Fault}
 use Rattle.als_engine.specs.declared.fault.Fault.TheVariants.{Device, Memory, BadPage}
 use Rattle.als_engine.specs.declared.step.Step.TheVariants as step
@@ -42,19 +39,6 @@ resynced m = record m { partial = []; refused = None }
 abbrev pub DropsPartial : Machine → Result (Unit {0}) Fault → Machine → Type 0
 DropsPartial old (Ok done) new = new ≡ resynced old
 DropsPartial old (Err fault) new = ⊥
-
--- Nothing is redone of a page that was to be read: that failed, or it has all that waited. That its
--- block is not the page's does not come where the devices were sound when the engine was made.
-pub record RedoesNothing (old : Machine) (page : ℕ) (fault : Fault) (new : Machine) : Type 0 where
-  pub cause : StoreFault
-  pub answer : fault ≡ from_store cause
-  pub sound : WasWarm old.held → cause ≡ NotThePage page → ⊥
-  pub changes : Changes old (λ held after. IsNotRedone held page cause after) new
-
--- the first changes that a page waits for are redone, and its page_LSN is answered; or nothing is
-abbrev pub Redoes : Machine → ℕ → Result Lsn Fault → Machine → Type 0
-Redoes old page (Ok lsn) new = Changes old (λ held after. AppliesFirst held page lsn after) new
-Redoes old page (Err fault) new = RedoesNothing old page fault new
 
 -- a page is written to its block, by one write of a device
 abbrev pub WritesPage : Machine → ℕ → Result (Unit {0}) Fault → Machine → Type 0
@@ -92,9 +76,6 @@ Acknowledges old (Err fault) new = FailsIn old fault Breaks new
 
 abbrev pub Resyncs : Machine → Result (Unit {0}) Fault → Machine → Type 0
 Resyncs old result new = Does old step.Resync (DropsPartial old) result new
-
-abbrev pub Applies : Machine → ℕ → Result Lsn Fault → Machine → Type 0
-Applies old page result new = Does old (step.Apply page) (Redoes old page) result new
 
 abbrev pub FlushesOne : Machine → ℕ → Result (Unit {0}) Fault → Machine → Type 0
 FlushesOne old page result new = Does old (step.Flush page) (WritesPage old page) result new

@@ -22,7 +22,8 @@ use Rattle.als_engine.specs.declared.fault.Fault.TheVariants.{LogBehind, NotDrai
 use Rattle.als_engine.specs.declared.fault.Fault.TheVariants.{PoolFull, NothingToDo, LogFull}
 use Rattle.als_engine.specs.declared.fault.Fault.TheVariants.{Device, Stopped, Memory, BadPage}
 use Rattle.als_engine.specs.declared.fault.Fault.TheVariants.{BadControl, Warming, Backlog}
-use Rattle.als_engine.specs.declared.fault.Fault.TheVariants.{BadConfig, NotSealed}
+use Rattle.als_engine.specs.declared.fault.Fault.TheVariants.{BadConfig, NotSealed, PageLent}
+use Rattle.als_engine.specs.declared.fault.Fault.TheVariants.{Stranger, BadSlot, NumbersSpent}
 
 abbrev pub kind_of : Fault → FaultKind
 kind_of BadHeader = kind.BadHeader
@@ -47,6 +48,8 @@ kind_of LogBehind = kind.LogBehind
 kind_of NotDrained = kind.NotDrained
 kind_of CkptBusy = kind.CkptBusy
 kind_of PoolFull = kind.PoolFull
+kind_of PageLent = kind.PageLent
+kind_of Stranger = kind.Stranger
 kind_of NothingToDo = kind.NothingToDo
 kind_of LogFull = kind.LogFull
 kind_of Device = kind.Device
@@ -58,6 +61,8 @@ kind_of Warming = kind.Warming
 kind_of Backlog = kind.Backlog
 kind_of BadConfig = kind.BadConfig
 kind_of NotSealed = kind.NotSealed
+kind_of BadSlot = kind.BadSlot
+kind_of NumbersSpent = kind.NumbersSpent
 
 -- the same fault, as the engine answers it
 abbrev pub from_record : RecordFault → Fault
@@ -88,6 +93,8 @@ from_store (store_fault.Invalid cause) = from_cause cause
 from_store store_fault.LogBehind = LogBehind
 from_store store_fault.CkptBusy = CkptBusy
 from_store store_fault.PoolFull = PoolFull
+from_store store_fault.PageLent = PageLent
+from_store store_fault.NumbersSpent = NumbersSpent
 from_store store_fault.NothingToDo = NothingToDo
 from_store store_fault.LogFull = LogFull
 from_store store_fault.Device = Device

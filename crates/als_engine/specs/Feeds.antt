@@ -21,7 +21,8 @@ use Rattle.als_engine.specs.declared.fault.Fault.TheVariants.{LogBehind, NotDrai
 use Rattle.als_engine.specs.declared.fault.Fault.TheVariants.{PoolFull, NothingToDo, LogFull}
 use Rattle.als_engine.specs.declared.fault.Fault.TheVariants.{Device, Stopped, Memory, BadPage}
 use Rattle.als_engine.specs.declared.fault.Fault.TheVariants.{BadControl, Warming, Backlog}
-use Rattle.als_engine.specs.declared.fault.Fault.TheVariants.{BadConfig, NotSealed}
+use Rattle.als_engine.specs.declared.fault.Fault.TheVariants.{BadConfig, NotSealed, PageLent}
+use Rattle.als_engine.specs.declared.fault.Fault.TheVariants.{Stranger, BadSlot, NumbersSpent}
 use Rattle.als_engine.specs.declared.fed.Fed.{Fed}
 use Rattle.als_engine.specs.declared.fed.FeedFault.{FeedFault}
 use Rattle.als_engine.specs.Faults.{from_record, from_cause}
@@ -93,6 +94,8 @@ kept_fault LogBehind = Some LogBehind
 kept_fault NotDrained = Some NotDrained
 kept_fault CkptBusy = Some CkptBusy
 kept_fault PoolFull = Some PoolFull
+kept_fault PageLent = Some PageLent
+kept_fault Stranger = Some Stranger
 kept_fault NothingToDo = Some NothingToDo
 kept_fault LogFull = None
 kept_fault Device = Some Device
@@ -104,6 +107,8 @@ kept_fault Warming = Some Warming
 kept_fault Backlog = Some Backlog
 kept_fault BadConfig = Some BadConfig
 kept_fault NotSealed = Some NotSealed
+kept_fault BadSlot = Some BadSlot
+kept_fault NumbersSpent = Some NumbersSpent
 
 -- whole records in front of a fault are held, and no rest is kept
 pub record FeedsFront (old : Machine) (piece : List ℕ) (refusal : FeedFault)

@@ -6,6 +6,9 @@ pub mod Serving
 pub mod Feeds
 pub mod Refusals
 pub mod Events
+pub mod Leases
+pub mod Tally
+pub mod Counting
 pub mod Readiness
 pub mod Takeover
 pub mod Checkpointing

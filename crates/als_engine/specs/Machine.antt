@@ -4,7 +4,7 @@ use Rattle.std.specs.Prelude.{◌≡◌, ℕ, ◌≤◌, ◌++◌, Bool, true, f
 use Rattle.als_record.specs.declared.record.Record.{Record}
 use Rattle.als_record.specs.LogText.{end_of}
 use Rattle.als_record.specs.Commits.{commits_of}
-use Rattle.als_view.specs.Showing.{ended_count}
+use Rattle.als_commits.specs.Counting.{ended_count}
 use Rattle.als_pool.specs.Pooled.{Pooled}
 use Rattle.als_store.specs.Stored.{Stored, formatted, acknowledged, newest}
 use Rattle.als_engine.specs.declared.config.Config.{Config}

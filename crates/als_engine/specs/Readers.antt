@@ -4,8 +4,9 @@ use Rattle.als_record.specs.declared.record.Record.{Record}
 use Rattle.als_record.specs.LogText.{end_of}
 use Rattle.als_record.specs.Commits.{commits_of}
 use Rattle.als_receiver.specs.Reception.{Reception}
+use Rattle.als_commits.specs.Counting.{ended_count}
 use Rattle.als_view.specs.Fronts.{View}
-use Rattle.als_view.specs.Showing.{IsShowing, published_of, ended_count}
+use Rattle.als_view.specs.Showing.{IsShowing, published_of}
 use Rattle.als_store.specs.Stored.{Stored, acknowledged}
 use Rattle.als_engine.specs.declared.fault.Fault.{Fault}
 use Rattle.als_engine.specs.TakingIn.{IsReady}

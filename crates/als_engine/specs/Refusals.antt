@@ -1,5 +1,5 @@
 -- Why an event is refused before it does anything.
-use Rattle.std.specs.Prelude.{◌≡◌, nat_lt, nat_le, Bool, true, false, not, ◌||◌, is_some, is_none}
+use Rattle.std.specs.Prelude.{◌≡◌, ℕ, nat_lt, nat_le, Bool, true, false, not, ◌||◌, is_some, is_none}
 use Rattle.std.specs.Prelude.{List, [], ◌∷◌, ◌++◌, Option, Some, None, MatchOption, Result, Err}
 use Rattle.std.specs.Prelude.{if◌then◌else◌}
 use Rattle.als_record.specs.LogText.{end_of}
@@ -8,14 +8,15 @@ use Rattle.als_ckpt.specs.declared.region.Region.{Region}
 use Rattle.als_ckpt.specs.declared.region.Region.TheVariants.{First, Second}
 use Rattle.als_ckpt.specs.Regions.{Begun, blocks_of, position_of}
 use Rattle.als_pool.specs.Pooled.{view_of}
-use Rattle.als_pool.specs.Refusals.{has_waiting, is_full as has_no_frame, is_due, is_behind}
+use Rattle.als_pool.specs.Refusals.{is_lent, has_waiting, are_spent, is_full as has_no_frame}
+use Rattle.als_pool.specs.Refusals.{is_due, is_behind}
 use Rattle.als_store.specs.Stored.{Stored, newest, pending_of, acknowledged}
 use Rattle.als_store.specs.Takeover.{is_following, is_primary, is_drained}
 use Rattle.als_engine.specs.declared.fault.Fault.{Fault}
 use Rattle.als_engine.specs.declared.fault.Fault.TheVariants.{Recovering, Sealed, LogBehind}
 use Rattle.als_engine.specs.declared.fault.Fault.TheVariants.{NotDrained, CkptBusy, PoolFull}
 use Rattle.als_engine.specs.declared.fault.Fault.TheVariants.{NothingToDo, Stopped, Backlog}
-use Rattle.als_engine.specs.declared.fault.Fault.TheVariants.{NotSealed}
+use Rattle.als_engine.specs.declared.fault.Fault.TheVariants.{NotSealed, PageLent, NumbersSpent}
 use Rattle.als_engine.specs.declared.step.Step.{Step}
 use Rattle.als_engine.specs.declared.step.Step.TheVariants as step
 use Rattle.als_engine.specs.Machine.{Machine}
@@ -110,11 +111,10 @@ feed_causes m =
 abbrev pub causes : Machine → Step → List (Bool × Fault)
 causes m (step.Feed piece) = feed_causes m
 causes m step.Resync = has_stopped m ∷ is_recovering m ∷ has_sealed m ∷ []
-causes m (step.Apply page) =
-    has_stopped m ∷ (not (has_waiting m.held.pool page), NothingToDo)
-    ∷ (has_no_frame m.held.pool page, PoolFull) ∷ []
+causes m (step.Recall page) = has_stopped m ∷ (not (is_lent m.held.pool page), NothingToDo) ∷ []
 causes m (step.Flush page) =
-    has_stopped m ∷ (not (is_due (view_of m.held.pool page)), NothingToDo)
+    has_stopped m ∷ (is_lent m.held.pool page, PageLent)
+    ∷ (not (is_due (view_of m.held.pool page)), NothingToDo)
     ∷ (is_behind (view_of m.held.pool page) (acknowledged m.held), LogBehind) ∷ []
 causes m step.SyncPages = has_stopped m ∷ []
 causes m step.LogWrite = has_stopped m ∷ (not (is_unwritten m.held), NothingToDo) ∷ []
@@ -137,6 +137,16 @@ causes m step.CkptPublish =
     has_stopped m ∷ (is_none m.held.begun, NothingToDo) ∷ (is_partly_synced m.held.begun, CkptBusy)
     ∷ (is_ahead_of m.held.begun m.held, LogBehind) ∷ []
 
+-- of a lend, and of a give whatever its lease
+abbrev pub lend_causes : Machine → ℕ → List (Bool × Fault)
+lend_causes m page =
+    has_stopped m ∷ (is_lent m.held.pool page, PageLent)
+    ∷ (not (has_waiting m.held.pool page), NothingToDo) ∷ (are_spent m.held.pool, NumbersSpent)
+    ∷ (has_no_frame m.held.pool page, PoolFull) ∷ []
+
+abbrev pub give_causes : Machine → List (Bool × Fault)
+give_causes m = has_stopped m ∷ []
+
 -- the fault of the first cause that stands
 abbrev pub first_of : List (Bool × Fault) → Option Fault
 first_of [] = None
@@ -150,7 +160,15 @@ refusal m event = first_of (causes m event)
 abbrev pub feed_refusal : Machine → Option Fault
 feed_refusal m = first_of (feed_causes m)
 
--- An event that is refused changes nothing; any other one acts.
+-- An event that is refused by one of its causes changes nothing, and answers its fault; any other
+-- one acts.
+abbrev pub DoesBy : {A B : Type 0} → List (Bool × Fault) → (Fault → B)
+    → (Result A B → Machine → Type 0) → Machine → Result A B → Machine → Type 0
+DoesBy causes answer acts old result new =
+    MatchOption (first_of causes) (acts result new)
+    (λ fault. (result ≡ Err (answer fault)) × (new ≡ old))
+
+-- the same of an event of the table
 abbrev pub Does : {A : Type 0} → Machine → Step → (Result A Fault → Machine → Type 0)
     → Result A Fault → Machine → Type 0
 Does old event acts result new =

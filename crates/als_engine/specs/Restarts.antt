@@ -1,10 +1,11 @@
 -- What a crash leaves of an engine, and what a restart makes of it.
-use Rattle.std.specs.Prelude.{◌≡◌, ℕ, true, false, [], length, None}
+use Rattle.std.specs.Prelude.{◌≡◌, ℕ, true, false, [], length, Some, None}
 use Rattle.als_record.specs.LogText.{end_of}
 use Rattle.als_disk.specs.Slot.{Slot}
 use Rattle.als_reopen.specs.declared.fault.Fault.{Fault as OpenFault}
 use Rattle.als_ckpt.specs.Regions.{held_of}
 use Rattle.als_pool.specs.Images.{QueuesOf}
+use Rattle.als_pool.specs.Pooled.{leases_of}
 use Rattle.als_pool.specs.Restart.{HasRowsFrom}
 use Rattle.als_reopen.specs.Node.{Node, IsNode, position_in, rows_in}
 use Rattle.als_reopen.specs.Outcomes.{AreSettled, RefusesOpen}
@@ -55,7 +56,8 @@ pub record Leaves (old : Machine) (n : Node) : Type 0 where
 
 -- An engine that begins again with what sound devices held, its checkpoint too: nothing is unsynced,
 -- partial or refused. No page was read; what waits for each are its changes from where a restart
--- looks for them. It is recovering, and readers have no list of commits yet.
+-- looks for them. No page is lent, and leases are numbered from 1 again. It is recovering, and
+-- readers have no list of commits yet.
 pub record IsStarted (config : Config) (n : Node) (new : Machine) : Type 0 where
   pub made : IsMadeWith config new
   pub warm : IsWarm new
@@ -67,6 +69,8 @@ pub record IsStarted (config : Config) (n : Node) (new : Machine) : Type 0 where
   pub count : length new.held.pool.waits ≡ config.pages
   pub queues : QueuesOf n.log new.held.pool
   pub rows : HasRowsFrom (position_in n.said) (rows_in n.said) new.held.pool
+  pub unlent : leases_of new.held.pool ≡ 0
+  pub numbered : new.held.pool.next ≡ Some 1
   pub origin : new.held.origin ≡ now_of new.held
   pub since : new.held.since ≡ []
   pub begun : new.held.begun ≡ None

@@ -8,8 +8,9 @@ use Rattle.als_engine.specs.declared.step.Reply.TheVariants as reply
 use Rattle.als_engine.specs.Machine.{Machine}
 use Rattle.als_engine.specs.Refusals.{feed_refusal}
 use Rattle.als_engine.specs.Feeds.{Feeds}
-use Rattle.als_engine.specs.Events.{Resyncs, Applies, FlushesOne, PagesSync, LogWrites, LogSyncs}
+use Rattle.als_engine.specs.Events.{Resyncs, FlushesOne, PagesSync, LogWrites, LogSyncs}
 use Rattle.als_engine.specs.Events.{MarkWrites, ControlSyncs}
+use Rattle.als_engine.specs.Leases.{Recalls}
 use Rattle.als_engine.specs.Publishing.{PublishesView}
 use Rattle.als_engine.specs.Readiness.{Readies}
 use Rattle.als_engine.specs.Takeover.{Seals, UndoesOneOf, Finishes}
@@ -28,8 +29,8 @@ Steps old (step.Feed piece) (reply.FeedRefused fault) new =
     Feeds old piece.now (feed_refusal old) (Err fault) new
 Steps old step.Resync reply.Done new = Resyncs old (Ok tt) new
 Steps old step.Resync (reply.Refused fault) new = Resyncs old (Err fault) new
-Steps old (step.Apply page) (reply.Applied lsn) new = Applies old page (Ok lsn) new
-Steps old (step.Apply page) (reply.Refused fault) new = Applies old page (Err fault) new
+Steps old (step.Recall page) reply.Done new = Recalls old page (Ok tt) new
+Steps old (step.Recall page) (reply.Refused fault) new = Recalls old page (Err fault) new
 Steps old (step.Flush page) reply.Done new = FlushesOne old page (Ok tt) new
 Steps old (step.Flush page) (reply.Refused fault) new = FlushesOne old page (Err fault) new
 Steps old step.SyncPages reply.Done new = PagesSync old (Ok tt) new

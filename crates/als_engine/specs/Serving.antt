@@ -1,4 +1,5 @@
--- An engine, as its callers see it: the small machine, and what it can take with no memory.
+-- An engine, as its callers see it: the small machine, what it can take with no memory, and its
+-- tally.
 use Rattle.std.specs.Prelude.{◌≡◌, false, ℕ, ◌+◌, ◌<◌, ◌≤◌, List, ◌++◌, length, Option, Some, None}
 use Rattle.std.specs.Prelude.{Result, Ok, Err}
 use Rattle.als_record.specs.declared.record.Record.{Record}
@@ -18,6 +19,8 @@ pub record Serving : Type 0 where
   pub spare : Spare
   -- how many more bytes can be kept with no memory
   pub room : ℕ
+  -- how often each event answered Ok since the tally was started
+  pub tally : List ℕ
 
 -- Bytes with this reading take no memory: they begin with no whole record, or with one that is
 -- no commit; and if that one can be held, the store has spare room for it, and behind it stands

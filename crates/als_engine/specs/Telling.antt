@@ -2,6 +2,7 @@
 use Rattle.std.specs.Prelude.{◌≡◌, ℕ, ◌≤◌, true, false, not, length, if◌then◌else◌}
 use Rattle.als_record.specs.LogText.{end_of}
 use Rattle.als_record.specs.Validity.{is_valid}
+use Rattle.als_pool.specs.Pooled.{leases_of}
 use Rattle.als_store.specs.Stored.{acknowledged, pending_of}
 use Rattle.als_store.specs.Takeover.{IsUnderTakeover, IsFinished, is_primary}
 use Rattle.als_store.specs.Warm.{WasWarm}
@@ -10,23 +11,25 @@ use Rattle.als_engine.specs.Machine.{Machine, state_of}
 use Rattle.als_engine.specs.Readers.{ended_in}
 
 -- its state, where its log ends, the bytes of the record that is not whole yet, what is
--- acknowledged, and what waits for redo
+-- acknowledged, what waits for redo, and how many leases are out
 pub record Tells (m : Machine) (status : Status) : Type 0 where
   pub state : status.state ≡ state_of m
   pub end : status.end.0 ≡ end_of m.held.log
   pub partial : status.partial ≡ length m.partial
   pub acknowledged : status.acknowledged.0 ≡ acknowledged m.held
   pub pending : status.pending ≡ pending_of m.held
-  pub leases : status.leases ≡ 0
+  pub leases : status.leases ≡ leases_of m.held.pool
 
--- What always holds between two events. The log is valid, and reaches what is acknowledged. Readers
--- have a list of published commits unless the engine is recovering, and each of them is
--- acknowledged. Where the devices were sound when the engine was made, what each control state that
--- a crash may leave says of the log is true, and a finished takeover holds exactly what the
--- committed transactions of the sealed log left, unless the engine is recovering.
+-- What always holds between two events. The log is valid, and reaches what is acknowledged. A page
+-- is lent only while changes wait for it. Readers have a list of published commits unless the
+-- engine is recovering, and each of them is acknowledged. Where the devices were sound when the
+-- engine was made, what each control state that a crash may leave says of the log is true, and a
+-- finished takeover holds exactly what the committed transactions of the sealed log left, unless
+-- the engine is recovering.
 pub record Stands (m : Machine) : Type 0 where
   pub valid : is_valid m.held.log ≡ true
   pub stable : acknowledged m.held ≤ end_of m.held.log
+  pub lent : pending_of m.held ≡ 0 → leases_of m.held.pool ≡ 0
   pub listed : m.listed ≡ not m.held.recovering
   pub counted : m.published ≤ ended_in m.held
   pub unlisted : m.listed ≡ false → m.published ≡ 0

@@ -16,12 +16,19 @@
 //! 4. Each event makes one write or one sync of a device at most.
 //! 5. Queries change nothing but the count of failed reads, and go on in Stopped.
 //!
+//! 6. Pages are redone outside the engine: `lend` hands out a page with the first changes that wait
+//!    for it, the lease redoes them, and `give` takes the page in. One lease of a page is out at
+//!    most; its changes wait until then, so nothing is drained while one is out.
+//! 7. Each event that answers Ok is counted in the tally, and the bytes that a feed takes. It stands
+//!    in clauses alone.
+//!
 //! The engine is the store, the receiver of the partial record and the readers' view. Its contract
 //! speaks of one value, `Machine`, so a caller needs to know none of the three.
 
 ghost use Rattle.std.specs.Prelude.{◌≡◌, ◌<◌, ◌≤◌, ◌+◌, IfOk, IfErr};
 ghost use Rattle.als_engine.specs.Config.{IsWorld};
 ghost use Rattle.als_engine.specs.Formatting.{FormatsWorld, RefusesFormat};
+ghost use Rattle.als_engine.specs.Tally.{no_events};
 ghost use Rattle.als_store.specs.Formatting.{IsHalfFormatted};
 ghost use Rattle.als_store.specs.Stopped.{AreStopped, devices_of};
 ghost use Rattle.als_store.specs.Warm.{WasWarm};
@@ -32,14 +39,18 @@ mod acknowledging;
 mod asking;
 // The steps of a checkpoint.
 mod checkpointing;
+// What is counted.
+mod counting;
 // The primary's log comes in.
 mod feeding;
+// Pages are lent, and leases are taken in.
+mod leasing;
+// Pages are written and synced.
+mod paging;
 // The end of a recovery.
 mod readiness;
 // What readers see.
 mod reading;
-// Pages are redone, written and synced.
-mod redoing;
 // Crash and restart.
 mod restart;
 // One step of the small machine.
@@ -50,6 +61,7 @@ mod taking_over;
 use crate::config::Config;
 use crate::fault::Fault;
 use crate::refused::Refused;
+use crate::tally::Tally;
 use als_disk::BlockDisk;
 use als_receiver::Receiver;
 use als_record::FIRST_LSN;
@@ -71,6 +83,8 @@ pub struct Engine<D: BlockDisk> {
     refused: Option<Fault>,
     // What readers see.
     shown: View,
+    // How often each event answered Ok.
+    told: Tally,
 }
 
 impl<D: BlockDisk> Model for Engine<D> {
@@ -92,6 +106,7 @@ impl<D: BlockDisk> Model for Engine<D> {
       };
       spare = e.store.spare;
       room = e.receiver.room;
+      tally = e.told;
     } };
 
     ghost invariant = { λ e. IsServing e.store.stored e.receiver e.refused e.shown };
@@ -108,10 +123,12 @@ impl<D: BlockDisk + Drop> Drop for Engine<D> {
             limit: _,
             refused: _,
             shown,
+            told,
         } = self;
         drop(store);
         drop(receiver);
         drop(shown);
+        drop(told);
     }
 }
 
@@ -132,6 +149,7 @@ impl<D: BlockDisk> Engine<D> {
         // All that is promised of the pages, of the control states and of the checkpoints holds of
         // a new engine.
         ensures warm { IfOk result (λ e. WasWarm e.machine.held) }
+        ensures tally { IfOk result (λ e. e.tally ≡ no_events) }
         ensures config { IfErr result (λ r. r.fault ≡ Fault.BadConfig
             → IsWorld config (D.block_count disks.log) (D.block_count disks.control)
             (D.block_count disks.pages) → ⊥) }
@@ -171,6 +189,7 @@ impl<D: BlockDisk> Engine<D> {
                     limit: config.pending as usize,
                     refused: None,
                     shown,
+                    told: Tally::none(),
                 })
             }
             Err(unformatted) => Err(Refused {
@@ -202,9 +221,11 @@ impl<D: BlockDisk> Engine<D> {
             limit: _,
             refused: _,
             shown,
+            told,
         } = self;
         drop(receiver);
         drop(shown);
+        drop(told);
         store.into_disks()
     }
 }

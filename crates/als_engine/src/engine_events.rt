@@ -6,9 +6,11 @@ use crate::engine::Engine;
 use crate::events::Events;
 use crate::fault::Fault;
 use crate::fed::{Fed, FeedFault};
+use crate::not_given::NotGiven;
 use crate::status::Status;
 use als_analysis::OpenTransaction;
 use als_disk::BlockDisk;
+use als_lease::PageLease;
 use als_page::Page;
 use als_record::{Key, LoggedPage, Lsn, Record, TransactionRow};
 use als_view::Answer;
@@ -29,6 +31,8 @@ impl<D: BlockDisk> Events for Engine<D> {
 
     ghost machine = { λ engine. engine.machine };
 
+    ghost tally = { λ engine. engine.tally };
+
     fn feed(&mut self, piece: &[u8]) -> Result<Fed, FeedFault> {
         Engine::feed(self, piece)
     }
@@ -37,8 +41,16 @@ impl<D: BlockDisk> Events for Engine<D> {
         Engine::resync(self)
     }
 
-    fn apply(&mut self, page: u32) -> Result<Lsn, Fault> {
-        Engine::apply(self, page)
+    fn lend(&mut self, page: u32) -> Result<PageLease, Fault> {
+        Engine::lend(self, page)
+    }
+
+    fn give(&mut self, lease: PageLease) -> Result<(), NotGiven> {
+        Engine::give(self, lease)
+    }
+
+    fn recall(&mut self, page: u32) -> Result<(), Fault> {
+        Engine::recall(self, page)
     }
 
     fn flush(&mut self, page: u32) -> Result<(), Fault> {

@@ -1,30 +1,36 @@
-ghost use Rattle.std.specs.Prelude.{◌≡◌, ◌+◌, ◌<◌, ◌^◌, IfOk, IfErr};
+ghost use Rattle.std.specs.Prelude.{◌≡◌, ℕ, ◌+◌, ◌<◌, ◌^◌, List, IfOk, IfErr};
 ghost use Rattle.als_record.specs.Table.{table_of};
 ghost use Rattle.als_pool.specs.Queues.{WaitsFirst};
 ghost use Rattle.als_dirty.specs.Rows.{IsNextRow};
+ghost use Rattle.als_engine.specs.declared.event.Event.TheVariants as event;
 ghost use Rattle.als_engine.specs.declared.fault.Fault.TheVariants as fault;
 ghost use Rattle.als_engine.specs.Machine.{Machine, Keeps};
 ghost use Rattle.als_engine.specs.Refusals.{feed_refusal};
 ghost use Rattle.als_engine.specs.Feeds.{Feeds};
-ghost use Rattle.als_engine.specs.Events.{Resyncs, Applies, FlushesOne, PagesSync};
+ghost use Rattle.als_engine.specs.Events.{Resyncs, FlushesOne, PagesSync};
 ghost use Rattle.als_engine.specs.Events.{LogWrites, LogSyncs, MarkWrites, ControlSyncs};
 ghost use Rattle.als_engine.specs.Events.{Reads, ShowsPage};
 ghost use Rattle.als_engine.specs.Checkpointing.{CkptBegins, CkptWrites, CkptPublishes};
+ghost use Rattle.als_engine.specs.Leases.{Lends, Gives, Recalls};
 ghost use Rattle.als_engine.specs.Publishing.{PublishesView, ReadsKey};
 ghost use Rattle.als_engine.specs.Readiness.{Readies};
 ghost use Rattle.als_engine.specs.Takeover.{Seals, UndoesOneOf, Finishes};
+ghost use Rattle.als_engine.specs.Tally.{TellsOk, TellsTaken};
 ghost use Rattle.als_engine.specs.Telling.{Tells, Stands};
 
 use crate::fault::Fault;
 use crate::fed::{Fed, FeedFault};
+use crate::not_given::NotGiven;
 use crate::status::Status;
+use als_lease::PageLease;
 use als_page::Page;
 use als_record::{Key, LoggedPage, Lsn, Record, TransactionRow};
 use als_view::Answer;
 use std::alloc::Global;
 
 /// What a standby is driven by: its events, and the queries that ask it. An engine has them; so has
-/// a handle of an engine that others drive too, of which the small machine says nothing.
+/// a handle of an engine that others drive too, of which the small machine says nothing. Whoever
+/// drives it, each event made by these calls is counted, and no other one.
 pub trait Events {
     /// Nobody else makes events: each call is one step of the small machine.
     ghost alone: { Type 0 };
@@ -32,93 +38,131 @@ pub trait Events {
     /// That machine, where nobody else makes events.
     ghost machine: { Self → Machine };
 
+    /// How often each event answered Ok by these calls, and how many bytes feed took.
+    ghost tally: { Self → List ℕ };
+
     // ---- the events
 
     /// Takes a piece of the primary's log.
     fn feed(&mut self, piece: &[u8]) -> Result<Fed, FeedFault>
         ensures feeds { alone → Feeds (machine self.old) piece.now (feed_refusal (machine self.old))
             result (machine self.new) }
-        ensures keeps { alone → Keeps (machine self.old) (machine self.new) };
+        ensures keeps { alone → Keeps (machine self.old) (machine self.new) }
+        // The bytes taken are counted, of a feed that is refused too.
+        ensures told { TellsTaken result (tally self.old) (tally self.new) };
 
     /// Drops the partial record, and takes the log again after a refusal.
     fn resync(&mut self) -> Result<(), Fault>
         ensures resyncs { alone → Resyncs (machine self.old) result (machine self.new) }
-        ensures keeps { alone → Keeps (machine self.old) (machine self.new) };
+        ensures keeps { alone → Keeps (machine self.old) (machine self.new) }
+        ensures told { TellsOk event.Resync result (tally self.old) (tally self.new) };
 
-    /// Redoes the first changes that a page waits for, and answers its page_LSN.
-    fn apply(&mut self, page: u32) -> Result<Lsn, Fault>
-        ensures applies { alone → Applies (machine self.old) page result (machine self.new) }
-        ensures keeps { alone → Keeps (machine self.old) (machine self.new) };
+    /// Lends a page with the first changes that wait for it: the lease redoes them with no engine,
+    /// and `give` takes it in.
+    fn lend(&mut self, page: u32) -> Result<PageLease, Fault>
+        ensures lends { alone → Lends (machine self.old) page result (machine self.new) }
+        ensures keeps { alone → Keeps (machine self.old) (machine self.new) }
+        ensures told { TellsOk event.Lend result (tally self.old) (tally self.new) }
+        // Nothing is redone of a new lease.
+        ensures fresh { IfOk result (λ lease. lease.done ≡ 0) };
+
+    /// Takes a lease in, if it is the one that is out for its page; else it comes back.
+    fn give(&mut self, lease: PageLease) -> Result<(), NotGiven>
+        ensures gives { alone → Gives (machine self.old) lease result (machine self.new) }
+        ensures keeps { alone → Keeps (machine self.old) (machine self.new) }
+        ensures told { TellsOk event.Give result (tally self.old) (tally self.new) }
+        // It is that lease that comes back.
+        ensures back { IfErr result (λ refused. refused.lease ≡ lease) };
+
+    /// Ends the lease of a page: its changes wait on.
+    fn recall(&mut self, page: u32) -> Result<(), Fault>
+        ensures recalls { alone → Recalls (machine self.old) page result (machine self.new) }
+        ensures keeps { alone → Keeps (machine self.old) (machine self.new) }
+        ensures told { TellsOk event.Recall result (tally self.old) (tally self.new) };
 
     /// Writes a page to its block, if the log is acknowledged past its page_LSN.
     fn flush(&mut self, page: u32) -> Result<(), Fault>
         ensures flushes { alone → FlushesOne (machine self.old) page result (machine self.new) }
-        ensures keeps { alone → Keeps (machine self.old) (machine self.new) };
+        ensures keeps { alone → Keeps (machine self.old) (machine self.new) }
+        ensures told { TellsOk event.Flush result (tally self.old) (tally self.new) };
 
     /// Syncs the pages' device.
     fn sync_pages(&mut self) -> Result<(), Fault>
         ensures syncs { alone → PagesSync (machine self.old) result (machine self.new) }
-        ensures keeps { alone → Keeps (machine self.old) (machine self.new) };
+        ensures keeps { alone → Keeps (machine self.old) (machine self.new) }
+        ensures told { TellsOk event.SyncPages result (tally self.old) (tally self.new) };
 
     /// Writes the first block of the log with unwritten bytes.
     fn log_write(&mut self) -> Result<(), Fault>
         ensures writes { alone → LogWrites (machine self.old) result (machine self.new) }
-        ensures keeps { alone → Keeps (machine self.old) (machine self.new) };
+        ensures keeps { alone → Keeps (machine self.old) (machine self.new) }
+        ensures told { TellsOk event.LogWrite result (tally self.old) (tally self.new) };
 
     /// Syncs the log.
     fn log_sync(&mut self) -> Result<(), Fault>
         ensures syncs { alone → LogSyncs (machine self.old) result (machine self.new) }
-        ensures keeps { alone → Keeps (machine self.old) (machine self.new) };
+        ensures keeps { alone → Keeps (machine self.old) (machine self.new) }
+        ensures told { TellsOk event.LogSync result (tally self.old) (tally self.new) };
 
     /// Writes the control block with the log's synced end as its mark.
     fn mark_write(&mut self) -> Result<(), Fault>
         ensures writes { alone → MarkWrites (machine self.old) result (machine self.new) }
-        ensures keeps { alone → Keeps (machine self.old) (machine self.new) };
+        ensures keeps { alone → Keeps (machine self.old) (machine self.new) }
+        ensures told { TellsOk event.MarkWrite result (tally self.old) (tally self.new) };
 
     /// Syncs the control block, and answers its mark: the acknowledged LSN.
     fn ctl_sync(&mut self) -> Result<Lsn, Fault>
         ensures syncs { alone → ControlSyncs (machine self.old) result (machine self.new) }
-        ensures keeps { alone → Keeps (machine self.old) (machine self.new) };
+        ensures keeps { alone → Keeps (machine self.old) (machine self.new) }
+        ensures told { TellsOk event.ControlSync result (tally self.old) (tally self.new) };
 
     /// Begins a checkpoint: copies both tables and the end of the log.
     fn ckpt_begin(&mut self) -> Result<(), Fault>
         ensures begins { alone → CkptBegins (machine self.old) result (machine self.new) }
-        ensures keeps { alone → Keeps (machine self.old) (machine self.new) };
+        ensures keeps { alone → Keeps (machine self.old) (machine self.new) }
+        ensures told { TellsOk event.CkptBegin result (tally self.old) (tally self.new) };
 
     /// Writes the next block of the checkpoint.
     fn ckpt_block(&mut self) -> Result<(), Fault>
         ensures writes { alone → CkptWrites (machine self.old) result (machine self.new) }
-        ensures keeps { alone → Keeps (machine self.old) (machine self.new) };
+        ensures keeps { alone → Keeps (machine self.old) (machine self.new) }
+        ensures told { TellsOk event.CkptBlock result (tally self.old) (tally self.new) };
 
     /// Publishes the checkpoint.
     fn ckpt_publish(&mut self) -> Result<(), Fault>
         ensures publishes { alone → CkptPublishes (machine self.old) result (machine self.new) }
-        ensures keeps { alone → Keeps (machine self.old) (machine self.new) };
+        ensures keeps { alone → Keeps (machine self.old) (machine self.new) }
+        ensures told { TellsOk event.CkptPublish result (tally self.old) (tally self.new) };
 
     /// Publishes for readers the commits that are acknowledged.
     fn publish_view(&mut self) -> Result<(), Fault>
         ensures publishes { alone → PublishesView (machine self.old) result (machine self.new) }
-        ensures keeps { alone → Keeps (machine self.old) (machine self.new) };
+        ensures keeps { alone → Keeps (machine self.old) (machine self.new) }
+        ensures told { TellsOk event.PublishView result (tally self.old) (tally self.new) };
 
     /// Ends the recovery of a standby that was opened, and publishes the commits of its log.
     fn ready(&mut self) -> Result<(), Fault>
         ensures readies { alone → Readies (machine self.old) result (machine self.new) }
-        ensures keeps { alone → Keeps (machine self.old) (machine self.new) };
+        ensures keeps { alone → Keeps (machine self.old) (machine self.new) }
+        ensures told { TellsOk event.Ready result (tally self.old) (tally self.new) };
 
     /// Seals the log at its end: from now on no piece of the primary's log is taken.
     fn seal(&mut self) -> Result<(), Fault>
         ensures seals { alone → Seals (machine self.old) result (machine self.new) }
-        ensures keeps { alone → Keeps (machine self.old) (machine self.new) };
+        ensures keeps { alone → Keeps (machine self.old) (machine self.new) }
+        ensures told { TellsOk event.Seal result (tally self.old) (tally self.new) };
 
     /// Holds the next record of the sealed log's tail, and answers its LSN.
     fn undo_one(&mut self) -> Result<Lsn, Fault>
         ensures undoes { alone → UndoesOneOf (machine self.old) result (machine self.new) }
-        ensures keeps { alone → Keeps (machine self.old) (machine self.new) };
+        ensures keeps { alone → Keeps (machine self.old) (machine self.new) }
+        ensures told { TellsOk event.UndoOne result (tally self.old) (tally self.new) };
 
     /// Ends the takeover.
     fn finish(&mut self) -> Result<(), Fault>
         ensures finishes { alone → Finishes (machine self.old) result (machine self.new) }
-        ensures keeps { alone → Keeps (machine self.old) (machine self.new) };
+        ensures keeps { alone → Keeps (machine self.old) (machine self.new) }
+        ensures told { TellsOk event.Finish result (tally self.old) (tally self.new) };
 
     // ---- the queries
 
@@ -158,10 +202,12 @@ pub trait Events {
     fn page_now(&mut self, page: u32) -> Result<Page, Fault>
         requires { alone → page < (machine self.old).held.pages }
         ensures shows { alone → ShowsPage (machine self.old) page result (machine self.new) }
-        ensures keeps { alone → Keeps (machine self.old) (machine self.new) };
+        ensures keeps { alone → Keeps (machine self.old) (machine self.new) }
+        ensures told { tally self.new ≡ tally self.old };
 
     /// The held record at an LSN, which may have to be read from the log device.
     fn record_at(&mut self, lsn: Lsn) -> Result<Option<Record>, Fault>
         ensures reads { alone → Reads (machine self.old) lsn result (machine self.new) }
-        ensures keeps { alone → Keeps (machine self.old) (machine self.new) };
+        ensures keeps { alone → Keeps (machine self.old) (machine self.new) }
+        ensures told { tally self.new ≡ tally self.old };
 }

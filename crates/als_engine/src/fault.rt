@@ -59,8 +59,12 @@ pub enum Fault {
     /// A checkpoint is begun, the last publish is not synced, or a block of the checkpoint is not
     /// written and synced.
     CkptBusy,
-    /// All frames are used, and none is clean.
+    /// All frames are used, and none is clean and not lent.
     PoolFull,
+    /// The page is lent.
+    PageLent,
+    /// The lease is not the one that is out for its page.
+    Stranger,
     /// There is nothing for the event to do.
     NothingToDo,
     /// The log device has no room for the record and for what a takeover would then append.
@@ -86,6 +90,10 @@ pub enum Fault {
     BadConfig,
     /// The log was not sealed yet.
     NotSealed,
+    /// There is no such slot, it has no lease to work on, or no room for one.
+    BadSlot,
+    /// The last lease number is used.
+    NumbersSpent,
 }
 
 impl Fault {
@@ -116,6 +124,8 @@ impl Fault {
             Fault::NotDrained => FaultKind::NotDrained,
             Fault::CkptBusy => FaultKind::CkptBusy,
             Fault::PoolFull => FaultKind::PoolFull,
+            Fault::PageLent => FaultKind::PageLent,
+            Fault::Stranger => FaultKind::Stranger,
             Fault::NothingToDo => FaultKind::NothingToDo,
             Fault::LogFull => FaultKind::LogFull,
             Fault::Device => FaultKind::Device,
@@ -127,6 +137,8 @@ impl Fault {
             Fault::Backlog => FaultKind::Backlog,
             Fault::BadConfig => FaultKind::BadConfig,
             Fault::NotSealed => FaultKind::NotSealed,
+            Fault::BadSlot => FaultKind::BadSlot,
+            Fault::NumbersSpent => FaultKind::NumbersSpent,
         }
     }
 
@@ -200,6 +212,8 @@ impl From<StoreFault> for Fault {
             StoreFault::LogBehind => Fault::LogBehind,
             StoreFault::CkptBusy => Fault::CkptBusy,
             StoreFault::PoolFull => Fault::PoolFull,
+            StoreFault::PageLent => Fault::PageLent,
+            StoreFault::NumbersSpent => Fault::NumbersSpent,
             StoreFault::NothingToDo => Fault::NothingToDo,
             StoreFault::LogFull => Fault::LogFull,
             StoreFault::Device => Fault::Device,

@@ -12,10 +12,11 @@ ghost use Rattle.als_store.specs.Takeover.{is_following};
 ghost use Rattle.als_engine.specs.Readers.{ViewGoesOn};
 ghost use Rattle.als_engine.specs.TakingIn.{HoldsRecord};
 
+use als_commits::Commit;
 use als_disk::BlockDisk;
 use als_record::{BodyView, RecordView};
 use als_store::{Fault, Store};
-use als_view::{Commit, View, a_view_goes_on};
+use als_view::{View, a_view_goes_on};
 use std::alloc::Global;
 
 /// Holds a record, and queues for readers the commit that it makes, if it makes one. All memory is

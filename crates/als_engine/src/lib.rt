@@ -15,6 +15,14 @@ mod fed;
 mod holding;
 // Records from the receiver to the store.
 mod taking_in;
+// The events that are counted.
+mod event;
+// A list of them.
+mod told;
+// How often each event answered Ok.
+mod tally;
+// A lease that was not taken in.
+mod not_given;
 // The engine and its events.
 mod engine;
 // What a standby is driven by.
@@ -24,13 +32,16 @@ mod engine_events;
 // One step of the small machine, and its reply.
 mod step;
 
+pub use als_lease::PageLease;
 pub use als_store::Disks;
 pub use als_view::Answer;
 pub use config::{CONTROL_BLOCKS, Config, LOG_BLOCK_LIMIT};
 pub use engine::Engine;
+pub use event::Event;
 pub use events::Events;
 pub use fault::Fault;
 pub use fed::{Fed, FeedFault};
+pub use not_given::NotGiven;
 pub use refused::Refused;
 pub use status::{State, Status};
 pub use step::{Reply, Step};

@@ -9,8 +9,8 @@ pub enum Step<'a> {
     Feed(&'a [u8]),
     /// Drops the partial record, and takes the log again after a refusal.
     Resync,
-    /// Redoes the first changes that a page waits for, at most 64.
-    Apply(u32),
+    /// Ends the lease of a page: what it has redone is lost, and waits on.
+    Recall(u32),
     /// Writes a page to its block, if the log is acknowledged past its page_LSN.
     Flush(u32),
     /// Syncs the pages' device.
@@ -47,8 +47,6 @@ pub enum Reply {
     Fed(Fed),
     FeedRefused(FeedFault),
     Done,
-    /// The page's page_LSN after redo.
-    Applied(Lsn),
     /// The offset below which no log byte can be lost.
     Acknowledged(Lsn),
     /// The LSN of the record of the tail that is held now.

@@ -7,6 +7,7 @@ use Rattle.std.proofs.lemmas.Bool.{cases_Bool}
 use Rattle.std.proofs.lemmas.List.{length-append}
 use Rattle.als_record.specs.declared.lsn.Lsn.{Lsn}
 use Rattle.als_record.specs.declared.record.Record.{Record}
+use Rattle.als_lease.specs.Lease.{Leased}
 use Rattle.als_ckpt.specs.Regions.{Begun}
 use Rattle.als_store.specs.declared.fault.Fault.{Fault as StoreFault}
 use Rattle.als_store.specs.declared.fault.Fault.TheVariants as store_fault
@@ -18,18 +19,20 @@ use Rattle.als_engine.specs.declared.fault.Fault.{Fault}
 use Rattle.als_engine.specs.declared.fault.Fault.TheVariants.{Stopped, Recovering, Sealed}
 use Rattle.als_engine.specs.declared.fed.FeedFault.{FeedFault}
 use Rattle.als_engine.specs.declared.fed.Fed.{Fed}
+use Rattle.als_engine.specs.declared.not_given.NotGiven.{NotGiven}
 use Rattle.als_engine.specs.declared.step.Step.{Step}
 use Rattle.als_engine.specs.declared.step.Step.TheVariants as step
 use Rattle.als_engine.specs.declared.step.Reply.{Reply}
 use Rattle.als_engine.specs.declared.step.Reply.TheVariants as reply
 use Rattle.als_engine.specs.Checkpointing.{Begins, WritesNext, PublishesNext}
-use Rattle.als_engine.specs.Events.{Changes, DropsPartial, Redoes, WritesPage, SyncsAllPages}
+use Rattle.als_engine.specs.Events.{Changes, DropsPartial, WritesPage, SyncsAllPages}
 use Rattle.als_engine.specs.Events.{WritesBlock, SyncsBlocks, MovesMark, Acknowledges}
 use Rattle.als_engine.specs.Feeds.{Feeds}
+use Rattle.als_engine.specs.Leases.{LendsPageOf, TakesLease, EndsLease, handed_back, Lends, Gives}
 use Rattle.als_engine.specs.Machine.{Machine}
 use Rattle.als_engine.specs.Publishing.{PublishesEnded}
 use Rattle.als_engine.specs.Readiness.{BecomesReady}
-use Rattle.als_engine.specs.Refusals.{refusal, feed_refusal, Does}
+use Rattle.als_engine.specs.Refusals.{refusal, feed_refusal, Does, first_of, lend_causes, give_causes}
 use Rattle.als_engine.specs.Runs.{Steps}
 use Rattle.als_engine.specs.Takeover.{SealsLog, Undoes, FinishesTakeover}
 use Rattle.als_reach.specs.Undoing.{undone_by}
@@ -71,12 +74,14 @@ in_vain : (old held : Stored) (page : ℕ) (cause : StoreFault) → ReadsInVain 
     → held.log ≡ old.log
 in_vain old held page store_fault.NothingToDo r = after old held _ r.after refl
 in_vain old held page store_fault.Device r = after old held _ r.after refl
-in_vain old held page (store_fault.BadPage p) r = after old held _ r.2 refl
+in_vain old held page (store_fault.BadPage p) r = after old held _ r.after refl
 in_vain old held page store_fault.Memory r = after old held _ r refl
 in_vain old held page (store_fault.Invalid c) r = absurd r
 in_vain old held page store_fault.LogBehind r = absurd r
 in_vain old held page store_fault.CkptBusy r = absurd r
 in_vain old held page store_fault.PoolFull r = absurd r
+in_vain old held page store_fault.PageLent r = absurd r
+in_vain old held page store_fault.NumbersSpent r = absurd r
 in_vain old held page store_fault.LogFull r = absurd r
 
 published : (old held : Stored) (b : Option Begun) → IsSomeAnd b (λ x. Publishes old x held)
@@ -125,27 +130,24 @@ resync old new (reply.FeedRefused refusal) s = absurd s
 resync old new reply.Done s =
     none old new (does old new step.Resync (DropsPartial old) (Ok tt) s
     (λ c. record { log = ap (λ (m : Machine). m.held.log) c }))
-resync old new (reply.Applied lsn) s = absurd s
 resync old new (reply.Acknowledged lsn) s = absurd s
 resync old new (reply.Undone lsn) s = absurd s
 resync old new (reply.Refused fault) s =
     none old new (does old new step.Resync (DropsPartial old) (Err fault) s
     (λ c. absurd c))
 
-apply : (old new : Machine) (page : ℕ) (answer : Reply) → Steps old (step.Apply page) answer new
+recall : (old new : Machine) (page : ℕ) (answer : Reply) → Steps old (step.Recall page) answer new
     → HoldsBy old answer new
-apply old new page (reply.Fed fed) s = absurd s
-apply old new page (reply.FeedRefused refusal) s = absurd s
-apply old new page reply.Done s = absurd s
-apply old new page (reply.Applied lsn) s =
-    none old new (does old new (step.Apply page) (Redoes old page) (Ok lsn) s
+recall old new page (reply.Fed fed) s = absurd s
+recall old new page (reply.FeedRefused refusal) s = absurd s
+recall old new page reply.Done s =
+    none old new (does old new (step.Recall page) (EndsLease old page) (Ok tt) s
     (λ c. changes old new _ c (λ held e. after old.held held _ e.after refl)))
-apply old new page (reply.Acknowledged lsn) s = absurd s
-apply old new page (reply.Undone lsn) s = absurd s
-apply old new page (reply.Refused fault) s =
-    none old new (does old new (step.Apply page) (Redoes old page) (Err fault) s
-    (λ c. changes old new _ c.changes
-    (λ held e. in_vain old.held held page c.cause e.reads)))
+recall old new page (reply.Acknowledged lsn) s = absurd s
+recall old new page (reply.Undone lsn) s = absurd s
+recall old new page (reply.Refused fault) s =
+    none old new (does old new (step.Recall page) (EndsLease old page) (Err fault) s
+    (λ c. absurd c))
 
 flush : (old new : Machine) (page : ℕ) (answer : Reply) → Steps old (step.Flush page) answer new
     → HoldsBy old answer new
@@ -154,7 +156,6 @@ flush old new page (reply.FeedRefused refusal) s = absurd s
 flush old new page reply.Done s =
     none old new (does old new (step.Flush page) (WritesPage old page) (Ok tt) s
     (λ c. changes old new _ c (λ held e. after old.held held _ e.after refl)))
-flush old new page (reply.Applied lsn) s = absurd s
 flush old new page (reply.Acknowledged lsn) s = absurd s
 flush old new page (reply.Undone lsn) s = absurd s
 flush old new page (reply.Refused fault) s =
@@ -168,7 +169,6 @@ sync_pages old new (reply.FeedRefused refusal) s = absurd s
 sync_pages old new reply.Done s =
     none old new (does old new step.SyncPages (SyncsAllPages old) (Ok tt) s
     (λ c. changes old new _ c (λ held e. after old.held held _ e.after refl)))
-sync_pages old new (reply.Applied lsn) s = absurd s
 sync_pages old new (reply.Acknowledged lsn) s = absurd s
 sync_pages old new (reply.Undone lsn) s = absurd s
 sync_pages old new (reply.Refused fault) s =
@@ -182,7 +182,6 @@ log_write old new (reply.FeedRefused refusal) s = absurd s
 log_write old new reply.Done s =
     none old new (does old new step.LogWrite (WritesBlock old) (Ok tt) s
     (λ c. changes old new _ c (λ held e. after old.held held _ e.after refl)))
-log_write old new (reply.Applied lsn) s = absurd s
 log_write old new (reply.Acknowledged lsn) s = absurd s
 log_write old new (reply.Undone lsn) s = absurd s
 log_write old new (reply.Refused fault) s =
@@ -196,7 +195,6 @@ log_sync old new (reply.FeedRefused refusal) s = absurd s
 log_sync old new reply.Done s =
     none old new (does old new step.LogSync (SyncsBlocks old) (Ok tt) s
     (λ c. changes old new _ c (λ held e. after old.held held _ e.after refl)))
-log_sync old new (reply.Applied lsn) s = absurd s
 log_sync old new (reply.Acknowledged lsn) s = absurd s
 log_sync old new (reply.Undone lsn) s = absurd s
 log_sync old new (reply.Refused fault) s =
@@ -210,7 +208,6 @@ mark_write old new (reply.FeedRefused refusal) s = absurd s
 mark_write old new reply.Done s =
     none old new (does old new step.MarkWrite (MovesMark old) (Ok tt) s
     (λ c. changes old new _ c (λ held e. after old.held held _ e.after refl)))
-mark_write old new (reply.Applied lsn) s = absurd s
 mark_write old new (reply.Acknowledged lsn) s = absurd s
 mark_write old new (reply.Undone lsn) s = absurd s
 mark_write old new (reply.Refused fault) s =
@@ -222,7 +219,6 @@ ctl_sync : (old new : Machine) (answer : Reply) → Steps old step.ControlSync a
 ctl_sync old new (reply.Fed fed) s = absurd s
 ctl_sync old new (reply.FeedRefused refusal) s = absurd s
 ctl_sync old new reply.Done s = absurd s
-ctl_sync old new (reply.Applied lsn) s = absurd s
 ctl_sync old new (reply.Acknowledged lsn) s =
     none old new (does old new step.ControlSync (Acknowledges old) (Ok lsn) s
     (λ c. changes old new _ c (λ held e. after old.held held _ e.after refl)))
@@ -238,7 +234,6 @@ ckpt_begin old new (reply.FeedRefused refusal) s = absurd s
 ckpt_begin old new reply.Done s =
     none old new (does old new step.CkptBegin (Begins old) (Ok tt) s
     (λ c. changes old new _ c (λ held e. after old.held held _ e.after refl)))
-ckpt_begin old new (reply.Applied lsn) s = absurd s
 ckpt_begin old new (reply.Acknowledged lsn) s = absurd s
 ckpt_begin old new (reply.Undone lsn) s = absurd s
 ckpt_begin old new (reply.Refused fault) s =
@@ -252,7 +247,6 @@ ckpt_block old new (reply.FeedRefused refusal) s = absurd s
 ckpt_block old new reply.Done s =
     none old new (does old new step.CkptBlock (WritesNext old) (Ok tt) s
     (λ c. changes old new _ c (λ held e. after old.held held _ e.after refl)))
-ckpt_block old new (reply.Applied lsn) s = absurd s
 ckpt_block old new (reply.Acknowledged lsn) s = absurd s
 ckpt_block old new (reply.Undone lsn) s = absurd s
 ckpt_block old new (reply.Refused fault) s =
@@ -266,7 +260,6 @@ ckpt_publish old new (reply.FeedRefused refusal) s = absurd s
 ckpt_publish old new reply.Done s =
     none old new (does old new step.CkptPublish (PublishesNext old) (Ok tt) s
     (λ c. changes old new _ c (λ held e. published old.held held old.held.begun e)))
-ckpt_publish old new (reply.Applied lsn) s = absurd s
 ckpt_publish old new (reply.Acknowledged lsn) s = absurd s
 ckpt_publish old new (reply.Undone lsn) s = absurd s
 ckpt_publish old new (reply.Refused fault) s =
@@ -280,7 +273,6 @@ publish_view old new (reply.FeedRefused refusal) s = absurd s
 publish_view old new reply.Done s =
     none old new (does old new step.PublishView (PublishesEnded old) (Ok tt) s
     (λ c. record { log = ap (λ (m : Machine). m.held.log) c.1 }))
-publish_view old new (reply.Applied lsn) s = absurd s
 publish_view old new (reply.Acknowledged lsn) s = absurd s
 publish_view old new (reply.Undone lsn) s = absurd s
 publish_view old new (reply.Refused fault) s =
@@ -294,7 +286,6 @@ ready old new (reply.FeedRefused refusal) s = absurd s
 ready old new reply.Done s =
     none old new (does old new step.Ready (BecomesReady old) (Ok tt) s
     (λ c. record { log = ap (λ (m : Machine). m.held.log) c }))
-ready old new (reply.Applied lsn) s = absurd s
 ready old new (reply.Acknowledged lsn) s = absurd s
 ready old new (reply.Undone lsn) s = absurd s
 ready old new (reply.Refused fault) s =
@@ -310,7 +301,6 @@ seal old new reply.Done s =
     (λ c. record {
       log = ap (λ (m : Machine). m.held.log) c.after ∙ ap (λ (h : Stored). h.log) c.seals.after;
     }))
-seal old new (reply.Applied lsn) s = absurd s
 seal old new (reply.Acknowledged lsn) s = absurd s
 seal old new (reply.Undone lsn) s = absurd s
 seal old new (reply.Refused fault) s =
@@ -324,7 +314,6 @@ finish old new (reply.FeedRefused refusal) s = absurd s
 finish old new reply.Done s =
     none old new (does old new step.Finish (FinishesTakeover old) (Ok tt) s
     (λ c. changes old new _ c (λ held e. after old.held held _ e.after refl)))
-finish old new (reply.Applied lsn) s = absurd s
 finish old new (reply.Acknowledged lsn) s = absurd s
 finish old new (reply.Undone lsn) s = absurd s
 finish old new (reply.Refused fault) s =
@@ -338,7 +327,6 @@ feed old new piece (reply.Fed held) sealed s =
 feed old new piece (reply.FeedRefused refused) sealed s =
     none old new (fed old new piece.now (Err refused) sealed s)
 feed old new piece reply.Done sealed s = absurd s
-feed old new piece (reply.Applied lsn) sealed s = absurd s
 feed old new piece (reply.Acknowledged lsn) sealed s = absurd s
 feed old new piece (reply.Undone lsn) sealed s = absurd s
 feed old new piece (reply.Refused fault) sealed s = absurd s
@@ -364,8 +352,37 @@ undo_one old new (reply.Refused fault) s =
 undo_one old new (reply.Fed fed) s = absurd s
 undo_one old new (reply.FeedRefused refusal) s = absurd s
 undo_one old new reply.Done s = absurd s
-undo_one old new (reply.Applied lsn) s = absurd s
 undo_one old new (reply.Acknowledged lsn) s = absurd s
+
+-- ---- leases
+
+-- a form over its causes: refused, it changes nothing
+by : {A B : Type 0} (old new : Machine) (causes : Option Fault) (answer : Fault → B)
+    (acts : Result A B → Machine → Type 0) (result : Result A B)
+    → MatchOption causes (acts result new) (λ f. (result ≡ Err (answer f)) × (new ≡ old))
+    → (acts result new → IsSameLog old new) → IsSameLog old new
+by old new None answer acts result h k = k h
+by old new (Some f) answer acts result h k = unchanged old new h.1
+
+pub lend : (old new : Machine) (page : ℕ) (answer : Result Leased Fault) → Lends old page answer new
+    → IsSameLog old new
+lend old new page answer s =
+    by old new (first_of (lend_causes old page)) (λ f. f) (LendsPageOf old page) answer s (go answer)
+  where
+    go : (a : Result Leased Fault) → LendsPageOf old page a new → IsSameLog old new
+    go (Ok lease) c = changes old new _ c.changes (λ held e. after old.held held _ e.after refl)
+    go (Err f) c = changes old new _ c.changes
+        (λ held e. in_vain old.held held page c.cause e.reads)
+
+pub give : (old new : Machine) (lease : Leased) (answer : Result (Unit {0}) NotGiven)
+    → Gives old lease answer new → IsSameLog old new
+give old new lease answer s =
+    by old new (first_of (give_causes old)) (handed_back lease) (TakesLease old lease) answer s
+    (go answer)
+  where
+    go : (a : Result (Unit {0}) NotGiven) → TakesLease old lease a new → IsSameLog old new
+    go (Ok done) c = changes old new _ c.changes (λ held e. after old.held held _ e.after refl)
+    go (Err f) c = unchanged old new c.after
 
 -- once the log is sealed, an event holds as many records as its reply tells of
 pub holds : (old new : Machine) (event : Step) (answer : Reply) → is_following old.held ≡ false
@@ -373,7 +390,7 @@ pub holds : (old new : Machine) (event : Step) (answer : Reply) → is_following
 holds old new (step.Feed piece) answer sealed s = feed old new piece answer sealed s
 holds old new step.UndoOne answer sealed s = undo_one old new answer s
 holds old new step.Resync answer sealed s = resync old new answer s
-holds old new (step.Apply page) answer sealed s = apply old new page answer s
+holds old new (step.Recall page) answer sealed s = recall old new page answer s
 holds old new (step.Flush page) answer sealed s = flush old new page answer s
 holds old new step.SyncPages answer sealed s = sync_pages old new answer s
 holds old new step.LogWrite answer sealed s = log_write old new answer s

@@ -1,21 +1,25 @@
 -- What is reached, and what is kept on the way.
-use Rattle.std.proofs.Common.{◌≡◌, ◌≤◌, Option, Some, None, true, false, List, [], ◌∷◌, ◌++◌}
+use Rattle.std.proofs.Common.{◌≡◌, ℕ, ◌≤◌, Result, Option, Some, None, true, false, List, [], ◌∷◌, ◌++◌}
 use Rattle.std.proofs.Common.{inl, inr, refl, sym, ap, subst, ◌∙◌, append_assoc, append-nil, arith}
 use Rattle.std.proofs.lemmas.Bool.{cases_Bool, true≢false}
 use Rattle.als_record.specs.declared.record.Record.{Record}
 use Rattle.als_record.specs.Commits.{commits_of}
 use Rattle.als_record.specs.Validity.{is_valid}
-use Rattle.als_view.specs.Showing.{ended_count}
-use Rattle.als_view.proofs.Counting.{count-kept, ended_count-rises}
+use Rattle.als_commits.specs.Counting.{ended_count}
+use Rattle.als_commits.proofs.Counting.{count-kept, ended_count-rises}
 use Rattle.als_ckpt.specs.declared.control_state.ControlState.{ControlState}
 use Rattle.als_store.specs.Stored.{acknowledged}
 use Rattle.als_store.specs.Takeover.{GoesOn}
+use Rattle.als_lease.specs.Lease.{Leased}
+use Rattle.als_engine.specs.declared.fault.Fault.{Fault}
+use Rattle.als_engine.specs.declared.not_given.NotGiven.{NotGiven}
 use Rattle.als_engine.specs.declared.step.Step.{Step}
 use Rattle.als_engine.specs.declared.step.Reply.{Reply}
 use Rattle.als_engine.specs.Machine.{Machine, Keeps}
 use Rattle.als_engine.specs.Readers.{ended_in}
 use Rattle.als_engine.specs.Telling.{Stands, told_in}
-use Rattle.als_reach.specs.Reaching.{Makes, Asks, Run, Begins, Goes, Queries, Reaches, ReachesFrom}
+use Rattle.als_reach.specs.Reaching.{Makes, MakesLend, MakesGive, Asks, Run, Begins, Goes}
+use Rattle.als_reach.specs.Reaching.{Lending, Giving, Queries, Reaches, ReachesFrom}
 
 -- ---- how reaching goes on
 
@@ -28,6 +32,22 @@ reaches-event start now event reply new r makes = record {
   events = r.events ++ event ∷ [];
   replies = r.replies ++ reply ∷ [];
   run = Goes r.events r.replies now r.run event reply new makes;
+}
+
+pub reaches-lend : (start now : Machine) (page : ℕ) (answer : Result Leased Fault) (new : Machine)
+    → Reaches start now → MakesLend now page answer new → Reaches start new
+reaches-lend start now page answer new r makes = record {
+  events = r.events;
+  replies = r.replies;
+  run = Lending r.events r.replies now r.run page answer new makes;
+}
+
+pub reaches-give : (start now : Machine) (lease : Leased) (answer : Result (Unit {0}) NotGiven)
+    (new : Machine) → Reaches start now → MakesGive now lease answer new → Reaches start new
+reaches-give start now lease answer new r makes = record {
+  events = r.events;
+  replies = r.replies;
+  run = Giving r.events r.replies now r.run lease answer new makes;
 }
 
 pub reaches-query : (start now new : Machine) → Reaches start now → Asks now new
@@ -46,6 +66,17 @@ pub from-event : (from : Option Machine) (now : Machine) (event : Step) (reply :
 from-event (Some start) now event reply new r makes =
     reaches-event start now event reply new r makes
 from-event None now event reply new r makes = absurd r
+
+pub from-lend : (from : Option Machine) (now : Machine) (page : ℕ) (answer : Result Leased Fault)
+    (new : Machine) → ReachesFrom from now → MakesLend now page answer new → ReachesFrom from new
+from-lend (Some start) now page answer new r makes = reaches-lend start now page answer new r makes
+from-lend None now page answer new r makes = absurd r
+
+pub from-give : (from : Option Machine) (now : Machine) (lease : Leased)
+    (answer : Result (Unit {0}) NotGiven) (new : Machine) → ReachesFrom from now
+    → MakesGive now lease answer new → ReachesFrom from new
+from-give (Some start) now lease answer new r makes = reaches-give start now lease answer new r makes
+from-give None now lease answer new r makes = absurd r
 
 pub from-query : (from : Option Machine) (now new : Machine) → ReachesFrom from now
     → Asks now new → ReachesFrom from new
@@ -142,6 +173,18 @@ pub run-kept : (start now : Machine) (events : List Step) (replies : List Reply)
     → Run start events replies now → Stands start → IsKept start now
 run-kept start _ _ _ Begins s = record { keeps = keeps-same start; stands = s }
 run-kept start _ _ _ (Goes events replies mid run event reply new makes) s =
+    let before = run-kept start mid events replies run s in
+    record {
+      keeps = keeps-both start mid new s before.stands before.keeps makes.keeps;
+      stands = makes.stands;
+    }
+run-kept start _ _ _ (Lending events replies mid run page answer new makes) s =
+    let before = run-kept start mid events replies run s in
+    record {
+      keeps = keeps-both start mid new s before.stands before.keeps makes.keeps;
+      stands = makes.stands;
+    }
+run-kept start _ _ _ (Giving events replies mid run lease answer new makes) s =
     let before = run-kept start mid events replies run s in
     record {
       keeps = keeps-both start mid new s before.stands before.keeps makes.keeps;

@@ -22,11 +22,11 @@ use Rattle.als_engine.specs.declared.step.Reply.{Reply}
 use Rattle.als_engine.specs.Events.{ShowsPage, Reads}
 use Rattle.als_engine.specs.Machine.{Machine}
 use Rattle.als_engine.specs.Telling.{Stands}
-use Rattle.als_reach.specs.Reaching.{IsAsked, Run, Begins, Goes, Queries}
+use Rattle.als_reach.specs.Reaching.{IsAsked, Run, Begins, Goes, Lending, Giving, Queries}
 use Rattle.als_reach.specs.Undoing.{undone_by, undone, IsSealed, EndsAtSeal}
 use Rattle.als_reach.proofs.Fronts.{same_front}
 use Rattle.als_reach.proofs.Reached.{goes_on_same, goes_on_both, IsKept, run-kept}
-use Rattle.als_reach.proofs.Holding.{IsSameLog, none, holds}
+use Rattle.als_reach.proofs.Holding.{IsSameLog, none, holds, lend, give}
 
 -- ---- the newest control state
 
@@ -97,6 +97,18 @@ run-holds start _ _ _ (Goes events replies mid run event answer new makes) s war
       before,
       holds mid new event answer still.sealed makes.steps,
       undone-push replies answer,
+    )
+run-holds start _ _ _ (Lending events replies mid run page answer new makes) s warm past =
+    omega (
+      arith,
+      run-holds start mid events replies run s warm past,
+      none mid new (lend mid new page answer makes.lends),
+    )
+run-holds start _ _ _ (Giving events replies mid run lease answer new makes) s warm past =
+    omega (
+      arith,
+      run-holds start mid events replies run s warm past,
+      none mid new (give mid new lease answer makes.gives),
     )
 run-holds start _ _ _ (Queries events replies mid run new asks) s warm past =
     omega (

@@ -1,12 +1,15 @@
--- A machine that is reached from another one, by events and by queries.
+-- A machine that is reached from another one, by events, by leases and by queries.
 use Rattle.std.specs.Prelude.{◌⊎◌, ℕ, List, [], ◌∷◌, ◌++◌, Option, Some, None, Result}
 use Rattle.als_record.specs.declared.lsn.Lsn.{Lsn}
 use Rattle.als_record.specs.declared.record.Record.{Record}
 use Rattle.als_page.specs.declared.page.Page.{Page}
+use Rattle.als_lease.specs.Lease.{Leased}
 use Rattle.als_engine.specs.declared.fault.Fault.{Fault}
+use Rattle.als_engine.specs.declared.not_given.NotGiven.{NotGiven}
 use Rattle.als_engine.specs.declared.step.Step.{Step}
 use Rattle.als_engine.specs.declared.step.Reply.{Reply}
 use Rattle.als_engine.specs.Events.{ShowsPage, Reads}
+use Rattle.als_engine.specs.Leases.{Lends, Gives}
 use Rattle.als_engine.specs.Machine.{Machine, Keeps}
 use Rattle.als_engine.specs.Runs.{Steps}
 use Rattle.als_engine.specs.Telling.{Stands}
@@ -14,6 +17,20 @@ use Rattle.als_engine.specs.Telling.{Stands}
 -- an event has this reply; it keeps what each event keeps, and what always holds still does
 pub record Makes (old : Machine) (event : Step) (reply : Reply) (new : Machine) : Type 0 where
   pub steps : Steps old event reply new
+  pub keeps : Keeps old new
+  pub stands : Stands new
+
+-- a page is lent, or that is refused
+pub record MakesLend (old : Machine) (page : ℕ) (answer : Result Leased Fault)
+    (new : Machine) : Type 0 where
+  pub lends : Lends old page answer new
+  pub keeps : Keeps old new
+  pub stands : Stands new
+
+-- a lease is taken in, or comes back
+pub record MakesGive (old : Machine) (lease : Leased) (answer : Result (Unit {0}) NotGiven)
+    (new : Machine) : Type 0 where
+  pub gives : Gives old lease answer new
   pub keeps : Keeps old new
   pub stands : Stands new
 
@@ -30,13 +47,21 @@ pub record Asks (old new : Machine) : Type 0 where
   pub stands : Stands new
 
 -- The events have these replies, one after another, and lead from the first machine to the last.
--- Queries may come in between.
+-- Pages may be lent and leases taken in between, and queries may come.
 pub data Run (start : Machine) : List Step → List Reply → Machine → Type 0 where
   Begins : Run start [] [] start
   Goes : (events : List Step) → (replies : List Reply) → (mid : Machine)
       → Run start events replies mid
       → (event : Step) → (reply : Reply) → (new : Machine) → Makes mid event reply new
       → Run start (events ++ event ∷ []) (replies ++ reply ∷ []) new
+  Lending : (events : List Step) → (replies : List Reply) → (mid : Machine)
+      → Run start events replies mid
+      → (page : ℕ) → (answer : Result Leased Fault) → (new : Machine)
+      → MakesLend mid page answer new → Run start events replies new
+  Giving : (events : List Step) → (replies : List Reply) → (mid : Machine)
+      → Run start events replies mid
+      → (lease : Leased) → (answer : Result (Unit {0}) NotGiven) → (new : Machine)
+      → MakesGive mid lease answer new → Run start events replies new
   Queries : (events : List Step) → (replies : List Reply) → (mid : Machine)
       → Run start events replies mid
       → (new : Machine) → Asks mid new → Run start events replies new

@@ -12,7 +12,6 @@ abbrev pub undone_by : Reply → ℕ
 undone_by (reply.Fed fed) = 0
 undone_by (reply.FeedRefused refusal) = 0
 undone_by reply.Done = 0
-undone_by (reply.Applied lsn) = 0
 undone_by (reply.Acknowledged lsn) = 0
 undone_by (reply.Undone lsn) = 1
 undone_by (reply.Refused fault) = 0

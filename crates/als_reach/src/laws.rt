@@ -1,19 +1,29 @@
-ghost use Rattle.std.specs.Prelude.{◌≡◌, ◌≤◌, ◌+◌, length, false, true, List, Option, Some};
+ghost use Rattle.std.specs.Prelude.{◌≡◌, ℕ, ◌≤◌, ◌+◌, length, false, true, List, Option, Some};
+ghost use Rattle.std.specs.Prelude.{Result as AnyResult};
+ghost use Rattle.als_lease.specs.Lease.{Leased};
 ghost use Rattle.als_record.specs.Tail.{tail_of};
 ghost use Rattle.als_store.specs.Takeover.{is_primary};
 ghost use Rattle.als_store.specs.Warm.{WasWarm};
+ghost use Rattle.als_engine.specs.declared.fault.Fault.{Fault as AnyFault};
+ghost use Rattle.als_engine.specs.declared.not_given.NotGiven.{NotGiven as AnyNotGiven};
 ghost use Rattle.als_engine.specs.declared.step.Step.{Step as AnyStep};
 ghost use Rattle.als_engine.specs.declared.step.Reply.{Reply as AnyReply};
 ghost use Rattle.als_engine.specs.Machine.{Machine, Keeps};
 ghost use Rattle.als_engine.specs.Telling.{Stands, told_in};
-ghost use Rattle.als_reach.specs.Reaching.{Makes, Asks, Run, Reaches, ReachesFrom};
+ghost use Rattle.als_reach.specs.Reaching.{Makes, MakesLend, MakesGive, Asks, Run};
+ghost use Rattle.als_reach.specs.Reaching.{Reaches, ReachesFrom};
 ghost use Rattle.als_reach.specs.Undoing.{undone, IsSealed, EndsAtSeal};
 
-/// A law: what reaches a machine goes on with each event and each query.
+/// A law: what reaches a machine goes on with each event, each lend and give, and each query.
 pub fn reaching_goes_on()
     ensures begins { (m : Machine) → Reaches m m }
     ensures event { (start : Machine) (now : Machine) (event : AnyStep) (reply : AnyReply)
         (new : Machine) → Reaches start now → Makes now event reply new → Reaches start new }
+    ensures lend { (start : Machine) (now : Machine) (page : ℕ) (answer : AnyResult Leased AnyFault)
+        (new : Machine) → Reaches start now → MakesLend now page answer new → Reaches start new }
+    ensures give { (start : Machine) (now : Machine) (lease : Leased)
+        (answer : AnyResult (Unit {0}) AnyNotGiven) (new : Machine) → Reaches start now
+        → MakesGive now lease answer new → Reaches start new }
     ensures query { (start : Machine) (now : Machine) (new : Machine) → Reaches start now
         → Asks now new → Reaches start new }
     // The same from a machine that was picked.
@@ -21,6 +31,12 @@ pub fn reaching_goes_on()
     ensures event_from { (from : Option Machine) (now : Machine) (event : AnyStep)
         (reply : AnyReply) (new : Machine) → ReachesFrom from now → Makes now event reply new
         → ReachesFrom from new }
+    ensures lend_from { (from : Option Machine) (now : Machine) (page : ℕ)
+        (answer : AnyResult Leased AnyFault) (new : Machine) → ReachesFrom from now
+        → MakesLend now page answer new → ReachesFrom from new }
+    ensures give_from { (from : Option Machine) (now : Machine) (lease : Leased)
+        (answer : AnyResult (Unit {0}) AnyNotGiven) (new : Machine) → ReachesFrom from now
+        → MakesGive now lease answer new → ReachesFrom from new }
     ensures query_from { (from : Option Machine) (now : Machine) (new : Machine)
         → ReachesFrom from now → Asks now new → ReachesFrom from new }
     ensures reached { (from : Option Machine) (start : Machine) (now : Machine)

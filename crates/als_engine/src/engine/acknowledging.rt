@@ -1,8 +1,12 @@
+ghost use Rattle.std.specs.Prelude.{◌≡◌};
+ghost use Rattle.als_engine.specs.declared.event.Event.TheVariants as event;
 ghost use Rattle.als_engine.specs.Events.{LogWrites, LogSyncs, MarkWrites, ControlSyncs};
 ghost use Rattle.als_engine.specs.Machine.{Keeps};
 ghost use Rattle.als_store.specs.Takeover.{GoesOn};
+ghost use Rattle.als_engine.specs.Tally.{TellsOk};
 
 use super::Engine;
+use crate::event::Event;
 use crate::fault::Fault;
 use als_disk::BlockDisk;
 use als_record::Lsn;
@@ -14,13 +18,17 @@ impl<D: BlockDisk> Engine<D> {
     pub fn log_write(&mut self) -> Result<(), Fault>
         ensures writes { LogWrites self.old.machine result self.new.machine }
         ensures keeps { Keeps self.old.machine self.new.machine }
+        ensures told { TellsOk event.LogWrite result self.old.tally self.new.tally }
     {
-        self.log_write_in()
+        let answer = self.log_write_in();
+        self.tell(Event::LogWrite, &answer);
+        answer
     }
 
     /// The event itself: what it keeps follows at the public call.
     fn log_write_in(&mut self) -> Result<(), Fault>
-        ensures { LogWrites self.old.machine result self.new.machine }
+        ensures writes { LogWrites self.old.machine result self.new.machine }
+        ensures told { self.new.tally ≡ self.old.tally }
     {
         if self.store.is_broken() {
             return Err(Fault::Stopped);
@@ -34,13 +42,17 @@ impl<D: BlockDisk> Engine<D> {
     pub fn log_sync(&mut self) -> Result<(), Fault>
         ensures syncs { LogSyncs self.old.machine result self.new.machine }
         ensures keeps { Keeps self.old.machine self.new.machine }
+        ensures told { TellsOk event.LogSync result self.old.tally self.new.tally }
     {
-        self.log_sync_in()
+        let answer = self.log_sync_in();
+        self.tell(Event::LogSync, &answer);
+        answer
     }
 
     /// The event itself: what it keeps follows at the public call.
     fn log_sync_in(&mut self) -> Result<(), Fault>
-        ensures { LogSyncs self.old.machine result self.new.machine }
+        ensures syncs { LogSyncs self.old.machine result self.new.machine }
+        ensures told { self.new.tally ≡ self.old.tally }
     {
         if self.store.is_broken() {
             return Err(Fault::Stopped);
@@ -55,13 +67,17 @@ impl<D: BlockDisk> Engine<D> {
     pub fn mark_write(&mut self) -> Result<(), Fault>
         ensures writes { MarkWrites self.old.machine result self.new.machine }
         ensures keeps { Keeps self.old.machine self.new.machine }
+        ensures told { TellsOk event.MarkWrite result self.old.tally self.new.tally }
     {
-        self.mark_write_in()
+        let answer = self.mark_write_in();
+        self.tell(Event::MarkWrite, &answer);
+        answer
     }
 
     /// The event itself: what it keeps follows at the public call.
     fn mark_write_in(&mut self) -> Result<(), Fault>
-        ensures { MarkWrites self.old.machine result self.new.machine }
+        ensures writes { MarkWrites self.old.machine result self.new.machine }
+        ensures told { self.new.tally ≡ self.old.tally }
     {
         if self.store.is_broken() {
             return Err(Fault::Stopped);
@@ -77,10 +93,13 @@ impl<D: BlockDisk> Engine<D> {
         // Of the synced states the phase never falls, and past Following the seal stays.
         ensures goes_on { GoesOn self.old.machine.held.control self.new.machine.held.control }
         ensures keeps { Keeps self.old.machine self.new.machine }
+        ensures told { TellsOk event.ControlSync result self.old.tally self.new.tally }
     {
         // For the prover alone: what always holds of the engine.
         let _ = &self.limit;
-        self.ctl_sync_in()
+        let answer = self.ctl_sync_in();
+        self.tell(Event::ControlSync, &answer);
+        answer
     }
 
     /// The event itself: what it keeps follows at the public call.
@@ -88,6 +107,7 @@ impl<D: BlockDisk> Engine<D> {
         ensures syncs { ControlSyncs self.old.machine result self.new.machine }
         // Of the synced states the phase never falls, and past Following the seal stays.
         ensures goes_on { GoesOn self.old.machine.held.control self.new.machine.held.control }
+        ensures told { self.new.tally ≡ self.old.tally }
     {
         if self.store.is_broken() {
             return Err(Fault::Stopped);

@@ -5,6 +5,7 @@ ghost use Rattle.als_engine.specs.Events.{Reads, ShowsPage};
 ghost use Rattle.als_engine.specs.Machine.{Keeps, state_of, state_from};
 ghost use Rattle.als_engine.specs.Readers.{ended_in};
 ghost use Rattle.als_pool.specs.Images.{IsPoolOf};
+ghost use Rattle.als_pool.specs.Pooled.{leases_of};
 ghost use Rattle.als_pool.specs.Queues.{WaitsFirst};
 ghost use Rattle.als_record.specs.LogText.{end_of};
 ghost use Rattle.als_record.specs.Table.{table_of};
@@ -30,7 +31,10 @@ impl<D: BlockDisk> Engine<D> {
         ensures partial { result.partial ≡ length self.now.machine.partial }
         ensures acknowledged { result.acknowledged.0 ≡ acknowledged self.now.machine.held }
         ensures pending { result.pending ≡ pending_of self.now.machine.held }
-        ensures leases { result.leases ≡ 0 }
+        ensures leases { result.leases ≡ leases_of self.now.machine.held.pool }
+        // A page is lent only while changes wait for it.
+        ensures lent { pending_of self.now.machine.held ≡ 0
+            → leases_of self.now.machine.held.pool ≡ 0 }
         // The log reaches what is acknowledged.
         ensures stable { acknowledged self.now.machine.held ≤ end_of self.now.machine.held.log }
         // Readers have a list of published commits unless the engine is recovering. Each of its
@@ -71,7 +75,7 @@ impl<D: BlockDisk> Engine<D> {
             partial: self.receiver.partial(),
             acknowledged: self.store.acknowledged(),
             pending: self.store.pending(),
-            leases: 0,
+            leases: self.store.leases(),
         }
     }
 
@@ -111,6 +115,7 @@ impl<D: BlockDisk> Engine<D> {
         requires { page < self.old.machine.held.pages }
         ensures shows { ShowsPage self.old.machine page result self.new.machine }
         ensures keeps { Keeps self.old.machine self.new.machine }
+        ensures told { self.new.tally ≡ self.old.tally }
     {
         self.page_now_in(page)
     }
@@ -118,7 +123,8 @@ impl<D: BlockDisk> Engine<D> {
     /// The query itself: what it keeps follows at the public call.
     fn page_now_in(&mut self, page: u32) -> Result<Page, Fault>
         requires { page < self.old.machine.held.pages }
-        ensures { ShowsPage self.old.machine page result self.new.machine }
+        ensures shows { ShowsPage self.old.machine page result self.new.machine }
+        ensures told { self.new.tally ≡ self.old.tally }
     {
         let found = self.store.page_now(page)?;
         Ok(found)
@@ -130,13 +136,15 @@ impl<D: BlockDisk> Engine<D> {
     pub fn record_at(&mut self, lsn: Lsn) -> Result<Option<Record>, Fault>
         ensures reads { Reads self.old.machine lsn result self.new.machine }
         ensures keeps { Keeps self.old.machine self.new.machine }
+        ensures told { self.new.tally ≡ self.old.tally }
     {
         self.record_at_in(lsn)
     }
 
     /// The query itself: what it keeps follows at the public call.
     fn record_at_in(&mut self, lsn: Lsn) -> Result<Option<Record>, Fault>
-        ensures { Reads self.old.machine lsn result self.new.machine }
+        ensures reads { Reads self.old.machine lsn result self.new.machine }
+        ensures told { self.new.tally ≡ self.old.tally }
     {
         let found = self.store.record_at(lsn)?;
         Ok(found)

@@ -1,7 +1,11 @@
+ghost use Rattle.std.specs.Prelude.{◌≡◌};
+ghost use Rattle.als_engine.specs.declared.event.Event.TheVariants as event;
 ghost use Rattle.als_engine.specs.Checkpointing.{CkptBegins, CkptWrites, CkptPublishes};
 ghost use Rattle.als_engine.specs.Machine.{Keeps};
+ghost use Rattle.als_engine.specs.Tally.{TellsOk};
 
 use super::Engine;
+use crate::event::Event;
 use crate::fault::Fault;
 use als_disk::BlockDisk;
 
@@ -11,13 +15,17 @@ impl<D: BlockDisk> Engine<D> {
     pub fn ckpt_begin(&mut self) -> Result<(), Fault>
         ensures begins { CkptBegins self.old.machine result self.new.machine }
         ensures keeps { Keeps self.old.machine self.new.machine }
+        ensures told { TellsOk event.CkptBegin result self.old.tally self.new.tally }
     {
-        self.ckpt_begin_in()
+        let answer = self.ckpt_begin_in();
+        self.tell(Event::CkptBegin, &answer);
+        answer
     }
 
     /// The event itself: what it keeps follows at the public call.
     fn ckpt_begin_in(&mut self) -> Result<(), Fault>
-        ensures { CkptBegins self.old.machine result self.new.machine }
+        ensures begins { CkptBegins self.old.machine result self.new.machine }
+        ensures told { self.new.tally ≡ self.old.tally }
     {
         if self.store.is_broken() {
             return Err(Fault::Stopped);
@@ -32,13 +40,17 @@ impl<D: BlockDisk> Engine<D> {
     pub fn ckpt_block(&mut self) -> Result<(), Fault>
         ensures writes { CkptWrites self.old.machine result self.new.machine }
         ensures keeps { Keeps self.old.machine self.new.machine }
+        ensures told { TellsOk event.CkptBlock result self.old.tally self.new.tally }
     {
-        self.ckpt_block_in()
+        let answer = self.ckpt_block_in();
+        self.tell(Event::CkptBlock, &answer);
+        answer
     }
 
     /// The event itself: what it keeps follows at the public call.
     fn ckpt_block_in(&mut self) -> Result<(), Fault>
-        ensures { CkptWrites self.old.machine result self.new.machine }
+        ensures writes { CkptWrites self.old.machine result self.new.machine }
+        ensures told { self.new.tally ≡ self.old.tally }
     {
         if self.store.is_broken() {
             return Err(Fault::Stopped);
@@ -53,13 +65,17 @@ impl<D: BlockDisk> Engine<D> {
     pub fn ckpt_publish(&mut self) -> Result<(), Fault>
         ensures publishes { CkptPublishes self.old.machine result self.new.machine }
         ensures keeps { Keeps self.old.machine self.new.machine }
+        ensures told { TellsOk event.CkptPublish result self.old.tally self.new.tally }
     {
-        self.ckpt_publish_in()
+        let answer = self.ckpt_publish_in();
+        self.tell(Event::CkptPublish, &answer);
+        answer
     }
 
     /// The event itself: what it keeps follows at the public call.
     fn ckpt_publish_in(&mut self) -> Result<(), Fault>
-        ensures { CkptPublishes self.old.machine result self.new.machine }
+        ensures publishes { CkptPublishes self.old.machine result self.new.machine }
+        ensures told { self.new.tally ≡ self.old.tally }
     {
         if self.store.is_broken() {
             return Err(Fault::Stopped);

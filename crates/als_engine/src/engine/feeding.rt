@@ -1,11 +1,14 @@
 ghost use Rattle.std.specs.Prelude.{◌≡◌, ◌≤◌, ◌+◌, length, IfErr, OnOk};
+ghost use Rattle.als_engine.specs.declared.event.Event.TheVariants as event;
 ghost use Rattle.als_engine.specs.Events.{Resyncs};
 ghost use Rattle.als_engine.specs.Feeds.{Feeds, kept_fault};
 ghost use Rattle.als_engine.specs.Machine.{Keeps};
 ghost use Rattle.als_engine.specs.Refusals.{feed_refusal};
 ghost use Rattle.als_engine.specs.Serving.{HasRoomForPiece};
+ghost use Rattle.als_engine.specs.Tally.{TellsOk, TellsTaken};
 
 use super::Engine;
+use crate::event::Event;
 use crate::fault::Fault;
 use crate::fed::{Fed, FeedFault};
 use crate::taking_in::take_piece;
@@ -27,8 +30,12 @@ impl<D: BlockDisk> Engine<D> {
         ensures reserved { HasRoomForPiece self.old piece.now
             → IfErr result (λ refusal. refusal.fault ≡ Fault.Memory → ⊥) }
         ensures keeps { Keeps self.old.machine self.new.machine }
+        // The bytes taken are counted.
+        ensures told { TellsTaken result self.old.tally self.new.tally }
     {
-        self.feed_in(piece)
+        let answer = self.feed_in(piece);
+        self.tell_taken(&answer);
+        answer
     }
 
     /// The event itself: what it keeps follows at the public call.
@@ -38,6 +45,7 @@ impl<D: BlockDisk> Engine<D> {
         // Where there is room for the piece, memory is not wanted.
         ensures reserved { HasRoomForPiece self.old piece.now
             → IfErr result (λ refusal. refusal.fault ≡ Fault.Memory → ⊥) }
+        ensures told { self.new.tally ≡ self.old.tally }
     {
         let stopped = self.store.is_broken();
         if stopped {
@@ -90,8 +98,11 @@ impl<D: BlockDisk> Engine<D> {
         ensures room { OnOk result
             (self.old.room + length self.old.machine.partial ≤ self.new.room) }
         ensures keeps { Keeps self.old.machine self.new.machine }
+        ensures told { TellsOk event.Resync result self.old.tally self.new.tally }
     {
-        self.resync_in()
+        let answer = self.resync_in();
+        self.tell(Event::Resync, &answer);
+        answer
     }
 
     /// The event itself: what it keeps follows at the public call.
@@ -100,6 +111,7 @@ impl<D: BlockDisk> Engine<D> {
         // The room of the bytes that were dropped is free again.
         ensures room { OnOk result
             (self.old.room + length self.old.machine.partial ≤ self.new.room) }
+        ensures told { self.new.tally ≡ self.old.tally }
     {
         if self.store.is_broken() {
             return Err(Fault::Stopped);

@@ -1,11 +1,14 @@
-ghost use Rattle.std.specs.Prelude.{◌≤◌};
+ghost use Rattle.std.specs.Prelude.{◌≡◌, ◌≤◌};
+ghost use Rattle.als_engine.specs.declared.event.Event.TheVariants as event;
 ghost use Rattle.als_engine.specs.Machine.{Keeps};
 ghost use Rattle.als_engine.specs.Readiness.{Readies};
+ghost use Rattle.als_engine.specs.Tally.{TellsOk};
 
 use super::Engine;
+use crate::event::Event;
 use crate::fault::Fault;
+use als_commits::all_commits_end;
 use als_disk::BlockDisk;
-use als_view::all_commits_end;
 
 impl<D: BlockDisk> Engine<D> {
     /// Ends the recovery of a standby that was opened: from then on it takes the primary's log, or
@@ -17,8 +20,11 @@ impl<D: BlockDisk> Engine<D> {
     pub fn ready(&mut self) -> Result<(), Fault>
         ensures readies { Readies self.old.machine result self.new.machine }
         ensures keeps { Keeps self.old.machine self.new.machine }
+        ensures told { TellsOk event.Ready result self.old.tally self.new.tally }
     {
-        self.ready_in()
+        let answer = self.ready_in();
+        self.tell(Event::Ready, &answer);
+        answer
     }
 
     /// The event itself: what it keeps follows at the public call.
@@ -26,6 +32,7 @@ impl<D: BlockDisk> Engine<D> {
         ensures readies { Readies self.old.machine result self.new.machine }
         // What was published stays so.
         ensures grows { self.old.machine.published ≤ self.new.machine.published }
+        ensures told { self.new.tally ≡ self.old.tally }
     {
         if self.store.is_broken() {
             return Err(Fault::Stopped);

@@ -1,7 +1,11 @@
+ghost use Rattle.std.specs.Prelude.{◌≡◌};
+ghost use Rattle.als_engine.specs.declared.event.Event.TheVariants as event;
 ghost use Rattle.als_engine.specs.Machine.{Keeps};
 ghost use Rattle.als_engine.specs.Publishing.{PublishesView, ReadsKey};
+ghost use Rattle.als_engine.specs.Tally.{TellsOk};
 
 use super::Engine;
+use crate::event::Event;
 use crate::fault::Fault;
 use als_disk::BlockDisk;
 use als_record::Key;
@@ -16,13 +20,17 @@ impl<D: BlockDisk> Engine<D> {
     pub fn publish_view(&mut self) -> Result<(), Fault>
         ensures publishes { PublishesView self.old.machine result self.new.machine }
         ensures keeps { Keeps self.old.machine self.new.machine }
+        ensures told { TellsOk event.PublishView result self.old.tally self.new.tally }
     {
-        self.publish_view_in()
+        let answer = self.publish_view_in();
+        self.tell(Event::PublishView, &answer);
+        answer
     }
 
     /// The event itself: what it keeps follows at the public call.
     fn publish_view_in(&mut self) -> Result<(), Fault>
-        ensures { PublishesView self.old.machine result self.new.machine }
+        ensures publishes { PublishesView self.old.machine result self.new.machine }
+        ensures told { self.new.tally ≡ self.old.tally }
     {
         if self.store.is_broken() {
             return Err(Fault::Stopped);

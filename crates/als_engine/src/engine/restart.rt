@@ -8,15 +8,17 @@ ghost use Rattle.als_store.specs.Devices.{AreKept};
 ghost use Rattle.als_store.specs.Stopped.{CrashesTo, NamesState, devices_of};
 ghost use Rattle.als_engine.specs.Restarts.{IsWarm, IsMadeWith, Holds, StillHolds, Leaves};
 ghost use Rattle.als_engine.specs.Restarts.{IsStarted, IsRestarted, RefusesRestart};
+ghost use Rattle.als_engine.specs.Tally.{no_events};
 
 use super::Engine;
 use crate::config::Config;
 use crate::fault::Fault;
 use crate::refused::Refused;
+use crate::tally::Tally;
 use als_disk::{BlockDisk, Restart};
 use als_receiver::Receiver;
 use als_store::{Disks, Store};
-use als_view::a_view_goes_on;
+use als_view::{View, a_view_goes_on};
 use std::alloc::Global;
 
 impl<D: BlockDisk> Engine<D> {
@@ -38,6 +40,7 @@ impl<D: BlockDisk> Engine<D> {
             (D.failures disks.log + D.failures disks.control + D.failures disks.pages)
             (D.attempts disks.log + 1 + (D.attempts disks.control + 1)
             + (D.attempts disks.pages + 1)) e.machine) }
+        ensures tally { IfOk result (λ e. e.tally ≡ no_events) }
         // As many frames as the configuration says there may be, none fewer and none more.
         ensures frames { IfOk result (λ e. e.machine.held.pool.frames.most ≡ config.frames) }
         // Where it does not fit them, BadConfig comes and the devices are as they were; else it
@@ -103,9 +106,16 @@ impl<D: BlockDisk> Engine<D> {
             });
         }
         let pages = config.pages as u32;
+        let Ok(unlisted) = View::new(alloc, pages, false) else {
+            return Err(Refused {
+                disks,
+                fault: Fault::Memory,
+            });
+        };
         match Store::open(alloc, disks, pages, config.frames as usize) {
             Ok(opened) => {
-                let (store, shown) = opened.into_parts();
+                let (store, waiting) = opened.into_parts();
+                let shown = unlisted.with_waiting(waiting);
                 a_view_goes_on();
                 let receiver = Receiver::new(alloc, store.end(), pages);
                 Ok(Engine {
@@ -115,6 +125,7 @@ impl<D: BlockDisk> Engine<D> {
                     limit: config.pending as usize,
                     refused: None,
                     shown,
+                    told: Tally::none(),
                 })
             }
             Err(unopened) => Err(Refused {
@@ -161,9 +172,11 @@ impl<D: Restart> Engine<D> {
             limit: _,
             refused: _,
             shown,
+            told,
         } = self;
         drop(receiver);
         drop(shown);
+        drop(told);
         store.crash(picks)
     }
 }

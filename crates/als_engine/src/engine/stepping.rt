@@ -24,10 +24,7 @@ impl<D: BlockDisk> Engine<D> {
                 Err(refusal) => Reply::FeedRefused(refusal),
             },
             Step::Resync => done(self.resync()),
-            Step::Apply(page) => match self.apply(*page) {
-                Ok(lsn) => Reply::Applied(lsn),
-                Err(fault) => Reply::Refused(fault),
-            },
+            Step::Recall(page) => done(self.recall(*page)),
             Step::Flush(page) => done(self.flush(*page)),
             Step::SyncPages => done(self.sync_pages()),
             Step::LogWrite => done(self.log_write()),

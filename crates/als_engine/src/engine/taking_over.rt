@@ -1,9 +1,12 @@
-ghost use Rattle.std.specs.Prelude.{IsErrOf};
+ghost use Rattle.std.specs.Prelude.{◌≡◌, IsErrOf};
+ghost use Rattle.als_engine.specs.declared.event.Event.TheVariants as event;
 ghost use Rattle.als_engine.specs.Machine.{Keeps};
 ghost use Rattle.als_engine.specs.Takeover.{Seals, UndoesOneOf, Finishes};
 ghost use Rattle.als_store.specs.Takeover.{HasRoomToUndo};
+ghost use Rattle.als_engine.specs.Tally.{TellsOk};
 
 use super::Engine;
+use crate::event::Event;
 use crate::fault::Fault;
 use als_disk::BlockDisk;
 use als_receiver::Receiver;
@@ -21,13 +24,17 @@ impl<D: BlockDisk> Engine<D> {
     pub fn seal(&mut self) -> Result<(), Fault>
         ensures seals { Seals self.old.machine result self.new.machine }
         ensures keeps { Keeps self.old.machine self.new.machine }
+        ensures told { TellsOk event.Seal result self.old.tally self.new.tally }
     {
-        self.seal_in()
+        let answer = self.seal_in();
+        self.tell(Event::Seal, &answer);
+        answer
     }
 
     /// The event itself: what it keeps follows at the public call.
     fn seal_in(&mut self) -> Result<(), Fault>
-        ensures { Seals self.old.machine result self.new.machine }
+        ensures seals { Seals self.old.machine result self.new.machine }
+        ensures told { self.new.tally ≡ self.old.tally }
     {
         if self.store.is_broken() {
             return Err(Fault::Stopped);
@@ -59,8 +66,11 @@ impl<D: BlockDisk> Engine<D> {
         ensures reserved { HasRoomToUndo self.old.machine.held self.old.spare
             → IsErrOf result Fault.Memory → ⊥ }
         ensures keeps { Keeps self.old.machine self.new.machine }
+        ensures told { TellsOk event.UndoOne result self.old.tally self.new.tally }
     {
-        self.undo_one_in()
+        let answer = self.undo_one_in();
+        self.tell(Event::UndoOne, &answer);
+        answer
     }
 
     /// The event itself: what it keeps follows at the public call.
@@ -68,6 +78,7 @@ impl<D: BlockDisk> Engine<D> {
         ensures undoes { UndoesOneOf self.old.machine result self.new.machine }
         ensures reserved { HasRoomToUndo self.old.machine.held self.old.spare
             → IsErrOf result Fault.Memory → ⊥ }
+        ensures told { self.new.tally ≡ self.old.tally }
     {
         if self.store.is_broken() {
             return Err(Fault::Stopped);
@@ -97,13 +108,17 @@ impl<D: BlockDisk> Engine<D> {
     pub fn finish(&mut self) -> Result<(), Fault>
         ensures finishes { Finishes self.old.machine result self.new.machine }
         ensures keeps { Keeps self.old.machine self.new.machine }
+        ensures told { TellsOk event.Finish result self.old.tally self.new.tally }
     {
-        self.finish_in()
+        let answer = self.finish_in();
+        self.tell(Event::Finish, &answer);
+        answer
     }
 
     /// The event itself: what it keeps follows at the public call.
     fn finish_in(&mut self) -> Result<(), Fault>
-        ensures { Finishes self.old.machine result self.new.machine }
+        ensures finishes { Finishes self.old.machine result self.new.machine }
+        ensures told { self.new.tally ≡ self.old.tally }
     {
         if self.store.is_broken() {
             return Err(Fault::Stopped);

@@ -1,7 +1,10 @@
+use Rattle.als_engine.proofs.KeepLaws.{keeps_then}
 use Rattle.als_engine.proofs.StepLaws.{keeps_ckpt_begin}
 use Rattle.als_engine.proofs.engine.Engine.ckpt_begin.Goals as goal
 
 pub returns-clause-keeps : goal.returns-clause-keeps
 returns-clause-keeps g c =
-    keeps_ckpt_begin c.args.self.now.machine c.ckpt_begin_in.new.self.machine c.ckpt_begin_in.result
-    c.ckpt_begin_in.ensures
+    keeps_then c.args.self.now.machine c.ckpt_begin_in-answer.new.self.machine c.tell.new.self.machine
+    c.tell.ensures.machine
+    (keeps_ckpt_begin c.args.self.now.machine c.ckpt_begin_in-answer.new.self.machine c.ckpt_begin_in-answer.result
+    c.ckpt_begin_in-answer.ensures.begins)

@@ -26,8 +26,8 @@ invariant_of-self-2 g c =
           c.self.invariant.seen s.store.stored.begun c.in_ok-ckpt_publish.ensures.ok;
     }
 
-pub returns : goal.returns
-returns g c =
+pub returns-clause-publishes : goal.returns-clause-publishes
+returns-clause-publishes g c =
     let s = c.self.inside in
     let m = machine s.store.stored s.limit s.receiver.kept s.refused (published_of s.shown) in
     rw (← c.self.view_is)

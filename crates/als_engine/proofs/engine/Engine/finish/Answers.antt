@@ -1,7 +1,10 @@
+use Rattle.als_engine.proofs.KeepLaws.{keeps_then}
 use Rattle.als_engine.proofs.StepLaws.{keeps_finish}
 use Rattle.als_engine.proofs.engine.Engine.finish.Goals as goal
 
 pub returns-clause-keeps : goal.returns-clause-keeps
 returns-clause-keeps g c =
-    keeps_finish c.args.self.now.machine c.finish_in.new.self.machine c.finish_in.result
-    c.finish_in.ensures
+    keeps_then c.args.self.now.machine c.finish_in-answer.new.self.machine c.tell.new.self.machine
+    c.tell.ensures.machine
+    (keeps_finish c.args.self.now.machine c.finish_in-answer.new.self.machine c.finish_in-answer.result
+    c.finish_in-answer.ensures.finishes)

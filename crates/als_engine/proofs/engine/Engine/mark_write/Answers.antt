@@ -1,7 +1,10 @@
+use Rattle.als_engine.proofs.KeepLaws.{keeps_then}
 use Rattle.als_engine.proofs.StepLaws.{keeps_mark_write}
 use Rattle.als_engine.proofs.engine.Engine.mark_write.Goals as goal
 
 pub returns-clause-keeps : goal.returns-clause-keeps
 returns-clause-keeps g c =
-    keeps_mark_write c.args.self.now.machine c.mark_write_in.new.self.machine c.mark_write_in.result
-    c.mark_write_in.ensures
+    keeps_then c.args.self.now.machine c.mark_write_in-answer.new.self.machine c.tell.new.self.machine
+    c.tell.ensures.machine
+    (keeps_mark_write c.args.self.now.machine c.mark_write_in-answer.new.self.machine c.mark_write_in-answer.result
+    c.mark_write_in-answer.ensures.writes)

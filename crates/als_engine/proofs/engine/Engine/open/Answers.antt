@@ -1,4 +1,5 @@
-use Rattle.std.proofs.Common.{None, ap, sym, subst, ◌∙◌}
+use Rattle.std.proofs.Common.{None, refl, ap, sym, subst, ◌∙◌}
+use Rattle.als_commits.specs.Waiting.{Waiting}
 use Rattle.als_receiver.specs.Reception.{Reception}
 use Rattle.als_view.specs.Showing.{published_of}
 use Rattle.als_store.specs.Stored.{Stored}
@@ -11,42 +12,51 @@ use Rattle.als_engine.proofs.engine.Engine.open.Goals as goal
 
 pub invariant_of-result : goal.invariant_of-result
 invariant_of-result g c =
-    serving_opened c.into_parts-store.result.0.stored c.in-Ok.opened.store.stored
-    c.new-receiver.result c.into_parts-store.result.1 c.in-Ok.opened.view _ _ _ _ _
-    (ap (λ (h : Holding). h.stored) c.into_parts-store.ensures.0) c.into_parts-store.ensures.1
-    c.in-Ok.ensures.ok c.in-Ok.ensures.view c.new-receiver.ensures c.end.ensures.end
+    let from = c.in-Ok-open.opened.store.stored in
+    let waits = ap (λ (w : Waiting). w.queued) c.into_parts-store.ensures.1
+    ∙ c.in-Ok-open.ensures.waiting in
+    let w = c.with_waiting-shown.ensures.warming c.args.config.pages from.log
+    (c.in-Ok.ensures.warming refl) waits in
+    serving_opened c.into_parts-store.result.0.stored from c.new-receiver.result
+    c.with_waiting-shown.result c.with_waiting-shown.result _ _ _ _ _
+    (ap (λ (h : Holding). h.stored) c.into_parts-store.ensures.0) refl
+    c.in-Ok-open.ensures.ok w c.new-receiver.ensures c.end.ensures.end
     c.a_view_goes_on.ensures.waits
 
-pub returns-in-Ok-clause-ok : goal.returns-in-Ok-clause-ok
-returns-in-Ok-clause-ok g c =
-    restarted c.args.config c.into_parts-store.result.0.stored c.in-Ok.opened.store.stored
-    c.into_parts-store.result.1 c.in-Ok.opened.view c.new-receiver.result.kept _ _ _
+pub returns-in-Ok-open-clause-ok : goal.returns-in-Ok-open-clause-ok
+returns-in-Ok-open-clause-ok g c =
+    let from = c.in-Ok-open.opened.store.stored in
+    let waits = ap (λ (w : Waiting). w.queued) c.into_parts-store.ensures.1
+    ∙ c.in-Ok-open.ensures.waiting in
+    let w = c.with_waiting-shown.ensures.warming c.args.config.pages from.log
+    (c.in-Ok.ensures.warming refl) waits in
+    restarted c.args.config c.into_parts-store.result.0.stored from
+    c.with_waiting-shown.result c.with_waiting-shown.result c.new-receiver.result.kept _ _ _
     (c.fits.ensures.0 c.if-not-fits.false).numbers
-    (ap (λ (h : Holding). h.stored) c.into_parts-store.ensures.0) c.into_parts-store.ensures.1
-    c.in-Ok.ensures.ok c.in-Ok.ensures.view
-    (ap (λ (r : Reception). r.kept) c.new-receiver.ensures)
+    (ap (λ (h : Holding). h.stored) c.into_parts-store.ensures.0) refl
+    c.in-Ok-open.ensures.ok w (ap (λ (r : Reception). r.kept) c.new-receiver.ensures)
 
-pub returns-in-Ok-clause-warm : goal.returns-in-Ok-clause-warm
-returns-in-Ok-clause-warm g c = λ n holds.
+pub returns-in-Ok-open-clause-warm : goal.returns-in-Ok-open-clause-warm
+returns-in-Ok-open-clause-warm g c = λ n holds.
     let same = ap (λ (h : Holding). h.stored) c.into_parts-store.ensures.0 in
     let m = machine c.into_parts-store.result.0.stored c.args.config.pending
-    c.new-receiver.result.kept None (published_of c.into_parts-store.result.1) in
-    started c.args.config n m _ _ _ (returns-in-Ok-clause-ok g c)
+    c.new-receiver.result.kept None (published_of c.with_waiting-shown.result) in
+    started c.args.config n m _ _ _ (returns-in-Ok-open-clause-ok g c)
     (subst (λ (h : Stored). TakesUp n h) (sym same)
-    (c.in-Ok.ensures.warm n holds.log_settled holds.control_settled holds.pages_settled
+    (c.in-Ok-open.ensures.warm n holds.log_settled holds.control_settled holds.pages_settled
     holds.node))
     holds.node.held.count
-    (ap (λ (h : Stored). h.pool.frames.most) same ∙ c.in-Ok.ensures.frames)
+    (ap (λ (h : Stored). h.pool.frames.most) same ∙ c.in-Ok-open.ensures.frames)
 
-pub returns-in-Ok-clause-synced : goal.returns-in-Ok-clause-synced
-returns-in-Ok-clause-synced g c =
+pub returns-in-Ok-open-clause-synced : goal.returns-in-Ok-open-clause-synced
+returns-in-Ok-open-clause-synced g c =
     let same = ap (λ (h : Holding). h.stored) c.into_parts-store.ensures.0 in
     let m = machine c.into_parts-store.result.0.stored c.args.config.pending
-    c.new-receiver.result.kept None (published_of c.into_parts-store.result.1) in (
-      c.in-Ok.ensures.synced.0,
+    c.new-receiver.result.kept None (published_of c.with_waiting-shown.result) in (
+      c.in-Ok-open.ensures.synced.0,
       λ n node.
-          started c.args.config n m _ _ _ (returns-in-Ok-clause-ok g c)
-          (subst (λ (h : Stored). TakesUp n h) (sym same) (c.in-Ok.ensures.synced.1 n node))
+          started c.args.config n m _ _ _ (returns-in-Ok-open-clause-ok g c)
+          (subst (λ (h : Stored). TakesUp n h) (sym same) (c.in-Ok-open.ensures.synced.1 n node))
           node.held.count
-          (ap (λ (h : Stored). h.pool.frames.most) same ∙ c.in-Ok.ensures.frames),
+          (ap (λ (h : Stored). h.pool.frames.most) same ∙ c.in-Ok-open.ensures.frames),
     )

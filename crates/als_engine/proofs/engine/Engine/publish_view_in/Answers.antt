@@ -6,8 +6,8 @@ use Rattle.als_engine.proofs.ReaderLaws.{publishes_more, none_to_publish, publis
 use Rattle.als_engine.proofs.ReaderLaws.{published_in, seen_published}
 use Rattle.als_engine.proofs.engine.Engine.publish_view_in.Goals as goal
 
-pub returns-then-count_ended-eq0 : goal.returns-then-count_ended-eq0
-returns-then-count_ended-eq0 g c =
+pub returns-then-count_ended-eq0-clause-publishes : goal.returns-then-count_ended-eq0-clause-publishes
+returns-then-count_ended-eq0-clause-publishes g c =
     let s = c.self.inside in
     let m = machine s.store.stored s.limit s.receiver.kept s.refused (published_of s.shown) in
     let running = sym c.is_broken.ensures ∙ c.if-is_broken.false in
@@ -35,8 +35,8 @@ invariant_of-self g c =
           c.publish_ended.ensures.pages now.list;
     }
 
-pub returns : goal.returns
-returns g c =
+pub returns-clause-publishes : goal.returns-clause-publishes
+returns-clause-publishes g c =
     let s = c.self.inside in
     let m = machine s.store.stored s.limit s.receiver.kept s.refused (published_of s.shown) in
     let running = sym c.is_broken.ensures ∙ c.if-is_broken.false in

@@ -4,8 +4,8 @@ use Rattle.als_view.specs.Showing.{published_of}
 use Rattle.als_engine.proofs.FeedLaws.{machine}
 use Rattle.als_engine.proofs.engine.Engine.record_at_in.Goals as goal
 
-pub returns : goal.returns
-returns g c =
+pub returns-clause-reads : goal.returns-clause-reads
+returns-clause-reads g c =
     rw (← c.self.view_is) (
       c.in_ok-found.ensures.ok.0,
       ap

@@ -1,14 +1,16 @@
 use Rattle.als_engine.specs.Refusals.{feed_refusal}
-use Rattle.als_engine.proofs.PageLaws.{not_applied_keeps}
+use Rattle.als_engine.proofs.LeaseLaws.{recalls_step}
 use Rattle.als_engine.proofs.StepLaws.{attempts_refused, begins_step, attempts_finish}
 use Rattle.als_engine.proofs.StepLaws.{flushes_step, finishes_step, attempts_flush, attempts_begin}
-use Rattle.als_engine.proofs.StepLaws.{attempts_seal, attempts_not_undone}
+use Rattle.als_engine.proofs.StepLaws.{attempts_seal, attempts_not_undone, attempts_resync}
+use Rattle.als_engine.proofs.StepLaws.{attempts_log_write, attempts_ready, seals_step}
 use Rattle.als_engine.proofs.engine.Engine.step.Goals as goal
 
-pub returns-in-Err-apply-clause-attempts : goal.returns-in-Err-apply-clause-attempts
-returns-in-Err-apply-clause-attempts g c =
-    (not_applied_keeps c.args.self.now.machine c.apply.new.self.machine c.in-Apply.page
-    c.in-Err-apply.fault c.in-Err-apply.ensures.applies).1
+pub returns-in-Recall-clause-steps : goal.returns-in-Recall-clause-steps
+returns-in-Recall-clause-steps g c =
+    rw (c.in-Recall.is, c.done-in-Recall.ensures)
+    (recalls_step c.args.self.now.machine c.recall.new.self.machine c.in-Recall.page c.recall.result
+    c.recall.ensures.recalls)
 
 pub returns-in-Err-clause-attempts : goal.returns-in-Err-clause-attempts
 returns-in-Err-clause-attempts g c =
@@ -57,3 +59,24 @@ pub returns-in-Err-undo_one-clause-attempts : goal.returns-in-Err-undo_one-claus
 returns-in-Err-undo_one-clause-attempts g c =
     attempts_not_undone c.args.self.now.machine c.undo_one.new.self.machine
     c.in-Err-undo_one.fault c.in-Err-undo_one.ensures.undoes
+
+pub returns-in-Resync-clause-attempts : goal.returns-in-Resync-clause-attempts
+returns-in-Resync-clause-attempts g c =
+    attempts_resync c.args.self.now.machine c.resync.new.self.machine c.resync.result
+    c.resync.ensures.resyncs
+
+pub returns-in-LogWrite-clause-attempts : goal.returns-in-LogWrite-clause-attempts
+returns-in-LogWrite-clause-attempts g c =
+    attempts_log_write c.args.self.now.machine c.log_write.new.self.machine c.log_write.result
+    c.log_write.ensures.writes
+
+pub returns-in-Ready-clause-attempts : goal.returns-in-Ready-clause-attempts
+returns-in-Ready-clause-attempts g c =
+    attempts_ready c.args.self.now.machine c.ready.new.self.machine c.ready.result
+    c.ready.ensures.readies
+
+pub returns-in-Seal-clause-steps : goal.returns-in-Seal-clause-steps
+returns-in-Seal-clause-steps g c =
+    rw (c.in-Seal.is, c.done-in-Seal.ensures)
+    (seals_step c.args.self.now.machine c.seal.new.self.machine c.seal.result
+    c.seal.ensures.seals)

@@ -1,7 +1,10 @@
+use Rattle.als_engine.proofs.KeepLaws.{keeps_then}
 use Rattle.als_engine.proofs.StepLaws.{keeps_undo_one}
 use Rattle.als_engine.proofs.engine.Engine.undo_one.Goals as goal
 
 pub returns-clause-keeps : goal.returns-clause-keeps
 returns-clause-keeps g c =
-    keeps_undo_one c.args.self.now.machine c.undo_one_in.new.self.machine c.undo_one_in.result
-    c.undo_one_in.ensures.undoes
+    keeps_then c.args.self.now.machine c.undo_one_in-answer.new.self.machine c.tell.new.self.machine
+    c.tell.ensures.machine
+    (keeps_undo_one c.args.self.now.machine c.undo_one_in-answer.new.self.machine c.undo_one_in-answer.result
+    c.undo_one_in-answer.ensures.undoes)

@@ -4,6 +4,7 @@ pub returns-clause-stands : goal.returns-clause-stands
 returns-clause-stands g c = λ alone. record {
   valid = c.status.ensures.valid;
   stable = c.status.ensures.stable;
+  lent = c.status.ensures.lent;
   listed = c.status.ensures.listed;
   counted = c.status.ensures.counted;
   unlisted = c.status.ensures.unlisted;
