@@ -37,8 +37,14 @@ and then record lines as `als make` reads them, which make the primary's log
 text, and
   feed A B                give the standby bytes A to B-1 of the text
   resync                  drop the partial record, follow again
-  apply P                 redo the first pending changes of page P
-  drain                   redo until nothing is pending
+  lend P W                lend page P into worker slot W, with the first of its
+                          pending changes
+  redo W                  redo the next change of the lease in slot W
+  hand W V                move the lease in slot W to slot V
+  give W                  give the lease in slot W back: its page takes what it redid
+  drop W                  drop the lease in slot W: its page stays lent
+  recall P                make a stranger of the lease of page P
+  drain                   lend to slot 0, redo and give, until nothing is pending
   log-write, log-sync     write the log's first unwritten block, sync the log
   flush P, sync-pages     write page P to its block, sync the pages
   mark-write, ctl-sync    write the log's synced end as its mark, sync the mark

@@ -16,10 +16,15 @@ pub const RECORD_FORMS: [&str; 7] = [
 ];
 
 /// The lines of steps, and those that ask for what is there.
-pub const STEP_FORMS: [&str; 33] = [
+pub const STEP_FORMS: [&str; 38] = [
     "feed A B",
     "resync",
-    "apply P",
+    "lend P W",
+    "redo W",
+    "hand W V",
+    "give W",
+    "drop W",
+    "recall P",
     "flush P",
     "sync-pages",
     "log-write",

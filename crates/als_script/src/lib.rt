@@ -9,6 +9,8 @@ mod record_line;
 mod world_line;
 // A line of one step.
 mod step_line;
+// A line of one step over a lease.
+mod lease_line;
 // A line of a reader.
 mod read_line;
 // A line that stops the standby and begins it again.
@@ -43,6 +45,7 @@ pub use device::Device;
 pub use explaining::{Explanation, explain};
 pub use fail_line::FailLine;
 pub use forms::{FIRST_OF_MAKE, FIRST_OF_SIM, RECORD_FORMS, STEP_FORMS};
+pub use lease_line::LeaseLine;
 pub use line::Line;
 pub use read_line::ReadLine;
 pub use record_line::parse_record;

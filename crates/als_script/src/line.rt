@@ -1,6 +1,7 @@
 use crate::combined_line::CombinedLine;
 use crate::crash_line::CrashLine;
 use crate::fail_line::FailLine;
+use crate::lease_line::LeaseLine;
 use crate::read_line::ReadLine;
 use crate::record_line::parse_record;
 use crate::show_line::ShowLine;
@@ -12,6 +13,7 @@ use als_text::RawRecord;
 pub enum Line<'a> {
     Record(RawRecord),
     Step(StepLine),
+    Lease(LeaseLine),
     Read(ReadLine),
     Crash(CrashLine<'a>),
     Combined(CombinedLine),
@@ -27,6 +29,9 @@ impl<'a> Line<'a> {
         }
         if let Some(step) = StepLine::parse(line) {
             return Some(Line::Step(step));
+        }
+        if let Some(step) = LeaseLine::parse(line) {
+            return Some(Line::Lease(step));
         }
         if let Some(read) = ReadLine::parse(line) {
             return Some(Line::Read(read));

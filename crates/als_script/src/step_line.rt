@@ -6,8 +6,8 @@ pub enum StepLine {
     /// `feed A B`: bytes `from` to `to - 1` of the log text.
     Feed { from: u64, to: u64 },
     Resync,
-    /// `apply P`
-    Apply { page: u32 },
+    /// `recall P`
+    Recall { page: u32 },
     /// `flush P`
     Flush { page: u32 },
     /// `sync-pages`
@@ -41,7 +41,7 @@ impl StepLine {
                 from: words.number()?,
                 to: words.number()?,
             },
-            "apply" => StepLine::Apply {
+            "recall" => StepLine::Recall {
                 page: words.number()?,
             },
             "flush" => StepLine::Flush {

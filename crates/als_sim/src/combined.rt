@@ -1,8 +1,8 @@
 use crate::disk::Disk;
-use crate::stepping::{end_of, one_event};
+use crate::stepping::{end_of, one_event, one_step};
 use als_engine::{Fault, Reply, State, Step};
 use als_record::BLOCK_LEN;
-use als_world::World;
+use als_world::{World, WorldReply, WorldStep};
 use std::alloc::Global;
 
 /// Makes all that is held certain to survive a crash: writes and syncs the log, and then the
@@ -37,7 +37,7 @@ fn write_log(alloc: Global, world: World<Disk>) -> (World<Disk>, Reply) {
 
 /// Redoes each page that has pending changes, in rising order, and again until nothing is pending.
 /// Answers the first refusal that is not passed over, after which it stops: Stopped while the world
-/// is down.
+/// is down, BadSlot where slot 0 has a lease.
 pub fn drain(alloc: Global, world: World<Disk>) -> (World<Disk>, Reply) {
     let Some(engine) = world.engine() else {
         return (world, Reply::Refused(Fault::Stopped));
@@ -66,7 +66,7 @@ fn redo_each(alloc: Global, world: World<Disk>) -> (World<Disk>, Reply) {
         let Some(page) = next_pending(&world, from) else {
             break;
         };
-        let (after, reply) = one_event(alloc, world, Step::Apply(page));
+        let (after, reply) = redo_page(alloc, world, page);
         world = after;
         if is_refusal(&reply) {
             return (world, reply);
@@ -74,6 +74,43 @@ fn redo_each(alloc: Global, world: World<Disk>) -> (World<Disk>, Reply) {
         from = page.saturating_add(1);
     }
     (world, Reply::Done)
+}
+
+/// Lends a page to slot 0, redoes the lease, and gives it back.
+fn redo_page(alloc: Global, world: World<Disk>, page: u32) -> (World<Disk>, Reply) {
+    let (world, reply) = one_step(alloc, world, WorldStep::Lend(page, 0));
+    let batch = match reply {
+        WorldReply::Lent { batch, .. } => batch,
+        reply => return (world, answer(reply)),
+    };
+    let (world, reply) = redo_lease(alloc, world, batch);
+    if is_refusal(&reply) {
+        return (world, reply);
+    }
+    let (world, reply) = one_step(alloc, world, WorldStep::Give(0));
+    (world, answer(reply))
+}
+
+/// Redoes so many changes of the lease in slot 0.
+fn redo_lease(alloc: Global, world: World<Disk>, batch: usize) -> (World<Disk>, Reply) {
+    let mut world = world;
+    for _ in 0..batch {
+        let (after, reply) = one_step(alloc, world, WorldStep::Redo(0));
+        world = after;
+        let reply = answer(reply);
+        if reply != Reply::Done {
+            return (world, reply);
+        }
+    }
+    (world, Reply::Done)
+}
+
+/// The reply to a step over a worker slot, as far as it is a refusal.
+fn answer(reply: WorldReply) -> Reply {
+    match reply {
+        WorldReply::Refused(fault) => Reply::Refused(fault),
+        _ => Reply::Done,
+    }
 }
 
 /// The first page from there on with pending changes.

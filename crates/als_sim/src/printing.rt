@@ -11,7 +11,7 @@ pub fn reply<W: Write>(output: &mut W, reply: &Reply, end: Lsn) -> io::Result<()
     let end = end.0;
     match reply {
         Reply::Done => writeln!(output, "ok"),
-        Reply::Applied(lsn) | Reply::Undone(lsn) => writeln!(output, "ok lsn={}", lsn.0),
+        Reply::Undone(lsn) => writeln!(output, "ok lsn={}", lsn.0),
         Reply::Acknowledged(lsn) => writeln!(output, "ok ack={}", lsn.0),
         Reply::Fed(Fed { taken, records }) => {
             writeln!(output, "ok taken={taken} records={records} end={end}")
@@ -38,16 +38,19 @@ pub fn taken_over<W: Write>(output: &mut W, reply: &Reply, end: Lsn) -> io::Resu
     }
 }
 
-/// The line of a crash or of a read.
+/// The line of a crash, of a read or of a step over a worker slot.
 pub fn world_reply<W: Write>(output: &mut W, reply: &WorldReply) -> io::Result<()> {
     match reply {
         WorldReply::Restarted(end) => writeln!(output, "ok end={}", end.0),
+        WorldReply::Lent { number, batch } => writeln!(output, "ok lease={number} batch={batch}"),
+        WorldReply::Redone(lsn) => writeln!(output, "ok lsn={}", lsn.0),
+        WorldReply::Done => writeln!(output, "ok"),
         WorldReply::Answered(answer) => {
             let (value, lsn) = (ShownImage(&answer.value), answer.lsn.0);
             writeln!(output, "ok {value} commits={} lsn={lsn}", answer.commits)
         }
         WorldReply::Refused(fault) => refused(output, *fault),
-        WorldReply::Event(_) => Ok(()), // No crash and no read is answered so.
+        WorldReply::Event(_) => Ok(()), // Of these steps none is answered so.
     }
 }
 

@@ -3,9 +3,9 @@ use crate::failure::Failure;
 use crate::fuses::Fuses;
 use crate::left::Left;
 use crate::misplaced::Misplaced;
-use crate::stepping::{end_of, one_event, one_step, status_of, step_of};
+use crate::stepping::{end_of, lease_step, one_event, one_step, status_of, step_of};
 use crate::{combined, printing, showing};
-use als_engine::{CONTROL_BLOCKS, Config, Disks, Engine, Fault, State};
+use als_engine::{CONTROL_BLOCKS, Config, Disks, Fault, State};
 use als_fault::FaultKind;
 use als_record::Key;
 use als_script::{CombinedLine, CrashLine, Line, ReadLine, ShowLine, StepLine, WorldLine};
@@ -15,7 +15,7 @@ use std::alloc::Global;
 use std::io;
 use std::io::Write;
 
-/// The most slots for leases.
+/// The most worker slots.
 const WORKER_LIMIT: u64 = 8;
 
 /// A standby in a world, what makes its devices fail, and the primary's log text of the record
@@ -64,10 +64,9 @@ impl Simulation {
             .saturating_add(CONTROL_BLOCKS)
             .saturating_add(line.pages);
         let config = config(line);
-        match engine(alloc, line, disks, config) {
-            Ok(engine) => {
-                let text = LogText::new(alloc, engine.pages())?;
-                let world = World::new(engine, config);
+        match world(alloc, line, disks, config) {
+            Ok(world) => {
+                let text = LogText::new(alloc, pages_of(&world))?;
                 Ok(Ok(Simulation {
                     alloc,
                     world,
@@ -92,7 +91,8 @@ impl Simulation {
         match Line::parse(line).ok_or(Failure::BadLine(number))? {
             Line::Record(record) => simulation.text.push(&record)?,
             Line::Step(step) => return simulation.step(number, step, output),
-            Line::Read(read) => return simulation.read(read, output),
+            Line::Lease(lease) => return simulation.world_step(lease_step(lease), output),
+            Line::Read(read) => return simulation.world_step(read_step(read), output),
             Line::Crash(crash) => return simulation.crash(crash, output),
             Line::Combined(combined) => return simulation.combined(combined, output),
             Line::Fail(fail) => {
@@ -147,32 +147,13 @@ impl Simulation {
         })
     }
 
-    fn read<W: Write>(self, line: ReadLine, output: &mut W) -> Result<Simulation, Failure> {
-        let Simulation {
-            alloc,
-            world,
-            fuses,
-            text,
-            blocks,
-            misplaced,
-        } = self;
-        let key = Key {
-            page: line.page,
-            slot: line.slot,
-        };
-        let (world, reply) = one_step(alloc, world, WorldStep::Read(key));
-        printing::world_reply(output, &reply)?;
-        Ok(Simulation {
-            alloc,
-            world,
-            fuses,
-            text,
-            blocks,
-            misplaced,
-        })
+    fn crash<W: Write>(self, line: CrashLine, output: &mut W) -> Result<Simulation, Failure> {
+        let picks = line.picks(self.alloc, self.blocks as usize)?;
+        self.world_step(WorldStep::Crash(picks.as_slice()), output)
     }
 
-    fn crash<W: Write>(self, line: CrashLine, output: &mut W) -> Result<Simulation, Failure> {
+    /// A step that is no event of the engine.
+    fn world_step<W: Write>(self, step: WorldStep, output: &mut W) -> Result<Simulation, Failure> {
         let Simulation {
             alloc,
             world,
@@ -181,8 +162,7 @@ impl Simulation {
             blocks,
             misplaced,
         } = self;
-        let picks = line.picks(alloc, blocks as usize)?;
-        let (world, reply) = one_step(alloc, world, WorldStep::Crash(picks.as_slice()));
+        let (world, reply) = one_step(alloc, world, step);
         printing::world_reply(output, &reply)?;
         Ok(Simulation {
             alloc,
@@ -292,19 +272,34 @@ fn config(line: WorldLine) -> Config {
     }
 }
 
-/// The standby of a world line, over devices that it formats. The number of slots, which only
-/// threads have, is judged here.
-fn engine(
+/// The world of a world line, over devices that it formats.
+fn world(
     alloc: Global,
     line: WorldLine,
     disks: Disks<Disk>,
     config: Config,
-) -> Result<Engine<Disk>, Fault> {
-    if !(1..=WORKER_LIMIT).contains(&line.workers) {
+) -> Result<World<Disk>, Fault> {
+    if line.workers == 0 || line.workers > WORKER_LIMIT {
         return Err(Fault::BadConfig);
     }
-    match Engine::format(alloc, disks, config) {
-        Ok(engine) => Ok(engine),
+    match World::format(alloc, disks, config, line.workers as usize) {
+        Ok(world) => Ok(world),
         Err(refused) => Err(refused.fault),
     }
+}
+
+/// The pages of a world's database; 0 while the world is down.
+fn pages_of(world: &World<Disk>) -> u32 {
+    match world.engine() {
+        Some(engine) => engine.pages(),
+        None => 0,
+    }
+}
+
+/// The step of a read line.
+fn read_step(line: ReadLine) -> WorldStep<'static> {
+    WorldStep::Read(Key {
+        page: line.page,
+        slot: line.slot,
+    })
 }

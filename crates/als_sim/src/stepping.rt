@@ -1,7 +1,7 @@
 use crate::disk::Disk;
 use als_engine::{Fault, FeedFault, Reply, Status, Step};
 use als_record::Lsn;
-use als_script::StepLine;
+use als_script::{LeaseLine, StepLine};
 use als_world::{World, WorldReply, WorldStep, run};
 use std::alloc::Global;
 
@@ -14,7 +14,7 @@ pub fn step_of(line: StepLine, text: &[u8]) -> Option<Step<'_>> {
             Step::Feed(text.get(from..to)?)
         }
         StepLine::Resync => Step::Resync,
-        StepLine::Apply { page } => Step::Apply(page),
+        StepLine::Recall { page } => Step::Recall(page),
         StepLine::Flush { page } => Step::Flush(page),
         StepLine::SyncPages => Step::SyncPages,
         StepLine::LogWrite => Step::LogWrite,
@@ -30,6 +30,17 @@ pub fn step_of(line: StepLine, text: &[u8]) -> Option<Step<'_>> {
         StepLine::UndoOne => Step::UndoOne,
         StepLine::Finish => Step::Finish,
     })
+}
+
+/// The step of a line over a worker slot.
+pub fn lease_step(line: LeaseLine) -> WorldStep<'static> {
+    match line {
+        LeaseLine::Lend { page, slot } => WorldStep::Lend(page, slot as usize),
+        LeaseLine::Redo { slot } => WorldStep::Redo(slot as usize),
+        LeaseLine::Hand { from, to } => WorldStep::Hand(from as usize, to as usize),
+        LeaseLine::Give { slot } => WorldStep::Give(slot as usize),
+        LeaseLine::Drop { slot } => WorldStep::Drop(slot as usize),
+    }
 }
 
 /// Runs one step. Where there is no memory for its reply nothing is run, and the step counts as
@@ -51,7 +62,7 @@ pub fn one_event(alloc: Global, world: World<Disk>, event: Step) -> (World<Disk>
     let reply = match reply {
         WorldReply::Event(reply) => reply,
         WorldReply::Refused(fault) => refused(&event, fault),
-        WorldReply::Restarted(_) | WorldReply::Answered(_) => Reply::Done, // No event is answered so.
+        _ => Reply::Done, // No event is answered so.
     };
     (world, reply)
 }

@@ -56,7 +56,7 @@ fail log 1
 log-sync
 feed 108 108
 resync
-apply 0
+lend 0 0
 log-write
 log-sync
 mark-write

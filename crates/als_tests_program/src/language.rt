@@ -34,7 +34,7 @@ const REFUSED_WORLDS: [&str; 11] = [
 ];
 
 /// Lines that are none of the language.
-const BAD_LINES: [&str; 72] = [
+const BAD_LINES: [&str; 78] = [
     " ",
     "nothing",
     "COMMIT 1",
@@ -74,8 +74,14 @@ const BAD_LINES: [&str; 72] = [
     "feed 0 17",
     "feed 16 18446744073709551616",
     "resync 0",
-    "apply",
-    "apply 4294967296",
+    "lend 0",
+    "lend 4294967296 0",
+    "lend 0 18446744073709551616",
+    "redo",
+    "hand 0",
+    "give -1",
+    "drop 0 0",
+    "recall 4294967296",
     "flush",
     "sync-pages 0",
     "show dirty 0",

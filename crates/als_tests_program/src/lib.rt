@@ -19,6 +19,9 @@ mod feeding;
 // Redo of pages, and their blocks.
 #[cfg(test)]
 mod redoing;
+// Leases in worker slots.
+#[cfg(test)]
+mod leasing;
 // What is acknowledged, and devices that fail.
 #[cfg(test)]
 mod acknowledging;

@@ -37,7 +37,12 @@ log-sync
 mark-write
 ctl-sync
 force
-apply 0
+lend 0 0
+redo 0
+hand 0 1
+recall 0
+drop 1
+drain
 show page 0
 show log 16
 resync
@@ -52,7 +57,12 @@ ok
 ok
 ok ack=213
 ok ack=213
-ok lsn=116
+ok lease=1 batch=3
+ok lsn=16
+ok
+ok
+ok
+ok
 page 0 lsn=116
 0/0 cc
 0/1 bb

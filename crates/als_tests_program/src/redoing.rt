@@ -50,26 +50,34 @@ u 1 0 0 - aa
 u 1 1 0 - bb
 commit 1
 feed 16 116
-apply 0
-apply 1
+lend 0 0
+redo 0
+give 0
+lend 1 0
 force
 flush 0
-apply 1
+lend 1 0
 sync-pages
-apply 1
+lend 1 0
+redo 0
+give 0
 show db
 fail pages 1
 show page 0
 show page 0
 ",
         "ok taken=100 records=3 end=116
+ok lease=1 batch=1
 ok lsn=16
+ok
 refused 24 PoolFull
 ok ack=116
 ok
 refused 24 PoolFull
 ok
+ok lease=2 batch=1
 ok lsn=52
+ok
 0/0 aa
 1/0 bb
 ok
@@ -92,13 +100,20 @@ show page 3
 feed 16 152
 show db
 show status
-apply 1
-apply 4
-apply 0
-apply 0
+lend 1 0
+lend 4 0
+lend 0 0
+redo 0
+redo 0
+redo 0
+show page 0
+give 0
+lend 0 0
 show page 0
 show db
-apply 3
+lend 3 1
+redo 1
+give 1
 show db
 show status
 show log 52
@@ -114,14 +129,21 @@ empty
 state=Following end=152 ack=16 pending=3 leases=0
 refused 27 NothingToDo
 refused 27 NothingToDo
+ok lease=1 batch=2
+ok lsn=16
 ok lsn=52
+refused 27 NothingToDo
+page 0 lsn=0
+ok
 refused 27 NothingToDo
 page 0 lsn=52
 0/0 aa
 0/14 .
 0/0 aa
 0/14 .
+ok lease=2 batch=1
 ok lsn=87
+ok
 0/0 aa
 0/14 .
 3/1 0001
@@ -141,7 +163,7 @@ fn pages_are_redone_and_written(rt: HostRuntime) {
     run_scripts(&rt, ("", ""), &PAGES);
 }
 
-/// More changes of a page than one redo takes, and a page that has none.
+/// More changes of a page than one lease has, and a page that has none.
 fn goes_round<R: Abort + AllocGlobal + Files<File = File> + Net>(rt: &R) -> Option<()> {
     let world = "world pages=4 log=32 frames=4 workers=2 pending=1000\n";
     let mut script = format!(in rt.alloc();
@@ -157,6 +179,9 @@ u 1 1 0 - 00
         .push_str(
             "feed 16 4898
 show status
+lend 2 1
+drop 1
+recall 2
 drain
 show status
 show db
@@ -166,6 +191,9 @@ drain
         .ok()?;
     let output = "ok taken=4882 records=132 end=4898
 state=Following end=4898 ack=16 pending=132 leases=0
+ok lease=1 batch=64
+ok
+ok
 ok
 state=Following end=4898 ack=16 pending=0 leases=0
 1/0 00

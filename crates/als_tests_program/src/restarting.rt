@@ -30,7 +30,7 @@ page 0 lsn=16
 drain
 flush 0
 crash new
-apply 0
+lend 0 0
 show dirty
 ",
         "ok ack=108

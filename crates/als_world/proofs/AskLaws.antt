@@ -1,9 +1,10 @@
 -- A world that was asked shows what it showed, but for a read that failed.
-use Rattle.std.proofs.Common.{◌≡◌, ℕ, ◌≤◌, ◌∙◌, Result, Ok, Err, Option, Some, None, Bor, true, inl, inr, refl, sym, ap, subst}
+use Rattle.std.proofs.Common.{◌≡◌, ℕ, ◌≤◌, ◌∙◌, Result, Ok, Err, Option, Some, None, List, Bor, true, inl, inr, refl, sym, ap, subst}
 use Rattle.als_record.specs.declared.lsn.Lsn.{Lsn}
 use Rattle.als_record.specs.declared.record.Record.{Record}
 use Rattle.als_page.specs.declared.page.Page.{Page}
 use Rattle.als_disk.specs.Slot.{Slot}
+use Rattle.als_lease.specs.Lease.{Leased}
 use Rattle.als_reopen.specs.Node.{Node}
 use Rattle.als_reopen.specs.declared.disks.Disks.{Disks}
 use Rattle.als_store.specs.Stored.{Stored}
@@ -57,76 +58,81 @@ stays-read old lsn (Err fault) new r = elim r [
 -- ---- what a world tells
 
 module _ {D : Type 0} (slot : D → ℕ → Slot) (count : D → ℕ) (world : World D) where
-  tells-up-of : (tells : Standing → Standing → Type 0) (engine after : Serving) → Stays engine.machine after.machine → tells (Up engine.machine) (Up after.machine)
-      → (old : Standing) → Shown slot count world.config (place.Up engine) old → (new : Standing) × Shows slot count (up {D = D} world.config after) new × tells old new
+  tells-up-of : (tells : Standing → Standing → Type 0) (engine after : Serving) → Stays engine.machine after.machine → tells (Up engine.machine world.slots) (Up after.machine world.slots)
+      → (old : Standing) → Shown slot count world.config world.slots (place.Up engine) old
+      → (new : Standing) × Shows slot count (up {D = D} world.config world.slots after) new × tells old new
   unfolding Shown
-  tells-up-of tells engine after stays told (Up m) s =
+  tells-up-of tells engine after stays told (Up m slots) s =
       let made = subst (λ (x : Machine). IsMadeWith world.config x) s.0 s.1 in
       let still : IsMadeWith world.config after.machine = record { numbers = made.numbers; pages = stays.pages ∙ made.pages; limit = stays.limit ∙ made.limit } in (
-        Up after.machine,
-        shows-up slot count world.config after still (stays.warm (subst (λ (x : Machine). IsWarm x) s.0 s.2)),
-        subst (λ (x : Machine). tells (Up x) (Up after.machine)) (sym s.0) told,
+        Up after.machine world.slots,
+        shows-up slot count world.config world.slots after still (stays.warm (subst (λ (x : Machine). IsWarm x) s.0 s.2)),
+        subst (λ (x : Machine). tells (Up x slots) (Up after.machine world.slots)) (sym s.0)
+            (subst (λ (x : List (Option Leased)). tells (Up engine.machine x) (Up after.machine world.slots)) (sym s.3) told),
       )
-  tells-up-of tells engine after stays told (Down n) s = absurd s
+  tells-up-of tells engine after stays told (Down n workers) s = absurd s
 
   pub tells-up : (tells : Standing → Standing → Type 0) (engine after : Serving) → world.place ≡ place.Up engine → Stays engine.machine after.machine
-      → tells (Up engine.machine) (Up after.machine) → TellsTo slot count world tells (up {D = D} world.config after)
+      → tells (Up engine.machine world.slots) (Up after.machine world.slots) → TellsTo slot count world tells (up {D = D} world.config world.slots after)
   unfolding Shows
   tells-up tells engine after is stays told = λ old shows.
-      tells-up-of tells engine after stays told old (subst (λ (p : Place D). Shown slot count world.config p old) is shows)
+      tells-up-of tells engine after stays told old (subst (λ (p : Place D). Shown slot count world.config world.slots p old) is shows)
 
-  tells-down-of : (tells : Standing → Standing → Type 0) (disks : Disks D) → ((n : Node) → tells (Down n) (Down n)) → (old : Standing)
-      → Shown slot count world.config (place.Down disks) old → tells old old
+  tells-down-of : (tells : Standing → Standing → Type 0) (disks : Disks D) → ((n : Node) (workers : ℕ) → tells (Down n workers) (Down n workers)) → (old : Standing)
+      → Shown slot count world.config world.slots (place.Down disks) old → tells old old
   unfolding Shown
-  tells-down-of tells disks told (Up m) s = absurd s
-  tells-down-of tells disks told (Down n) s = told n
+  tells-down-of tells disks told (Up m slots) s = absurd s
+  tells-down-of tells disks told (Down n workers) s = told n workers
 
-  pub tells-down : (tells : Standing → Standing → Type 0) (disks : Disks D) → world.place ≡ place.Down disks → ((n : Node) → tells (Down n) (Down n)) → TellsTo slot count world tells world
+  pub tells-down : (tells : Standing → Standing → Type 0) (disks : Disks D) → world.place ≡ place.Down disks → ((n : Node) (workers : ℕ) → tells (Down n workers) (Down n workers)) → TellsTo slot count world tells world
   unfolding Shows
-  tells-down tells disks is told = λ old shows. (old, shows, tells-down-of tells disks told old (subst (λ (p : Place D). Shown slot count world.config p old) is shows))
+  tells-down tells disks is told = λ old shows. (old, shows, tells-down-of tells disks told old (subst (λ (p : Place D). Shown slot count world.config world.slots p old) is shows))
 
   -- ---- its engine
 
-  engine-up-of : (engine : Bor Serving) (s : Standing) → Shown slot count world.config (place.Up engine.now) s → IsEngineOf (Some engine) s
+  engine-up-of : (engine : Bor Serving) (s : Standing) → Shown slot count world.config world.slots (place.Up engine.now) s → IsEngineOf (Some engine) s
   unfolding Shown IsEngineOf
-  engine-up-of engine (Up m) s = s.0
-  engine-up-of engine (Down n) s = absurd s
+  engine-up-of engine (Up m slots) s = s.0
+  engine-up-of engine (Down n workers) s = absurd s
 
   pub engine-up : (engine : Bor Serving) → world.place ≡ place.Up engine.now → (s : Standing) → Shows slot count world s → IsEngineOf (Some engine) s
   unfolding Shows
-  engine-up engine is s shows = engine-up-of engine s (subst (λ (p : Place D). Shown slot count world.config p s) is shows)
+  engine-up engine is s shows = engine-up-of engine s (subst (λ (p : Place D). Shown slot count world.config world.slots p s) is shows)
 
-  engine-down-of : (disks : Disks D) (s : Standing) → Shown slot count world.config (place.Down disks) s → IsEngineOf None s
+  engine-down-of : (disks : Disks D) (s : Standing) → Shown slot count world.config world.slots (place.Down disks) s → IsEngineOf None s
   unfolding Shown IsEngineOf
-  engine-down-of disks (Up m) s = absurd s
-  engine-down-of disks (Down n) s = tt
+  engine-down-of disks (Up m slots) s = absurd s
+  engine-down-of disks (Down n workers) s = tt
 
   pub engine-down : (disks : Disks D) → world.place ≡ place.Down disks → (s : Standing) → Shows slot count world s → IsEngineOf None s
   unfolding Shows
-  engine-down disks is s shows = engine-down-of disks s (subst (λ (p : Place D). Shown slot count world.config p s) is shows)
+  engine-down disks is s shows = engine-down-of disks s (subst (λ (p : Place D). Shown slot count world.config world.slots p s) is shows)
 
 -- ---- what it tells, case by case
 
-pub told-page : (old : Machine) (page : ℕ) (shown : Page) (new : Machine) → ShowsPage old page (Ok shown) new → TellsPage (Up old) page (Ok (Some shown)) (Up new)
+pub told-page : (old : Machine) (slots : List (Option Leased)) (page : ℕ) (shown : Page) (new : Machine) → ShowsPage old page (Ok shown) new
+    → TellsPage (Up old slots) page (Ok (Some shown)) (Up new slots)
 unfolding TellsPage
-told-page old page shown new s = s
+told-page old slots page shown new s = (s, refl)
 
-pub told-no-page : (old : Machine) (page : ℕ) → old.held.pages ≤ page → TellsPage (Up old) page (Ok None) (Up old)
+pub told-no-page : (old : Machine) (slots : List (Option Leased)) (page : ℕ) → old.held.pages ≤ page → TellsPage (Up old slots) page (Ok None) (Up old slots)
 unfolding TellsPage
-told-no-page old page past = (past, refl)
+told-no-page old slots page past = (past, refl, refl)
 
-pub told-fault : (old : Machine) (page : ℕ) (cause : Fault) (new : Machine) → ShowsPage old page (Err cause) new → TellsPage (Up old) page (Err cause) (Up new)
+pub told-fault : (old : Machine) (slots : List (Option Leased)) (page : ℕ) (cause : Fault) (new : Machine) → ShowsPage old page (Err cause) new
+    → TellsPage (Up old slots) page (Err cause) (Up new slots)
 unfolding TellsPage
-told-fault old page cause new s = s
+told-fault old slots page cause new s = (s, refl)
 
-pub told-down : (page : ℕ) (n : Node) → TellsPage (Down n) page (Err fault.Stopped) (Down n)
+pub told-down : (page : ℕ) (n : Node) (workers : ℕ) → TellsPage (Down n workers) page (Err fault.Stopped) (Down n workers)
 unfolding TellsPage
-told-down page n = (refl, refl)
+told-down page n workers = (refl, refl, refl)
 
-pub told-record : (old : Machine) (lsn : Lsn) (answer : Result (Option Record) Fault) (new : Machine) → Reads old lsn answer new → TellsRecord (Up old) lsn answer (Up new)
+pub told-record : (old : Machine) (slots : List (Option Leased)) (lsn : Lsn) (answer : Result (Option Record) Fault) (new : Machine) → Reads old lsn answer new
+    → TellsRecord (Up old slots) lsn answer (Up new slots)
 unfolding TellsRecord
-told-record old lsn answer new r = r
+told-record old slots lsn answer new r = (r, refl)
 
-pub told-record-down : (lsn : Lsn) (n : Node) → TellsRecord (Down n) lsn (Err fault.Stopped) (Down n)
+pub told-record-down : (lsn : Lsn) (n : Node) (workers : ℕ) → TellsRecord (Down n workers) lsn (Err fault.Stopped) (Down n workers)
 unfolding TellsRecord
-told-record-down lsn n = (refl, refl)
+told-record-down lsn n workers = (refl, refl, refl)

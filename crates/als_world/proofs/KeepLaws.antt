@@ -1,12 +1,13 @@
 -- What is kept over events, crashes and restarts.
 use Rattle.std.proofs.lemmas.Bool.{cases_Bool}
-use Rattle.std.proofs.Common.{true, ◌≡◌, ℕ, ◌≤◌, ◌⊎◌, List, [], ◌∷◌, ◌++◌, inl, inr, refl, sym, ap, subst, ◌∙◌, append_assoc, append-nil, arith}
+use Rattle.std.proofs.Common.{true, true≢false, ◌≡◌, ℕ, ◌≤◌, ◌⊎◌, List, [], ◌∷◌, ◌++◌, length, Option, inl, inr, refl, sym, ap, subst, ◌∙◌, append_assoc, append-nil, arith}
 use Rattle.als_record.specs.declared.record.Record.{Record}
 use Rattle.als_record.specs.LogText.{end_of}
 use Rattle.als_record.specs.Validity.{is_valid}
 use Rattle.als_record.specs.Commits.{commits_of}
-use Rattle.als_view.specs.Showing.{ended_count}
-use Rattle.als_view.proofs.Counting.{count-kept, ended_count-rises}
+use Rattle.als_commits.specs.Counting.{ended_count}
+use Rattle.als_commits.proofs.Counting.{count-kept, ended_count-rises}
+use Rattle.als_lease.specs.Lease.{Leased}
 use Rattle.als_ckpt.specs.declared.control_state.ControlState.{ControlState}
 use Rattle.als_store.specs.Stored.{acknowledged}
 use Rattle.als_store.specs.Takeover.{GoesOn}
@@ -77,14 +78,15 @@ pub record IsCounted (m : Machine) : Type 0 where
   pub published : m.published ≤ ended_in m.held
 
 -- no more is counted than has ended at what is acknowledged
-counted-ends : (m : Machine) → m.published ≤ ended_in m.held → counted (Up m) ≤ ended_in m.held
-counted-ends m le = elim (cases_Bool m.listed) [
+counted-ends : (m : Machine) (slots : List (Option Leased)) → m.published ≤ ended_in m.held → counted (Up m slots) ≤ ended_in m.held
+counted-ends m slots le = elim (cases_Bool m.listed) [
   | inl y ↦ rw y le
   | inr n ↦ rw n (omega arith)
 ]
 
-counted-event : (old new : Machine) → IsCounted old → is_valid new.held.log ≡ true → EngineKeeps old new → counted (Up old) ≤ counted (Up new)
-counted-event old new c valid k = elim (cases_Bool old.listed) [
+counted-event : (old new : Machine) (slots after : List (Option Leased)) → IsCounted old → is_valid new.held.log ≡ true → EngineKeeps old new
+    → counted (Up old slots) ≤ counted (Up new after)
+counted-event old new slots after c valid k = elim (cases_Bool old.listed) [
   | inl y ↦ rw (y, k.listed y) k.published
   | inr n ↦ elim (cases_Bool new.listed) [
     | inl y ↦ rw (n, y) (k.shown n y)
@@ -97,18 +99,18 @@ counted-event old new c valid k = elim (cases_Bool old.listed) [
   ]
 ]
 
-counted-left : (old : Machine) (n : Node) → IsCounted old → Leaves old n → counted (Up old) ≤ counted (Down n)
-counted-left old n c l =
+counted-left : (old : Machine) (slots : List (Option Leased)) (n : Node) (workers : ℕ) → IsCounted old → Leaves old n → counted (Up old slots) ≤ counted (Down n workers)
+counted-left old slots n workers c l =
     let reaches : acknowledged old.held ≤ end_of n.log = omega (arith, l.may.above, l.ends) in
     let same : ended_in old.held ≡ ended_count (acknowledged old.held) (commits_of n.log) =
     ap (λ (x : List Record). ended_count (acknowledged old.held) (commits_of x)) l.may.front
     ∙ count-kept n.log l.may.rest (acknowledged old.held) (sym (ap is_valid l.may.front) ∙ c.valid) reaches in
     let more = ended_count-rises (acknowledged old.held) n.said.state.mark.0 l.may.above (commits_of n.log) in
-    let ends = counted-ends old c.published in
+    let ends = counted-ends old slots c.published in
     omega (arith, same, more, ends)
 
-counted-started : (config : Config) (n : Node) (new : Machine) → IsStarted config n new → counted (Down n) ≤ counted (Up new)
-counted-started config n new s = rw (s.listed, s.control, s.log) (omega arith)
+counted-started : (config : Config) (n : Node) (workers : ℕ) (new : Machine) (slots : List (Option Leased)) → IsStarted config n new → counted (Down n workers) ≤ counted (Up new slots)
+counted-started config n workers new slots s = rw (s.listed, s.control, s.log) (omega arith)
 
 -- ---- what is kept
 
@@ -123,42 +125,68 @@ keeps-both a b c p q = record {
 pub keeps-same : (s : Standing) → (control_of s).mark.0 ≤ end_of (log_of s) → Keeps s s
 keeps-same s reaches = record { acknowledged = omega arith; text = agree-same (log_of s) (control_of s).mark.0 reaches; takeover = goes_on_same (control_of s); counted = omega arith }
 
-pub keeps-event : (old new : Machine) → IsCounted old → is_valid new.held.log ≡ true → EngineKeeps old new → Keeps (Up old) (Up new)
-keeps-event old new c valid k = record {
+-- an engine on which nothing was done
+pub stays : (m : Machine) → EngineKeeps m m
+stays m = record {
+  acknowledged = omega arith;
+  more = [];
+  log = sym (append-nil m.held.log);
+  stopped = λ s. s;
+  takeover = goes_on_same m.held.control;
+  pages = refl;
+  limit = refl;
+  warm = λ w. w;
+  ready = λ r. r;
+  listed = λ l. l;
+  published = omega arith;
+  shown = λ n y. absurd (true≢false (sym y ∙ n));
+}
+
+pub keeps-event : (old new : Machine) (slots after : List (Option Leased)) → IsCounted old → is_valid new.held.log ≡ true → EngineKeeps old new → Keeps (Up old slots) (Up new after)
+keeps-event old new slots after c valid k = record {
   acknowledged = k.acknowledged;
   text = record { front = old.held.log; lost = []; more = k.more; old = sym (append-nil old.held.log); new = k.log; reaches = c.stable };
   takeover = k.takeover;
-  counted = counted-event old new c valid k;
+  counted = counted-event old new slots after c valid k;
 }
 
 pub made-still : (config : Config) (old new : Machine) → EngineKeeps old new → IsMadeWith config old → IsMadeWith config new
 made-still config old new k made = record { numbers = made.numbers; pages = k.pages ∙ made.pages; limit = k.limit ∙ made.limit }
 
-keeps-left : (old : Machine) (n : Node) → IsCounted old → Leaves old n → Keeps (Up old) (Down n)
-keeps-left old n c l = record {
+keeps-left : (old : Machine) (slots : List (Option Leased)) (n : Node) (workers : ℕ) → IsCounted old → Leaves old n → Keeps (Up old slots) (Down n workers)
+keeps-left old slots n workers c l = record {
   acknowledged = l.may.above;
   text = record { front = n.log; lost = l.may.rest; more = []; old = l.may.front; new = sym (append-nil n.log); reaches = omega (arith, l.may.above, l.ends) };
   takeover = l.may.goes_on;
-  counted = counted-left old n c l;
+  counted = counted-left old slots n workers c l;
 }
 
-keeps-started : (config : Config) (n : Node) (new : Machine) → end_of n.log ≡ n.said.state.mark.0 → IsStarted config n new → Keeps (Down n) (Up new)
-keeps-started config n new ends s = record {
+keeps-started : (config : Config) (n : Node) (workers : ℕ) (new : Machine) (slots : List (Option Leased)) → end_of n.log ≡ n.said.state.mark.0 → IsStarted config n new
+    → Keeps (Down n workers) (Up new slots)
+keeps-started config n workers new slots ends s = record {
   acknowledged = omega (arith, ap (λ (c : ControlState). c.mark.0) s.control);
   text = record { front = n.log; lost = []; more = []; old = sym (append-nil n.log); new = s.log ∙ sym (append-nil n.log); reaches = omega (arith, ends) };
   takeover = subst (λ (c : ControlState). GoesOn n.said.state c) (sym s.control) (goes_on_same n.said.state);
-  counted = counted-started config n new s;
+  counted = counted-started config n workers new slots s;
 }
 
-pub keeps-opened : (config : Config) (n : Node) (answer : WorldReply) (new : Standing) → end_of n.log ≡ n.said.state.mark.0 → Opens config n answer new → Keeps (Down n) new
+pub keeps-opened : (config : Config) (n : Node) (workers : ℕ) (answer : WorldReply) (new : Standing) → end_of n.log ≡ n.said.state.mark.0 → Opens config n workers answer new
+    → Keeps (Down n workers) new
 unfolding Opens
-keeps-opened config n (reply.Restarted end) (Up new) ends o = keeps-started config n new ends o.1
-keeps-opened config n (reply.Refused cause) (Down left) ends o =
-    subst (λ (l : Node). Keeps (Down n) (Down l)) (sym o.1) (keeps-same (Down n) (omega (arith, ends)))
-keeps-opened config n (reply.Event answer) new ends o = absurd o
-keeps-opened config n (reply.Answered answer) new ends o = absurd o
-keeps-opened config n (reply.Restarted end) (Down left) ends o = absurd o
-keeps-opened config n (reply.Refused cause) (Up new) ends o = absurd o
+keeps-opened config n workers (reply.Restarted end) (Up new slots) ends o = keeps-started config n workers new slots ends o.1
+keeps-opened config n workers (reply.Refused cause) (Down left still) ends o =
+    subst (λ (l : Node). Keeps (Down n workers) (Down l still)) (sym o.1)
+    (subst (λ (w : ℕ). Keeps (Down n workers) (Down n w)) (sym o.2) (keeps-same (Down n workers) (omega (arith, ends))))
+keeps-opened config n workers (reply.Event answer) new ends o = absurd o
+keeps-opened config n workers (reply.Lent number batch) new ends o = absurd o
+keeps-opened config n workers (reply.Redone lsn) new ends o = absurd o
+keeps-opened config n workers reply.Done new ends o = absurd o
+keeps-opened config n workers (reply.Answered answer) new ends o = absurd o
+keeps-opened config n workers (reply.Restarted end) (Down left still) ends o = absurd o
+keeps-opened config n workers (reply.Refused cause) (Up new slots) ends o = absurd o
 
-pub keeps-crash : (config : Config) (old : Machine) (picks : List ℕ) (answer : WorldReply) (new : Standing) → IsCounted old → Crashes config old picks answer new → Keeps (Up old) new
-keeps-crash config old picks answer new counts c = keeps-both (Up old) (Down c.left) new (keeps-left old c.left counts c.leaves) (keeps-opened config c.left answer new c.leaves.ends c.opens)
+pub keeps-crash : (config : Config) (old : Machine) (slots : List (Option Leased)) (picks : List ℕ) (answer : WorldReply) (new : Standing) → IsCounted old
+    → Crashes config old slots picks answer new → Keeps (Up old slots) new
+keeps-crash config old slots picks answer new counts c =
+    keeps-both (Up old slots) (Down c.left (length slots)) new (keeps-left old slots c.left (length slots) counts c.leaves)
+    (keeps-opened config c.left (length slots) answer new c.leaves.ends c.opens)

@@ -3,3 +3,5 @@ pub mod RunLaws
 pub mod StepLaws
 pub mod AskLaws
 mod SealLaws
+mod SlotLaws
+mod ActLaws

@@ -43,12 +43,12 @@ sealed_of log mark seal Sealed t s past = (t.sealed, t.undone, t.parts, t.ends, 
 sealed_of log mark seal Primary t s past = (t.sealed, tail_of t.sealed, t.parts, t.ends, s.1)
 
 pub sealed_in : (s : Standing) → IsTrue s → 1 < phase_byte (control_of s).phase → (sealed : List Record) × IsSealedAt s sealed
-sealed_in (Up m) is past =
+sealed_in (Up m slots) is past =
     let c = m.held.control in
     let taken : IsTakenFrom m.held.log c = is.0.each c (0, omega arith, refl) in
     let f = sealed_of m.held.log c.mark.0 c.seal.0 c.phase taken is.2 past in
     (f.0, record { past = past; rest = f.1; parts = f.2; ends = f.3; acknowledged = f.4 })
-sealed_in (Down n) is past =
+sealed_in (Down n workers) is past =
     let c = n.said.state in
     let f = sealed_of n.log c.mark.0 c.seal.0 c.phase is.0 is.1 past in
     (f.0, record { past = past; rest = f.1; parts = f.2; ends = f.3; acknowledged = f.4 })

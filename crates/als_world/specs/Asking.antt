@@ -14,23 +14,24 @@ use Rattle.als_world.specs.Standing.{Standing, Up, Down, Shows}
 
 -- the engine while the world is up, and none while it is down
 unfoldable pub IsEngineOf : Option (Bor Serving) → Standing → Type 0
-IsEngineOf (Some engine) (Up m) = m ≡ engine.now.machine
-IsEngineOf None (Down n) = ⊤
-IsEngineOf (Some engine) (Down n) = ⊥
-IsEngineOf None (Up m) = ⊥
+IsEngineOf (Some engine) (Up m leases) = m ≡ engine.now.machine
+IsEngineOf None (Down n workers) = ⊤
+IsEngineOf (Some engine) (Down n workers) = ⊥
+IsEngineOf None (Up m leases) = ⊥
 
--- The page as the engine shows it; none past the page count, and then nothing changes. While the world is down, Stopped, and nothing changes.
+-- The page as the engine shows it; none past the page count, and then nothing changes. While the world is down, Stopped, and nothing changes. The
+-- slots stay as they are.
 unfoldable pub TellsPage : Standing → ℕ → Result (Option Page) Fault → Standing → Type 0
-TellsPage (Up old) page (Ok (Some shown)) (Up new) = ShowsPage old page (Ok shown) new
-TellsPage (Up old) page (Ok None) (Up new) = (old.held.pages ≤ page) × (new ≡ old)
-TellsPage (Up old) page (Err cause) (Up new) = ShowsPage old page (Err cause) new
-TellsPage (Down old) page (Err cause) (Down new) = (cause ≡ fault.Stopped) × (new ≡ old)
+TellsPage (Up old slots) page (Ok (Some shown)) (Up new after) = ShowsPage old page (Ok shown) new × (after ≡ slots)
+TellsPage (Up old slots) page (Ok None) (Up new after) = (old.held.pages ≤ page) × (new ≡ old) × (after ≡ slots)
+TellsPage (Up old slots) page (Err cause) (Up new after) = ShowsPage old page (Err cause) new × (after ≡ slots)
+TellsPage (Down old slots) page (Err cause) (Down new after) = (cause ≡ fault.Stopped) × (new ≡ old) × (after ≡ slots)
 TellsPage _ _ _ _ = ⊥
 
--- The record as the engine reads it. While the world is down, Stopped, and nothing changes.
+-- The record as the engine reads it. While the world is down, Stopped, and nothing changes. The slots stay as they are.
 unfoldable pub TellsRecord : Standing → Lsn → Result (Option Record) Fault → Standing → Type 0
-TellsRecord (Up old) lsn answer (Up new) = Reads old lsn answer new
-TellsRecord (Down old) lsn (Err cause) (Down new) = (cause ≡ fault.Stopped) × (new ≡ old)
+TellsRecord (Up old slots) lsn answer (Up new after) = Reads old lsn answer new × (after ≡ slots)
+TellsRecord (Down old slots) lsn (Err cause) (Down new after) = (cause ≡ fault.Stopped) × (new ≡ old) × (after ≡ slots)
 TellsRecord _ _ _ _ = ⊥
 
 -- For what a world shows there is what it shows once it has told so much.

@@ -1,3 +1,5 @@
+pub mod Slots
 pub mod Standing
+pub mod Leasing
 pub mod Runs
 pub mod Asking

@@ -1,13 +1,14 @@
--- What a world shows: the small machine while it is up, and what its devices hold while it is down.
-use Rattle.std.specs.Prelude.{◌≡◌, ℕ, true, false, List, ◌++◌, ◌<◌, ◌≤◌, if◌then◌else◌}
+-- What a world shows: the small machine and the worker slots while it is up; what its devices hold while it is down.
+use Rattle.std.specs.Prelude.{◌≡◌, ℕ, true, false, List, ◌++◌, ◌<◌, ◌≤◌, if◌then◌else◌, Option}
 use Rattle.als_record.specs.declared.record.Record.{Record}
 use Rattle.als_record.specs.LogText.{end_of}
 use Rattle.als_record.specs.Commits.{commits_of}
 use Rattle.als_disk.specs.Slot.{Slot}
+use Rattle.als_lease.specs.Lease.{Leased}
 use Rattle.als_ckpt.specs.declared.control_state.ControlState.{ControlState}
 use Rattle.als_ckpt.specs.Control.{phase_byte}
 use Rattle.als_reopen.specs.Taken.{IsTakenFrom}
-use Rattle.als_view.specs.Showing.{ended_count}
+use Rattle.als_commits.specs.Counting.{ended_count}
 use Rattle.als_store.specs.Takeover.{GoesOn, IsUnderTakeover, IsFinished, IsSealOf, is_primary}
 use Rattle.als_engine.specs.declared.config.Config.{Config}
 use Rattle.als_engine.specs.Machine.{Machine}
@@ -17,31 +18,35 @@ use Rattle.als_engine.specs.Restarts.{IsWarm, IsMadeWith, StillHolds}
 use Rattle.als_world.specs.declared.place.Place.{Place}
 use Rattle.als_world.specs.declared.place.Place.TheVariants as place
 use Rattle.als_world.specs.declared.world.World.{World}
+use Rattle.als_world.specs.Slots.{no_leases}
 
+-- While a world is up it has leases in its worker slots; while it is down it has so many slots, all of them empty.
 pub data Standing : Type 0 where
-  Up : Machine → Standing
-  Down : Node → Standing
+  Up : Machine → List (Option Leased) → Standing
+  Down : Node → ℕ → Standing
 
--- An engine is shown by its machine, where it was made over sound devices and with the world's configuration; devices by what they hold.
-unfoldable pub Shown : {D : Type 0} → (D → ℕ → Slot) → (D → ℕ) → Config → Place D → Standing → Type 0
-Shown slot count config (place.Up engine) (Up m) = (m ≡ engine.machine) × IsMadeWith config m × IsWarm m
-Shown slot count config (place.Down disks) (Down n) =
+-- An engine is shown by its machine, where it was made over sound devices and with the world's configuration; devices by what they hold. Slots are
+-- shown as they are.
+unfoldable pub Shown : {D : Type 0} → (D → ℕ → Slot) → (D → ℕ) → Config → List (Option Leased) → Place D → Standing → Type 0
+Shown slot count config slots (place.Up engine) (Up m leases) = (m ≡ engine.machine) × IsMadeWith config m × IsWarm m × (leases ≡ slots)
+Shown slot count config slots (place.Down disks) (Down n workers) =
     StillHolds config (count disks.log) (count disks.control) (count disks.pages) (slot disks.log) (slot disks.control) (slot disks.pages) n
-Shown slot count config (place.Up engine) (Down n) = ⊥
-Shown slot count config (place.Down disks) (Up m) = ⊥
+    × (slots ≡ no_leases workers)
+Shown slot count config slots (place.Up engine) (Down n workers) = ⊥
+Shown slot count config slots (place.Down disks) (Up m leases) = ⊥
 
 unfoldable pub Shows : {D : Type 0} → (D → ℕ → Slot) → (D → ℕ) → World D → Standing → Type 0
-Shows slot count world standing = Shown slot count world.config world.place standing
+Shows slot count world standing = Shown slot count world.config world.slots world.place standing
 
 -- the held log, and the one that devices hold
 abbrev pub log_of : Standing → List Record
-log_of (Up m) = m.held.log
-log_of (Down n) = n.log
+log_of (Up m leases) = m.held.log
+log_of (Down n workers) = n.log
 
 -- the synced control state
 abbrev pub control_of : Standing → ControlState
-control_of (Up m) = m.held.control
-control_of (Down n) = n.said.state
+control_of (Up m leases) = m.held.control
+control_of (Down n workers) = n.said.state
 
 -- the log reaches the acknowledged LSN
 abbrev pub IsSteady : Standing → Type 0
@@ -50,8 +55,8 @@ IsSteady s = (control_of s).mark.0 ≤ end_of (log_of s)
 -- How many commits a reader may have been told of: those published, where there is a list; else those whose records end at or below what is
 -- acknowledged.
 abbrev pub counted : Standing → ℕ
-counted (Up m) = if m.listed then m.published else ended_in m.held
-counted (Down n) = ended_count n.said.state.mark.0 (commits_of n.log)
+counted (Up m leases) = if m.listed then m.published else ended_in m.held
+counted (Down n workers) = ended_count n.said.state.mark.0 (commits_of n.log)
 
 -- The records of two logs agree up to an offset: the logs have a front in common that reaches it.
 pub record Agree (before after : List Record) (offset : ℕ) : Type 0 where
@@ -82,5 +87,5 @@ pub record Keeps (old new : Standing) : Type 0 where
 -- acknowledged. A finished takeover
 -- holds exactly what the committed transactions of the sealed log left, unless the engine is recovering.
 abbrev pub IsTrue : Standing → Type 0
-IsTrue (Up m) = IsUnderTakeover m.held × (m.held.recovering ≡ false → is_primary m.held ≡ true → IsFinished m.held) × IsSealOf m.held.control
-IsTrue (Down n) = IsTakenFrom n.log n.said.state × IsSealOf n.said.state
+IsTrue (Up m leases) = IsUnderTakeover m.held × (m.held.recovering ≡ false → is_primary m.held ≡ true → IsFinished m.held) × IsSealOf m.held.control
+IsTrue (Down n workers) = IsTakenFrom n.log n.said.state × IsSealOf n.said.state

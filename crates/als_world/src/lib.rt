@@ -3,6 +3,12 @@
 
 // One step of a run, and its reply.
 mod step;
+// The worker slots.
+mod slots;
+// Steps over worker slots.
+mod leasing;
+// A step of a standby that stays up.
+mod acting;
 // A standby that is up, or the devices that it left.
 mod place;
 // A standby that is crashed and begun again.

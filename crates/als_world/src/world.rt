@@ -1,19 +1,23 @@
-ghost use Rattle.std.specs.Prelude.{◌≡◌, ◌+◌, IfOk, IfErr};
+ghost use Rattle.std.specs.Prelude.{◌≡◌, ◌≤◌, ◌+◌, IfOk, IfErr};
 ghost use Rattle.als_engine.specs.declared.fault.Fault.TheVariants as fault;
 ghost use Rattle.als_engine.specs.Formatting.{FormatsWorld, RefusesFormat};
 ghost use Rattle.als_engine.specs.Machine.{Machine};
 ghost use Rattle.als_engine.specs.Restarts.{IsMadeWith, IsWarm};
+ghost use Rattle.als_world.specs.declared.place.Place.TheVariants as place;
+ghost use Rattle.als_world.specs.Slots.{no_leases};
 ghost use Rattle.als_world.specs.Standing.{Standing, Up, Shows, IsSteady, IsTrue};
 
 use crate::place::Place;
+use crate::slots::Slots;
 use als_disk::BlockDisk;
-use als_engine::{Config, Disks, Engine, Refused};
+use als_engine::{Config, Disks, Engine, Fault, Refused};
 use std::alloc::Global;
 
-/// What a run of steps goes over: a standby that is up, or the devices that it left. It knows with
-/// what a standby begins again.
+/// What a run of steps goes over: a standby that is up, or the devices that it left, and the slots
+/// of its workers. It knows with what a standby begins again.
 pub struct World<D: BlockDisk> {
     pub(crate) config: Config,
+    pub(crate) slots: Slots,
     pub(crate) place: Place<D>,
 }
 
@@ -21,54 +25,83 @@ pub struct World<D: BlockDisk> {
 // here.
 impl<D: BlockDisk + Drop> Drop for World<D> {
     fn drop(self) {
-        let World { config: _, place } = self;
+        let World {
+            config: _,
+            slots,
+            place,
+        } = self;
+        drop(slots);
         drop(place);
     }
 }
 
 impl<D: BlockDisk> World<D> {
-    /// A world with this engine, which was made with this configuration.
-    pub fn new(engine: Engine<D>, config: Config) -> World<D>
+    /// A world with this engine, which was made with this configuration, and with empty slots for so
+    /// many workers, 1 to 8. Where there is no memory for the slots the engine comes back.
+    pub fn new(
+        alloc: Global,
+        engine: Engine<D>,
+        config: Config,
+        workers: usize,
+    ) -> Result<World<D>, Engine<D>>
+        requires some { 1 ≤ workers }
+        requires few { workers ≤ 8 }
         ensures shows { IsMadeWith config engine.machine → IsWarm engine.machine
-            → Shows D.slot D.block_count result (Up engine.machine) }
+            → IfOk result (λ w. Shows D.slot D.block_count w
+            (Up engine.machine (no_leases workers))) }
+        ensures config { IfOk result (λ w. w.config ≡ config) }
+        ensures err { IfErr result (λ e. e ≡ engine) }
     {
-        World {
-            config,
-            place: Place::Up(engine),
+        match Slots::new(alloc, workers) {
+            Ok(slots) => Ok(up(config, slots, engine)),
+            Err(_) => Err(engine),
         }
     }
 
-    /// A world with an engine over a new database, which begins again with this configuration. It
-    /// shows the machine of a new database: from there a run begins.
+    /// A world with an engine over a new database, which begins again with this configuration, and
+    /// with empty slots for so many workers, 1 to 8. It shows the machine of a new database: from
+    /// there a run begins.
     ///
     /// BadConfig, Memory, Device: as the engine's `format` says. The devices come back.
-    pub fn format(alloc: Global, disks: Disks<D>, config: Config) -> Result<World<D>, Refused<D>>
+    pub fn format(
+        alloc: Global,
+        disks: Disks<D>,
+        config: Config,
+        workers: usize,
+    ) -> Result<World<D>, Refused<D>>
+        requires some { 1 ≤ workers }
+        requires few { workers ≤ 8 }
         ensures shows { IfOk result (λ w. (m : Machine)
             × FormatsWorld config (D.block_count disks.log) (D.block_count disks.pages)
             (D.failures disks.pages) (D.attempts disks.pages)
             (D.failures disks.log + D.failures disks.control + D.failures disks.pages) m
-            × Shows D.slot D.block_count w (Up m)) }
+            × Shows D.slot D.block_count w (Up m (no_leases workers))) }
         ensures config { IfOk result (λ w. w.config ≡ config) }
         ensures fault { IfErr result (λ r. RefusesFormat config (D.block_count disks.log)
             (D.block_count disks.control) (D.block_count disks.pages) r.fault) }
         ensures same { IfErr result (λ r. (r.fault ≡ fault.Device → ⊥) → r.disks ≡ disks) }
     {
+        let Ok(slots) = Slots::new(alloc, workers) else {
+            return Err(unformatted(config, disks));
+        };
         match Engine::format(alloc, disks, config) {
-            Ok(engine) => {
-                let place = Place::Up(engine);
-                Ok(World { config, place })
-            }
+            Ok(engine) => Ok(up(config, slots, engine)),
             Err(refused) => Err(refused),
         }
     }
 
-    /// Its two parts.
-    pub(crate) fn into_parts(self) -> (Config, Place<D>)
+    /// Its parts.
+    pub(crate) fn into_parts(self) -> (Config, Slots, Place<D>)
         ensures config { result.0 ≡ self.config }
-        ensures place { result.1 ≡ self.place }
+        ensures slots { result.1 ≡ self.slots }
+        ensures place { result.2 ≡ self.place }
     {
-        let World { config, place } = self;
-        (config, place)
+        let World {
+            config,
+            slots,
+            place,
+        } = self;
+        (config, slots, place)
     }
 
     /// For the prover alone: what holds of all that a world shows.
@@ -83,4 +116,41 @@ impl<D: BlockDisk> World<D> {
             Place::Down(_) => {}
         }
     }
+}
+
+/// A world that is up.
+pub(crate) fn up<D: BlockDisk>(config: Config, slots: Slots, engine: Engine<D>) -> World<D>
+    ensures { result ≡ record { config = config; slots = slots; place = place.Up engine } }
+{
+    World {
+        config,
+        slots,
+        place: Place::Up(engine),
+    }
+}
+
+/// A world that is down.
+pub(crate) fn down<D: BlockDisk>(config: Config, slots: Slots, disks: Disks<D>) -> World<D>
+    ensures { result ≡ record { config = config; slots = slots; place = place.Down disks } }
+{
+    World {
+        config,
+        slots,
+        place: Place::Down(disks),
+    }
+}
+
+/// Devices that are not formatted, since there is no memory for the slots: the configuration is
+/// looked at first.
+fn unformatted<D: BlockDisk>(config: Config, disks: Disks<D>) -> Refused<D>
+    ensures fault { RefusesFormat config (D.block_count disks.log) (D.block_count disks.control)
+        (D.block_count disks.pages) result.fault }
+    ensures same { result.disks ≡ disks }
+{
+    let fault = if config.fits(&disks) {
+        Fault::Memory
+    } else {
+        Fault::BadConfig
+    };
+    Refused { disks, fault }
 }

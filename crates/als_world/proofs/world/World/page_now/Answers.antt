@@ -12,7 +12,7 @@ pub returns-then-page-pages-clause-tells : goal.returns-then-page-pages-clause-t
 returns-then-page-pages-clause-tells g c =
     let engine = c.in-Up.engine in
     tells-up g.D.BlockDisk.slot g.D.BlockDisk.block_count c.args.self.now (λ (a : Standing). λ (b : Standing). TellsPage a c.args.page (Ok None) b) engine engine c.in-Up.is
-    (record { pages = refl; limit = refl; warm = λ w. w }) (told-no-page engine.machine c.args.page (omega (arith, c.pages.ensures, c.if-page-pages.true)))
+    (record { pages = refl; limit = refl; warm = λ w. w }) (told-no-page engine.machine c.args.self.now.slots c.args.page (omega (arith, c.pages.ensures, c.if-page-pages.true)))
 
 pub returns-in-Ok-clause-tells : goal.returns-in-Ok-clause-tells
 returns-in-Ok-clause-tells g c =
@@ -20,7 +20,7 @@ returns-in-Ok-clause-tells g c =
     let new = c.page_now.new.self in
     let shows = subst (λ (r : Result Page Fault). ShowsPage old.machine c.args.page r new.machine) c.in-Ok.is c.page_now.ensures.shows in
     tells-up g.D.BlockDisk.slot g.D.BlockDisk.block_count c.args.self.now (λ (a : Standing). λ (b : Standing). TellsPage a c.args.page (Ok (Some c.in-Ok.shown)) b) old new c.in-Up.is
-    (stays-shown old.machine c.args.page (Ok c.in-Ok.shown) new.machine shows) (told-page old.machine c.args.page c.in-Ok.shown new.machine shows)
+    (stays-shown old.machine c.args.page (Ok c.in-Ok.shown) new.machine shows) (told-page old.machine c.args.self.now.slots c.args.page c.in-Ok.shown new.machine shows)
 
 pub returns-in-Err-clause-tells : goal.returns-in-Err-clause-tells
 returns-in-Err-clause-tells g c =
@@ -28,7 +28,7 @@ returns-in-Err-clause-tells g c =
     let new = c.page_now.new.self in
     let shows = subst (λ (r : Result Page Fault). ShowsPage old.machine c.args.page r new.machine) c.in-Err.is c.page_now.ensures.shows in
     tells-up g.D.BlockDisk.slot g.D.BlockDisk.block_count c.args.self.now (λ (a : Standing). λ (b : Standing). TellsPage a c.args.page (Err c.in-Err.fault) b) old new c.in-Up.is
-    (stays-shown old.machine c.args.page (Err c.in-Err.fault) new.machine shows) (told-fault old.machine c.args.page c.in-Err.fault new.machine shows)
+    (stays-shown old.machine c.args.page (Err c.in-Err.fault) new.machine shows) (told-fault old.machine c.args.self.now.slots c.args.page c.in-Err.fault new.machine shows)
 
 pub returns-in-Down-clause-tells : goal.returns-in-Down-clause-tells
 returns-in-Down-clause-tells g c =

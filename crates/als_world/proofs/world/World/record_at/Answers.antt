@@ -10,7 +10,7 @@ returns-in-Up-clause-tells g c =
     let old = c.in-Up.engine in
     let new = c.record_at.new.self in
     tells-up g.D.BlockDisk.slot g.D.BlockDisk.block_count c.args.self.now (λ (a : Standing). λ (b : Standing). TellsRecord a c.args.lsn c.record_at.result b) old new c.in-Up.is
-    (stays-read old.machine c.args.lsn c.record_at.result new.machine c.record_at.ensures.reads) (told-record old.machine c.args.lsn c.record_at.result new.machine c.record_at.ensures.reads)
+    (stays-read old.machine c.args.lsn c.record_at.result new.machine c.record_at.ensures.reads) (told-record old.machine c.args.self.now.slots c.args.lsn c.record_at.result new.machine c.record_at.ensures.reads)
 
 pub returns-in-Down-clause-tells : goal.returns-in-Down-clause-tells
 returns-in-Down-clause-tells g c =

@@ -4,13 +4,13 @@ use Rattle.als_world.proofs.StepLaws.{all-up, all-down}
 use Rattle.als_world.proofs.world.World.settle.Goals as goal
 
 pub returns-in-Up-clause-steady : goal.returns-in-Up-clause-steady
-returns-in-Up-clause-steady g c = all-up g.D.BlockDisk.slot g.D.BlockDisk.block_count c.args.self.now IsSteady c.in-Up.engine c.in-Up.is (λ warm. c.status.ensures.stable)
+returns-in-Up-clause-steady g c = all-up g.D.BlockDisk.slot g.D.BlockDisk.block_count c.args.self.now IsSteady c.in-Up.engine c.in-Up.is (λ slots warm. c.status.ensures.stable)
 
 pub returns-in-Up-clause-whole : goal.returns-in-Up-clause-whole
-returns-in-Up-clause-whole g c = all-up g.D.BlockDisk.slot g.D.BlockDisk.block_count c.args.self.now IsTrue c.in-Up.engine c.in-Up.is (λ warm. (c.status.ensures.taken warm, c.status.ensures.finished warm, c.status.ensures.seal))
+returns-in-Up-clause-whole g c = all-up g.D.BlockDisk.slot g.D.BlockDisk.block_count c.args.self.now IsTrue c.in-Up.engine c.in-Up.is (λ slots warm. (c.status.ensures.taken warm, c.status.ensures.finished warm, c.status.ensures.seal))
 
 pub returns-in-Down-clause-steady : goal.returns-in-Down-clause-steady
-returns-in-Down-clause-steady g c = all-down g.D.BlockDisk.slot g.D.BlockDisk.block_count c.args.self.now IsSteady c.in-Down.field-0 c.in-Down.is (λ n held. omega (arith, held.stays.node.held.ends))
+returns-in-Down-clause-steady g c = all-down g.D.BlockDisk.slot g.D.BlockDisk.block_count c.args.self.now IsSteady c.in-Down.field-0 c.in-Down.is (λ n workers held. omega (arith, held.stays.node.held.ends))
 
 pub returns-in-Down-clause-whole : goal.returns-in-Down-clause-whole
-returns-in-Down-clause-whole g c = all-down g.D.BlockDisk.slot g.D.BlockDisk.block_count c.args.self.now IsTrue c.in-Down.field-0 c.in-Down.is (λ n held. (held.stays.node.taken, held.stays.node.held.control.fits.seal))
+returns-in-Down-clause-whole g c = all-down g.D.BlockDisk.slot g.D.BlockDisk.block_count c.args.self.now IsTrue c.in-Down.field-0 c.in-Down.is (λ n workers held. (held.stays.node.taken, held.stays.node.held.control.fits.seal))
