@@ -1,7 +1,6 @@
 -- What the end of a recovery leaves.
-use Rattle.std.proofs.Common.{◌≡◌, Bool, true, false, Option, Some, None, Result, Ok, Err, [], ◌∷◌, refl, sym, ap, subst, ◌∙◌, inl, inr}
+use Rattle.std.proofs.Common.{◌≡◌, Bool, true, false, Result, Ok, Err, [], ◌∷◌, refl, sym, subst, ◌∙◌, inl, inr}
 use Rattle.std.specs.Prelude.{MatchOption, not, nat_lt}
-use Rattle.als_pool.specs.Queues.{WaitsFirst}
 use Rattle.als_store.specs.Stored.{pending_of}
 use Rattle.als_engine.specs.declared.fault.Fault.{Fault}
 use Rattle.als_engine.specs.declared.fault.Fault.TheVariants.{NothingToDo, Stopped, NotDrained}

@@ -1,8 +1,10 @@
-ghost use Rattle.std.specs.Prelude.{OnOk, IfErr};
-ghost use Rattle.als_drive.specs.Driving.{IsDrained, OnlyRedoes, RedoRefused};
+ghost use Rattle.std.specs.Prelude.{◌≡◌, true, OnOk, IfErr};
+ghost use Rattle.als_lease.specs.Lease.{is_finished, with_done};
+ghost use Rattle.als_drive.specs.Driving.{IsDrained, OnlyRedoes, RedoRefused, IsOut};
 
 use crate::progress::{Progress, Silent};
 use als_engine::{Events, Fault};
+use als_lease::PageLease;
 
 /// After so many redos it is told again how many changes wait.
 const TOLD_EACH: u64 = 64;
@@ -49,15 +51,40 @@ pub fn drain_telling<E: Events, P: Progress>(events: &mut E, progress: &mut P) -
     Err(Fault::Backlog)
 }
 
-/// Redoes the first changes that a page waits for. Its image may have them all.
-#[tactic(auto, using(crate::proofs::Redoing::apply_redoes, crate::proofs::Redoing::apply_refused))]
+/// Redoes the first changes that a page waits for: lends it, redoes the lease and gives it back. Its
+/// image may have them all.
+#[tactic(auto, using(crate::proofs::Redoing::lend_redoes, crate::proofs::Redoing::lend_refused, crate::proofs::Redoing::lent_is_out, crate::proofs::Redoing::redoes_more))]
 fn redo<E: Events>(events: &mut E, page: u32) -> Result<(), Fault>
     ensures keeps { E.alone → OnlyRedoes (E.machine events.old) (E.machine events.new) }
     ensures fails { IfErr result (λ f. E.alone → RedoRefused f (E.machine events.new)) }
 {
-    match events.apply(page) {
-        Ok(_) => Ok(()),
+    match events.lend(page) {
+        Ok(lease) => redo_lease(events, lease),
         Err(Fault::NothingToDo) => Ok(()),
         Err(fault) => Err(fault),
     }
+}
+
+/// Redoes a lease that is out, and gives it back.
+#[tactic(auto, using(crate::proofs::Redoing::give_redoes, crate::proofs::Redoing::give_taken, crate::proofs::Redoing::still_out))]
+fn redo_lease<E: Events>(events: &mut E, lease: PageLease) -> Result<(), Fault>
+    requires { E.alone → IsOut (E.machine events.old) lease }
+    ensures keeps { E.alone → OnlyRedoes (E.machine events.old) (E.machine events.new) }
+    // It is always taken back.
+    ensures taken { IfErr result (λ _. E.alone → ⊥) }
+{
+    match events.give(redone(lease)) {
+        Ok(()) => Ok(()),
+        Err(refused) => Err(refused.fault),
+    }
+}
+
+/// Redoes all changes of a lease.
+fn redone(lease: PageLease) -> PageLease
+    ensures finished { is_finished result ≡ true }
+    ensures same { result ≡ with_done lease result.done }
+{
+    let mut lease = lease;
+    'redo: while lease.redo_next() {}
+    lease
 }

@@ -1,7 +1,8 @@
 ghost use Rattle.std.specs.Prelude.{◌≡◌};
 
 use als_disk::{BlockDisk, MemDisk};
-use als_engine::{Config, Disks};
+use als_engine::{Config, Disks, Engine, Fault};
+use als_record::Lsn;
 use als_ship::LogBytes;
 use std::alloc::Global;
 use std::io;
@@ -51,6 +52,24 @@ pub fn devices_in_memory(alloc: Global) -> Disks<MemDisk>
         log: MemDisk::new(alloc, 8),
         control: MemDisk::new(alloc, 321),
         pages: MemDisk::new(alloc, 4),
+    }
+}
+
+/// Lends a page, redoes its lease and gives it back: the page_LSN that it then has, or what the
+/// engine refuses.
+pub fn redo<D: BlockDisk>(engine: &mut Engine<D>, page: u32) -> Result<Lsn, Fault> {
+    let lease = engine.lend(page)?;
+    let mut lease = lease;
+    // A lease has at most 64 changes.
+    for _ in 0..64 {
+        if !lease.redo_next() {
+            break;
+        }
+    }
+    let lsn = lease.working().lsn();
+    match engine.give(lease) {
+        Ok(()) => Ok(lsn),
+        Err(refused) => Err(refused.fault),
     }
 }
 

@@ -5,7 +5,7 @@ mod reading;
 // A recovery, and its end.
 mod recovery;
 
-use crate::common::{CONFIG, TEXT, devices_in_memory};
+use crate::common::{CONFIG, TEXT, devices_in_memory, redo};
 use als_disk::{BlockDisk, FailingDisk, Fuse, MemDisk};
 use als_engine::{
     Answer, Config, Disks, Engine, Fault, Fed, FeedFault, Reply, State, Status, Step,
@@ -132,12 +132,12 @@ fn takes_pieces(rt: &impl Abort, alloc: Global) -> bool {
     assert!(rt; status.acknowledged == Lsn(16));
     assert!(rt; status.pending == 1);
     assert!(rt; engine.next_pending(0) == Some(0));
-    let applied = engine.apply(0);
-    if applied == Err(Fault::Memory) || engine.pages() == 0 {
+    let redone = redo(&mut engine, 0);
+    if redone == Err(Fault::Memory) || engine.pages() == 0 {
         return false;
     }
-    assert!(rt; applied == Ok(Lsn(16)));
-    assert!(rt; engine.apply(0) == Err(Fault::NothingToDo));
+    assert!(rt; redone == Ok(Lsn(16)));
+    assert!(rt; redo(&mut engine, 0) == Err(Fault::NothingToDo));
     assert!(rt; engine.flush(0) == Err(Fault::LogBehind));
     assert!(rt; engine.dirty(0).is_some());
     assert!(rt; engine.dirty(1).is_none());
@@ -202,9 +202,9 @@ fn acknowledges(rt: &impl Abort, alloc: Global) -> bool {
         Step::LogSync,
         Step::MarkWrite,
         Step::ControlSync,
-        Step::Apply(0),
+        Step::Recall(0),
         Step::Resync,
-        Step::Apply(9),
+        Step::Recall(9),
     ];
     let wanted = [
         Reply::Fed(Fed {
@@ -218,7 +218,7 @@ fn acknowledges(rt: &impl Abort, alloc: Global) -> bool {
         Reply::Done,
         Reply::Done,
         Reply::Acknowledged(Lsn(108)),
-        Reply::Applied(Lsn(16)),
+        Reply::Refused(Fault::NothingToDo),
         Reply::Done,
         Reply::Refused(Fault::NothingToDo),
     ];
@@ -260,7 +260,7 @@ fn stops(rt: &impl Abort, alloc: Global, log: u64, control: u64, wanted: &[Reply
         Step::ControlSync,
         Step::Feed(&text[63..]),
         Step::Resync,
-        Step::Apply(0),
+        Step::Recall(0),
         Step::LogWrite,
         Step::LogSync,
         Step::MarkWrite,

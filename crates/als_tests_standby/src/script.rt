@@ -1,6 +1,6 @@
 use als_script::{
-    CombinedLine, Explanation, FIRST_OF_MAKE, FIRST_OF_SIM, RECORD_FORMS, STEP_FORMS, StepLine,
-    Wanted, explain,
+    CombinedLine, Explanation, FIRST_OF_MAKE, FIRST_OF_SIM, LeaseLine, RECORD_FORMS, STEP_FORMS,
+    StepLine, Wanted, explain,
 };
 
 // A line's first wrong word, and what is wanted there; (0, End) of a good line.
@@ -25,7 +25,7 @@ const NUMBER_8: Wanted = Wanted::Number { label: "", bits: 8 };
 
 #[test]
 fn a_wrong_word_is_found(rt: HostRuntime) {
-    let steps: [(&str, (usize, Wanted)); 14] = [
+    let steps: [(&str, (usize, Wanted)); 17] = [
         ("feed 16 108", (0, Wanted::End)),
         ("feed 16", (3, NUMBER_64)),
         ("feed 16 x", (3, NUMBER_64)),
@@ -33,7 +33,10 @@ fn a_wrong_word_is_found(rt: HostRuntime) {
         ("feed 16 17 18", (4, Wanted::End)),
         ("feed  16 17", (2, NUMBER_64)),
         ("fed 16 17", (1, Wanted::Command)),
-        ("apply 4294967296", (2, NUMBER_32)),
+        ("lends 0 1", (1, Wanted::Command)),
+        ("recall 4294967296", (2, NUMBER_32)),
+        ("lend 0 1", (0, Wanted::End)),
+        ("hand 0", (3, NUMBER_64)),
         ("read 0 256", (3, NUMBER_8)),
         ("crash", (2, Wanted::Word("old"))),
         ("crash 0 255 1", (0, Wanted::End)),
@@ -83,4 +86,45 @@ fn a_line_is_what_it_says(rt: HostRuntime) {
     assert!(rt; matches!(StepLine::parse("undo"), Some(StepLine::UndoOne)));
     assert!(rt; StepLine::parse("undo ").is_none());
     assert!(rt; matches!(CombinedLine::parse("force"), Some(CombinedLine::Force)));
+}
+
+#[test]
+fn a_lease_line_is_what_it_says(rt: HostRuntime) {
+    assert!(rt;
+        matches!(
+            LeaseLine::parse("lend 3 1"),
+            Some(LeaseLine::Lend { page: 3, slot: 1 })
+        )
+    );
+    assert!(rt;
+        matches!(
+            LeaseLine::parse("redo 1"),
+            Some(LeaseLine::Redo { slot: 1 })
+        )
+    );
+    assert!(rt;
+        matches!(
+            LeaseLine::parse("hand 1 0"),
+            Some(LeaseLine::Hand { from: 1, to: 0 })
+        )
+    );
+    assert!(rt;
+        matches!(
+            LeaseLine::parse("give 0"),
+            Some(LeaseLine::Give { slot: 0 })
+        )
+    );
+    assert!(rt;
+        matches!(
+            LeaseLine::parse("drop 0"),
+            Some(LeaseLine::Drop { slot: 0 })
+        )
+    );
+    assert!(rt;
+        matches!(
+            StepLine::parse("recall 3"),
+            Some(StepLine::Recall { page: 3 })
+        )
+    );
+    assert!(rt; LeaseLine::parse("redo 18446744073709551616").is_none());
 }

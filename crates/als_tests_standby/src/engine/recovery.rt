@@ -23,7 +23,7 @@ fn recovers(rt: &impl Abort, alloc: Global) -> Option<()> {
     assert!(rt; engine.status().state == State::Recovering);
     assert!(rt; engine.resync() == Err(Fault::Recovering));
     assert!(rt; engine.ready() == Err(Fault::NotDrained));
-    engine.apply(0).ok()?;
+    redo(&mut engine, 0).ok()?;
     assert!(rt; engine.ready() == Ok(()));
     assert!(rt; engine.ready() == Err(Fault::NothingToDo));
     assert!(rt; engine.status().state == State::Following);

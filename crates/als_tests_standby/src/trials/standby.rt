@@ -1,4 +1,5 @@
 use super::text::{OFFSETS, page_block, record_bytes};
+use crate::common::redo;
 use als_disk::MemDisk;
 use als_engine::{Config, Disks, Engine, Fault, Reply, Step};
 use als_record::{Lsn, encode};
@@ -27,14 +28,34 @@ pub fn standby(alloc: Global, blocks: u64) -> Option<Engine<MemDisk>> {
     }
 }
 
-/// Takes the steps. None: memory was refused, also to a device; nothing else refuses one.
-pub fn take(rt: &impl Abort, engine: &mut Engine<MemDisk>, steps: &[Step]) -> Option<()> {
-    for step in steps {
-        match engine.step(step) {
+/// A part of a trial: an event, or a lease of a page that is lent, redone and given back.
+#[derive(Clone, Copy, Debug)]
+pub enum Act<'a> {
+    Step(Step<'a>),
+    Redo(u32),
+}
+
+impl<'a> Act<'a> {
+    /// What a standby answers.
+    pub fn over(&self, engine: &mut Engine<MemDisk>) -> Reply {
+        match self {
+            Act::Step(step) => engine.step(step),
+            Act::Redo(page) => match redo(engine, *page) {
+                Ok(_) => Reply::Done,
+                Err(fault) => Reply::Refused(fault),
+            },
+        }
+    }
+}
+
+/// Makes the acts. None: memory was refused, also to a device; nothing else refuses one.
+pub fn take(rt: &impl Abort, engine: &mut Engine<MemDisk>, acts: &[Act]) -> Option<()> {
+    for act in acts {
+        match act.over(engine) {
             Reply::Refused(fault) => {
                 assert!(rt;
                     fault == Fault::Memory || fault == Fault::Device,
-                    "{step:?} was refused: {fault}"
+                    "{act:?} was refused: {fault}"
                 );
                 return None;
             }
@@ -86,7 +107,7 @@ fn holds_records(
 
 /// Redoes all that waits for page 0. None: memory was refused.
 fn drain(rt: &impl Abort, engine: &mut Engine<MemDisk>) -> Option<()> {
-    match engine.apply(0) {
+    match redo(engine, 0) {
         Ok(_) | Err(Fault::NothingToDo) => {}
         Err(fault) => {
             assert!(rt; fault == Fault::Memory);

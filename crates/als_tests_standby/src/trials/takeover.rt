@@ -1,36 +1,33 @@
-use super::standby::{holds_page, take};
+use super::standby::{Act, holds_page, take};
 use als_disk::MemDisk;
 use als_engine::{Engine, Fault, Reply, State, Step};
 use als_record::Lsn;
 use std::process::Abort;
 
 /// What a takeover takes, of this log at most four records of the tail, which stand in one block.
-const REST: [Step; 11] = [
-    Step::UndoOne,
-    Step::UndoOne,
-    Step::UndoOne,
-    Step::UndoOne,
-    Step::LogWrite,
-    Step::LogSync,
-    Step::MarkWrite,
-    Step::ControlSync,
-    Step::Apply(0),
-    Step::Finish,
-    Step::ControlSync,
+const REST: [Act; 11] = [
+    Act::Step(Step::UndoOne),
+    Act::Step(Step::UndoOne),
+    Act::Step(Step::UndoOne),
+    Act::Step(Step::UndoOne),
+    Act::Step(Step::LogWrite),
+    Act::Step(Step::LogSync),
+    Act::Step(Step::MarkWrite),
+    Act::Step(Step::ControlSync),
+    Act::Redo(0),
+    Act::Step(Step::Finish),
+    Act::Step(Step::ControlSync),
 ];
 
-/// Takes those of the steps that have something to do. None: memory was refused, also to a device;
+/// Makes those of the acts that have something to do. None: memory was refused, also to a device;
 /// nothing else refuses one.
-fn take_due(rt: &impl Abort, engine: &mut Engine<MemDisk>, steps: &[Step]) -> Option<()> {
-    for step in steps {
-        if let Reply::Refused(fault) = engine.step(step) {
+fn take_due(rt: &impl Abort, engine: &mut Engine<MemDisk>, acts: &[Act]) -> Option<()> {
+    for act in acts {
+        if let Reply::Refused(fault) = act.over(engine) {
             if fault == Fault::Memory || fault == Fault::Device {
                 return None;
             }
-            assert!(rt;
-                fault == Fault::NothingToDo,
-                "{step:?} was refused: {fault}"
-            );
+            assert!(rt; fault == Fault::NothingToDo, "{act:?} was refused: {fault}");
         }
     }
     Some(())
@@ -40,9 +37,10 @@ fn take_due(rt: &impl Abort, engine: &mut Engine<MemDisk>, steps: &[Step]) -> Op
 fn seal(rt: &impl Abort, engine: &mut Engine<MemDisk>) -> Option<()> {
     assert!(rt; engine.status().state == State::Recovering);
     assert!(rt; engine.step(&Step::UndoOne) == Reply::Refused(Fault::Recovering));
-    take(rt, engine, &[Step::Ready])?;
+    take(rt, engine, &[Act::Step(Step::Ready)])?;
     if engine.status().state == State::Following {
-        take(rt, engine, &[Step::Seal, Step::ControlSync])?;
+        let seal = [Act::Step(Step::Seal), Act::Step(Step::ControlSync)];
+        take(rt, engine, &seal)?;
     }
     let state = engine.status().state;
     assert!(rt; state == State::Sealed || state == State::Primary);

@@ -1,7 +1,8 @@
-ghost use Rattle.std.specs.Prelude.{◌≡◌, ◌+◌, ◌<◌, IfSome};
+ghost use Rattle.std.specs.Prelude.{◌≡◌, ◌+◌, ◌<◌, ◌≤◌, IfSome};
 ghost use Rattle.als_engine.specs.Formatting.{FormatsWorld};
 ghost use Rattle.als_engine.specs.Machine.{Machine};
 ghost use Rattle.als_world.specs.Runs.{Run};
+ghost use Rattle.als_world.specs.Slots.{no_leases};
 ghost use Rattle.als_world.specs.Standing.{Standing, Up, Shows, Keeps, IsTrue};
 
 use super::standby::CONFIG;
@@ -33,7 +34,7 @@ fn world(alloc: Global, failing: u64) -> Option<World<Disk>>
     let Ok((disks, fuse)) = devices(alloc) else {
         return None;
     };
-    match World::format(alloc, disks, CONFIG) {
+    match World::format(alloc, disks, CONFIG, 2) {
         Ok(world) => {
             fuse.fail_at(failing);
             Some(world)
@@ -48,16 +49,20 @@ fn run_anew<D: Restart + Drop>(
     alloc: Global,
     disks: Disks<D>,
     config: Config,
+    workers: usize,
     steps: &[WorldStep],
 ) -> Option<(World<D>, Vec<WorldReply>)>
+    requires some { 1 ≤ workers }
+    requires few { workers ≤ 8 }
     ensures headline { IfSome result (λ x. (first : Machine)
         × FormatsWorld config (D.block_count disks.log) (D.block_count disks.pages)
         (D.failures disks.pages) (D.attempts disks.pages)
         (D.failures disks.log + D.failures disks.control + D.failures disks.pages) first
         × ((last : Standing) × Shows D.slot D.block_count x.0 last
-        × Run config (Up first) steps.now x.1.items last × Keeps (Up first) last × IsTrue last)) }
+        × Run config (Up first (no_leases workers)) steps.now x.1.items last
+        × Keeps (Up first (no_leases workers)) last × IsTrue last)) }
 {
-    match World::format(alloc, disks, config) {
+    match World::format(alloc, disks, config, workers) {
         Ok(world) => match run(alloc, world, steps) {
             Ok(after) => Some(after),
             Err(_) => None,
@@ -70,6 +75,15 @@ fn run_anew<D: Restart + Drop>(
 fn is_same(reply: &WorldReply, wanted: &WorldReply) -> bool {
     match (reply, wanted) {
         (WorldReply::Event(reply), WorldReply::Event(wanted)) => reply == wanted,
+        (
+            WorldReply::Lent { number, batch },
+            WorldReply::Lent {
+                number: wanted,
+                batch: changes,
+            },
+        ) => number == wanted && batch == changes,
+        (WorldReply::Redone(lsn), WorldReply::Redone(wanted)) => lsn == wanted,
+        (WorldReply::Done, WorldReply::Done) => true,
         (WorldReply::Restarted(end), WorldReply::Restarted(wanted)) => end == wanted,
         (WorldReply::Refused(fault), WorldReply::Refused(wanted)) => fault == wanted,
         _ => false,
@@ -105,9 +119,15 @@ fn replies(alloc: Global, failing: u64, steps: &[WorldStep], wanted: &[WorldRepl
     }
 }
 
-/// A standby is fed, forced and redone, and then crashed: with the older page, and with the newer
-/// one. Then a sync of the control device fails in the restart, and the world is down until the
-/// next crash. Once it is ready it takes the rest of the log.
+/// The reply to a page that was lent.
+fn lent(number: u64, batch: usize) -> WorldReply {
+    WorldReply::Lent { number, batch }
+}
+
+/// A standby is fed and forced, its page is redone by a lease, and then it is crashed: with the
+/// older page; while its page is lent; and with the newer page. Then a sync of the control device
+/// fails in the restart, and the world is down until the next crash. Once it is ready it takes the
+/// rest of the log.
 fn restarts(alloc: Global) -> Option<()> {
     let steps = [
         WorldStep::Event(Step::Feed(&TEXT[..100])),
@@ -115,19 +135,36 @@ fn restarts(alloc: Global) -> Option<()> {
         WorldStep::Event(Step::LogSync),
         WorldStep::Event(Step::MarkWrite),
         WorldStep::Event(Step::ControlSync),
-        WorldStep::Event(Step::Apply(0)),
+        WorldStep::Lend(0, 0),
+        WorldStep::Redo(0),
+        WorldStep::Hand(0, 1),
+        WorldStep::Redo(1),
+        WorldStep::Redo(1),
+        WorldStep::Give(1),
         WorldStep::Event(Step::Flush(0)),
         WorldStep::Crash(&[]),
-        WorldStep::Event(Step::Apply(0)),
+        WorldStep::Lend(0, 1),
+        WorldStep::Drop(1),
+        WorldStep::Event(Step::Flush(0)),
+        WorldStep::Event(Step::Recall(0)),
+        WorldStep::Lend(0, 1),
+        WorldStep::Redo(1),
+        WorldStep::Crash(&[]),
+        WorldStep::Redo(1),
+        WorldStep::Lend(0, 0),
+        WorldStep::Redo(0),
+        WorldStep::Redo(0),
+        WorldStep::Give(0),
         WorldStep::Event(Step::Flush(0)),
         WorldStep::Crash(&[255]),
-        WorldStep::Event(Step::Apply(0)),
+        WorldStep::Lend(0, 0),
         WorldStep::Crash(&[]),
         WorldStep::Event(Step::LogWrite),
+        WorldStep::Redo(0),
         WorldStep::Crash(&[]),
         WorldStep::Event(Step::Feed(&TEXT[100..137])),
         WorldStep::Event(Step::Ready),
-        WorldStep::Event(Step::Apply(0)),
+        WorldStep::Lend(0, 0),
         WorldStep::Event(Step::Ready),
         WorldStep::Event(Step::Feed(&TEXT[100..137])),
     ];
@@ -150,25 +187,42 @@ fn restarts(alloc: Global) -> Option<()> {
         WorldReply::Event(Reply::Done),
         WorldReply::Event(Reply::Done),
         WorldReply::Event(Reply::Acknowledged(Lsn(116))),
-        WorldReply::Event(Reply::Applied(Lsn(80))),
+        lent(1, 2),
+        WorldReply::Redone(Lsn(16)),
+        WorldReply::Done,
+        WorldReply::Redone(Lsn(80)),
+        WorldReply::Refused(Fault::NothingToDo),
+        WorldReply::Done,
         WorldReply::Event(Reply::Done),
         WorldReply::Restarted(Lsn(116)),
-        WorldReply::Event(Reply::Applied(Lsn(80))),
+        lent(1, 2),
+        WorldReply::Done,
+        WorldReply::Event(Reply::Refused(Fault::PageLent)),
+        WorldReply::Event(Reply::Done),
+        lent(2, 2),
+        WorldReply::Redone(Lsn(16)),
+        WorldReply::Restarted(Lsn(116)),
+        WorldReply::Refused(Fault::BadSlot),
+        lent(1, 2),
+        WorldReply::Redone(Lsn(16)),
+        WorldReply::Redone(Lsn(80)),
+        WorldReply::Done,
         WorldReply::Event(Reply::Done),
         WorldReply::Restarted(Lsn(116)),
-        WorldReply::Event(Reply::Refused(Fault::NothingToDo)),
+        WorldReply::Refused(Fault::NothingToDo),
         WorldReply::Refused(Fault::Device),
+        WorldReply::Refused(Fault::Stopped),
         WorldReply::Refused(Fault::Stopped),
         WorldReply::Restarted(Lsn(116)),
         WorldReply::Event(Reply::FeedRefused(recovering)),
         WorldReply::Event(Reply::Refused(Fault::NotDrained)),
-        WorldReply::Event(Reply::Refused(Fault::NothingToDo)),
+        WorldReply::Refused(Fault::NothingToDo),
         WorldReply::Event(Reply::Done),
         WorldReply::Event(Reply::Fed(rest)),
     ];
-    // The steps make two calls of the control device, and each restart two: the seventh is the
-    // third restart's sync.
-    replies(alloc, 7, &steps, &wanted)
+    // The steps make two calls of the control device, and each restart two: the ninth is the fourth
+    // restart's sync.
+    replies(alloc, 9, &steps, &wanted)
 }
 
 /// A new database is fed, forced and crashed, and its log is there again.
@@ -186,7 +240,7 @@ fn begins_anew(alloc: Global) -> Option<()> {
         WorldStep::Event(Step::ControlSync),
         WorldStep::Crash(&[]),
     ];
-    let (world, replies) = run_anew(alloc, disks, CONFIG, &steps)?;
+    let (world, replies) = run_anew(alloc, disks, CONFIG, 2, &steps)?;
     drop(world);
     match replies.as_slice().last() {
         Some(WorldReply::Restarted(Lsn(116))) => Some(()),
