@@ -1,26 +1,13 @@
-use als_disk::{BlockDisk, FailingDisk, Fuse, MemDisk};
-use als_engine::{Config, Disks, Engine, Fault, State};
+use crate::standbys::{TEXT, standby};
+use als_disk::BlockDisk;
+use als_engine::{Engine, Fault, State};
+use als_lease::PageLease;
 use als_record::{LogHeader, Lsn};
 use als_ship::Follower;
 use std::alloc::Global;
 use std::sync::{Mutex, Wait};
 use std::test::Fail;
 use std::thread;
-
-const CONFIG: Config = Config {
-    pages: 4,
-    frames: 4,
-    pending: 1000,
-    readers: 1,
-};
-
-/// An update of 0/0 to `aa` at 16, its commit at 52 and its end at 80.
-const TEXT: [u8; 92] = [
-    0, 0, 0, 36, 1, 0, 0, 0, 0, 0, 0, 0, 0, 0, 0, 16, 0, 0, 0, 0, 0, 0, 0, 0, 0, 0, 0, 1, 0, 0, 0,
-    0, 0, 255, 1, 170, 0, 0, 0, 28, 3, 0, 0, 0, 0, 0, 0, 0, 0, 0, 0, 52, 0, 0, 0, 0, 0, 0, 0, 16,
-    0, 0, 0, 1, 0, 0, 0, 28, 5, 0, 0, 0, 0, 0, 0, 0, 0, 0, 0, 80, 0, 0, 0, 0, 0, 0, 0, 52, 0, 0, 0,
-    1,
-];
 
 /// The Data frame of these bytes, and the last one, which has none.
 const SENT: [u8; 118] = [
@@ -29,22 +16,6 @@ const SENT: [u8; 118] = [
     0, 0, 0, 0, 52, 0, 0, 0, 0, 0, 0, 0, 16, 0, 0, 0, 1, 0, 0, 0, 28, 5, 0, 0, 0, 0, 0, 0, 0, 0, 0,
     0, 80, 0, 0, 0, 0, 0, 0, 0, 52, 0, 0, 0, 1, 68, 0, 0, 0, 0, 0, 0, 0, 108, 0, 0, 0, 0,
 ];
-
-/// A device that can fail. `None`: memory was refused.
-fn device(alloc: Global, blocks: u64) -> Option<FailingDisk<MemDisk>> {
-    let fuse = Fuse::new(alloc).ok()?;
-    Some(FailingDisk::new(MemDisk::new(alloc, blocks), fuse))
-}
-
-/// A standby of four pages with nothing in it. `None`: memory was refused.
-fn standby(alloc: Global) -> Option<Engine<FailingDisk<MemDisk>>> {
-    let disks = Disks {
-        log: device(alloc, 8)?,
-        control: device(alloc, 321)?,
-        pages: device(alloc, 4)?,
-    };
-    Engine::format(alloc, disks, CONFIG).ok()
-}
 
 /// One thread takes the log in pieces of seven bytes, a turn of the lock for each, and acknowledges
 /// it.
@@ -58,11 +29,27 @@ fn follow<D: BlockDisk, R: Wait>(rt: &R, shared: &Mutex<Engine<D>>) {
     let _ = shared.lock(rt).ctl_sync();
 }
 
-/// Another one redoes what waits for page 0, in so many turns of the lock.
+/// Another one redoes what waits for page 0: it takes the lock to lend and to give, and none to
+/// redo.
 fn redo<D: BlockDisk, R: Wait>(rt: &R, shared: &Mutex<Engine<D>>) {
     for _ in 0..100 {
-        let _ = shared.lock(rt).apply(0);
+        let lent = shared.lock(rt).lend(0);
+        if let Ok(lease) = lent {
+            let _ = shared.lock(rt).give(redone(lease));
+        }
     }
+}
+
+/// A lease with all its changes redone.
+fn redone(lease: PageLease) -> PageLease {
+    let mut lease = lease;
+    // A lease has at most 64 changes.
+    for _ in 0..64 {
+        if !lease.redo_next() {
+            break;
+        }
+    }
+    lease
 }
 
 /// Whether the log is held and acknowledged, and its one change redone or waiting.
@@ -82,8 +69,10 @@ fn two_threads_drive_one_engine(rt: HostRuntime) {
     thread::join(rt, move || follow(rt, lock), move || redo(rt, lock));
     let mut engine = shared.into_inner();
     assert!(rt; has_all(&engine));
-    let redone = engine.apply(0);
-    assert!(rt; redone == Ok(Lsn(16)) || redone == Err(Fault::NothingToDo));
+    match engine.lend(0) {
+        Ok(lease) => assert!(rt; engine.give(redone(lease)).is_ok()),
+        Err(fault) => assert!(rt; fault == Fault::NothingToDo),
+    }
     assert!(rt; engine.status().pending == 0);
 }
 

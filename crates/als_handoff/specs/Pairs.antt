@@ -1,0 +1,24 @@
+-- Pairs of a lease's number and its turn.
+use Rattle.std.specs.Prelude.{ℕ, ◌+◌, List, [], ◌∷◌, ◌++◌}
+use Rattle.als_lease.specs.Lease.{Leased, turn_of}
+use Rattle.als_handoff.specs.declared.job.Job.{Job}
+use Rattle.als_handoff.specs.declared.job.Job.TheVariants.{Work, Stop}
+
+-- the pair of a lease
+abbrev pub pair_of : Leased → ℕ × ℕ
+pair_of l = (l.number, turn_of l)
+
+-- the pair of a job's lease; a stop has none
+abbrev pub pairs_of : Job → List (ℕ × ℕ)
+pairs_of (Work l) = pair_of l ∷ []
+pairs_of Stop = []
+
+-- the pairs of some jobs, in order
+abbrev pub pairs_in : List Job → List (ℕ × ℕ)
+pairs_in [] = []
+pairs_in (job ∷ jobs) = pairs_of job ++ pairs_in jobs
+
+-- the sum of the weights of some pairs
+abbrev pub weigh : ((ℕ × ℕ) → ℕ) → List (ℕ × ℕ) → ℕ
+weigh h [] = 0
+weigh h (x ∷ xs) = h x + weigh h xs

@@ -1,0 +1,80 @@
+ghost use Rattle.std.specs.Prelude.{◌≡◌, ℕ, ◌+◌, ◌-◌, ◌++◌, []};
+ghost use Rattle.als_handoff.specs.Pairs.{pairs_of, pairs_in, weigh};
+ghost use Rattle.als_handoff.specs.Rule.{pass_state, Balanced};
+
+use crate::job::Job;
+use crossbeam_channel::protocol::{Join, Lesson, Outcome, Protocol, Split};
+use crossbeam_channel::{RuledReceiver, RuledSender};
+use std::collections::LinkedList;
+
+/// What a pass records: its parts of the first pass's 1024, and the pairs of a lease's number and
+/// turn that it put and took. Contracts alone see it, and no value of it is made.
+pub struct PassState {
+    pub parts: u64,
+    pub put: LinkedList<(u64, u64)>,
+    pub taken: LinkedList<(u64, u64)>,
+}
+
+/// The right to put and take. It takes no bytes and cannot be copied.
+pub type Pass = crossbeam_channel::Pass<Job, PassState>;
+
+/// The rule of the queue: each pair was put as often as it was taken plus as often as it is queued.
+pub struct Fair;
+
+impl Protocol<Job, PassState> for Fair {
+    ghost holds = { Balanced };
+
+    ghost first = { pass_state 1024 [] [] };
+}
+
+/// A pass of one part is cut off, or two passes are joined.
+pub struct Cut;
+
+impl Split<PassState> for Cut {
+    ghost left = { λ v. pass_state (v.parts - 1) v.put v.taken };
+
+    ghost right = { λ v. pass_state 1 [] [] };
+}
+
+impl Join<PassState> for Cut {
+    ghost both = { λ v w. pass_state (v.parts + w.parts) (v.put ++ w.put) (v.taken ++ w.taken) };
+
+    ghost spent = { pass_state 0 [] [] };
+}
+
+/// A job enters the queue at its back.
+pub struct Puts;
+
+impl Outcome<Job, PassState> for Puts {
+    ghost then = { λ v job w. w ≡ pass_state v.parts (v.put ++ pairs_of job) v.taken };
+}
+
+impl Lesson<Job, PassState> for Puts {
+    ghost use Rattle.std.specs.Prelude.{⊤};
+
+    ghost fact = { λ v jobs. ⊤ };
+}
+
+/// A job leaves the queue at its front.
+pub struct Takes;
+
+impl Outcome<Job, PassState> for Takes {
+    ghost then = { λ v job w. w ≡ pass_state v.parts v.put (v.taken ++ pairs_of job) };
+}
+
+impl Lesson<Job, PassState> for Takes {
+    ghost use Rattle.std.specs.Prelude.{⊤};
+
+    ghost fact = { λ v jobs. ⊤ };
+}
+
+/// A pass with all parts knows what all threads put and took.
+pub struct Total;
+
+impl Lesson<Job, PassState> for Total {
+    ghost fact = { λ v jobs. (h : (ℕ × ℕ) → ℕ) → weigh h v.put ≡ weigh h v.taken + weigh h (pairs_in jobs) };
+}
+
+pub type Sender = RuledSender<Job, PassState, Fair>;
+
+pub type Receiver = RuledReceiver<Job, PassState, Fair>;

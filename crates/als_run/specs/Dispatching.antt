@@ -1,0 +1,22 @@
+-- What a dispatcher does with the leases that it was lent: it loses none.
+use Rattle.std.specs.Prelude.{◌≡◌, ℕ, ◌+◌, ◌≤◌, List, [], ◌∷◌, ◌++◌, length}
+use Rattle.als_engine.specs.declared.event.Event.TheVariants as event
+use Rattle.als_engine.specs.Tally.{place_of, raised}
+use Rattle.als_handoff.specs.declared.rule.PassState.{PassState}
+use Rattle.als_handoff.specs.Rule.{pass_state}
+
+-- no change of these leases is redone, as far as their turn says
+abbrev pub AreFresh : List (ℕ × ℕ) → Type 0
+AreFresh [] = Unit {0}
+AreFresh (p ∷ ps) = (p.1 ≡ 0) × AreFresh ps
+
+-- Between two moments a dispatcher took nothing and put these pairs, each of a lease with nothing redone. Of the leases that it was lent
+-- it put all but those that came back, which it offered to `give`. It made no other event.
+pub record Dispatches (v w : PassState) (old new : List ℕ) : Type 0 where
+  pub put : List (ℕ × ℕ)
+  pub back : ℕ
+  pub given : ℕ
+  pub passes : w ≡ pass_state v.parts (v.put ++ put) v.taken
+  pub fresh : AreFresh put
+  pub few : given ≤ back
+  pub lent : new ≡ raised (place_of event.Give) given (raised (place_of event.Lend) (length put + back) old)

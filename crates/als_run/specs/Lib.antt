@@ -1,0 +1,4 @@
+pub mod Offers
+pub mod Tallies
+pub mod Worked
+pub mod Dispatching

@@ -1,0 +1,144 @@
+ghost use Rattle.std.specs.Prelude.{◌≡◌, ◌+◌, ◌<◌, ◌≤◌, ◌++◌};
+ghost use Rattle.crossbeam_channel.specs.Claims.{view};
+ghost use Rattle.als_handoff.specs.Passes.{IsPassOf};
+ghost use Rattle.als_run.specs.Dispatching.{Dispatches};
+
+use crate::gate::{Gate, Point};
+use crate::outcome::{DispatchEnd, Dispatched};
+use als_engine::{Events, Fault, State};
+use als_handoff::{HandOff, Job, Pass};
+use std::sync::Wait;
+use std::thread;
+
+/// At most this many leases are out at a time, so that the queue, which has twice the room, is never
+/// full: no worker waits to put a lease back.
+pub const LEASE_LIMIT: u64 = 32;
+
+/// Lends the pages that wait for redo, in rising order and again from the first, and puts the leases.
+/// It ends where nothing more is fed and nothing waits or is lent, where the engine has stopped, or
+/// by its gate, and then puts a stop for each worker.
+///
+/// It counts the leases that are out by itself: at most those in the queue and one for each worker.
+/// The engine's own count leaves out those that were recalled and are queued still.
+pub fn dispatcher<E: Events, G: Gate, R: Wait>(
+    rt: &R,
+    queue: &HandOff,
+    pass: &mut Pass,
+    events: &mut E,
+    gate: &G,
+    workers: usize,
+) -> Dispatched
+    requires queue { IsPassOf queue.now pass.old }
+    requires parts { 0 < (view pass.old).parts }
+    ensures queue { IsPassOf queue.now pass.new }
+    ensures dispatches { Dispatches (view pass.old) (view pass.new) (E.tally events.old) (E.tally events.new) }
+    ensures stops { result.stops ≤ workers }
+{
+    let end = lend_all(rt, queue, pass, events, gate, workers);
+    let stops = stop_all(rt, queue, pass, workers);
+    Dispatched { end, stops }
+}
+
+// Lends until there is nothing more to lend.
+#[tactic(auto, using(crate::proofs::Dispatches::lends_none, crate::proofs::Dispatches::lends_more))]
+fn lend_all<E: Events, G: Gate, R: Wait>(
+    rt: &R,
+    queue: &HandOff,
+    pass: &mut Pass,
+    events: &mut E,
+    gate: &G,
+    workers: usize,
+) -> DispatchEnd
+    requires queue { IsPassOf queue.now pass.old }
+    requires parts { 0 < (view pass.old).parts }
+    ensures queue { IsPassOf queue.now pass.new }
+    ensures dispatches { Dispatches (view pass.old) (view pass.new) (E.tally events.old) (E.tally events.new) }
+{
+    let mut from = 0;
+    for _ in rt.forever() {
+        if !gate.pass(Point::Lend) {
+            return DispatchEnd::Gate;
+        }
+        // Asked before the engine is: all that was fed until then is seen.
+        let last = gate.last();
+        if is_limit_reached(queue, workers) {
+            thread::yield_now();
+            continue;
+        }
+        match events.next_pending(from) {
+            Some(page) => {
+                if let Err(Fault::Stopped) = lend_one(rt, queue, pass, events, page) {
+                    return DispatchEnd::Stopped;
+                }
+                from = page.saturating_add(1);
+            }
+            None => {
+                if let Some(end) = idle_end(events, last) {
+                    return end;
+                }
+                from = 0;
+                thread::yield_now();
+            }
+        }
+    }
+    unreachable!()
+}
+
+// Whether as many leases may be out as are allowed: those queued, and one for each worker.
+fn is_limit_reached(queue: &HandOff, workers: usize) -> bool {
+    queue.jobs().saturating_add(workers as u64) >= LEASE_LIMIT
+}
+
+// Whether the work is done, where no page from the last one on waits.
+fn idle_end<E: Events>(events: &E, last: bool) -> Option<DispatchEnd> {
+    let status = events.status();
+    if status.state == State::Stopped {
+        return Some(DispatchEnd::Stopped);
+    }
+    if last && status.pending == 0 && status.leases == 0 {
+        return Some(DispatchEnd::Drained);
+    }
+    None
+}
+
+// Lends a page and puts the lease. A lease that the queue hands back is offered to `give`.
+fn lend_one<E: Events, R: Wait>(
+    rt: &R,
+    queue: &HandOff,
+    pass: &mut Pass,
+    events: &mut E,
+    page: u32,
+) -> Result<(), Fault>
+    requires queue { IsPassOf queue.now pass.old }
+    requires parts { 0 < (view pass.old).parts }
+    ensures queue { IsPassOf queue.now pass.new }
+    ensures dispatches { Dispatches (view pass.old) (view pass.new) (E.tally events.old) (E.tally events.new) }
+{
+    let lease = events.lend(page)?;
+    match queue.put(rt, pass, Job::Work(lease)) {
+        Ok(()) => {}
+        Err(Job::Work(lease)) => {
+            let _ = events.give(lease);
+        }
+        // The job that was put comes back.
+        Err(Job::Stop) => unreachable!(),
+    }
+    Ok(())
+}
+
+// Puts a stop for each worker, and counts those that the queue took.
+fn stop_all<R: Wait>(rt: &R, queue: &HandOff, pass: &mut Pass, workers: usize) -> usize
+    requires queue { IsPassOf queue.now pass.old }
+    requires parts { 0 < (view pass.old).parts }
+    ensures queue { IsPassOf queue.now pass.new }
+    ensures same { view pass.new ≡ view pass.old }
+    ensures stops { result ≤ workers }
+{
+    let mut stops = 0;
+    for _ in 0..workers {
+        if queue.put(rt, pass, Job::Stop).is_ok() {
+            stops += 1;
+        }
+    }
+    stops
+}

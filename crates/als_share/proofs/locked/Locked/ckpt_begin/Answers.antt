@@ -1,0 +1,13 @@
+use Rattle.als_engine.specs.declared.event.Event.TheVariants as event
+use Rattle.als_share.proofs.Booked.{booked}
+use Rattle.als_share.proofs.Going as going
+use Rattle.als_share.proofs.locked.Locked.ckpt_begin.Goals as goal
+
+pub invariant_of-self : goal.invariant_of-self
+invariant_of-self g c = (
+  booked event.CkptBegin c.ckpt_begin-answer.result _ _ _ _ c.self.invariant.0 c.note.ensures.all c.ckpt_begin-answer.ensures.told,
+  (λ alone.
+      going.ckpt_begin g.L.Ledgers.start _ _ c.ckpt_begin-answer.result
+      (record { reached = c.self.invariant.1 alone; keeps = c.ckpt_begin-answer.ensures.keeps alone; stands = c.stands.ensures alone })
+      (c.ckpt_begin-answer.ensures.begins alone)),
+)

@@ -1,0 +1,12 @@
+use Rattle.als_share.proofs.Booked.{booked_taken}
+use Rattle.als_share.proofs.Going as going
+use Rattle.als_share.proofs.locked.Locked.feed.Goals as goal
+
+pub invariant_of-self : goal.invariant_of-self
+invariant_of-self g c = (
+  booked_taken c.feed-answer.result _ _ _ _ c.self.invariant.0 c.note_taken.ensures.all c.feed-answer.ensures.told,
+  (λ alone.
+      going.feed g.L.Ledgers.start _ _ c.args.piece c.feed-answer.result
+      (record { reached = c.self.invariant.1 alone; keeps = c.feed-answer.ensures.keeps alone; stands = c.stands.ensures alone })
+      (c.feed-answer.ensures.feeds alone)),
+)

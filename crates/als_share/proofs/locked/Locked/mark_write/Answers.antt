@@ -1,0 +1,13 @@
+use Rattle.als_engine.specs.declared.event.Event.TheVariants as event
+use Rattle.als_share.proofs.Booked.{booked}
+use Rattle.als_share.proofs.Going as going
+use Rattle.als_share.proofs.locked.Locked.mark_write.Goals as goal
+
+pub invariant_of-self : goal.invariant_of-self
+invariant_of-self g c = (
+  booked event.MarkWrite c.mark_write-answer.result _ _ _ _ c.self.invariant.0 c.note.ensures.all c.mark_write-answer.ensures.told,
+  (λ alone.
+      going.mark_write g.L.Ledgers.start _ _ c.mark_write-answer.result
+      (record { reached = c.self.invariant.1 alone; keeps = c.mark_write-answer.ensures.keeps alone; stands = c.stands.ensures alone })
+      (c.mark_write-answer.ensures.writes alone)),
+)

@@ -1,0 +1,5 @@
+use Rattle.als_reach.proofs.Reached.{from-none}
+use Rattle.als_share.proofs.locked.Locked.new.Goals as goal
+
+pub invariant_of-result : goal.invariant_of-result
+invariant_of-result g c = (c.requires.books, (λ alone. from-none g.L.Ledgers.start _ c.requires.start))

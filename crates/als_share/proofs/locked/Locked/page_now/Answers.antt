@@ -1,0 +1,12 @@
+use Rattle.std.proofs.Common.{◌∙◌, sym}
+use Rattle.als_share.proofs.Going as going
+use Rattle.als_share.proofs.locked.Locked.page_now.Goals as goal
+
+pub invariant_of-self : goal.invariant_of-self
+invariant_of-self g c = (
+  c.self.invariant.0 ∙ sym c.page_now-answer.ensures.told,
+  (λ alone.
+      going.page_now g.L.Ledgers.start _ _ c.args.page c.page_now-answer.result
+      (record { reached = c.self.invariant.1 alone; keeps = c.page_now-answer.ensures.keeps alone; stands = c.stands.ensures alone })
+      (c.page_now-answer.ensures.shows alone)),
+)

@@ -1,0 +1,12 @@
+use Rattle.std.proofs.Common.{◌∙◌, sym}
+use Rattle.als_share.proofs.Going as going
+use Rattle.als_share.proofs.locked.Locked.record_at.Goals as goal
+
+pub invariant_of-self : goal.invariant_of-self
+invariant_of-self g c = (
+  c.self.invariant.0 ∙ sym c.record_at-answer.ensures.told,
+  (λ alone.
+      going.record_at g.L.Ledgers.start _ _ c.args.lsn c.record_at-answer.result
+      (record { reached = c.self.invariant.1 alone; keeps = c.record_at-answer.ensures.keeps alone; stands = c.stands.ensures alone })
+      (c.record_at-answer.ensures.reads alone)),
+)

@@ -1,0 +1,13 @@
+use Rattle.als_engine.specs.declared.event.Event.TheVariants as event
+use Rattle.als_share.proofs.Booked.{booked}
+use Rattle.als_share.proofs.Going as going
+use Rattle.als_share.proofs.locked.Locked.resync.Goals as goal
+
+pub invariant_of-self : goal.invariant_of-self
+invariant_of-self g c = (
+  booked event.Resync c.resync-answer.result _ _ _ _ c.self.invariant.0 c.note.ensures.all c.resync-answer.ensures.told,
+  (λ alone.
+      going.resync g.L.Ledgers.start _ _ c.resync-answer.result
+      (record { reached = c.self.invariant.1 alone; keeps = c.resync-answer.ensures.keeps alone; stands = c.stands.ensures alone })
+      (c.resync-answer.ensures.resyncs alone)),
+)

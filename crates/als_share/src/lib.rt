@@ -1,0 +1,41 @@
+//! An engine that threads share, and a ledger that counts every event.
+//!
+//! ```text
+//!     thread: Handle with its Share --one turn of the lock an event--> Locked: engine, Books
+//! ```
+//!
+//! 1. An event through a handle is one event of the engine, made in one turn of the lock.
+//! 2. Each event that answers Ok is noted in the books and in the thread's share, and no other one;
+//!    of a feed the bytes that it took. So whenever the lock is free, the engine's tally is the sum
+//!    of all shares.
+//! 3. Whenever the lock is free, the engine's machine is reached from the one that was shared, by
+//!    events of the small machine. So what is true of each run is true of a standby that threads
+//!    drive.
+//! 4. Books and shares take no bytes and no time: they are there for contracts.
+#![tactic(auto)]
+
+// Which ledgers belong together.
+mod ledgers;
+// Ledgers that belong to nothing yet.
+mod blanks;
+// Parts of all ledgers.
+mod part;
+// What a thread did.
+mod thread_share;
+// What all threads did.
+mod books;
+// An engine whose tally can be started.
+mod counts;
+// What is under the lock.
+mod locked;
+// Sharing an engine, and its end.
+mod shared;
+// A thread's way to it.
+mod handle;
+
+pub use blanks::Blanks;
+pub use counts::Counts;
+pub use handle::Handle;
+pub use ledgers::Ledgers;
+pub use shared::{Shared, settle, share};
+pub use thread_share::Share;

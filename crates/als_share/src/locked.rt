@@ -1,0 +1,297 @@
+ghost use Rattle.std.specs.Prelude.{◌≡◌, IfOk, IfErr, Some};
+ghost use Rattle.als_engine.specs.declared.event.Event.TheVariants as event;
+ghost use Rattle.als_engine.specs.Tally.{TellsOk, TellsTaken};
+ghost use Rattle.als_engine.specs.Telling.{Stands};
+ghost use Rattle.als_reach.specs.Reaching.{ReachesFrom};
+
+use crate::books::Books;
+use crate::ledgers::Ledgers;
+use crate::thread_share::Share;
+use als_engine::{Event, Events, Fault, Fed, FeedFault, NotGiven, PageLease};
+use als_page::Page;
+use als_record::{Lsn, Record};
+use std::marker::Model;
+
+/// What is under the lock: an engine that events made of the one that was shared, and books that are
+/// its tally.
+pub struct Locked<L: Ledgers, E: Events> {
+    pub(crate) engine: E,
+    pub(crate) books: Books<L>,
+}
+
+impl<L: Ledgers, E: Events> Model for Locked<L, E> {
+    ghost use Rattle.std.specs.Prelude.{◌≡◌};
+    ghost use Rattle.als_engine.specs.Machine.{Machine};
+    ghost use Rattle.als_reach.specs.Reaching.{ReachesFrom};
+
+    ghost Value = { Machine };
+
+    ghost view = { λ l. E.machine l.engine };
+
+    ghost invariant = { λ l. (l.books ≡ E.tally l.engine)
+        × (E.alone → ReachesFrom L.start (E.machine l.engine)) };
+}
+
+// Written out, as an engine's.
+impl<L: Ledgers, E: Events + Drop> Drop for Locked<L, E> {
+    fn drop(self) {
+        let Locked { engine, books } = self;
+        drop(engine);
+        drop(books);
+    }
+}
+
+// For the prover alone: what always holds between two events.
+fn stands<E: Events>(engine: &E)
+    ensures { E.alone → Stands (E.machine engine.now) }
+{
+    let _ = engine.status();
+}
+
+impl<L: Ledgers, E: Events> Locked<L, E> {
+    /// The engine that is shared, with books that say what it counted.
+    pub fn new(engine: E, books: Books<L>) -> Locked<L, E>
+        requires start { L.start ≡ Some (E.machine engine) }
+        requires books { books ≡ E.tally engine }
+        ensures { result ≡ E.machine engine }
+    {
+        Locked { engine, books }
+    }
+
+    /// The engine and its books.
+    pub fn into_parts(self) -> (E, Books<L>)
+        ensures books { result.1 ≡ E.tally result.0 }
+        ensures reached { E.alone → ReachesFrom L.start (E.machine result.0) }
+    {
+        let Locked { engine, books } = self;
+        (engine, books)
+    }
+
+    /// One feed.
+    pub fn feed(&mut self, share: &mut Share<L>, piece: &[u8]) -> Result<Fed, FeedFault>
+        ensures { TellsTaken result share.old share.new }
+    {
+        let Locked { engine, books } = self;
+        let answer = engine.feed(piece);
+        stands(engine);
+        books.note_taken(share, &answer);
+        answer
+    }
+
+    /// One `resync`.
+    pub fn resync(&mut self, share: &mut Share<L>) -> Result<(), Fault>
+        ensures { TellsOk event.Resync result share.old share.new }
+    {
+        let Locked { engine, books } = self;
+        let answer = engine.resync();
+        stands(engine);
+        books.note(share, Event::Resync, &answer);
+        answer
+    }
+
+    /// One `lend`.
+    pub fn lend(&mut self, share: &mut Share<L>, page: u32) -> Result<PageLease, Fault>
+        ensures told { TellsOk event.Lend result share.old share.new }
+        ensures fresh { IfOk result (λ lease. lease.done ≡ 0) }
+    {
+        let Locked { engine, books } = self;
+        let answer = engine.lend(page);
+        stands(engine);
+        books.note(share, Event::Lend, &answer);
+        answer
+    }
+
+    /// One `give`.
+    pub fn give(&mut self, share: &mut Share<L>, lease: PageLease) -> Result<(), NotGiven>
+        ensures told { TellsOk event.Give result share.old share.new }
+        ensures back { IfErr result (λ refused. refused.lease ≡ lease) }
+    {
+        let Locked { engine, books } = self;
+        let answer = engine.give(lease);
+        stands(engine);
+        books.note(share, Event::Give, &answer);
+        answer
+    }
+
+    /// One `recall`.
+    pub fn recall(&mut self, share: &mut Share<L>, page: u32) -> Result<(), Fault>
+        ensures { TellsOk event.Recall result share.old share.new }
+    {
+        let Locked { engine, books } = self;
+        let answer = engine.recall(page);
+        stands(engine);
+        books.note(share, Event::Recall, &answer);
+        answer
+    }
+
+    /// One `flush`.
+    pub fn flush(&mut self, share: &mut Share<L>, page: u32) -> Result<(), Fault>
+        ensures { TellsOk event.Flush result share.old share.new }
+    {
+        let Locked { engine, books } = self;
+        let answer = engine.flush(page);
+        stands(engine);
+        books.note(share, Event::Flush, &answer);
+        answer
+    }
+
+    /// One `sync_pages`.
+    pub fn sync_pages(&mut self, share: &mut Share<L>) -> Result<(), Fault>
+        ensures { TellsOk event.SyncPages result share.old share.new }
+    {
+        let Locked { engine, books } = self;
+        let answer = engine.sync_pages();
+        stands(engine);
+        books.note(share, Event::SyncPages, &answer);
+        answer
+    }
+
+    /// One `log_write`.
+    pub fn log_write(&mut self, share: &mut Share<L>) -> Result<(), Fault>
+        ensures { TellsOk event.LogWrite result share.old share.new }
+    {
+        let Locked { engine, books } = self;
+        let answer = engine.log_write();
+        stands(engine);
+        books.note(share, Event::LogWrite, &answer);
+        answer
+    }
+
+    /// One `log_sync`.
+    pub fn log_sync(&mut self, share: &mut Share<L>) -> Result<(), Fault>
+        ensures { TellsOk event.LogSync result share.old share.new }
+    {
+        let Locked { engine, books } = self;
+        let answer = engine.log_sync();
+        stands(engine);
+        books.note(share, Event::LogSync, &answer);
+        answer
+    }
+
+    /// One `mark_write`.
+    pub fn mark_write(&mut self, share: &mut Share<L>) -> Result<(), Fault>
+        ensures { TellsOk event.MarkWrite result share.old share.new }
+    {
+        let Locked { engine, books } = self;
+        let answer = engine.mark_write();
+        stands(engine);
+        books.note(share, Event::MarkWrite, &answer);
+        answer
+    }
+
+    /// One `ctl_sync`.
+    pub fn ctl_sync(&mut self, share: &mut Share<L>) -> Result<Lsn, Fault>
+        ensures { TellsOk event.ControlSync result share.old share.new }
+    {
+        let Locked { engine, books } = self;
+        let answer = engine.ctl_sync();
+        stands(engine);
+        books.note(share, Event::ControlSync, &answer);
+        answer
+    }
+
+    /// One `ckpt_begin`.
+    pub fn ckpt_begin(&mut self, share: &mut Share<L>) -> Result<(), Fault>
+        ensures { TellsOk event.CkptBegin result share.old share.new }
+    {
+        let Locked { engine, books } = self;
+        let answer = engine.ckpt_begin();
+        stands(engine);
+        books.note(share, Event::CkptBegin, &answer);
+        answer
+    }
+
+    /// One `ckpt_block`.
+    pub fn ckpt_block(&mut self, share: &mut Share<L>) -> Result<(), Fault>
+        ensures { TellsOk event.CkptBlock result share.old share.new }
+    {
+        let Locked { engine, books } = self;
+        let answer = engine.ckpt_block();
+        stands(engine);
+        books.note(share, Event::CkptBlock, &answer);
+        answer
+    }
+
+    /// One `ckpt_publish`.
+    pub fn ckpt_publish(&mut self, share: &mut Share<L>) -> Result<(), Fault>
+        ensures { TellsOk event.CkptPublish result share.old share.new }
+    {
+        let Locked { engine, books } = self;
+        let answer = engine.ckpt_publish();
+        stands(engine);
+        books.note(share, Event::CkptPublish, &answer);
+        answer
+    }
+
+    /// One `publish_view`.
+    pub fn publish_view(&mut self, share: &mut Share<L>) -> Result<(), Fault>
+        ensures { TellsOk event.PublishView result share.old share.new }
+    {
+        let Locked { engine, books } = self;
+        let answer = engine.publish_view();
+        stands(engine);
+        books.note(share, Event::PublishView, &answer);
+        answer
+    }
+
+    /// One `ready`.
+    pub fn ready(&mut self, share: &mut Share<L>) -> Result<(), Fault>
+        ensures { TellsOk event.Ready result share.old share.new }
+    {
+        let Locked { engine, books } = self;
+        let answer = engine.ready();
+        stands(engine);
+        books.note(share, Event::Ready, &answer);
+        answer
+    }
+
+    /// One `seal`.
+    pub fn seal(&mut self, share: &mut Share<L>) -> Result<(), Fault>
+        ensures { TellsOk event.Seal result share.old share.new }
+    {
+        let Locked { engine, books } = self;
+        let answer = engine.seal();
+        stands(engine);
+        books.note(share, Event::Seal, &answer);
+        answer
+    }
+
+    /// One `undo_one`.
+    pub fn undo_one(&mut self, share: &mut Share<L>) -> Result<Lsn, Fault>
+        ensures { TellsOk event.UndoOne result share.old share.new }
+    {
+        let Locked { engine, books } = self;
+        let answer = engine.undo_one();
+        stands(engine);
+        books.note(share, Event::UndoOne, &answer);
+        answer
+    }
+
+    /// One `finish`.
+    pub fn finish(&mut self, share: &mut Share<L>) -> Result<(), Fault>
+        ensures { TellsOk event.Finish result share.old share.new }
+    {
+        let Locked { engine, books } = self;
+        let answer = engine.finish();
+        stands(engine);
+        books.note(share, Event::Finish, &answer);
+        answer
+    }
+
+    /// The page as it is now. A page past the last one is refused.
+    pub fn page_now(&mut self, page: u32) -> Result<Page, Fault> {
+        if page >= self.engine.pages() {
+            return Err(Fault::BadKey);
+        }
+        let answer = self.engine.page_now(page);
+        stands(&self.engine);
+        answer
+    }
+
+    /// The held record at an LSN.
+    pub fn record_at(&mut self, lsn: Lsn) -> Result<Option<Record>, Fault> {
+        let answer = self.engine.record_at(lsn);
+        stands(&self.engine);
+        answer
+    }
+}
