@@ -1,4 +1,5 @@
-use crate::devices::{Size, drain, in_memory, standby, write_all};
+use crate::devices::{Size, in_memory, standby, write_all};
+use crate::redone::redo_some;
 use als_bench_logs::FIRST;
 use als_disk::{BlockDisk, MemDisk};
 use als_engine::{Engine, Fault};
@@ -52,7 +53,7 @@ fn hold<D: BlockDisk + Drop>(engine: &mut Engine<D>, text: &[u8]) -> Result<(), 
         if let Err(refusal) = engine.feed(frame) {
             return Err(refusal.fault);
         }
-        drain(engine);
+        let _ = redo_some(engine);
     }
     write_all(engine);
     engine.log_sync()?;

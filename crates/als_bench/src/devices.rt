@@ -95,17 +95,6 @@ pub fn standby<D: BlockDisk + Drop>(
     }
 }
 
-/// Redoes all that is pending.
-pub fn drain<D: BlockDisk + Drop>(engine: &mut Engine<D>) {
-    for page in 0..PAGES {
-        for _ in 0..u64::MAX {
-            if engine.apply(page).is_err() {
-                break;
-            }
-        }
-    }
-}
-
 /// Writes each block of the log with unwritten bytes.
 pub fn write_all<D: BlockDisk + Drop>(engine: &mut Engine<D>) {
     for _ in 0..u64::MAX {

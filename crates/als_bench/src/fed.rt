@@ -1,4 +1,5 @@
-use crate::devices::{Size, drain, in_memory, standby, write_all};
+use crate::devices::{Size, in_memory, standby, write_all};
+use crate::redone::redo_some;
 use als_bench_logs::{FIRST, tell};
 use als_disk::{BlockDisk, MemDisk};
 use als_engine::{Engine, Fault};
@@ -96,6 +97,6 @@ fn feed_part<D: BlockDisk + Drop>(
 fn write_out<D: BlockDisk + Drop>(engine: &mut Engine<D>) -> Result<(), Fault> {
     write_all(engine);
     engine.log_sync()?;
-    drain(engine);
+    let _ = redo_some(engine);
     Ok(())
 }

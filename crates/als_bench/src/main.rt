@@ -17,6 +17,8 @@ mod timed;
 mod shipped;
 // Feeds that are redone, and whose pages are stored.
 mod redone;
+// Redo by leases.
+mod leased;
 // Checkpoints.
 mod checkpointed;
 // Takeovers.

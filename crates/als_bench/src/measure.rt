@@ -2,6 +2,7 @@ use crate::checkpointed::checkpoint_all;
 use crate::devices::Size;
 use crate::fed::feed_all;
 use crate::followed::follow_all;
+use crate::leased::lease_all;
 use crate::redone::redo_all;
 use crate::restarted::restart_all;
 use crate::shipped::ship_all;
@@ -39,6 +40,7 @@ where
         }
     }
     take_over_all(rt)?;
+    lease_all(rt, bytes)?;
     redo_sizes(rt, bytes, folder)
 }
 

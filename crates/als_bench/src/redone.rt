@@ -153,13 +153,18 @@ fn force<D: BlockDisk + Drop>(engine: &mut Engine<D>) -> Result<(), Fault> {
 /// Feeds bytes of a log in frames, forces and redoes them.
 pub fn hold<D: BlockDisk + Drop>(engine: &mut Engine<D>, text: &[u8]) -> Result<(), Fault> {
     for frame in text.chunks(FRAME) {
-        if let Err(refusal) = engine.feed(frame) {
-            return Err(refusal.fault);
-        }
-        force(engine)?;
+        hold_frame(engine, frame)?;
         redo_some(engine)?;
     }
     Ok(())
+}
+
+/// Feeds a frame and forces it.
+pub fn hold_frame<D: BlockDisk + Drop>(engine: &mut Engine<D>, frame: &[u8]) -> Result<(), Fault> {
+    if let Err(refusal) = engine.feed(frame) {
+        return Err(refusal.fault);
+    }
+    force(engine)
 }
 
 /// Redoes all that waits. Where no frame is free, the pages are written and synced first.
@@ -201,11 +206,20 @@ pub fn redo_some<D: BlockDisk + Drop>(engine: &mut Engine<D>) -> Result<(), Faul
     Ok(())
 }
 
-/// Redoes the first changes that wait for a page, if it lacks one of them.
-fn redo_page<D: BlockDisk + Drop>(engine: &mut Engine<D>, page: u32) -> Result<(), Fault> {
-    match engine.apply(page) {
-        Ok(_) | Err(Fault::NothingToDo) => Ok(()),
-        Err(fault) => Err(fault),
+/// Redoes the first changes that wait for a page, if it lacks one of them: lends the page, redoes
+/// its batch and gives it back.
+pub fn redo_page<D: BlockDisk + Drop>(engine: &mut Engine<D>, page: u32) -> Result<(), Fault> {
+    let mut lease = match engine.lend(page) {
+        Ok(lease) => lease,
+        Err(Fault::NothingToDo) => return Ok(()),
+        Err(fault) => return Err(fault),
+    };
+    for _ in 0..lease.batch().len() {
+        let _ = lease.redo_next();
+    }
+    match engine.give(lease) {
+        Ok(()) => Ok(()),
+        Err(refused) => Err(refused.fault),
     }
 }
 

@@ -1,5 +1,6 @@
 use crate::split::{Split, add};
-use als_engine::{Answer, Events, Fault, Fed, FeedFault, Status};
+use als_engine::{Answer, Events, Fault, Fed, FeedFault, NotGiven, Status};
+use als_lease::PageLease;
 use als_page::Page;
 use als_record::{Key, LoggedPage, Lsn, Record, TransactionRow};
 use std::alloc::Global;
@@ -13,6 +14,8 @@ pub struct Timed<'a, R: Clock, E: Events> {
     split: Split,
     /// A checkpoint was begun since the log was forced last.
     in_checkpoint: bool,
+    /// When a page was lent last.
+    lent: Option<Instant>,
 }
 
 impl<'a, R: Clock, E: Events> Timed<'a, R, E> {
@@ -23,6 +26,7 @@ impl<'a, R: Clock, E: Events> Timed<'a, R, E> {
             events,
             split: Split::NOTHING,
             in_checkpoint: false,
+            lent: None,
         }
     }
 
@@ -33,6 +37,7 @@ impl<'a, R: Clock, E: Events> Timed<'a, R, E> {
             events,
             split,
             in_checkpoint: _,
+            lent: _,
         } = self;
         (events, split)
     }
@@ -55,6 +60,8 @@ impl<R: Clock, E: Events> Events for Timed<'_, R, E> {
 
     ghost machine = { λ timed. E.machine timed.events };
 
+    ghost tally = { λ timed. E.tally timed.events };
+
     fn feed(&mut self, piece: &[u8]) -> Result<Fed, FeedFault> {
         let start = self.now();
         let answer = self.events.feed(piece);
@@ -70,11 +77,20 @@ impl<R: Clock, E: Events> Events for Timed<'_, R, E> {
         self.events.resync()
     }
 
-    fn apply(&mut self, page: u32) -> Result<Lsn, Fault> {
-        let start = self.now();
-        let answer = self.events.apply(page);
-        took(self.rt, &mut self.split.redone, start);
+    // Redo is timed from the lending of a page to its return: the session redoes it in between.
+    fn lend(&mut self, page: u32) -> Result<PageLease, Fault> {
+        self.lent = self.now();
+        self.events.lend(page)
+    }
+
+    fn give(&mut self, lease: PageLease) -> Result<(), NotGiven> {
+        let answer = self.events.give(lease);
+        took(self.rt, &mut self.split.redone, self.lent);
         answer
+    }
+
+    fn recall(&mut self, page: u32) -> Result<(), Fault> {
+        self.events.recall(page)
     }
 
     fn flush(&mut self, page: u32) -> Result<(), Fault> {
