@@ -15,7 +15,7 @@ pub struct LeaseRoom {
     work: Box<Work>,
 }
 
-// Written out: a derived drop is proved wherever a room is let go of, this one only here.
+// Written out: a derived drop is proved wherever a room is dropped, this one only here.
 impl Drop for LeaseRoom {
     fn drop(self) {
         let LeaseRoom { work } = self;

@@ -14,7 +14,7 @@ pub struct PageLease {
     pub(crate) work: Box<Work>,
 }
 
-// Written out: a derived drop is proved wherever a lease is let go of, this one only here.
+// Written out: a derived drop is proved wherever a lease is dropped, this one only here.
 impl Drop for PageLease {
     fn drop(self) {
         let PageLease { work } = self;

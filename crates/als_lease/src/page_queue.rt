@@ -23,7 +23,7 @@ pub struct PageQueue {
     has_room: bool,
 }
 
-// Written out: a derived drop is proved wherever a queue is let go of, this one only here.
+// Written out: a derived drop is proved wherever a queue is dropped, this one only here.
 impl Drop for PageQueue {
     fn drop(self) {
         let PageQueue {

@@ -5,7 +5,7 @@ ghost use Rattle.als_page.specs.Changes.{AreNext};
 ghost use Rattle.als_record.specs.Pages.{empty_page};
 ghost use Rattle.als_lease.specs.Lease.{working_of, is_finished, with_done, lease_for};
 
-use crate::compare::{same_changes, same_page};
+use crate::compare::same_changes;
 use als_page::Page;
 use als_record::{Change, KeptImage, Key, Lsn};
 use std::marker::Model;
@@ -150,7 +150,7 @@ impl Work {
     {
         self.number == number
             && same_changes(&self.changes[..self.count], batch)
-            && same_page(&self.base, base)
+            && self.base.is_same(base)
     }
 }
 

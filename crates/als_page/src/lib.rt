@@ -5,6 +5,8 @@
 mod fault;
 // A slot as bytes.
 mod slot;
+// Comparison of images.
+mod same;
 // A page in memory.
 mod page;
 // A page as the bytes of a block.
@@ -12,3 +14,4 @@ mod block;
 
 pub use fault::Fault;
 pub use page::Page;
+pub use same::same_image;

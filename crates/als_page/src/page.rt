@@ -1,9 +1,10 @@
-ghost use Rattle.std.specs.Prelude.{◌≡◌, ◌<◌, ◌≤◌, List, ◌∷◌, length, Some, slice_get, IsTrue};
+ghost use Rattle.std.specs.Prelude.{◌≡◌, ◌↔◌, ◌<◌, ◌≤◌, List, ◌∷◌, length, Some, slice_get, IsTrue};
 ghost use Rattle.std.specs.Prelude.{IfOk, IfErr, IsOkAnd};
 ghost use Rattle.als_page.specs.Block.{is_page_lsn};
 
 use crate::block::{HEAD, is_head, is_zero, no_images, read_slots, write_head, write_slots};
 use crate::fault::Fault;
+use crate::same::same_images;
 use als_record::{BLOCK_LEN, Change, Image, KeptImage, Lsn, SLOT_COUNT};
 use byteorder::{BigEndian, ByteOrder};
 
@@ -52,6 +53,14 @@ impl Page {
         ensures { result.0 ≡ (state_of self.now).lsn }
     {
         self.lsn
+    }
+
+    /// Whether two pages have one number and one content.
+    pub fn is_same(&self, other: &Page) -> bool
+        ensures { IsTrue result ↔ ((id_of self.now ≡ id_of other.now)
+            × (state_of self.now ≡ state_of other.now)) }
+    {
+        self.id == other.id && self.lsn == other.lsn && same_images(&self.slots, &other.slots)
     }
 
     /// The image of a slot, copied. It takes no memory.
