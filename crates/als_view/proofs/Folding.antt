@@ -1,5 +1,5 @@
--- The images of a view, one write and one commit after another.
-use Rattle.std.proofs.Common.{◌≡◌, ℕ, suc, take, drop, ◌+◌, ◌-◌, ◌*◌, ◌≤◌, ◌<◌, ◌==◌, ◌%◌, ◌^◌, length-append, nat_lt, Bool, true, false, cond, ◌&&◌, List, [], ◌∷◌, ◌++◌, length, get_or, set, fold, flat_map, None, Some, IsSome, Option, option_to_list, refl, sym, ap, ◌∙◌, inl, inr, arith}
+-- The images of a copy, one write and one commit after another.
+use Rattle.std.proofs.Common.{◌≡◌, ℕ, ◌*◌, ◌≤◌, ◌<◌, ◌==◌, nat_lt, Bool, true, false, cond, ◌&&◌, List, [], ◌∷◌, ◌++◌, length, get_or, set, fold, flat_map, None, refl, sym, ap, ◌∙◌, inl, inr, arith}
 use Rattle.std.proofs.lemmas.Bool.{cases_Bool, eqb-true, eq-eqb, false≢true, and_parts, and_from, ltb-true, lt-ltb}
 use Rattle.std.proofs.lemmas.List.{get_or-set_other, length-set}
 use Rattle.std.proofs.lemmas.Grind.{get_or-set_at, flat_map-append}
@@ -9,7 +9,7 @@ use Rattle.als_record.specs.Spelling.{Image}
 use Rattle.als_record.specs.Images.{same_key}
 use Rattle.als_record.specs.Commits.{Commit, Write, after_write, seen_after}
 use Rattle.als_commits.specs.Counting.{last_of}
-use Rattle.als_view.specs.Fronts.{place_of, written, written_by, AreImagesAfter}
+use Rattle.als_view.specs.Images.{place_of, written, written_by, AreImagesAfter}
 
 length-written : (images : List Image) (w : Write) → length (written images w) ≡ length images
 length-written images w = go (nat_lt w.key.slot 15 && nat_lt (place_of w.key) (length images))
@@ -89,31 +89,7 @@ pub images-none : (images : List Image) (pages : ℕ) → length images ≡ page
 unfolding seen_after
 images-none images pages n a = record { count = n; each = λ k d p s. a (place_of k) d (omega (arith, n)) }
 
--- a front's count and last LSN, after more commits
-pub count-after : (commits : ℕ) (front more : List Commit) → commits ≡ length front % 2 ^ 64 → (commits + length more) % 2 ^ 64 ≡ length (front ++ more) % 2 ^ 64
-count-after commits front more e =
-    let n : length (front ++ more) ≡ length front + length more = length-append front more in
-    omega arith
-
-pub last-after : (front more : List Commit) → fold (λ (last : ℕ) (c : Commit). c.lsn.0) (last_of front) more ≡ last_of (front ++ more)
+-- the last LSN of a front and one more commit
+pub last-one : (front : List Commit) (c : Commit) → last_of (front ++ c ∷ []) ≡ c.lsn.0
 unfolding last_of
-last-after front more = sym (fold-append (λ (last : ℕ) (c : Commit). c.lsn.0) 0 front more)
-
--- the first of those taken, and the others
-module _ (n k : ℕ) (xs ys : List Commit) (r : Option Commit) {x : Commit} (less : k < n) (s : r ≡ Some x) (i : xs ≡ option_to_list r ++ ys) where
-  one_more : n - k ≡ suc (n - (k + 1))
-  one_more = omega (arith, less)
-
-  first_is : xs ≡ x ∷ ys
-  first_is = i ∙ ap (λ (o : Option Commit). option_to_list o ++ ys) s
-
-  pub first-taken : take (n - k) xs ≡ x ∷ take (n - (k + 1)) ys
-  first-taken = ap (λ (l : List Commit). take (n - k) l) first_is ∙ ap (λ (j : ℕ). take j (x ∷ ys)) one_more
-
-  pub first-dropped : drop (n - k) xs ≡ drop (n - (k + 1)) ys
-  first-dropped = ap (λ (l : List Commit). drop (n - k) l) first_is ∙ ap (λ (j : ℕ). drop j (x ∷ ys)) one_more
-
--- a value that is there is not missing
-pub never-none : (r : Option Commit) → IsSome r → ((x : Commit) → r ≡ Some x → ⊥) → ⊥
-never-none None t h = false≢true t
-never-none (Some x) t h = h x refl
+last-one front c = fold-append (λ (last : ℕ) (d : Commit). d.lsn.0) 0 front (c ∷ [])

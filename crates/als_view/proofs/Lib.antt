@@ -1,2 +1,8 @@
+pub mod Fronts
+pub mod Adding
+pub mod ShowingLaws
+pub mod Turns
+pub mod Folds
 pub mod Folding
-pub mod ViewLaws
+pub mod Moves
+pub mod Reading

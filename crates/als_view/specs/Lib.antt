@@ -1,3 +1,12 @@
+pub mod Entries
+pub mod Images
+pub mod Moving
+pub mod Books
 pub mod FaultNames
 pub mod Fronts
+pub mod Changes
+pub mod Rules
 pub mod Showing
+pub mod Answers
+pub mod Reading
+pub mod Views

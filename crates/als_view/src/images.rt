@@ -1,12 +1,10 @@
-ghost use Rattle.std.specs.Prelude.{◌≡◌, ◌+◌, ◌≤◌, [], IfOk, IfErr, fold, take, drop, length};
-ghost use Rattle.als_view.specs.declared.fault.Fault.TheVariants.{Memory};
-ghost use Rattle.als_commits.specs.Counting.{last_from};
-ghost use Rattle.als_view.specs.Fronts.{AreImagesAfter, place_of, written, written_by};
+ghost use Rattle.std.specs.Prelude.{◌≡◌, [], fold, map, IfOk};
+ghost use Rattle.als_commits.specs.Committing.{write_of};
+ghost use Rattle.als_view.specs.Images.{AreImagesAfter, place_of, written, written_by};
 
-use crate::fault::Fault;
-use als_commits::{Commit, Waiting};
+use als_commits::Commit;
 use als_record::{Image, ImageView, KeptImage, Key, SLOT_COUNT};
-use std::alloc::Global;
+use std::alloc::{AllocError, Global};
 
 /// Where the image of a key is.
 pub(crate) fn place(key: Key) -> usize
@@ -16,9 +14,8 @@ pub(crate) fn place(key: Key) -> usize
 }
 
 /// The images of the keys of a database with this many pages, of which nobody has written one.
-pub(crate) fn unwritten(alloc: Global, pages: u32) -> Result<Vec<KeptImage>, Fault>
-    ensures ok { IfOk result (λ images. AreImagesAfter images.items pages []) }
-    ensures err { IfErr result (λ e. e ≡ Memory) }
+pub(crate) fn unwritten(alloc: Global, pages: u32) -> Result<Vec<KeptImage>, AllocError>
+    ensures { IfOk result (λ images. AreImagesAfter images.items pages []) }
 {
     let count = pages as usize * SLOT_COUNT;
     let mut images = Vec::with_capacity(alloc, count)?;
@@ -29,46 +26,28 @@ pub(crate) fn unwritten(alloc: Global, pages: u32) -> Result<Vec<KeptImage>, Fau
 }
 
 /// Gives a key its image. A key outside the database has none.
-pub(crate) fn write(images: &mut [KeptImage], key: Key, after: Image)
-    ensures { images.new ≡ written images.old (record { key = key; after = after }) }
+fn write(images: &mut Vec<KeptImage>, key: Key, after: &Image)
+    ensures { images.new.items
+        ≡ written images.old.items (record { key = key; after = after.now }) }
 {
     let at = place(key);
     if (key.slot as usize) < SLOT_COUNT && at < images.len() {
-        images[at] = KeptImage::of(&ImageView::of(&after));
+        images[at] = KeptImage::of(&ImageView::of(after));
     }
 }
 
-/// Gives the keys that a commit writes their images, in order. Answers its LSN.
-pub(crate) fn write_all(images: &mut [KeptImage], commit: Commit) -> u64
-    ensures images { images.new ≡ written_by images.old commit }
-    ensures lsn { result ≡ commit.lsn.0 }
+/// Gives the keys that a commit writes their images, in order.
+pub(crate) fn write_all(images: &mut Vec<KeptImage>, writes: &[(Key, Image)])
+    ensures { images.new.items ≡ fold written images.old.items (map write_of writes.now) }
 {
-    let lsn = commit.lsn.0;
-    for (key, after) in commit.writes {
-        write(images, key, after);
+    for w in writes {
+        write(images, w.0, &w.1);
     }
-    lsn
 }
 
-/// Takes so many of the first commits out of a queue and gives the keys that they write their
-/// images, in order. Answers the LSN of the last of them, that of the one before without one.
-pub(crate) fn write_first(
-    images: &mut [KeptImage],
-    waiting: &mut Waiting,
-    count: usize,
-    before: u64,
-) -> u64
-    requires { count ≤ length waiting.old.queued }
-    ensures images { images.new ≡ fold written_by images.old (take count waiting.old.queued) }
-    ensures left { waiting.new.queued ≡ drop count waiting.old.queued }
-    ensures room { waiting.new.room ≡ waiting.old.room + count }
-    ensures last { result ≡ last_from before (take count waiting.old.queued) }
+/// Gives the keys that a commit writes their images, in order.
+pub(crate) fn write_commit(images: &mut Vec<KeptImage>, commit: &Commit)
+    ensures { images.new.items ≡ written_by images.old.items commit.now }
 {
-    let mut last = before;
-    for _ in 0..count {
-        if let Some(commit) = waiting.pop() {
-            last = write_all(images, commit);
-        }
-    }
-    last
+    write_all(images, commit.writes.as_slice());
 }

@@ -1,32 +1,50 @@
-ghost use Rattle.std.specs.Prelude.{◌≡◌, true, false, ℕ, List, [], ◌∷◌, ◌++◌, length, ◌+◌, ◌≤◌};
-ghost use Rattle.std.specs.Prelude.{◌<◌, ◌^◌};
+ghost use Rattle.std.specs.Prelude.{◌≡◌, ℕ, ◌≤◌, true, false, List, [], ◌∷◌, ◌++◌, length};
+ghost use Rattle.std.specs.List.{AllByRecursion};
+ghost use Rattle.als_record.specs.declared.key.Key.{Key};
 ghost use Rattle.als_record.specs.declared.record.Record.{Record as AnyRecord};
 ghost use Rattle.als_record.specs.Validity.{is_valid};
-ghost use Rattle.als_record.specs.LogText.{end_of};
 ghost use Rattle.als_record.specs.Transactions.{is_commit};
-ghost use Rattle.als_record.specs.Commits.{commits_of};
-ghost use Rattle.als_view.specs.Fronts.{View, HasPublished};
-ghost use Rattle.als_commits.specs.Counting.{ended_count};
-ghost use Rattle.als_view.specs.Showing.{IsShowing};
+ghost use Rattle.als_record.specs.Commits.{commits_of, Commit as AnyCommit};
+ghost use Rattle.als_commits.specs.Counting.{IsEnded, ended_count};
+ghost use Rattle.als_view.specs.declared.answer.Answer.{Answer};
+ghost use Rattle.als_view.specs.Answers.{Answers};
+ghost use Rattle.als_view.specs.Entries.{AreCommits};
+ghost use Rattle.als_view.specs.Reading.{ReadsFront};
+ghost use Rattle.als_view.specs.Showing.{View as AnyView, IsShowing};
+ghost use Rattle.als_view.specs.Views.{listed_in};
 
-/// A law: a view without a commit is that of the empty log, and one that has published none is that
-/// of a log of which all commits wait. It goes on to a greater acknowledged LSN, and to a log with
-/// a record that is no commit.
+/// A law: an answer of the first commits of a log, all of which end at or below an offset, is what
+/// the committed transactions of a front of that log left.
+pub fn an_answer_is_of_a_front()
+    ensures { (log : List AnyRecord) (front more : List AnyCommit) (offset pages : ℕ) (key : Key)
+        (a : Answer) → is_valid log ≡ true → commits_of log ≡ front ++ more
+        → AllByRecursion (IsEnded offset) front → Answers a pages key front
+        → ReadsFront log offset pages key a }
+{}
+
+/// A law: a view without a commit is that of the empty log, and one of which all commits wait is
+/// that of their log. It goes on to a greater acknowledged LSN, and to a log with a record that is
+/// no commit.
 pub fn a_view_goes_on()
-    ensures start { (acknowledged : ℕ) (view : View) → HasPublished view [] → view.queued ≡ []
-        → IsShowing [] acknowledged view }
-    ensures waits { (log : List AnyRecord) (acknowledged : ℕ) (view : View) → HasPublished view []
-        → view.queued ≡ commits_of log → IsShowing log acknowledged view }
-    ensures rises { (log : List AnyRecord) (before after : ℕ) (view : View) → before ≤ after
+    ensures start { (acknowledged : ℕ) (view : AnyView) → view.all ≡ []
+        → listed_in view.published ≡ [] → view.queued ≡ [] → IsShowing [] acknowledged view }
+    ensures waits { (log : List AnyRecord) (acknowledged : ℕ) (view : AnyView) → view.all ≡ []
+        → listed_in view.published ≡ [] → view.queued ≡ commits_of log
+        → IsShowing log acknowledged view }
+    ensures rises { (log : List AnyRecord) (before after : ℕ) (view : AnyView) → before ≤ after
         → IsShowing log before view → IsShowing log after view }
-    ensures other { (log : List AnyRecord) (r : AnyRecord) (acknowledged : ℕ) (view : View)
+    ensures other { (log : List AnyRecord) (r : AnyRecord) (acknowledged : ℕ) (view : AnyView)
         → is_valid (log ++ r ∷ []) ≡ true → is_commit r.body ≡ false
         → IsShowing log acknowledged view → IsShowing (log ++ r ∷ []) acknowledged view }
 {}
 
-/// A law: no more commits are published than have ended at the acknowledged LSN.
-pub fn published_are_ended()
-    ensures { (log : List AnyRecord) (acknowledged : ℕ) (view : View) → is_valid log ≡ true
-        → end_of log < 2 ^ 64 → IsShowing log acknowledged view
-        → view.commits ≤ ended_count acknowledged (commits_of log) }
+/// A law: what a view shows of a valid log may be published, since these are the commits of a valid
+/// log. No more commits are published than have ended at the acknowledged LSN.
+pub fn shown_commits_may_be_published()
+    ensures commits { (log : List AnyRecord) (acknowledged : ℕ) (view : AnyView)
+        → is_valid log ≡ true → IsShowing log acknowledged view
+        → AreCommits (view.all ++ view.queued) }
+    ensures few { (log : List AnyRecord) (acknowledged : ℕ) (view : AnyView)
+        → IsShowing log acknowledged view
+        → length (listed_in view.published) ≤ ended_count acknowledged (commits_of log) }
 {}

@@ -1,112 +1,96 @@
-//! The view: what readers see of the committed work.
+//! The view of a log: the publisher, and the queue of the commits that wait in front of it.
 //!
 //! ```text
-//! commits of the held log:   published | queued
-//!                            images    | waiting for their log to be acknowledged
+//! commits of the log:   published | handed to the publisher | waiting
+//!                       <------ ended at the acknowledged LSN ------>   <-- the others
 //! ```
 //!
 //! Rules:
-//! 1. A commit is queued when its record is held, with what it writes.
-//! 2. A publishing shows the first queued commits at once and in order. A commit shows only once
-//!    its record ends at or below the acknowledged LSN: no crash takes back what a reader saw.
-//! 3. A reader gets a key's image after all published commits, their number and the last one's LSN.
-//! 4. A view has a list of published commits from `format` on, or from the end of a recovery on.
-//!    Until then readers are refused with Warming.
-//!
-//! Publishing keeps one image a key, so a read is one look-up, however many commits there are.
+//! 1. A commit waits from when its record is held. Its place is reserved before.
+//! 2. Only commits that have ended at the acknowledged LSN go to the publisher, since a publish
+//!    shows all that it has. Where allocation fails on the way some may stay there unpublished;
+//!    the next publish shows them.
+//! 3. Readers learn what is published from `tell`, or see it when they next enter a copy.
 
-ghost use Rattle.std.specs.Prelude.{◌≡◌, ℕ, ◌<◌, ◌%◌, ◌^◌, ◌++◌, ◌∷◌, ◌+◌, ◌-◌, ◌≤◌, [], List};
-ghost use Rattle.std.specs.Prelude.{take, drop, IsOk, true, false, Ok, Err, None, IfOk, IfErr};
-ghost use Rattle.std.specs.Prelude.{OnOk, OnErr, if◌then◌else◌, ◌&&◌, nat_lt, length, MatchResult};
+ghost use Rattle.std.specs.Prelude.{◌≡◌, ℕ, ◌<◌, ◌≤◌, ◌^◌, true, false, List, [], ◌∷◌, ◌++◌, length};
+ghost use Rattle.std.specs.Prelude.{Some, None, All, IsSome, option_to_list, IsOk, IfOk, IfErr, OnOk, OnErr};
+ghost use Rattle.std.specs.Prelude.{if◌then◌else◌};
 ghost use Rattle.als_record.specs.declared.record.Record.{Record as AnyRecord};
-ghost use Rattle.als_record.specs.Commits.{Commit as AnyCommit, commits_of, seen_after};
-ghost use Rattle.als_commits.specs.Counting.{count_below};
-ghost use Rattle.als_view.specs.declared.fault.Fault.TheVariants.{Memory, Warming};
-ghost use Rattle.als_view.specs.Fronts.{HasPublished, Answers};
-ghost use Rattle.als_view.specs.Showing.{IsWarming};
+ghost use Rattle.als_record.specs.Validity.{is_valid};
+ghost use Rattle.als_record.specs.Commits.{commits_of};
+ghost use Rattle.als_commits.specs.Counting.{ended_count};
+ghost use Rattle.als_view.specs.Answers.{IsRefusal};
+ghost use Rattle.als_view.specs.Entries.{AreCommits};
+ghost use Rattle.als_view.specs.Fronts.{front_of};
+ghost use Rattle.als_view.specs.Reading.{ReadsFront};
+ghost use Rattle.als_view.specs.Showing.{IsShowing, IsWarming, published_of};
+ghost use Rattle.als_view.specs.Views.{book_of, pages_of, known_to, listed_in, IsSameReader};
 
+use crate::answer::Answer;
 use crate::fault::Fault;
-use crate::images;
+use crate::front::Front;
+use crate::opening::new;
+use crate::publisher::Publisher;
+use crate::reader::Reader;
+use crate::reading_now::read_now;
 use als_commits::{Commit, Waiting};
-use als_record::{Image, KeptImage, Key, Lsn, SLOT_COUNT};
-use std::alloc::Global;
+use als_record::{Key, Lsn};
+use std::alloc::{AllocError, Global};
 use std::marker::Model;
+use std::sync::Wait;
 
-/// What a reader is answered: the value of a key after the published commits, how many these are,
-/// and the LSN of the last of them, 0 without one.
-#[derive(Drop)]
-pub struct Answer {
-    pub value: Image,
-    pub commits: u64,
-    pub lsn: Lsn,
-}
-
-/// What readers see: the published commits, as the image that each key has after them. Commits that
-/// are queued show at the next publishing.
+/// What readers see of a log, and what waits to be seen.
 pub struct View {
-    pages: u32,
-    // Whether there is a list of published commits, if only the empty one.
-    listed: bool,
-    images: Vec<KeptImage>,
-    // Modulo 2^64, which is exact for the commits of a device's log.
-    commits: u64,
-    last: Lsn,
-    // The commits that are not published yet.
-    pub(crate) waiting: Waiting,
+    publisher: Publisher,
+    // The commits that were not handed to the publisher yet.
+    waiting: Waiting,
 }
 
 // Written out: a derived drop is proved wherever a view is dropped, this one only here.
 impl Drop for View {
     fn drop(self) {
-        let View {
-            pages: _,
-            listed: _,
-            images,
-            commits: _,
-            last: _,
-            waiting,
-        } = self;
-        drop(images);
+        let View { publisher, waiting } = self;
+        drop(publisher);
         drop(waiting);
     }
 }
 
 impl Model for View {
-    ghost use Rattle.std.specs.Prelude.{◌≡◌, ◌*◌, length};
-    ghost use Rattle.als_view.specs.Fronts.{View};
+    ghost use Rattle.als_view.specs.Showing.{View};
+    ghost use Rattle.als_view.specs.Views.{book_by, pages_by, all_by, published_by};
 
     ghost Value = { View };
 
     ghost view = { λ v. record {
-      pages = v.pages;
-      listed = v.listed;
-      images = v.images.items;
-      commits = v.commits;
-      last = v.last.0;
+      pages = pages_by v.publisher;
+      book = book_by v.publisher;
+      published = published_by v.publisher;
+      all = all_by v.publisher;
       queued = v.waiting.queued;
       room = v.waiting.room;
     } };
-
-    ghost invariant = { λ v. length v.images.items ≡ v.pages * 15 };
 }
 
 impl View {
-    /// The view of a database with so many pages: with the empty list of published commits, or with
-    /// none.
-    pub fn new(alloc: Global, pages: u32, listed: bool) -> Result<View, Fault>
-        ensures ok { IfOk result (λ v. HasPublished v [] × (v.listed ≡ listed) × (v.pages ≡ pages)
-            × (v.queued ≡ [])) }
-        ensures warming { IfOk result (λ v. listed ≡ false → IsWarming pages [] v) }
-        ensures err { IfErr result (λ e. e ≡ Memory) }
+    /// The view of a database with so many pages, with an empty list or with none, and so many
+    /// readers of it. Where allocation fails nothing is left behind.
+    pub fn new<R: Wait>(
+        alloc: Global,
+        rt: &R,
+        pages: u32,
+        readers: usize,
+        listed: bool,
+    ) -> Result<(View, Vec<Reader>), AllocError>
+        requires { (0 < readers) × (readers < 2 ^ 32) }
+        ensures view { IfOk result (λ t. (t.0.all ≡ []) × (t.0.queued ≡ []) × (t.0.pages ≡ pages)
+            × (t.0.published ≡ (if listed then Some [] else None))) }
+        ensures readers { IfOk result (λ t. All (λ r. (book_of r ≡ t.0.book) × (pages_of r ≡ pages)
+            × (known_to r ≡ t.0.published)) t.1.items) }
+        ensures count { IfOk result (λ t. length t.1.items ≡ readers) }
     {
-        Ok(View {
-            pages,
-            listed,
-            images: images::unwritten(alloc, pages)?,
-            commits: 0,
-            last: Lsn(0),
-            waiting: Waiting::new(alloc),
-        })
+        let (publisher, all) = new(alloc, rt, pages, readers, listed)?;
+        let waiting = Waiting::new(alloc);
+        Ok((View { publisher, waiting }, all))
     }
 
     /// The view of a log of which all commits wait here, made of that of the empty log. It takes no
@@ -120,130 +104,101 @@ impl View {
             → waiting.queued ≡ commits_of log → IsWarming pages log result }
     {
         let View {
-            pages,
-            listed,
-            images,
-            commits,
-            last,
+            publisher,
             waiting: none,
         } = self;
         drop(none);
-        View {
-            pages,
-            listed,
-            images,
-            commits,
-            last,
-            waiting,
-        }
+        View { publisher, waiting }
     }
 
-    /// Makes room for so many more commits: the next so many `queue` take no memory. An `Err`
+    /// Makes room for a commit, if there is one: it can then be taken with no memory. An `Err`
     /// changes nothing.
-    pub fn reserve(&mut self, count: usize) -> Result<(), Fault>
-        ensures ok { OnOk result (self.new
-            ≡ record self.old {
-              room = if nat_lt self.old.room count then count else
-                  self.old.room;
-            }) }
-        ensures err { IfErr result (λ e. (e ≡ Memory) × (self.new ≡ self.old)) }
-        ensures reserved { count ≤ self.old.room → IsOk result }
+    pub fn make_room(&mut self, found: &Option<Commit>) -> Result<(), AllocError>
+        ensures same { self.new ≡ record self.old { room = self.new.room } }
+        ensures ok { OnOk result (IsSome found.now → 0 < self.new.room) }
+        ensures reserved { found.now ≡ None → IsOk result }
     {
-        self.waiting.reserve(count)?;
+        self.waiting.make_room(found)?;
         Ok(())
     }
 
-    /// Queues a commit behind the others. It takes no memory where there is room. Where memory for
-    /// it is refused, it is handed back and nothing changes.
-    pub fn queue(&mut self, commit: Commit) -> Result<(), Commit>
-        ensures ok { OnOk result (self.new
-            ≡ record self.old {
-              queued = self.old.queued ++ commit ∷ [];
-              room = self.old.room - 1;
-            }) }
-        ensures err { IfErr result (λ back. (back ≡ commit) × (self.new ≡ self.old)) }
-        ensures reserved { 0 < self.old.room → IsOk result }
+    /// Queues the commit of a record that was added to the log, if it makes one. It takes no
+    /// memory.
+    pub fn take(&mut self, found: Option<Commit>)
+        requires { IsSome found → 0 < self.old.room }
+        ensures shows { (log : List AnyRecord) (r : AnyRecord) (acknowledged : ℕ)
+            → commits_of (log ++ r ∷ []) ≡ commits_of log ++ option_to_list found
+            → IsShowing log acknowledged self.old
+            → IsShowing (log ++ r ∷ []) acknowledged self.new }
+        ensures published { self.new.published ≡ self.old.published }
+        ensures same { (self.new.pages ≡ self.old.pages) × (self.new.book ≡ self.old.book) }
     {
-        self.waiting.queue(commit)
+        self.waiting.take(found);
     }
 
-    /// How many commits are queued.
-    pub fn queued(&self) -> usize
-        ensures { result ≡ length self.now.queued }
+    /// Whether a commit whose record ends at or below an offset is not published yet.
+    pub fn has_more(&self, acknowledged: Lsn) -> bool
+        ensures more { result ≡ true → (log : List AnyRecord) (below : ℕ) → is_valid log ≡ true
+            → below ≤ acknowledged.0 → IsShowing log below self.now
+            → length (listed_in self.now.published)
+            < ended_count acknowledged.0 (commits_of log) }
+        ensures none { result ≡ false → (log : List AnyRecord) (below : ℕ) → is_valid log ≡ true
+            → below ≤ acknowledged.0 → IsShowing log below self.now
+            → length (listed_in self.now.published)
+            ≡ ended_count acknowledged.0 (commits_of log) }
     {
-        self.waiting.len()
+        let handed = self.publisher.unpublished();
+        let ended = self.waiting.count_ended(acknowledged);
+        handed > 0 || ended > 0
     }
 
-    /// How many of the first queued commits have a commit record that begins below an LSN, up to
-    /// the first that does not.
-    pub fn count_below(&self, lsn: Lsn) -> usize
-        ensures { result ≡ count_below lsn self.now.queued }
+    /// Publishes each commit whose record ends at or below an offset, in order and at once, and
+    /// opens the list if need be. It waits for readers that are still in the copy of before the
+    /// last call. At an `Err` readers see what they saw.
+    pub fn publish_ended<R: Wait>(&mut self, rt: &R, acknowledged: Lsn) -> Result<(), AllocError>
+        requires { AreCommits (self.old.all ++ self.old.queued) }
+        ensures shows { (log : List AnyRecord) (below : ℕ) → below ≤ acknowledged.0
+            → IsShowing log below self.old → IsShowing log acknowledged.0 self.new }
+        ensures commits { self.new.all ++ self.new.queued ≡ self.old.all ++ self.old.queued }
+        ensures done { OnOk result ((log : List AnyRecord) (below : ℕ) → is_valid log ≡ true
+            → below ≤ acknowledged.0 → IsShowing log below self.old
+            → published_of self.new ≡ Some (ended_count acknowledged.0 (commits_of log))) }
+        ensures err { OnErr result (self.new.published ≡ self.old.published) }
+        ensures same { (self.new.pages ≡ self.old.pages) × (self.new.book ≡ self.old.book) }
     {
-        self.waiting.count_below(lsn)
+        let count = self.waiting.count_ended(acknowledged);
+        self.publisher.publish_first(rt, &mut self.waiting, count)?;
+        Ok(())
     }
 
-    /// Publishes so many of the first queued commits at once, in order, and opens the list if need
-    /// be. It takes no memory, and their places in the queue are room again. It costs what these
-    /// commits write.
-    pub fn publish_first(&mut self, count: usize)
-        requires { count ≤ length self.old.queued }
-        ensures shown { (commits : List AnyCommit) → HasPublished self.old commits
-            → HasPublished self.new (commits ++ take count self.old.queued) }
-        ensures listed { self.new.listed ≡ true }
-        ensures queued { self.new.queued ≡ drop count self.old.queued }
-        ensures pages { self.new.pages ≡ self.old.pages }
-        ensures room { self.new.room ≡ self.old.room + count }
+    /// The whole published list, for any reader of this view.
+    pub fn tell(&self) -> Front
+        ensures { (result.seen.book ≡ self.now.book) × (front_of result ≡ self.now.published) }
     {
-        self.last = Lsn(images::write_first(
-            &mut self.images,
-            &mut self.waiting,
-            count,
-            self.last.0,
-        ));
-        self.commits = self.commits.wrapping_add(count as u64);
-        self.listed = true;
+        self.publisher.tell()
     }
 
-    /// Publishes all queued commits.
-    pub fn publish(&mut self)
-        ensures shown { (commits : List AnyCommit) → HasPublished self.old commits
-            → HasPublished self.new (commits ++ self.old.queued) }
-        ensures listed { self.new.listed ≡ true }
-        ensures queued { self.new.queued ≡ [] }
-        ensures pages { self.new.pages ≡ self.old.pages }
-        ensures room { self.new.room ≡ self.old.room + length self.old.queued }
+    /// What a key has after the commits that are published now, by a reader of this view.
+    ///
+    /// Warming: there is no list yet. Stopped: the view has ended.
+    pub fn read(&self, reader: &mut Reader, key: Key) -> Result<Answer, Fault>
+        requires book { book_of reader.old ≡ self.now.book }
+        requires pages { pages_of reader.old ≡ self.now.pages }
+        ensures same { IsSameReader reader.old reader.new }
+        ensures ok { IfOk result (λ a. (log : List AnyRecord) (below : ℕ) → is_valid log ≡ true
+            → IsShowing log below self.now → ReadsFront log below self.now.pages key a
+            × (published_of self.now ≡ Some a.commits)) }
+        ensures err { IfErr result (λ e. IsRefusal self.now.published e) }
     {
-        let count = self.waiting.len();
-        self.publish_first(count);
+        let answer = read_now(&self.publisher, reader, key)?;
+        Ok(answer)
     }
 
-    /// What a key has after the published commits: one look-up, however many they are. A key
-    /// outside the database has nothing. `Warming`: there is no list yet.
-    pub fn get(&self, key: Key) -> Result<Answer, Fault>
-        ensures ok { IfOk result (λ a. (self.now.listed ≡ true)
-            × ((commits : List AnyCommit) → HasPublished self.now commits → length commits < 2 ^ 64
-            → Answers a self.now.pages key commits)) }
-        ensures err { IfErr result (λ e. (e ≡ Warming) × (self.now.listed ≡ false)) }
-    {
-        if !self.listed {
-            return Err(Fault::Warming);
-        }
-        Ok(Answer {
-            value: self.image_of(key),
-            commits: self.commits,
-            lsn: self.last,
-        })
-    }
-
-    /// The image of a key after the published commits.
-    fn image_of(&self, key: Key) -> Image
-        ensures { (commits : List AnyCommit) → HasPublished self.now commits
-            → result ≡ (if nat_lt key.page self.now.pages
-            && nat_lt key.slot 15 then seen_after commits key else None) }
-    {
-        if key.page >= self.pages || key.slot as usize >= SLOT_COUNT {
-            return None;
-        }
-        self.images[images::place(key)].image()
+    /// Waits for the readers that are in a copy, and ends the view: reads are then refused with
+    /// Stopped.
+    pub fn close<R: Wait>(self, rt: &R) {
+        let View { publisher, waiting } = self;
+        drop(waiting);
+        publisher.close(rt);
     }
 }

@@ -1,8 +1,7 @@
-use Rattle.std.proofs.Common.{◌≡◌, fold, map}
+use Rattle.std.proofs.Common.{◌≡◌, fold, map, take}
 use Rattle.als_commits.specs.Committing.{write_of}
-use Rattle.als_view.specs.Fronts.{written}
+use Rattle.als_view.specs.Images.{written}
 use Rattle.als_view.proofs.images.write_all.Given as goal
 
--- what is still to be written makes of the images now what all makes of those at the beginning
-abbrev pub invariant-loop-key : goal.invariant-loop-key
-invariant-loop-key l = fold written l.images (map write_of l.key-iterator.rest.items) ≡ fold written l.initial.images l.fn.commit.writes
+abbrev pub invariant-loop-w : goal.invariant-loop-w
+invariant-loop-w l = l.images.items ≡ fold written l.fn.images.items (map write_of (take l.w-index l.writes))

@@ -1,7 +1,0 @@
-use Rattle.std.proofs.Common.{◌≡◌, fold, map, take}
-use Rattle.als_commits.specs.Committing.{write_of}
-use Rattle.als_readers.specs.Images.{written}
-use Rattle.als_readers.proofs.images.write_all.Given as goal
-
-abbrev pub invariant-loop-w : goal.invariant-loop-w
-invariant-loop-w l = l.images.items ≡ fold written l.fn.images.items (map write_of (take l.w-index l.writes))

@@ -1,5 +1,0 @@
-use Rattle.als_readers.proofs.Turns.{enters}
-use Rattle.als_readers.proofs.looking.read.Goals as goal
-
-pub enter_as-requires : goal.enter_as-requires
-enter_as-requires c x = enters _ _ x
