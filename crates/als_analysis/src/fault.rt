@@ -10,7 +10,7 @@ use std::fmt;
 /// Why a record could not be noted. The numbers are common to all crates.
 #[derive(Clone, Copy, Debug, PartialEq, Eq)]
 pub enum Fault {
-    /// A growth was refused.
+    /// An allocation failed.
     Memory,
 }
 

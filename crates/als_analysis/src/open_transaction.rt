@@ -25,7 +25,7 @@ pub struct OpenTransaction {
     undo_at: Lsn,
 }
 
-// Written out: a derived drop is proved wherever a transaction is let go of, this one only here.
+// Written out: a derived drop is proved wherever a transaction is dropped, this one only here.
 impl Drop for OpenTransaction {
     fn drop(self) {
         let OpenTransaction {

@@ -44,7 +44,7 @@ pub struct TransTable {
     places: [u8; PLACE_COUNT],
 }
 
-// Written out: a derived drop is proved wherever a table is let go of, this one only here.
+// Written out: a derived drop is proved wherever a table is dropped, this one only here.
 impl Drop for TransTable {
     fn drop(self) {
         let TransTable {

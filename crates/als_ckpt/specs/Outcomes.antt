@@ -5,7 +5,7 @@ use Rattle.als_ckpt.specs.declared.fault.Fault.TheVariants.{Device, BadControl, 
 use Rattle.als_ckpt.specs.Regions.{Begun, HasBlockLeft, IsWhole, position_of}
 use Rattle.als_ckpt.specs.Control.{Controlled, IsBusy, published}
 
--- no checkpoint was begun: one is already or the last publish is not synced; or, where neither is so, a growth was refused
+-- no checkpoint was begun: one is already or the last publish is not synced; or, where neither is so, an allocation failed
 abbrev pub RefusesBegin : Fault → Controlled → Controlled → Type 0
 RefusesBegin CkptBusy old new = IsBusy old × (new ≡ old)
 RefusesBegin Memory old new = (IsBusy old → ⊥) × (new ≡ old)

@@ -21,7 +21,7 @@ pub record TakesUp (pages log_bytes : ℕ) (slots : ℕ → Slot) (blocks failur
   pub control_is : control ≡ taken_up pages log_bytes said blocks failures attempts
   pub checkpoint_is : checkpoint ≡ said.checkpoint
 
--- why a device that says something is not taken up: it has failed, or a growth was refused
+-- why a device that says something is not taken up: it has failed, or an allocation failed
 abbrev pub FailsToRead : Fault → ℕ → ℕ → Type 0
 FailsToRead Device before now = before < now
 FailsToRead Memory before now = now ≡ before
@@ -39,12 +39,12 @@ RefusesToRead NothingToDo pages log_bytes slots before now = ⊥
 RefusesToRead CkptBusy pages log_bytes slots before now = ⊥
 RefusesToRead LogBehind pages log_bytes slots before now = ⊥
 
--- what was read is this, or the device has failed or a growth was refused
+-- what was read is this, or the device has failed or an allocation failed
 abbrev pub Gives : {X : Type 0} → X → Result X Fault → Type 0
 Gives x (Ok found) = found ≡ x
 Gives x (Err fault) = fault ≢ BadControl
 
--- why nothing was read: the device has failed, what stands there is not what it should be, or a growth was refused
+-- why nothing was read: the device has failed, what stands there is not what it should be, or an allocation failed
 abbrev pub Fails : Fault → ℕ → ℕ → Type 0
 Fails Device before now = before < now
 Fails BadControl before now = now ≡ before

@@ -70,7 +70,7 @@ impl<D: BlockDisk> Model for Control<D> {
         (states_of c.writes) (is_sure c.writes) c.regions c.begun };
 }
 
-// Written out: a derived drop is proved part by part wherever a control is let go of, this one only
+// Written out: a derived drop is proved part by part wherever a control is dropped, this one only
 // here.
 impl<D: BlockDisk + Drop> Drop for Control<D> {
     fn drop(self) {
@@ -130,7 +130,7 @@ impl<D: BlockDisk> Control<D> {
     /// a fault, as it was.
     ///
     /// `Device`: the disk failed. `BadControl`: the block is no such control block, or there is no
-    /// checkpoint at its position in the region that it names. `Memory`: a growth was refused.
+    /// checkpoint at its position in the region that it names. `Memory`: an allocation failed.
     pub fn read(
         alloc: Global,
         disk: D,
@@ -320,7 +320,7 @@ impl<D: BlockDisk> Control<D> {
     /// Begins a checkpoint: its bytes are made, and none is written. It goes to the region that is
     /// not published.
     ///
-    /// `CkptBusy`: one is begun, or the last publish is not synced. `Memory`: a growth was refused.
+    /// `CkptBusy`: one is begun, or the last publish is not synced. `Memory`: an allocation failed.
     pub fn begin(&mut self, alloc: Global, checkpoint: Checkpoint) -> Result<(), Fault>
         requires { IsBeginning self.old.pages checkpoint }
         ensures ok { OnOk result ((IsBusy self.old → ⊥)

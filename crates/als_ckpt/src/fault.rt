@@ -17,7 +17,7 @@ pub enum Fault {
     /// The block is no control block of a database with this many pages over a log device of this
     /// size, or the bytes are no checkpoint of it at this position.
     BadControl,
-    /// A growth was refused.
+    /// An allocation failed.
     Memory,
     /// No checkpoint is begun, or each of its blocks is written.
     NothingToDo,

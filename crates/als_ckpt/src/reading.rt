@@ -43,7 +43,7 @@ fn count_blocks<D: BlockDisk>(disk: &mut D, first: u64) -> Result<u64, Fault>
 
 /// Puts the bytes of a block behind those of the blocks before it.
 ///
-/// `Device`: the disk failed. `Memory`: a growth was refused.
+/// `Device`: the disk failed. `Memory`: an allocation failed.
 fn read_block<D: BlockDisk>(disk: &mut D, i: u64, bytes: &mut Vec<u8>) -> Result<(), Fault>
     requires { i < D.block_count disk.old }
     // In whatever synced blocks the bytes stood that end there.
@@ -66,7 +66,7 @@ fn read_block<D: BlockDisk>(disk: &mut D, i: u64, bytes: &mut Vec<u8>) -> Result
 
 /// The bytes of so many blocks.
 ///
-/// `Device`: the disk failed. `Memory`: a growth was refused.
+/// `Device`: the disk failed. `Memory`: an allocation failed.
 fn read_blocks<D: BlockDisk>(
     alloc: Global,
     disk: &mut D,
@@ -124,7 +124,7 @@ fn read_region<D: BlockDisk>(
 /// The checkpoint that a state publishes, where it publishes one.
 ///
 /// `Device`: the disk failed. `BadControl`: its region holds no checkpoint at its position.
-/// `Memory`: a growth was refused.
+/// `Memory`: an allocation failed.
 fn read_published<D: BlockDisk>(
     alloc: Global,
     disk: &mut D,
@@ -157,7 +157,7 @@ fn read_published<D: BlockDisk>(
 /// so many bytes, and the checkpoint that it publishes.
 ///
 /// `Device`: the disk failed. `BadControl`: the block is no such control block, or there is no
-/// checkpoint at its position in the region that it names. `Memory`: a growth was refused.
+/// checkpoint at its position in the region that it names. `Memory`: an allocation failed.
 pub fn read_said<D: BlockDisk>(
     alloc: Global,
     disk: &mut D,

@@ -8,7 +8,7 @@ use std::alloc::{AllocError, AllocFailed};
 pub enum Fault {
     /// The bytes are no checkpoint of the database at this position.
     BadControl,
-    /// A growth was refused.
+    /// An allocation failed.
     Memory,
 }
 

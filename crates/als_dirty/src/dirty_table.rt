@@ -17,7 +17,7 @@ pub struct DirtyTable {
     listed: Vec<u32>,
 }
 
-// Written out: a derived drop is proved wherever a table is let go of, this one only here.
+// Written out: a derived drop is proved wherever a table is dropped, this one only here.
 impl Drop for DirtyTable {
     fn drop(self) {
         let DirtyTable {

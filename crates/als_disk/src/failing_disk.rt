@@ -15,7 +15,7 @@ pub struct FailingDisk<D> {
     attempted: Count,
 }
 
-// Written out: a derived drop is proved wherever a device is let go of, this one only here.
+// Written out: a derived drop is proved wherever a device is dropped, this one only here.
 impl<D: Drop> Drop for FailingDisk<D> {
     fn drop(self) {
         let FailingDisk {

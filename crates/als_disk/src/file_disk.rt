@@ -39,7 +39,7 @@ pub struct FileDisk<F = File> {
     ghost fits: { mirror_blocks mirror * 512 < 2 ^ 64 },
 }
 
-// Written out: a derived drop is proved wherever a device is let go of, this one only here.
+// Written out: a derived drop is proved wherever a device is dropped, this one only here.
 impl<F: Drop> Drop for FileDisk<F> {
     fn drop(self) {
         let FileDisk {

@@ -16,7 +16,7 @@ const NONE: i32 = 0;
 /// The number of a failure of which the system gave none: an input or output error.
 const EIO: i32 = 5;
 
-// Written out: a derived drop is proved wherever a note is let go of, this one only here.
+// Written out: a derived drop is proved wherever a note is dropped, this one only here.
 impl Drop for FirstError {
     fn drop(self) {
         let FirstError { number } = self;

@@ -12,7 +12,7 @@ pub struct Fuse {
     left: Arc<AtomicU64>,
 }
 
-// Written out: a derived drop is proved wherever a fuse is let go of, this one only here.
+// Written out: a derived drop is proved wherever a fuse is dropped, this one only here.
 impl Drop for Fuse {
     fn drop(self) {
         let Fuse { left } = self;

@@ -24,7 +24,7 @@ pub struct MemDisk {
     ghost contents: { HoldsBlocks (slot_of synced unsynced) },
 }
 
-// Written out: a derived drop is proved wherever a device is let go of, this one only here.
+// Written out: a derived drop is proved wherever a device is dropped, this one only here.
 impl Drop for MemDisk {
     fn drop(self) {
         let MemDisk {

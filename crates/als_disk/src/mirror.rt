@@ -35,7 +35,7 @@ pub(crate) struct Mirror {
     ghost contents: { HoldsBlocks (slot_in trail.value) },
 }
 
-// Written out: a derived drop is proved wherever a mirror is let go of, this one only here.
+// Written out: a derived drop is proved wherever a mirror is dropped, this one only here.
 impl Drop for Mirror {
     fn drop(self) {
         let Mirror {

@@ -13,7 +13,7 @@ pub(crate) struct Piece {
     blocks: Vec<[u8; 512]>,
 }
 
-// Written out: a derived drop is proved wherever a piece is let go of, this one only here.
+// Written out: a derived drop is proved wherever a piece is dropped, this one only here.
 impl Drop for Piece {
     fn drop(self) {
         let Piece { blocks } = self;

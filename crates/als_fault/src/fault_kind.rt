@@ -66,7 +66,7 @@ pub enum FaultKind {
     Device,
     /// The standby has stopped: a write or a sync failed earlier.
     Stopped,
-    /// A growth was refused.
+    /// An allocation failed.
     Memory,
     /// A block is not that of its page.
     BadPage {

@@ -23,11 +23,11 @@ trouble_of (fault.Damaged trouble) = Some trouble
 trouble_of fault.Busy = Some (record { part = part.Itself; wrong = wrong.Locked })
 trouble_of fault.Memory = None
 
--- this part failed, or a growth was refused
+-- this part failed, or an allocation failed
 abbrev pub IsOf : Part → Fault → Type 0
 IsOf p f = (f ≡ fault.Memory) ⊎ ((w : Wrong) × (f ≡ fault.Device (record { part = p; wrong = w })))
 
--- the file of a device failed, or a growth was refused
+-- the file of a device failed, or an allocation failed
 abbrev pub IsOfDevice : Fault → Type 0
 IsOfDevice f = IsOf part.Log f ⊎ IsOf part.Control f ⊎ IsOf part.Pages f
 
@@ -35,7 +35,7 @@ IsOfDevice f = IsOf part.Log f ⊎ IsOf part.Control f ⊎ IsOf part.Pages f
 abbrev pub IsOfOpening : Fault → Type 0
 IsOfOpening f = IsOf part.Itself f ⊎ IsOfDevice f
 
--- the file of a device of a new database failed, or a growth was refused
+-- the file of a device of a new database failed, or an allocation failed
 abbrev pub IsOfNewDevice : Fault → Type 0
 IsOfNewDevice f = IsOf part.NewLog f ⊎ IsOf part.NewControl f ⊎ IsOf part.NewPages f
 

@@ -82,7 +82,7 @@ impl<F: OpenFile> DeviceFiles<F> {
     }
 }
 
-// Written out: a derived drop is proved wherever the files are let go of, this one only here.
+// Written out: a derived drop is proved wherever the files are dropped, this one only here.
 impl<F: Drop> Drop for DeviceFiles<F> {
     fn drop(self) {
         let DeviceFiles {

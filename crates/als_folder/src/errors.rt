@@ -10,7 +10,7 @@ pub(crate) struct Errors {
     pub(crate) pages: FirstError,
 }
 
-// Written out: a derived drop is proved wherever the notes are let go of, this one only here.
+// Written out: a derived drop is proved wherever the notes are dropped, this one only here.
 impl Drop for Errors {
     fn drop(self) {
         let Errors {

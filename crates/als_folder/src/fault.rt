@@ -20,7 +20,7 @@ pub enum Fault {
     Damaged(Trouble),
     /// Another program has the folder. To callers it is a device that failed.
     Busy,
-    /// A growth was refused.
+    /// An allocation failed.
     Memory,
 }
 
@@ -36,7 +36,7 @@ impl Fault {
         }
     }
 
-    /// What of the folder is wrong. None: nothing is, a growth was refused.
+    /// What of the folder is wrong. None: nothing is, an allocation failed.
     pub fn trouble(self) -> Option<Trouble>
         ensures { result ≡ trouble_of self }
     {

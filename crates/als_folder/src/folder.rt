@@ -42,7 +42,7 @@ pub struct Folder<F = File> {
     errors: Errors,
 }
 
-// Written out: a derived drop is proved wherever a folder is let go of, this one only here.
+// Written out: a derived drop is proved wherever a folder is dropped, this one only here.
 impl<F: Drop> Drop for Folder<F> {
     fn drop(self) {
         let Folder { path, held, errors } = self;

@@ -19,7 +19,7 @@ pub enum Fault {
     NothingToDo,
     /// The device failed.
     Device,
-    /// A growth was refused.
+    /// An allocation failed.
     Memory,
     /// The block of this page holds no page with its number and a page_LSN of the log.
     BadPage { page: u32 },

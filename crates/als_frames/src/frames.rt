@@ -75,7 +75,7 @@ pub struct Frames<D: BlockDisk> {
     leases: usize,
 }
 
-// Written out: a derived drop is proved wherever the frames are let go of, this one only here.
+// Written out: a derived drop is proved wherever the frames are dropped, this one only here.
 impl<D: BlockDisk + Drop> Drop for Frames<D> {
     fn drop(self) {
         let Frames {

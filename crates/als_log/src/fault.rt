@@ -18,7 +18,7 @@ pub enum Fault {
     LogFull,
     /// The device failed.
     Device,
-    /// A growth was refused.
+    /// An allocation failed.
     Memory,
 }
 

@@ -71,7 +71,7 @@ pub struct LocalLog<D: BlockDisk> {
     history: History,
 }
 
-// Written out: a derived drop is proved wherever a log is let go of, this one only here.
+// Written out: a derived drop is proved wherever a log is dropped, this one only here.
 impl<D: BlockDisk + Drop> Drop for LocalLog<D> {
     fn drop(self) {
         let LocalLog {
@@ -193,7 +193,7 @@ impl<D: BlockDisk> LocalLog<D> {
     /// to survive a crash. Memory then holds the bytes of its last block, which is read if it has
     /// any. The records are named for clauses alone.
     ///
-    /// `Device`: the device failed. `Memory`: a growth was refused. Both hand the device back as it
+    /// `Device`: the device failed. `Memory`: an allocation failed. Both hand the device back as it
     /// was.
     pub fn reopen(
         alloc: Global,
@@ -311,7 +311,7 @@ impl<D: BlockDisk> LocalLog<D> {
 
     /// Appends a record, in memory. `reserve_after` bytes of the device must be left behind it.
     ///
-    /// `LogFull`: the device has no room for that. `Memory`: a growth was refused, which does not
+    /// `LogFull`: the device has no room for that. `Memory`: an allocation failed, which does not
     /// come where `reserve` has made the room. Both leave the log as it was.
     pub fn append(&mut self, logged: &Record, reserve_after: u64) -> Result<(), Fault>
         requires fits { IsRecord self.old.pages logged.now }

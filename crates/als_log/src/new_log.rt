@@ -33,7 +33,7 @@ impl Model for NewLog {
 impl NewLog {
     /// The memory of an empty log of a database of `pages` pages.
     ///
-    /// `Memory`: a growth was refused.
+    /// `Memory`: an allocation failed.
     pub fn new(alloc: Global, pages: u32) -> Result<NewLog, Fault>
         requires { 1 ≤ pages × (pages ≤ 4096) }
         ensures ok { IfOk result (λ new. new ≡ pages) }

@@ -244,7 +244,7 @@ RefusesPage PoolFull old new page = ⊥
 RefusesPage NothingToDo old new page = ⊥
 RefusesPage Memory old new page = ⊥
 
--- a device was not laid out: it failed, or a growth was refused before it was called
+-- a device was not laid out: it failed, or an allocation failed before it was called
 abbrev pub RefusesFormat : Fault → ℕ → ℕ → Type 0
 RefusesFormat Device before now = before < now
 RefusesFormat Memory before now = now ≡ before

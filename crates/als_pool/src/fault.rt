@@ -20,7 +20,7 @@ pub enum Fault {
     NothingToDo,
     /// The device failed.
     Device,
-    /// A growth was refused.
+    /// An allocation failed.
     Memory,
     /// The block of this page holds no image of it that the call can take.
     BadPage { page: u32 },

@@ -59,7 +59,7 @@ pub struct Pool<D: BlockDisk> {
     alloc: Global,
 }
 
-// Written out: a derived drop is proved part by part wherever a pool is let go of, this one only
+// Written out: a derived drop is proved part by part wherever a pool is dropped, this one only
 // here.
 impl<D: BlockDisk + Drop> Drop for Pool<D> {
     fn drop(self) {

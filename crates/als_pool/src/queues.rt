@@ -23,7 +23,7 @@ pub struct Queues {
     total: usize,
 }
 
-// Written out: a derived drop is proved wherever the queues are let go of, this one only here.
+// Written out: a derived drop is proved wherever the queues are dropped, this one only here.
 impl Drop for Queues {
     fn drop(self) {
         let Queues {

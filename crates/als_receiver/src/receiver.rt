@@ -18,7 +18,7 @@ pub struct Receiver {
     refusal: Option<Refusal>,
 }
 
-// Written out: a derived drop is proved wherever a receiver is let go of, this one only here.
+// Written out: a derived drop is proved wherever a receiver is dropped, this one only here.
 impl Drop for Receiver {
     fn drop(self) {
         let Receiver {
@@ -68,7 +68,7 @@ impl Receiver {
         }
     }
 
-    /// Adds bytes to those kept. Only want of memory is refused, where the room was too small and
+    /// Adds bytes to those kept. Only an allocation can fail, where the room was too small and
     /// could not grow, and loses nothing. Log texts have less than 2^64 bytes: `position` tells
     /// where these begin.
     pub fn push(&mut self, piece: &[u8]) -> Result<(), AllocError>
@@ -85,7 +85,7 @@ impl Receiver {
     }
 
     /// Makes room for so many bytes more, which can then be pushed with no memory. Only want of
-    /// memory is refused, where the room was too small and could not grow. Nothing changes but the
+    /// allocation fails, where the room was too small and could not grow. Nothing changes but the
     /// room, which never shrinks.
     pub fn reserve(&mut self, len: usize) -> Result<(), AllocError>
         ensures same { self.new ≡ with_room self.old self.new.room }

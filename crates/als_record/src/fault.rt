@@ -26,7 +26,7 @@ pub enum Fault {
     BadKey,
     /// A value of more than 31 bytes.
     BadValue,
-    /// A growth was refused.
+    /// An allocation failed.
     Memory,
 }
 

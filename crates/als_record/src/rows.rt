@@ -27,7 +27,7 @@ pub struct TransactionRows {
     rows: Vec<LoggedTransaction>,
 }
 
-// Written out: a derived drop is proved wherever rows are let go of, this one only here.
+// Written out: a derived drop is proved wherever rows are dropped, this one only here.
 impl Drop for TransactionRows {
     fn drop(self) {
         let TransactionRows { rows } = self;
@@ -98,7 +98,7 @@ pub struct PageRows {
     rows: Vec<LoggedPage>,
 }
 
-// Written out: a derived drop is proved wherever rows are let go of, this one only here.
+// Written out: a derived drop is proved wherever rows are dropped, this one only here.
 impl Drop for PageRows {
     fn drop(self) {
         let PageRows { rows } = self;

@@ -109,7 +109,7 @@ pub record HoldsNone (fault : Fault) (pages blocks : ℕ) (log_slots control_slo
   pub none : (n : Node) → HoldsLog pages blocks log_slots control_slots n → ⊥
   pub first : MeetsFirst fault pages blocks log_slots control_slots
 
--- By the fault: a device has failed; or a growth was refused; or the devices, as they are handed back, hold no log, for this fault.
+-- By the fault: a device has failed; or an allocation failed; or the devices, as they are handed back, hold no log, for this fault.
 abbrev pub RefusesOpen : Fault → ℕ → ℕ → (ℕ → Slot) → (ℕ → Slot) → ℕ → ℕ → Type 0
 RefusesOpen Device pages blocks log_slots control_slots before now = before < now
 RefusesOpen Memory pages blocks log_slots control_slots before now = now ≡ before
@@ -118,6 +118,6 @@ RefusesOpen (Invalid cause) pages blocks log_slots control_slots before now = (n
 RefusesOpen BadControl pages blocks log_slots control_slots before now = (now ≡ before) × HoldsNone BadControl pages blocks log_slots control_slots
 RefusesOpen LogFull pages blocks log_slots control_slots before now = (now ≡ before) × HoldsNone LogFull pages blocks log_slots control_slots
 
--- why devices that hold a log are not taken up: a device has failed, or a growth was refused
+-- why devices that hold a log are not taken up: a device has failed, or an allocation failed
 abbrev pub IsBare : Fault → Type 0
 IsBare fault = (fault ≡ Device) ⊎ (fault ≡ Memory)

@@ -13,7 +13,7 @@ use std::alloc::Global;
 
 /// Lets the commit that the last record of the log made, if it made one, wait for the readers.
 ///
-/// `Memory`: a growth was refused.
+/// `Memory`: an allocation failed.
 pub(crate) fn take_commit(
     alloc: Global,
     waiting: &mut Waiting,

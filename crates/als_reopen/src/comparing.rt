@@ -46,7 +46,7 @@ fn are_same_rows(a: &[LoggedTransaction], b: &[LoggedTransaction]) -> bool
 /// Whether the numbers and the transaction rows of a checkpoint are those of the records handed
 /// out.
 ///
-/// `Memory`: a growth was refused.
+/// `Memory`: an allocation failed.
 pub(crate) fn is_checkpoint_of<D: BlockDisk>(
     alloc: Global,
     scan: &Scan<D>,

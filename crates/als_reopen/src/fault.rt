@@ -27,7 +27,7 @@ pub enum Fault {
     LogFull,
     /// A device failed.
     Device,
-    /// A growth was refused.
+    /// An allocation failed.
     Memory,
 }
 

@@ -118,7 +118,7 @@ fn finish<D: BlockDisk>(
 }
 
 /// The pages, of which none was read; what waits begins where the checkpoint says. The device comes
-/// back where a growth was refused.
+/// back where an allocation failed.
 fn open_pool<D: BlockDisk>(
     alloc: Global,
     disk: D,
@@ -209,7 +209,7 @@ fn begin<D: BlockDisk>(
 /// The log, the pages and what a restart takes of the log, over devices that were synced, once the
 /// control block was read.
 ///
-/// `Device`: the log's device failed. `Memory`: a growth was refused. Else the first fault of the
+/// `Device`: the log's device failed. `Memory`: an allocation failed. Else the first fault of the
 /// log's bytes. Both devices come back.
 pub(crate) fn read_log<D: BlockDisk>(
     alloc: Global,

@@ -18,7 +18,7 @@ pub(crate) struct ReadLog<D: BlockDisk> {
     pub(crate) waiting: Waiting,
 }
 
-// Written out: a derived drop is proved wherever a log that was read is let go of, this one only
+// Written out: a derived drop is proved wherever a log that was read is dropped, this one only
 // here.
 impl<D: BlockDisk + Drop> Drop for ReadLog<D> {
     fn drop(self) {

@@ -40,7 +40,7 @@ pub(crate) struct Reading<D: BlockDisk> {
     pub(crate) met: bool,
 }
 
-// Written out: a derived drop is proved wherever a reading is let go of, this one only here.
+// Written out: a derived drop is proved wherever a reading is dropped, this one only here.
 impl<D: BlockDisk + Drop> Drop for Reading<D> {
     fn drop(self) {
         let Reading {
@@ -59,7 +59,7 @@ impl<D: BlockDisk + Drop> Drop for Reading<D> {
 /// Compares the checkpoint with the records handed out, where they end at its position. Whether it
 /// was met is answered.
 ///
-/// `BadControl`: it is not that of these records. `Memory`: a growth was refused.
+/// `BadControl`: it is not that of these records. `Memory`: an allocation failed.
 fn meet<D: BlockDisk>(
     alloc: Global,
     reading: &Reading<D>,

@@ -24,7 +24,7 @@ pub struct Reopened<D: BlockDisk> {
     pub waiting: Waiting,
 }
 
-// Written out: a derived drop is proved wherever what was read is let go of, this one only here.
+// Written out: a derived drop is proved wherever what was read is dropped, this one only here.
 impl<D: BlockDisk + Drop> Drop for Reopened<D> {
     fn drop(self) {
         let Reopened {

@@ -20,7 +20,7 @@ use std::alloc::Global;
 /// memory at once: syncs the log, the control block and the pages, and then only reads them. No
 /// page is read yet: the changes that it may lack wait.
 ///
-/// `Device`: a device failed. `Memory`: a growth was refused. Else the first that is met in reading
+/// `Device`: a device failed. `Memory`: an allocation failed. Else the first that is met in reading
 /// the control block, its checkpoint, the log's header and its records: `BadControl`, `Shape` or
 /// `Invalid`; `BadControl` where the mark stands within a record, or where the checkpoint is not
 /// that of the records below its position. Then `LogFull`: the device has no room for the log and

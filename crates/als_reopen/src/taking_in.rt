@@ -31,7 +31,7 @@ fn waits<D: BlockDisk>(pool: &Pool<D>, change: &Change) -> bool
     }
 }
 
-/// Puts a change behind those that its page waits for. An `Err`, a growth was refused, changes
+/// Puts a change behind those that its page waits for. An `Err`, an allocation failed, changes
 /// nothing.
 fn route<D: BlockDisk>(pool: &mut Pool<D>, change: Change) -> Result<(), Fault>
     requires can { CanRoute pool.old.pool change }
@@ -55,7 +55,7 @@ fn route<D: BlockDisk>(pool: &mut Pool<D>, change: Change) -> Result<(), Fault>
 /// Takes in a record of the log: its change, if it makes one, waits for its page, unless it stands
 /// below where the page's changes wait.
 ///
-/// `Memory`: a growth was refused, and nothing has changed.
+/// `Memory`: an allocation failed, and nothing has changed.
 pub(crate) fn take_change<D: BlockDisk>(pool: &mut Pool<D>, logged: &Record) -> Result<(), Fault>
     requires unread { IfSome (change_of logged.now)
         (λ c. IsSome (unread_of pool.old.pool.unread c.key.page)) }

@@ -100,7 +100,7 @@ pub record GivesNext (log front : List Record) (found : Option Record) : Type 0 
   pub parts : log ≡ front ++ rest
   pub found_is : found ≡ first_of rest
 
--- that, or the device has failed or memory was refused
+-- that, or the device has failed or allocation failed
 abbrev pub GivesNextOf : List Record → List Record → Result (Option Record) Fault → Type 0
 GivesNextOf log front (Ok found) = GivesNext log front found
 GivesNextOf log front (Err fault) = (fault ≡ Device) ⊎ (fault ≡ Memory)

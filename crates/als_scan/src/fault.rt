@@ -24,7 +24,7 @@ pub enum Fault {
     BadControl,
     /// The device failed.
     Device,
-    /// A growth was refused.
+    /// An allocation failed.
     Memory,
 }
 

@@ -42,7 +42,7 @@ impl Model for Judge {
     ghost invariant = { λ j. IsJudge j.receiver j.validator (records_in j.history) };
 }
 
-// Written out: a derived drop is proved wherever a judge is let go of, this one only here.
+// Written out: a derived drop is proved wherever a judge is dropped, this one only here.
 impl Drop for Judge {
     fn drop(self) {
         let Judge {

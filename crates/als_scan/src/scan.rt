@@ -43,7 +43,7 @@ impl<D: BlockDisk> Model for Scan<D> {
     ghost invariant = { λ s. IsScan s.pages s.mark (D.block_count s.disk) (D.slot s.disk) s.judge };
 }
 
-// Written out: a derived drop is proved wherever a scan is let go of, this one only here.
+// Written out: a derived drop is proved wherever a scan is dropped, this one only here.
 impl<D: BlockDisk + Drop> Drop for Scan<D> {
     fn drop(self) {
         let Scan {
@@ -63,7 +63,7 @@ impl<D: BlockDisk> Scan<D> {
     /// a mark on a device that was synced.
     ///
     /// `Device`: the device failed. `Shape(BadHeader)`: the header is damaged, or that of another
-    /// page count. `Memory`: a growth was refused. The device comes back as it was.
+    /// page count. `Memory`: an allocation failed. The device comes back as it was.
     pub fn new(alloc: Global, disk: D, pages: u32, mark: u64) -> Result<Scan<D>, Unread<D>>
         requires settled { (k : ℕ) → IsSettled (D.slot disk k) }
         requires few { D.block_count disk ≤ 4194304 }
@@ -100,7 +100,7 @@ impl<D: BlockDisk> Scan<D> {
     ///
     /// Any fault of the bytes is that of the first record that is refused. `Shape`: the bytes are
     /// no record. `Invalid`: the record may not follow. `BadControl`: the mark stands within a
-    /// record. `Device`: the device failed. `Memory`: a growth was refused. After the last two the
+    /// record. `Device`: the device failed. `Memory`: an allocation failed. After the last two the
     /// call may be made again.
     #[inline(always)]
     pub fn next(&mut self) -> Result<Option<Record>, Fault>
@@ -143,7 +143,7 @@ impl<D: BlockDisk> Scan<D> {
     /// The log, all of it written and synced, and the validator of its records, once `next` has
     /// answered `None`. Its last block is read again.
     ///
-    /// `Device`: the device failed. `Memory`: a growth was refused. Both hand the device back as it
+    /// `Device`: the device failed. `Memory`: an allocation failed. Both hand the device back as it
     /// was.
     pub fn into_parts(self) -> Result<(LocalLog<D>, Validator), Unread<D>>
         requires { IsWhole self }

@@ -29,7 +29,7 @@ pub record BeginsCheckpoint (old new : Stored) : Type 0 where
     });
   }
 
--- none is begun: one is already or the last publish is not synced, or else a growth was refused
+-- none is begun: one is already or the last publish is not synced, or else an allocation failed
 abbrev pub NotBegun : Stored → Fault → Stored → Type 0
 NotBegun old fault.CkptBusy new = IsBusy old × (new ≡ old)
 NotBegun old fault.Memory new = (IsBusy old → ⊥) × (new ≡ old)

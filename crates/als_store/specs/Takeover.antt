@@ -113,7 +113,7 @@ pub record UndoesOne (old : Stored) (lsn : Lsn) (new : Stored) : Type 0 where
   pub place : lsn ≡ made.lsn
   pub after : new ≡ with_records old (made ∷ [])
 
--- no record is held: nothing of the tail is left to append, or a growth was refused
+-- no record is held: nothing of the tail is left to append, or an allocation failed
 abbrev pub NotUndone : Stored → Fault → Stored → Type 0
 NotUndone old fault.NothingToDo new = (is_undone old.log ≡ true) × (new ≡ old)
 NotUndone old fault.Memory new = (is_undone old.log ≡ false) × (new ≡ old)

@@ -27,7 +27,7 @@ pub enum Fault {
     CkptBusy,
     /// A device failed.
     Device,
-    /// A growth was refused.
+    /// An allocation failed.
     Memory,
     /// The block of this page holds no image of it that the event can take.
     BadPage { page: u32 },

@@ -11,7 +11,7 @@ pub struct Opened<D: BlockDisk> {
     pub waiting: Waiting,
 }
 
-// Written out: a derived drop is proved wherever what was opened is let go of, this one only here.
+// Written out: a derived drop is proved wherever what was opened is dropped, this one only here.
 impl<D: BlockDisk + Drop> Drop for Opened<D> {
     fn drop(self) {
         let Opened { store, waiting } = self;

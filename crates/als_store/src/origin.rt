@@ -24,7 +24,7 @@ impl<D: BlockDisk> Model for Origin<D> {
     ghost view = { λ o. origin_of o.log.value o.control.value o.pool.value.pool };
 }
 
-// Written out: a derived drop is proved part by part wherever a store is let go of, this one only
+// Written out: a derived drop is proved part by part wherever a store is dropped, this one only
 // here.
 impl<D: BlockDisk> Drop for Origin<D> {
     fn drop(self) {

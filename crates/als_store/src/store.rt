@@ -95,7 +95,7 @@ impl<D: BlockDisk> Model for Store<D> {
         s.broken s.origin s.recovering };
 }
 
-// Written out: a derived drop is proved part by part wherever a store is let go of, this one only
+// Written out: a derived drop is proved part by part wherever a store is dropped, this one only
 // here.
 impl<D: BlockDisk + Drop> Drop for Store<D> {
     fn drop(self) {

@@ -36,7 +36,7 @@ fn logged(row: TransactionRow) -> LoggedTransaction
     }
 }
 
-/// The rows of at most 256 transactions, as a checkpoint has them. An `Err`: a growth was refused.
+/// The rows of at most 256 transactions, as a checkpoint has them. An `Err`: an allocation failed.
 pub fn logged_rows(alloc: Global, rows: &[OpenTransaction]) -> Result<TransactionRows, AllocError>
     requires few { length rows.now ≤ 256 }
     ensures value { IfOk result (λ copies. copies ≡ logged_rows (rows_of rows.now)) }

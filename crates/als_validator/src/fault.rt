@@ -14,7 +14,7 @@ use std::fmt;
 pub enum Fault {
     /// The record may not follow the log.
     Invalid(Cause),
-    /// A growth was refused.
+    /// An allocation failed.
     Memory,
 }
 

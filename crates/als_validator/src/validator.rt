@@ -61,7 +61,7 @@ pub struct Validator {
     glanced: u64,
 }
 
-// Written out: a derived drop is proved wherever a validator is let go of, this one only here.
+// Written out: a derived drop is proved wherever a validator is dropped, this one only here.
 impl Drop for Validator {
     fn drop(self) {
         let Validator {

@@ -43,7 +43,7 @@ impl<D: BlockDisk> Pool<D> {
     /// `PageLent`: the page is lent already. `NothingToDo`: there is no such page, or nothing waits
     /// for it. `NumbersSpent`: all numbers of leases are given. `PoolFull`: the page has no frame,
     /// all frames are used and none is free. `Device`: it could not be read. `BadPage`: its block
-    /// has no image of it with a page_LSN below `end`. `Memory`: a growth was refused. They come in
+    /// has no image of it with a page_LSN below `end`. `Memory`: an allocation failed. They come in
     /// this order, and change no page, no row and nothing that waits; a failed read is counted.
     /// Then again `NothingToDo`: the page that was read has all that waited, which waits no more.
     pub fn lend(&mut self, page: u32, end: Lsn) -> Result<PageLease, Fault>

@@ -29,7 +29,7 @@ impl<D: BlockDisk> Pool<D> {
     /// `frames` can be in memory at once: writes the block of each page, and syncs. The device
     /// comes back with a fault.
     ///
-    /// `Memory`: a growth was refused, and the device was not called. `Device`: it failed.
+    /// `Memory`: an allocation failed, and the device was not called. `Device`: it failed.
     pub fn format(
         alloc: Global,
         disk: D,
@@ -102,7 +102,7 @@ impl<D: BlockDisk> Pool<D> {
     /// from its row in the published checkpoint on, or else from the checkpoint's position on;
     /// where none is published the position is that of the first record. The device is not called.
     ///
-    /// An `Err`, the device as it was: a growth was refused.
+    /// An `Err`, the device as it was: an allocation failed.
     pub fn open(
         alloc: Global,
         disk: D,

@@ -93,7 +93,7 @@ impl<D: BlockDisk> Store<D> {
     /// Begins a checkpoint: copies both tables, the numbers and the end of the log as they are now.
     /// No block of it is written.
     ///
-    /// CkptBusy: one is begun, or the last publish is not synced. Memory: a growth was refused;
+    /// CkptBusy: one is begun, or the last publish is not synced. Memory: an allocation failed;
     /// nothing has changed.
     pub fn ckpt_begin(&mut self, alloc: Global) -> Result<(), Fault>
         ensures ok { OnOk result (BeginsCheckpoint self.old.stored self.new.stored) }

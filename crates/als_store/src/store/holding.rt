@@ -198,7 +198,7 @@ fn append<D: BlockDisk>(
 
 impl<D: BlockDisk> Store<D> {
     /// Makes room for a record that stands at the log's end, in all parts that it changes: it can
-    /// then be held with no memory. Memory: a growth was refused, in a part that had no room for
+    /// then be held with no memory. Memory: an allocation failed, in a part that had no room for
     /// the record.
     pub fn reserve(&mut self, logged: &Record) -> Result<(), Fault>
         requires fits { IsRecord self.old.stored.pages logged.now }

@@ -20,7 +20,7 @@ impl<D: BlockDisk> Store<D> {
     /// The store is recovering: the changes that a page may lack wait. So do the commits of the
     /// log, for readers.
     ///
-    /// `Device`: a device failed. `Memory`: a growth was refused. Else the first that is met in
+    /// `Device`: a device failed. `Memory`: an allocation failed. Else the first that is met in
     /// reading the control block, its checkpoint, the log's header and its records: `BadControl`,
     /// `Shape` or `Invalid`; then `LogFull`. All hand the devices back.
     pub fn open(

@@ -175,7 +175,7 @@ impl<D: BlockDisk> Store<D> {
     }
 
     /// Holds the next record of the sealed log's tail, and answers its LSN. NothingToDo: nothing of
-    /// the tail is left to append. Memory: a growth was refused, in a part that had no room for the
+    /// the tail is left to append. Memory: an allocation failed, in a part that had no room for the
     /// record; nothing has changed. The log device has room for the whole tail.
     pub fn undo_one(&mut self) -> Result<Lsn, Fault>
         requires sealed { is_following self.old.stored ≡ false }
@@ -201,7 +201,7 @@ impl<D: BlockDisk> Store<D> {
         }
     }
 
-    /// Holds the next record of the tail, which is seen too. Memory: a growth was refused, and
+    /// Holds the next record of the tail, which is seen too. Memory: an allocation failed, and
     /// nothing has changed.
     fn hold_next(&mut self, logged: &Record, seen: &RecordView<'_>) -> Result<(), Fault>
         requires same { shown seen.now ≡ logged.now }
