@@ -2,7 +2,8 @@
 use Rattle.std.proofs.Common.{◌≡◌, ℕ, ◌+◌, ◌-◌, ◌^◌, ◌≤◌, ◌<◌, Bool, false, true, not, cond, nat_le}
 use Rattle.std.proofs.Common.{List, [], ◌∷◌, ◌++◌, length, Option, Some, None, Ok, refl, sym, ap}
 use Rattle.std.proofs.Common.{subst, ◌∙◌, inl, inr, arith}
-use Rattle.std.specs.Prelude.{is_some, filter, ◌⊎◌, Result, Err, MatchOption, IsSomeAnd}
+use Rattle.std.specs.Prelude.{is_some, filter, take, if◌then◌else◌, ◌⊎◌, Result, Err, MatchOption, IsSomeAnd}
+use Rattle.std.proofs.lemmas.List.{take_at, append_assoc}
 use Rattle.std.proofs.lemmas.Bool.{cases_Bool, true≢false, lt-leb, le-leb}
 use Rattle.als_record.specs.declared.lsn.Lsn.{Lsn}
 use Rattle.als_record.specs.declared.record.Record.{Record}
@@ -18,9 +19,9 @@ use Rattle.als_record.specs.Commits.{Commit as Committed, commits_of}
 use Rattle.als_record.specs.Tail.{TailStep, Ends, Undoes, undone, record_for, numbered, tail_steps}
 use Rattle.als_record.specs.Tail.{tail_of}
 use Rattle.als_commits.specs.Counting.{ended_count}
-use Rattle.als_view.specs.Fronts.{View, HasPublished}
-use Rattle.als_view.specs.Showing.{IsShowing, IsWarming, published_of}
-use Rattle.als_view.proofs.ViewLaws.{published-ended}
+use Rattle.als_view.specs.Showing.{View, IsShowing, IsPublishedOf, IsWarming, count_of, published_of}
+use Rattle.als_view.specs.Views.{listed_in}
+use Rattle.als_view.proofs.ShowingLaws.{published_few}
 use Rattle.als_receiver.specs.Reception.{Reception, fresh}
 use Rattle.als_ckpt.specs.declared.control_state.ControlState.{ControlState}
 use Rattle.als_store.specs.Stored.{Stored, acknowledged, newest, pending_of}
@@ -50,7 +51,7 @@ use Rattle.als_engine.proofs.PageLaws.{acting}
 -- ---- a view goes on
 
 pub goes_on_still : (log : List Record) (view : View) → ViewGoesOn log view log view
-goes_on_still log view = record { shows = λ offset h. h; published = refl; pages = refl }
+goes_on_still log view = record { shows = λ offset h. h; published = refl; pages = refl; book = refl }
 
 pub goes_on_then : (a b c : List Record) (u v w : View) → ViewGoesOn a u b v → ViewGoesOn b v c w
     → ViewGoesOn a u c w
@@ -58,23 +59,49 @@ goes_on_then a b c u v w first second = record {
   shows = λ offset h. second.shows offset (first.shows offset h);
   published = second.published ∙ first.published;
   pages = second.pages ∙ first.pages;
+  book = second.book ∙ first.book;
 }
 
 -- room for a commit shows nothing
 pub goes_on_room : (log : List Record) (old new : View) → new ≡ record old { room = new.room }
     → ViewGoesOn log old log new
 goes_on_room log old new e = subst (λ (v : View). ViewGoesOn log old log v) (sym e) (record {
-  shows = λ offset h. record {
-    front = h.front;
-    parts = h.parts;
-    shown =
-        record { images = h.shown.images; count = h.shown.count; last = h.shown.last };
-    ended =
-        h.ended;
-  };
+  shows = λ offset h. record { parts = h.parts; ended = h.ended; front = h.front };
   published = refl;
   pages = refl;
+  book = refl;
 })
+
+-- a record that is no commit
+pub goes_on_other : (held new : Stored) (r : Record) (view : View) → new ≡ grown held (r ∷ [])
+    → is_valid new.log ≡ true → is_commit r.body ≡ false
+    → ((log : List Record) (r : Record) (offset : ℕ) (v : View) → is_valid (log ++ r ∷ []) ≡ true
+    → is_commit r.body ≡ false → IsShowing log offset v → IsShowing (log ++ r ∷ []) offset v)
+    → ViewGoesOn held.log view new.log view
+goes_on_other held new r view is valid none other =
+    let log : new.log ≡ held.log ++ r ∷ [] = ap (λ (h : Stored). h.log) is in
+    subst (λ (l : List Record). ViewGoesOn held.log view l view) (sym log) (record {
+      shows = λ offset h. other held.log r offset view (sym (ap is_valid log) ∙ valid) none h;
+      published = refl;
+      pages = refl;
+      book = refl;
+    })
+
+-- a commit record, whose commit was taken
+pub goes_on_taken : (held new : Stored) (r : Record) (old mid view : View)
+    → new ≡ grown held (r ∷ []) → mid ≡ record old { room = mid.room }
+    → ((offset : ℕ) → IsShowing held.log offset mid → IsShowing (held.log ++ r ∷ []) offset view)
+    → view.published ≡ mid.published → (view.pages ≡ mid.pages) × (view.book ≡ mid.book)
+    → ViewGoesOn held.log old new.log view
+goes_on_taken held new r old mid view is room shows published same =
+    let log : new.log ≡ held.log ++ r ∷ [] = ap (λ (h : Stored). h.log) is in
+    goes_on_then held.log held.log new.log old mid view (goes_on_room held.log old mid room)
+    (subst (λ (l : List Record). ViewGoesOn held.log mid l view) (sym log) (record {
+      shows = shows;
+      published = ap count_of published;
+      pages = same.0;
+      book = same.1;
+    }))
 
 -- ---- no record of a tail is a commit
 
@@ -122,18 +149,20 @@ unfolding ended_count
 ended_in-few held =
     length-filter (λ c. nat_le (c.lsn.0 + 28) (acknowledged held)) (commits_of held.log)
 
--- a view counts no more commits than have ended
-few_published : (held : Stored) (view : View) → is_valid held.log ≡ true → end_of held.log < 2 ^ 64
-    → IsShowing held.log (acknowledged held) view → view.commits ≤ ended_in held
-few_published held view valid few shows =
-    published-ended held.log (acknowledged held) view valid few shows
+-- a list and its length
+pub listed_count : (published : Option (List Committed)) → count_in (count_of published) ≡ length (listed_in published)
+listed_count None = refl
+listed_count (Some commits) = refl
 
-pub counted : (held : Stored) (view : View) → is_valid held.log ≡ true → end_of held.log < 2 ^ 64
-    → IsSeen held view → count_in (published_of view) ≤ ended_in held
-counted held view valid few seen = elim (cases_Bool view.listed) [
-  | inl y ↦ rw y (few_published held view valid few seen.shows)
-  | inr n ↦ rw n (omega arith)
-]
+-- a view counts no more commits than have ended
+pub counted : (held : Stored) (view : View) → IsSeen held view
+    → count_in (published_of view) ≤ ended_in held
+counted held view seen =
+    omega (
+      arith,
+      listed_count view.published,
+      published_few held.log (acknowledged held) view seen.shows,
+    )
 
 pub none_counted : (shown : Option ℕ) → is_some shown ≡ false → count_in shown ≡ 0
 none_counted None e = refl
@@ -359,29 +388,33 @@ serving_not_shown old new receiver refused view page store_fault.LogFull s n = a
 -- ---- what is seen then
 
 -- a new engine, of whose view nothing is queued
-pub seen_new : (held : Stored) (view : View) → HasPublished view [] → view.queued ≡ []
-    → view.listed ≡ true → view.pages ≡ held.pages → held.log ≡ [] → held.recovering ≡ false
-    → ((offset : ℕ) (v : View) → HasPublished v [] → v.queued ≡ [] → IsShowing [] offset v)
-    → IsSeen held view
+pub seen_new : (held : Stored) (view : View) → view.all ≡ [] → view.queued ≡ []
+    → view.published ≡ Some [] → view.pages ≡ held.pages → held.log ≡ []
+    → held.recovering ≡ false
+    → ((offset : ℕ) (v : View) → v.all ≡ [] → listed_in v.published ≡ [] → v.queued ≡ []
+    → IsShowing [] offset v) → IsSeen held view
 seen_new held view none queued listed pages log ready start = record {
   shows = subst (λ (l : List Record). IsShowing l (acknowledged held) view) (sym log)
-      (start (acknowledged held) view none queued);
+      (start (acknowledged held) view none (ap listed_in listed) queued);
   pages = pages;
-  listed = ap (λ b. is_some (cond b (Some view.commits) None)) listed ∙ ap not (sym ready);
+  listed = ap (λ (p : Option (List Committed)). is_some (count_of p)) listed ∙ ap not (sym ready);
   stable = λ r. absurd (true≢false (sym r ∙ ready));
 }
 
-pub new_list : (view : View) → HasPublished view [] → view.listed ≡ true
-    → published_of view ≡ Some 0
-new_list view none listed = ap (λ b. cond b (Some view.commits) None) listed ∙ ap Some none.count
+-- a view without a list and without a commit waits for those of the empty log
+pub warms_none : (pages : ℕ) (view : View)
+    → (view.all ≡ []) × (view.queued ≡ []) × (view.pages ≡ pages) × (view.published ≡ None)
+    → IsWarming pages [] view
+unfolding commits_of
+warms_none pages view v = record { pages_are = v.2; unlisted = v.3; none = v.0; queued = v.1 }
 
 -- an engine over devices that were taken up again: all commits of its log wait
 pub serving_opened : (held from : Stored) (receiver : Reception) (view waiting : View)
     (end pages blocks failures attempts : ℕ) → held ≡ from → view ≡ waiting
     → IsOpened pages blocks failures attempts from
     → IsWarming pages from.log waiting → receiver ≡ fresh end pages → end ≡ end_of held.log
-    → ((log : List Record) (offset : ℕ) (v : View) → HasPublished v [] → v.queued ≡ commits_of log
-    → IsShowing log offset v) → IsServing held receiver None view
+    → ((log : List Record) (offset : ℕ) (v : View) → v.all ≡ [] → listed_in v.published ≡ []
+    → v.queued ≡ commits_of log → IsShowing log offset v) → IsServing held receiver None view
 serving_opened held from receiver view waiting end pages blocks failures attempts same shown o w
     fresh_is at waits =
     subst (λ (v : View). IsServing held receiver None v) (sym shown)
@@ -389,9 +422,9 @@ serving_opened held from receiver view waiting end pages blocks failures attempt
       ready = ready_opened from receiver end pages (ap (λ (h : Stored). h.since) o.is) fresh_is
           (at ∙ ap (λ (h : Stored). end_of h.log) same) (sym (ap (λ (h : Stored). h.pages) o.is));
       seen = record {
-        shows = waits from.log (acknowledged from) waiting w.shown w.queued;
+        shows = waits from.log (acknowledged from) waiting w.none (ap listed_in w.unlisted) w.queued;
         pages = w.pages_are ∙ sym (ap (λ (h : Stored). h.pages) o.is);
-        listed = ap (λ b. is_some (cond b (Some waiting.commits) None)) w.unlisted
+        listed = ap (λ (p : Option (List Committed)). is_some (count_of p)) w.unlisted
             ∙ ap not (sym (ap (λ (h : Stored). h.recovering) o.is));
         stable = λ r. omega (arith, o.ends, ap (λ (h : Stored). acknowledged h) o.is);
       };
@@ -424,6 +457,7 @@ seen_undone old new view lsn seen undoes valid ready other =
           (tail-no_commit old.log undoes.made undoes.rest undoes.first) h;
       published = refl;
       pages = refl;
+      book = refl;
     }) in
     seen_grown old new view view (undoes.made ∷ []) seen undoes.after on ready
 
@@ -517,44 +551,106 @@ none_to_publish m running ready all =
     (λ cause. (◌≡◌ {A = Result (Unit {0}) Fault} (Err fault.NothingToDo) (Err cause))
     × (m ≡ m))) (sym e) (refl, refl)
 
--- a view that counts what it is to publish
-abbrev pub IsCountOf : Stored → View → ℕ → ℕ → Type 0
-IsCountOf held view at count =
-    (log : List Record) (below : ℕ) → is_valid log ≡ true → end_of log < 2 ^ 64 → below ≤ at
-    → IsShowing log below view → view.commits + count ≡ ended_count at (commits_of log)
+-- whether there is more to publish
+unfoldable pub AllPublished : Stored → View → ℕ → Type 0
+AllPublished held view at =
+    (log : List Record) (below : ℕ) → is_valid log ≡ true → below ≤ at → IsShowing log below view
+    → length (listed_in view.published) ≡ ended_count at (commits_of log)
 
-list_in : (view : View) → is_some (published_of view) ≡ true → published_of view ≡ Some view.commits
-list_in view some = elim (cases_Bool view.listed) [
-  | inl y ↦ rw y refl
-  | inr n ↦ absurd (true≢false (sym some ∙ rw n refl))
-]
+unfoldable pub MorePublished : Stored → View → ℕ → Type 0
+MorePublished held view at =
+    (log : List Record) (below : ℕ) → is_valid log ≡ true → below ≤ at → IsShowing log below view
+    → length (listed_in view.published) < ended_count at (commits_of log)
 
-pub publishes_more : (held : Stored) (view : View) (at count : ℕ) → IsSeen held view
-    → held.recovering ≡ false → is_valid held.log ≡ true → end_of held.log < 2 ^ 64
-    → at ≡ acknowledged held → IsCountOf held view at count
-    → count_in (published_of view) + count ≡ ended_in held
-publishes_more held view at count seen ready valid few is counts =
-    let list : published_of view ≡ Some view.commits = list_in view (seen.listed ∙ ap not ready) in
-    ap (λ (n : Option ℕ). count_in n + count) list ∙ counts held.log (acknowledged held) valid few
-    (omega (arith, is)) seen.shows ∙ ap (λ n. ended_count n (commits_of held.log)) is
+pub all_published : (held : Stored) (view : View) (at : ℕ) → IsSeen held view
+    → is_valid held.log ≡ true → at ≡ acknowledged held → AllPublished held view at
+    → ended_in held ≤ count_in (published_of view)
+unfolding AllPublished
+all_published held view at seen valid is all =
+    omega (
+      arith,
+      listed_count view.published,
+      all held.log (acknowledged held) valid (omega (arith, is)) seen.shows,
+      ap (λ n. ended_count n (commits_of held.log)) is,
+    )
 
--- a view that publishes
+pub more_published : (held : Stored) (view : View) (at : ℕ) → IsSeen held view
+    → is_valid held.log ≡ true → at ≡ acknowledged held → MorePublished held view at
+    → count_in (published_of view) < ended_in held
+unfolding MorePublished
+more_published held view at seen valid is more =
+    omega (
+      arith,
+      listed_count view.published,
+      more held.log (acknowledged held) valid (omega (arith, is)) seen.shows,
+      ap (λ n. ended_count n (commits_of held.log)) is,
+    )
+
+-- a view that publishes, or keeps what is published
+abbrev pub KeepsShowing : View → View → ℕ → Type 0
+KeepsShowing old new at =
+    (log : List Record) (below : ℕ) → below ≤ at → IsShowing log below old → IsShowing log at new
+
 abbrev pub IsPublishing : View → View → ℕ → Type 0
 IsPublishing old new at =
-    (log : List Record) (below : ℕ) → is_valid log ≡ true → end_of log < 2 ^ 64 → below ≤ at
-    → IsShowing log below old
-    → IsShowing log at new × (published_of new ≡ Some (ended_count at (commits_of log)))
+    (log : List Record) (below : ℕ) → is_valid log ≡ true → below ≤ at → IsShowing log below old
+    → published_of new ≡ Some (ended_count at (commits_of log))
 
 pub record PublishedIn (held : Stored) (view : View) : Type 0 where
   pub shows : IsShowing held.log (acknowledged held) view
   pub list : published_of view ≡ Some (ended_in held)
 
+pub still_shows : (held : Stored) (old new : View) (at : ℕ) → IsSeen held old
+    → at ≡ acknowledged held → KeepsShowing old new at
+    → IsShowing held.log (acknowledged held) new
+still_shows held old new at seen is shows =
+    subst (λ (n : ℕ). IsShowing held.log n new) is
+    (shows held.log (acknowledged held) (omega (arith, is)) seen.shows)
+
 pub published_in : (held : Stored) (old new : View) (at : ℕ) → IsSeen held old
-    → is_valid held.log ≡ true → end_of held.log < 2 ^ 64 → at ≡ acknowledged held
+    → is_valid held.log ≡ true → at ≡ acknowledged held → KeepsShowing old new at
     → IsPublishing old new at → PublishedIn held new
-published_in held old new at seen valid few is publishes =
-    let now = publishes held.log (acknowledged held) valid few (omega (arith, is)) seen.shows in
-    record {
-      shows = subst (λ (n : ℕ). IsShowing held.log n new) is now.0;
-      list = now.1 ∙ ap (λ n. Some (ended_count n (commits_of held.log))) is;
-    }
+published_in held old new at seen valid is shows publishes = record {
+  shows = still_shows held old new at seen is shows;
+  list = publishes held.log (acknowledged held) valid (omega (arith, is)) seen.shows
+      ∙ ap (λ n. Some (ended_count n (commits_of held.log))) is;
+}
+
+-- a publish for which allocation failed
+pub seen_kept : (held : Stored) (old new : View) (at : ℕ) → IsSeen held old
+    → at ≡ acknowledged held → KeepsShowing old new at → new.pages ≡ old.pages
+    → new.published ≡ old.published → IsSeen held new
+seen_kept held old new at seen is shows pages published = record {
+  shows = still_shows held old new at seen is shows;
+  pages = pages ∙ seen.pages;
+  listed = ap (λ (p : Option (List Committed)). is_some (count_of p)) published ∙ seen.listed;
+  stable = seen.stable;
+}
+
+pub publish_refused : (m : Machine) → m.held.broken ≡ false → m.held.recovering ≡ false
+    → m.published < ended_in m.held → PublishesView m (Err fault.Memory) m
+publish_refused m running ready more =
+    acting m step.PublishView (PublishesEnded m) (Err fault.Memory) m
+    (rw (running, ready, lt-leb (ended_in m.held) m.published more) refl) (refl, refl)
+
+pub ready_refused : (m : Machine) → m.held.broken ≡ false → m.held.recovering ≡ true
+    → pending_of m.held ≡ 0 → Readies m (Err fault.Memory) m
+ready_refused m running recovering none =
+    acting m step.Ready (BecomesReady m) (Err fault.Memory) m
+    (rw (running, recovering, none) refl) (refl, refl)
+
+-- ---- what readers are told
+
+-- a list of published commits is the first commits of the log, as many as it has
+pub front_told : (commits all queued : List Committed) (published : Option (List Committed))
+    → commits ≡ all ++ queued → IsPublishedOf all published
+    → published ≡ (if is_some (count_of published) then Some (take (count_in (count_of published)) commits) else None)
+front_told commits all queued None parts front = refl
+front_told commits all queued (Some list) parts front =
+    let whole : commits ≡ list ++ (front.0 ++ queued) = parts ∙ ap (λ (l : List Committed). l ++ queued) (sym front.1) ∙ append_assoc list front.0 queued in
+    ap (λ (l : List Committed). Some l) (sym (ap (λ (l : List Committed). take (length list) l) whole
+    ∙ take_at list (front.0 ++ queued) (length list) refl))
+
+pub view_told : (log : List Record) (offset : ℕ) (view : View) → IsShowing log offset view
+    → view.published ≡ (if is_some (published_of view) then Some (take (count_in (published_of view)) (commits_of log)) else None)
+view_told log offset view shows = front_told (commits_of log) view.all view.queued view.published shows.parts shows.front

@@ -17,9 +17,11 @@ use Rattle.als_store.specs.Takeover.{WritesState, BreaksState, UndoesOne, NotUnd
 use Rattle.als_store.specs.CheckpointEvents.{Publishes, BreaksPublish, NotPublished}
 use Rattle.als_store.specs.CheckpointEvents.{with_checkpoint}
 use Rattle.als_store.specs.declared.fault.Fault.TheVariants as store_fault
+use Rattle.als_record.specs.declared.cause.Cause.TheVariants as record_cause
 use Rattle.als_engine.specs.Faults.{from_store}
 use Rattle.als_store.specs.Events.{marked, HasUnmarked, WritesMark, BreaksMark}
 use Rattle.als_engine.specs.declared.fault.Fault.{Fault}
+use Rattle.als_engine.specs.declared.fault.Fault.TheVariants.{Device as DeviceFailed}
 use Rattle.als_engine.specs.declared.fault.Fault.TheVariants.{Memory}
 use Rattle.als_engine.specs.Feeds.{grown, kept_fault}
 use Rattle.als_engine.specs.TakingIn.{Rests, IsReady}
@@ -198,6 +200,29 @@ undo_wants old new store_fault.NumbersSpent n e = absurd n
 undo_wants old new store_fault.LogFull n e = absurd n
 undo_wants old new store_fault.Device n e = absurd n
 undo_wants old new (store_fault.BadPage page) n e = absurd n
+
+-- a failed device keeps its name
+pub device_of : (fault : StoreFault) → from_store fault ≡ DeviceFailed
+    → fault ≡ store_fault.Device
+device_of (store_fault.Invalid record_cause.BadPrev) e = absurd cc
+device_of (store_fault.Invalid record_cause.OldTransaction) e = absurd cc
+device_of (store_fault.Invalid record_cause.WrongState) e = absurd cc
+device_of (store_fault.Invalid record_cause.WrongUndoNext) e = absurd cc
+device_of (store_fault.Invalid record_cause.WrongCompensation) e = absurd cc
+device_of (store_fault.Invalid (record_cause.RecordHeld by)) e = absurd cc
+device_of (store_fault.Invalid record_cause.BeforeImage) e = absurd cc
+device_of (store_fault.Invalid record_cause.TooManyTransactions) e = absurd cc
+device_of (store_fault.Invalid record_cause.BadCheckpoint) e = absurd cc
+device_of store_fault.LogBehind e = absurd cc
+device_of store_fault.CkptBusy e = absurd cc
+device_of store_fault.PoolFull e = absurd cc
+device_of store_fault.PageLent e = absurd cc
+device_of store_fault.NumbersSpent e = absurd cc
+device_of store_fault.NothingToDo e = absurd cc
+device_of store_fault.LogFull e = absurd cc
+device_of store_fault.Memory e = absurd cc
+device_of (store_fault.BadPage page) e = absurd cc
+device_of store_fault.Device e = refl
 
 -- ---- a checkpoint
 

@@ -3,8 +3,7 @@ use Rattle.std.proofs.Common.{◌≡◌, ◌⊎◌, ℕ, ◌≤◌, cond, List, 
 use Rattle.std.proofs.Common.{◌∙◌, inl, inr, arith}
 use Rattle.std.specs.Prelude.{is_some}
 use Rattle.als_record.specs.LogText.{end_of}
-use Rattle.als_view.specs.Fronts.{View}
-use Rattle.als_view.specs.Showing.{IsWarming, published_of}
+use Rattle.als_view.specs.Showing.{View, IsWarming, count_of, published_of}
 use Rattle.als_store.specs.Stored.{Stored}
 use Rattle.als_store.specs.Opening.{IsOpened, TakesUp}
 use Rattle.als_store.specs.Warm.{now_of}
@@ -65,8 +64,7 @@ restarted config held from view waiting partial blocks failures attempts numbers
     let o_held : IsOpened config.pages blocks failures attempts held =
     subst (λ (h : Stored). IsOpened config.pages blocks failures attempts h) (sym same) o in
     let unlisted : published_of view ≡ None =
-    ap (λ (v : View). published_of v) shown ∙ ap (λ b. cond b (Some waiting.commits) None)
-    w.unlisted in
+    ap (λ (v : View). published_of v) shown ∙ ap count_of w.unlisted in
     record {
       made = record {
         numbers = numbers;

@@ -259,7 +259,7 @@ keeps_publish_view old new result does =
         (omega (arith, e.0, ap (λ (m : Machine). m.published) e.1))
         (omega (arith, ap (λ (m : Machine). m.published) e.1))
         (same_stays old.held old.held refl)
-    go (Err fault) e = absurd e
+    go (Err fault) e = keeps_equal old new e.1
 
 pub keeps_ready : (old new : Machine) (result : Result (Unit {0}) Fault)
     → old.published ≤ new.published → Readies old result new → Keeps old new
@@ -273,7 +273,7 @@ keeps_ready old new result grows does =
         (ap (λ (m : Machine). m.listed) e)
         grows (omega (arith, ended_in-few old.held, ap (λ (m : Machine). m.published) e))
         (stays_after old.held held held refl refl refl (λ b. b) refl (λ w. w) (λ r. refl))
-    go (Err fault) e = absurd e
+    go (Err fault) e = keeps_equal old new e.1
 
 pub keeps_seal : (old new : Machine) (result : Result (Unit {0}) Fault) → Seals old result new
     → Keeps old new
@@ -439,6 +439,44 @@ attempts_seal old new result does = go (refusal old step.Seal) result does
     go None (Err fault) c = omega (arith, ap (λ (m : Machine). m.held.attempts) c.1.after, ap (λ (h : Stored). h.attempts) c.1.becomes.after)
     go (Some cause) answer same = omega (arith, ap (λ (m : Machine). m.held.attempts) same.1)
 
+pub seals_step : (old new : Machine) (result : Result (Unit {0}) Fault) → Seals old result new
+    → Steps old step.Seal (reply_of result) new
+seals_step old new (Ok done) does = does
+seals_step old new (Err fault) does = does
+
+pub attempts_ready : (old new : Machine) (result : Result (Unit {0}) Fault)
+    → Readies old result new → new.held.attempts ≤ old.held.attempts + 1
+attempts_ready old new result does = go (refusal old step.Ready) result does
+  where
+    go : (r : Option Fault) (answer : Result (Unit {0}) Fault)
+        → MatchOption r (BecomesReady old answer new) (λ fault. (answer ≡ Err fault)
+        × (new ≡ old)) → new.held.attempts ≤ old.held.attempts + 1
+    go None (Ok done) c = omega (arith, ap (λ (m : Machine). m.held.attempts) c)
+    go None (Err fault) c = omega (arith, ap (λ (m : Machine). m.held.attempts) c.1)
+    go (Some cause) answer same = omega (arith, ap (λ (m : Machine). m.held.attempts) same.1)
+
+pub attempts_resync : (old new : Machine) (result : Result (Unit {0}) Fault)
+    → Resyncs old result new → new.held.attempts ≤ old.held.attempts + 1
+attempts_resync old new result does = go (refusal old step.Resync) result does
+  where
+    go : (r : Option Fault) (answer : Result (Unit {0}) Fault)
+        → MatchOption r (DropsPartial old answer new) (λ fault. (answer ≡ Err fault)
+        × (new ≡ old)) → new.held.attempts ≤ old.held.attempts + 1
+    go None (Ok done) c = omega (arith, ap (λ (m : Machine). m.held.attempts) c)
+    go None (Err fault) c = absurd c
+    go (Some cause) answer same = omega (arith, ap (λ (m : Machine). m.held.attempts) same.1)
+
+pub attempts_log_write : (old new : Machine) (result : Result (Unit {0}) Fault)
+    → LogWrites old result new → new.held.attempts ≤ old.held.attempts + 1
+attempts_log_write old new result does = go (refusal old step.LogWrite) result does
+  where
+    go : (r : Option Fault) (answer : Result (Unit {0}) Fault)
+        → MatchOption r (WritesBlock old answer new) (λ fault. (answer ≡ Err fault)
+        × (new ≡ old)) → new.held.attempts ≤ old.held.attempts + 1
+    go None (Ok done) c = omega (arith, ap (λ (m : Machine). m.held.attempts) c.after, ap (λ (h : Stored). h.attempts) c.becomes.after)
+    go None (Err fault) c = omega (arith, ap (λ (m : Machine). m.held.attempts) c.1.after, ap (λ (h : Stored). h.attempts) c.1.becomes.after)
+    go (Some cause) answer same = omega (arith, ap (λ (m : Machine). m.held.attempts) same.1)
+
 pub attempts_not_undone : (old new : Machine) (fault : Fault) → UndoesOneOf old (Err fault) new
     → new.held.attempts ≤ old.held.attempts + 1
 attempts_not_undone old new fault does = go (refusal old step.UndoOne) does
@@ -449,51 +487,3 @@ attempts_not_undone old new fault does = go (refusal old step.UndoOne) does
         → new.held.attempts ≤ old.held.attempts + 1
     go None h = omega (arith, ap (λ (m : Machine). m.held.attempts) h.1)
     go (Some cause) h = omega (arith, ap (λ (m : Machine). m.held.attempts) h.1)
-
--- an event that is refused calls no device
-attempts_does : {A : Type 0} (old new : Machine) (event : Step) (acts : Result A Fault → Machine
-    → Type 0) (result : Result A Fault) → Does old event acts result new
-    → (acts result new → new.held.attempts ≤ old.held.attempts + 1)
-    → new.held.attempts ≤ old.held.attempts + 1
-attempts_does {A} old new event acts result does k = go (refusal old event) does
-  where
-    go : (r : Option Fault)
-        → MatchOption r (acts result new) (λ fault. (result ≡ Err fault) × (new ≡ old))
-        → new.held.attempts ≤ old.held.attempts + 1
-    go None h = k h
-    go (Some fault) h = omega (arith, ap (λ (m : Machine). m.held.attempts) h.1)
-
-pub attempts_resync : (old new : Machine) (result : Result (Unit {0}) Fault)
-    → Resyncs old result new → new.held.attempts ≤ old.held.attempts + 1
-attempts_resync old new result does =
-    attempts_does old new step.Resync (DropsPartial old) result does (go result)
-  where
-    go : (r : Result (Unit {0}) Fault) → DropsPartial old r new
-        → new.held.attempts ≤ old.held.attempts + 1
-    go (Ok done) e = omega (arith, ap (λ (m : Machine). m.held.attempts) e)
-    go (Err fault) e = absurd e
-
-pub attempts_log_write : (old new : Machine) (result : Result (Unit {0}) Fault)
-    → LogWrites old result new → new.held.attempts ≤ old.held.attempts + 1
-attempts_log_write old new result does =
-    attempts_does old new step.LogWrite (WritesBlock old) result does (go result)
-  where
-    go : (r : Result (Unit {0}) Fault) → WritesBlock old r new
-        → new.held.attempts ≤ old.held.attempts + 1
-    go (Ok done) c = omega (arith, ap (λ (m : Machine). m.held.attempts) c.after, ap (λ (h : Stored). h.attempts) c.becomes.after)
-    go (Err fault) c = omega (arith, ap (λ (m : Machine). m.held.attempts) c.1.after, ap (λ (h : Stored). h.attempts) c.1.becomes.after)
-
-pub attempts_ready : (old new : Machine) (result : Result (Unit {0}) Fault)
-    → Readies old result new → new.held.attempts ≤ old.held.attempts + 1
-attempts_ready old new result does =
-    attempts_does old new step.Ready (BecomesReady old) result does (go result)
-  where
-    go : (r : Result (Unit {0}) Fault) → BecomesReady old r new
-        → new.held.attempts ≤ old.held.attempts + 1
-    go (Ok done) e = omega (arith, ap (λ (m : Machine). m.held.attempts) e)
-    go (Err fault) e = absurd e
-
-pub seals_step : (old new : Machine) (result : Result (Unit {0}) Fault)
-    → Seals old result new → Steps old step.Seal (reply_of result) new
-seals_step old new (Ok done) does = does
-seals_step old new (Err fault) does = does

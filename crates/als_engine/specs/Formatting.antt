@@ -16,7 +16,7 @@ FormatsWorld config log_blocks page_blocks page_failures page_attempts failures 
     (page_attempts + config.pages + 1))
     log_blocks failures m.held.attempts
 
--- Why nothing was formatted: the numbers do not fit, or they do and a growth was refused or a
+-- Why nothing was formatted: the numbers do not fit, or they do and an allocation failed or a
 -- device failed. The log's device has so many blocks, the control block's, and the pages'.
 abbrev pub RefusesFormat : Config → ℕ → ℕ → ℕ → Fault → Type 0
 RefusesFormat config log control pages fault =

@@ -10,6 +10,7 @@ use Rattle.als_record.specs.Transactions.{is_commit}
 use Rattle.als_record.specs.Validity.{first_bad}
 use Rattle.als_store.specs.Stored.{Stored, IsTooLong}
 use Rattle.als_store.specs.Spare.{Spare, HasSpare}
+use Rattle.logbook.specs.Pages.{Book}
 use Rattle.als_engine.specs.Machine.{Machine}
 
 pub record Serving : Type 0 where
@@ -21,6 +22,8 @@ pub record Serving : Type 0 where
   pub room : ℕ
   -- how often each event answered Ok since the tally was started
   pub tally : List ℕ
+  -- which view its readers have
+  pub book : Book
 
 -- Bytes with this reading take no memory: they begin with no whole record, or with one that is
 -- no commit; and if that one can be held, the store has spare room for it, and behind it stands

@@ -25,9 +25,10 @@
 //! The engine is the store, the receiver of the partial record and the readers' view. Its contract
 //! speaks of one value, `Machine`, so a caller needs to know none of the three.
 
-ghost use Rattle.std.specs.Prelude.{◌≡◌, ◌<◌, ◌≤◌, ◌+◌, IfOk, IfErr};
+ghost use Rattle.std.specs.Prelude.{◌≡◌, ◌<◌, ◌≤◌, ◌+◌, length, IfOk, IfErr};
 ghost use Rattle.als_engine.specs.Config.{IsWorld};
 ghost use Rattle.als_engine.specs.Formatting.{FormatsWorld, RefusesFormat};
+ghost use Rattle.als_engine.specs.Readers.{AreReaders};
 ghost use Rattle.als_engine.specs.Tally.{no_events};
 ghost use Rattle.als_store.specs.Formatting.{IsHalfFormatted};
 ghost use Rattle.als_store.specs.Stopped.{AreStopped, devices_of};
@@ -66,9 +67,10 @@ use als_disk::BlockDisk;
 use als_receiver::Receiver;
 use als_record::FIRST_LSN;
 use als_store::{Disks, Store};
-use als_view::{View, a_view_goes_on};
+use als_view::{Reader, View, a_view_goes_on};
 use std::alloc::Global;
 use std::marker::Model;
+use std::sync::Wait;
 
 /// A standby: it takes the primary's log in pieces cut anywhere, stores it on its devices, and
 /// keeps warm pages by redo.
@@ -107,12 +109,13 @@ impl<D: BlockDisk> Model for Engine<D> {
       spare = e.store.spare;
       room = e.receiver.room;
       tally = e.told;
+      book = e.shown.book;
     } };
 
     ghost invariant = { λ e. IsServing e.store.stored e.receiver e.refused e.shown };
 }
 
-// Written out: a derived drop would be proved part by part wherever an engine is let go of, this
+// Written out: a derived drop would be proved part by part wherever an engine is dropped, this
 // one only here.
 impl<D: BlockDisk + Drop> Drop for Engine<D> {
     fn drop(self) {
@@ -137,19 +140,28 @@ impl<D: BlockDisk> Engine<D> {
     /// devices come back.
     ///
     /// BadConfig: a number of the configuration is out of its range, or a device has too few
-    /// blocks, or the log's too many; the devices are as they were. Memory: a growth was refused;
+    /// blocks, or the log's too many; the devices are as they were. Memory: an allocation failed;
     /// the devices are as they were. Device: a device failed; the log and the pages are as they
     /// were, or a crash leaves a control block that is cleared or that of the new database.
-    pub fn format(alloc: Global, disks: Disks<D>, config: Config) -> Result<Engine<D>, Refused<D>>
-        ensures fits { IfOk result (λ e. IsWorld config (D.block_count disks.log)
+    pub fn format<R: Wait>(
+        alloc: Global,
+        rt: &R,
+        disks: Disks<D>,
+        config: Config,
+    ) -> Result<(Engine<D>, Vec<Reader>), Refused<D>>
+        ensures fits { IfOk result (λ t. IsWorld config (D.block_count disks.log)
             (D.block_count disks.control) (D.block_count disks.pages)) }
-        ensures ok { IfOk result (λ e. FormatsWorld config (D.block_count disks.log)
+        ensures ok { IfOk result (λ t. FormatsWorld config (D.block_count disks.log)
             (D.block_count disks.pages) (D.failures disks.pages) (D.attempts disks.pages)
-            (D.failures disks.log + D.failures disks.control + D.failures disks.pages) e.machine) }
+            (D.failures disks.log + D.failures disks.control + D.failures disks.pages)
+            t.0.machine) }
         // All that is promised of the pages, of the control states and of the checkpoints holds of
         // a new engine.
-        ensures warm { IfOk result (λ e. WasWarm e.machine.held) }
-        ensures tally { IfOk result (λ e. e.tally ≡ no_events) }
+        ensures warm { IfOk result (λ t. WasWarm t.0.machine.held) }
+        ensures tally { IfOk result (λ t. t.0.tally ≡ no_events) }
+        // Its readers, as many as the configuration says.
+        ensures readers { IfOk result (λ t. AreReaders t.0.book config.pages t.1.items
+            × (length t.1.items ≡ config.readers)) }
         ensures config { IfErr result (λ r. r.fault ≡ Fault.BadConfig
             → IsWorld config (D.block_count disks.log) (D.block_count disks.control)
             (D.block_count disks.pages) → ⊥) }
@@ -173,7 +185,7 @@ impl<D: BlockDisk> Engine<D> {
             });
         }
         let pages = config.pages as u32;
-        let Ok(shown) = View::new(alloc, pages, true) else {
+        let Ok((shown, readers)) = View::new(alloc, rt, pages, config.readers as usize, true) else {
             return Err(Refused {
                 disks,
                 fault: Fault::Memory,
@@ -182,7 +194,7 @@ impl<D: BlockDisk> Engine<D> {
         match Store::format(alloc, disks, pages, config.frames as usize) {
             Ok(store) => {
                 a_view_goes_on();
-                Ok(Engine {
+                let engine = Engine {
                     alloc,
                     store,
                     receiver: Receiver::new(alloc, FIRST_LSN, pages),
@@ -190,12 +202,17 @@ impl<D: BlockDisk> Engine<D> {
                     refused: None,
                     shown,
                     told: Tally::none(),
+                };
+                Ok((engine, readers))
+            }
+            Err(unformatted) => {
+                drop(readers);
+                shown.close(rt);
+                Err(Refused {
+                    disks: unformatted.disks,
+                    fault: Fault::from(unformatted.fault),
                 })
             }
-            Err(unformatted) => Err(Refused {
-                disks: unformatted.disks,
-                fault: Fault::from(unformatted.fault),
-            }),
         }
     }
 
@@ -204,8 +221,9 @@ impl<D: BlockDisk> Engine<D> {
     /// mark. Where the devices were sound when the engine was made, it has of each page an image
     /// for which its row is sound, one of the control states that were synced or written since with
     /// the checkpoint that it publishes, and the front of the log that ends at its mark. Their
-    /// failures and their attempts together are the machine's.
-    pub fn into_disks(self) -> Disks<D>
+    /// failures and their attempts together are the machine's. It waits for the readers that are in a
+    /// copy of the view.
+    pub fn into_disks<R: Wait>(self, rt: &R) -> Disks<D>
         ensures stopped { AreStopped self.machine.held (devices_of D.slot D.block_count result) }
         ensures some_blocks { 1 ≤ self.machine.held.blocks }
         ensures few_blocks { self.machine.held.blocks ≤ 4194304 }
@@ -224,7 +242,7 @@ impl<D: BlockDisk> Engine<D> {
             told,
         } = self;
         drop(receiver);
-        drop(shown);
+        shown.close(rt);
         drop(told);
         store.into_disks()
     }

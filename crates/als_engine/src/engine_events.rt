@@ -12,9 +12,10 @@ use als_analysis::OpenTransaction;
 use als_disk::BlockDisk;
 use als_lease::PageLease;
 use als_page::Page;
-use als_record::{Key, LoggedPage, Lsn, Record, TransactionRow};
-use als_view::Answer;
+use als_record::{LoggedPage, Lsn, Record, TransactionRow};
+use als_view::Told;
 use std::alloc::Global;
+use std::sync::Wait;
 
 /// The rows of a table, copied.
 fn rows(alloc: Global, table: &[OpenTransaction]) -> Result<Vec<TransactionRow>, Fault>
@@ -32,6 +33,8 @@ impl<D: BlockDisk> Events for Engine<D> {
     ghost machine = { λ engine. engine.machine };
 
     ghost tally = { λ engine. engine.tally };
+
+    ghost book = { λ engine. engine.book };
 
     fn feed(&mut self, piece: &[u8]) -> Result<Fed, FeedFault> {
         Engine::feed(self, piece)
@@ -89,12 +92,12 @@ impl<D: BlockDisk> Events for Engine<D> {
         Engine::ckpt_publish(self)
     }
 
-    fn publish_view(&mut self) -> Result<(), Fault> {
-        Engine::publish_view(self)
+    fn publish_view<R: Wait>(&mut self, rt: &R) -> Result<(), Fault> {
+        Engine::publish_view(self, rt)
     }
 
-    fn ready(&mut self) -> Result<(), Fault> {
-        Engine::ready(self)
+    fn ready<R: Wait>(&mut self, rt: &R) -> Result<(), Fault> {
+        Engine::ready(self, rt)
     }
 
     fn seal(&mut self) -> Result<(), Fault> {
@@ -129,8 +132,8 @@ impl<D: BlockDisk> Events for Engine<D> {
         Engine::next_pending(self, from)
     }
 
-    fn read(&self, key: Key) -> Result<Answer, Fault> {
-        Engine::read(self, key)
+    fn tell(&self) -> Told {
+        Engine::tell(self)
     }
 
     fn page_now(&mut self, page: u32) -> Result<Page, Fault> {

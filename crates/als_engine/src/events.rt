@@ -12,7 +12,9 @@ ghost use Rattle.als_engine.specs.Events.{LogWrites, LogSyncs, MarkWrites, Contr
 ghost use Rattle.als_engine.specs.Events.{Reads, ShowsPage};
 ghost use Rattle.als_engine.specs.Checkpointing.{CkptBegins, CkptWrites, CkptPublishes};
 ghost use Rattle.als_engine.specs.Leases.{Lends, Gives, Recalls};
-ghost use Rattle.als_engine.specs.Publishing.{PublishesView, ReadsKey};
+ghost use Rattle.als_engine.specs.Publishing.{PublishesView, TellsReaders};
+ghost use Rattle.als_engine.specs.Readers.{book_told};
+ghost use Rattle.logbook.specs.Pages.{Book};
 ghost use Rattle.als_engine.specs.Readiness.{Readies};
 ghost use Rattle.als_engine.specs.Takeover.{Seals, UndoesOneOf, Finishes};
 ghost use Rattle.als_engine.specs.Tally.{TellsOk, TellsTaken};
@@ -24,9 +26,10 @@ use crate::not_given::NotGiven;
 use crate::status::Status;
 use als_lease::PageLease;
 use als_page::Page;
-use als_record::{Key, LoggedPage, Lsn, Record, TransactionRow};
-use als_view::Answer;
+use als_record::{LoggedPage, Lsn, Record, TransactionRow};
+use als_view::Told;
 use std::alloc::Global;
+use std::sync::Wait;
 
 /// What a standby is driven by: its events, and the queries that ask it. An engine has them; so has
 /// a handle of an engine that others drive too, of which the small machine says nothing. Whoever
@@ -41,6 +44,9 @@ pub trait Events {
     /// How often each event answered Ok by these calls, and how many bytes feed took.
     ghost tally: { Self → List ℕ };
 
+    /// Which view its readers have. It stays the same.
+    ghost book: { Self → Book };
+
     // ---- the events
 
     /// Takes a piece of the primary's log.
@@ -49,13 +55,15 @@ pub trait Events {
             result (machine self.new) }
         ensures keeps { alone → Keeps (machine self.old) (machine self.new) }
         // The bytes taken are counted, of a feed that is refused too.
-        ensures told { TellsTaken result (tally self.old) (tally self.new) };
+        ensures told { TellsTaken result (tally self.old) (tally self.new) }
+        ensures book { book self.new ≡ book self.old };
 
     /// Drops the partial record, and takes the log again after a refusal.
     fn resync(&mut self) -> Result<(), Fault>
         ensures resyncs { alone → Resyncs (machine self.old) result (machine self.new) }
         ensures keeps { alone → Keeps (machine self.old) (machine self.new) }
-        ensures told { TellsOk event.Resync result (tally self.old) (tally self.new) };
+        ensures told { TellsOk event.Resync result (tally self.old) (tally self.new) }
+        ensures book { book self.new ≡ book self.old };
 
     /// Lends a page with the first changes that wait for it: the lease redoes them with no engine,
     /// and `give` takes it in.
@@ -63,6 +71,7 @@ pub trait Events {
         ensures lends { alone → Lends (machine self.old) page result (machine self.new) }
         ensures keeps { alone → Keeps (machine self.old) (machine self.new) }
         ensures told { TellsOk event.Lend result (tally self.old) (tally self.new) }
+        ensures book { book self.new ≡ book self.old }
         // Nothing is redone of a new lease.
         ensures fresh { IfOk result (λ lease. lease.done ≡ 0) };
 
@@ -71,6 +80,7 @@ pub trait Events {
         ensures gives { alone → Gives (machine self.old) lease result (machine self.new) }
         ensures keeps { alone → Keeps (machine self.old) (machine self.new) }
         ensures told { TellsOk event.Give result (tally self.old) (tally self.new) }
+        ensures book { book self.new ≡ book self.old }
         // It is that lease that comes back.
         ensures back { IfErr result (λ refused. refused.lease ≡ lease) };
 
@@ -78,91 +88,106 @@ pub trait Events {
     fn recall(&mut self, page: u32) -> Result<(), Fault>
         ensures recalls { alone → Recalls (machine self.old) page result (machine self.new) }
         ensures keeps { alone → Keeps (machine self.old) (machine self.new) }
-        ensures told { TellsOk event.Recall result (tally self.old) (tally self.new) };
+        ensures told { TellsOk event.Recall result (tally self.old) (tally self.new) }
+        ensures book { book self.new ≡ book self.old };
 
     /// Writes a page to its block, if the log is acknowledged past its page_LSN.
     fn flush(&mut self, page: u32) -> Result<(), Fault>
         ensures flushes { alone → FlushesOne (machine self.old) page result (machine self.new) }
         ensures keeps { alone → Keeps (machine self.old) (machine self.new) }
-        ensures told { TellsOk event.Flush result (tally self.old) (tally self.new) };
+        ensures told { TellsOk event.Flush result (tally self.old) (tally self.new) }
+        ensures book { book self.new ≡ book self.old };
 
     /// Syncs the pages' device.
     fn sync_pages(&mut self) -> Result<(), Fault>
         ensures syncs { alone → PagesSync (machine self.old) result (machine self.new) }
         ensures keeps { alone → Keeps (machine self.old) (machine self.new) }
-        ensures told { TellsOk event.SyncPages result (tally self.old) (tally self.new) };
+        ensures told { TellsOk event.SyncPages result (tally self.old) (tally self.new) }
+        ensures book { book self.new ≡ book self.old };
 
     /// Writes the first block of the log with unwritten bytes.
     fn log_write(&mut self) -> Result<(), Fault>
         ensures writes { alone → LogWrites (machine self.old) result (machine self.new) }
         ensures keeps { alone → Keeps (machine self.old) (machine self.new) }
-        ensures told { TellsOk event.LogWrite result (tally self.old) (tally self.new) };
+        ensures told { TellsOk event.LogWrite result (tally self.old) (tally self.new) }
+        ensures book { book self.new ≡ book self.old };
 
     /// Syncs the log.
     fn log_sync(&mut self) -> Result<(), Fault>
         ensures syncs { alone → LogSyncs (machine self.old) result (machine self.new) }
         ensures keeps { alone → Keeps (machine self.old) (machine self.new) }
-        ensures told { TellsOk event.LogSync result (tally self.old) (tally self.new) };
+        ensures told { TellsOk event.LogSync result (tally self.old) (tally self.new) }
+        ensures book { book self.new ≡ book self.old };
 
     /// Writes the control block with the log's synced end as its mark.
     fn mark_write(&mut self) -> Result<(), Fault>
         ensures writes { alone → MarkWrites (machine self.old) result (machine self.new) }
         ensures keeps { alone → Keeps (machine self.old) (machine self.new) }
-        ensures told { TellsOk event.MarkWrite result (tally self.old) (tally self.new) };
+        ensures told { TellsOk event.MarkWrite result (tally self.old) (tally self.new) }
+        ensures book { book self.new ≡ book self.old };
 
     /// Syncs the control block, and answers its mark: the acknowledged LSN.
     fn ctl_sync(&mut self) -> Result<Lsn, Fault>
         ensures syncs { alone → ControlSyncs (machine self.old) result (machine self.new) }
         ensures keeps { alone → Keeps (machine self.old) (machine self.new) }
-        ensures told { TellsOk event.ControlSync result (tally self.old) (tally self.new) };
+        ensures told { TellsOk event.ControlSync result (tally self.old) (tally self.new) }
+        ensures book { book self.new ≡ book self.old };
 
     /// Begins a checkpoint: copies both tables and the end of the log.
     fn ckpt_begin(&mut self) -> Result<(), Fault>
         ensures begins { alone → CkptBegins (machine self.old) result (machine self.new) }
         ensures keeps { alone → Keeps (machine self.old) (machine self.new) }
-        ensures told { TellsOk event.CkptBegin result (tally self.old) (tally self.new) };
+        ensures told { TellsOk event.CkptBegin result (tally self.old) (tally self.new) }
+        ensures book { book self.new ≡ book self.old };
 
     /// Writes the next block of the checkpoint.
     fn ckpt_block(&mut self) -> Result<(), Fault>
         ensures writes { alone → CkptWrites (machine self.old) result (machine self.new) }
         ensures keeps { alone → Keeps (machine self.old) (machine self.new) }
-        ensures told { TellsOk event.CkptBlock result (tally self.old) (tally self.new) };
+        ensures told { TellsOk event.CkptBlock result (tally self.old) (tally self.new) }
+        ensures book { book self.new ≡ book self.old };
 
     /// Publishes the checkpoint.
     fn ckpt_publish(&mut self) -> Result<(), Fault>
         ensures publishes { alone → CkptPublishes (machine self.old) result (machine self.new) }
         ensures keeps { alone → Keeps (machine self.old) (machine self.new) }
-        ensures told { TellsOk event.CkptPublish result (tally self.old) (tally self.new) };
+        ensures told { TellsOk event.CkptPublish result (tally self.old) (tally self.new) }
+        ensures book { book self.new ≡ book self.old };
 
     /// Publishes for readers the commits that are acknowledged.
-    fn publish_view(&mut self) -> Result<(), Fault>
+    fn publish_view<R: Wait>(&mut self, rt: &R) -> Result<(), Fault>
         ensures publishes { alone → PublishesView (machine self.old) result (machine self.new) }
         ensures keeps { alone → Keeps (machine self.old) (machine self.new) }
-        ensures told { TellsOk event.PublishView result (tally self.old) (tally self.new) };
+        ensures told { TellsOk event.PublishView result (tally self.old) (tally self.new) }
+        ensures book { book self.new ≡ book self.old };
 
     /// Ends the recovery of a standby that was opened, and publishes the commits of its log.
-    fn ready(&mut self) -> Result<(), Fault>
+    fn ready<R: Wait>(&mut self, rt: &R) -> Result<(), Fault>
         ensures readies { alone → Readies (machine self.old) result (machine self.new) }
         ensures keeps { alone → Keeps (machine self.old) (machine self.new) }
-        ensures told { TellsOk event.Ready result (tally self.old) (tally self.new) };
+        ensures told { TellsOk event.Ready result (tally self.old) (tally self.new) }
+        ensures book { book self.new ≡ book self.old };
 
     /// Seals the log at its end: from now on no piece of the primary's log is taken.
     fn seal(&mut self) -> Result<(), Fault>
         ensures seals { alone → Seals (machine self.old) result (machine self.new) }
         ensures keeps { alone → Keeps (machine self.old) (machine self.new) }
-        ensures told { TellsOk event.Seal result (tally self.old) (tally self.new) };
+        ensures told { TellsOk event.Seal result (tally self.old) (tally self.new) }
+        ensures book { book self.new ≡ book self.old };
 
     /// Holds the next record of the sealed log's tail, and answers its LSN.
     fn undo_one(&mut self) -> Result<Lsn, Fault>
         ensures undoes { alone → UndoesOneOf (machine self.old) result (machine self.new) }
         ensures keeps { alone → Keeps (machine self.old) (machine self.new) }
-        ensures told { TellsOk event.UndoOne result (tally self.old) (tally self.new) };
+        ensures told { TellsOk event.UndoOne result (tally self.old) (tally self.new) }
+        ensures book { book self.new ≡ book self.old };
 
     /// Ends the takeover.
     fn finish(&mut self) -> Result<(), Fault>
         ensures finishes { alone → Finishes (machine self.old) result (machine self.new) }
         ensures keeps { alone → Keeps (machine self.old) (machine self.new) }
-        ensures told { TellsOk event.Finish result (tally self.old) (tally self.new) };
+        ensures told { TellsOk event.Finish result (tally self.old) (tally self.new) }
+        ensures book { book self.new ≡ book self.old };
 
     // ---- the queries
 
@@ -194,20 +219,23 @@ pub trait Events {
     fn next_pending(&self, from: u32) -> Option<u32>
         ensures first { alone → WaitsFirst (machine self.now).held.pool.waits from result };
 
-    /// What the published commits left at a key.
-    fn read(&self, key: Key) -> Result<Answer, Fault>
-        ensures reads { alone → ReadsKey (machine self.now) key result };
+    /// The whole list of published commits, for any of its readers.
+    fn tell(&self) -> Told
+        ensures tells { alone → TellsReaders (machine self.now) result }
+        ensures book { book_told result ≡ book self.now };
 
     /// The page as it is now, which may have to be read from its block.
     fn page_now(&mut self, page: u32) -> Result<Page, Fault>
         requires { alone → page < (machine self.old).held.pages }
         ensures shows { alone → ShowsPage (machine self.old) page result (machine self.new) }
         ensures keeps { alone → Keeps (machine self.old) (machine self.new) }
-        ensures told { tally self.new ≡ tally self.old };
+        ensures told { tally self.new ≡ tally self.old }
+        ensures book { book self.new ≡ book self.old };
 
     /// The held record at an LSN, which may have to be read from the log device.
     fn record_at(&mut self, lsn: Lsn) -> Result<Option<Record>, Fault>
         ensures reads { alone → Reads (machine self.old) lsn result (machine self.new) }
         ensures keeps { alone → Keeps (machine self.old) (machine self.new) }
-        ensures told { tally self.new ≡ tally self.old };
+        ensures told { tally self.new ≡ tally self.old }
+        ensures book { book self.new ≡ book self.old };
 }

@@ -73,7 +73,7 @@ pub enum Fault {
     Device,
     /// The engine has stopped: a write or a sync failed earlier.
     Stopped,
-    /// A growth was refused.
+    /// An allocation failed.
     Memory,
     /// The block of this page holds no image of it that the event can take.
     BadPage {

@@ -44,19 +44,22 @@ pub(crate) fn hold<D: BlockDisk>(
         → HasSpare held.old.spare (seen logged.now))
         → IsErrOf result fault.Memory → ⊥ }
 {
-    match logged.body {
-        BodyView::Commit => {
-            hold_commit(alloc, held, shown, logged, bytes)?;
-            Ok(())
-        }
-        _ => {
-            held.admit(logged, bytes)?;
-            // For the prover alone: what always holds of the log.
-            let _ = held.end();
-            a_view_goes_on();
-            Ok(())
-        }
+    if is_commit_record(&logged.body) {
+        hold_commit(alloc, held, shown, logged, bytes)?;
+        return Ok(());
     }
+    held.admit(logged, bytes)?;
+    // For the prover alone: what always holds of the log.
+    let _ = held.end();
+    a_view_goes_on();
+    Ok(())
+}
+
+/// Whether a record commits its transaction.
+fn is_commit_record(body: &BodyView<'_>) -> bool
+    ensures { result ≡ is_commit (shown_body body.now) }
+{
+    matches!(body, BodyView::Commit)
 }
 
 /// Holds a commit record, and queues its commit.

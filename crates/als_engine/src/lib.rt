@@ -34,7 +34,7 @@ mod step;
 
 pub use als_lease::PageLease;
 pub use als_store::Disks;
-pub use als_view::Answer;
+pub use als_view::{Answer, Reader};
 pub use config::{CONTROL_BLOCKS, Config, LOG_BLOCK_LIMIT};
 pub use engine::Engine;
 pub use event::Event;

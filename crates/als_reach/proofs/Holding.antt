@@ -277,7 +277,7 @@ publish_view old new (reply.Acknowledged lsn) s = absurd s
 publish_view old new (reply.Undone lsn) s = absurd s
 publish_view old new (reply.Refused fault) s =
     none old new (does old new step.PublishView (PublishesEnded old) (Err fault) s
-    (λ c. absurd c))
+    (λ c. record { log = ap (λ (m : Machine). m.held.log) c.1 }))
 
 ready : (old new : Machine) (answer : Reply) → Steps old step.Ready answer new
     → HoldsBy old answer new
@@ -290,7 +290,7 @@ ready old new (reply.Acknowledged lsn) s = absurd s
 ready old new (reply.Undone lsn) s = absurd s
 ready old new (reply.Refused fault) s =
     none old new (does old new step.Ready (BecomesReady old) (Err fault) s
-    (λ c. absurd c))
+    (λ c. record { log = ap (λ (m : Machine). m.held.log) c.1 }))
 
 seal : (old new : Machine) (answer : Reply) → Steps old step.Seal answer new
     → HoldsBy old answer new

@@ -4,17 +4,18 @@ use als_engine::{Fault, Reply, State, Step};
 use als_record::BLOCK_LEN;
 use als_world::{World, WorldReply, WorldStep};
 use std::alloc::Global;
+use std::sync::Wait;
 
 /// Makes all that is held certain to survive a crash: writes and syncs the log, and then the
 /// control block. Answers what is acknowledged, or the first refusal that is not passed over, after
 /// which it stops.
-pub fn force(alloc: Global, world: World<Disk>) -> (World<Disk>, Reply) {
-    let (mut world, mut reply) = write_log(alloc, world);
+pub fn force<R: Wait>(alloc: Global, rt: &R, world: World<Disk>) -> (World<Disk>, Reply) {
+    let (mut world, mut reply) = write_log(alloc, rt, world);
     for step in [Step::LogSync, Step::MarkWrite, Step::ControlSync] {
         if is_refusal(&reply) {
             break;
         }
-        let (after, answer) = one_event(alloc, world, step);
+        let (after, answer) = one_event(alloc, rt, world, step);
         world = after;
         reply = answer;
     }
@@ -22,11 +23,11 @@ pub fn force(alloc: Global, world: World<Disk>) -> (World<Disk>, Reply) {
 }
 
 /// Writes each block of the log that has unwritten bytes.
-fn write_log(alloc: Global, world: World<Disk>) -> (World<Disk>, Reply) {
+fn write_log<R: Wait>(alloc: Global, rt: &R, world: World<Disk>) -> (World<Disk>, Reply) {
     let mut world = world;
     // There is no block past that of the log's end.
     for _ in 0..=end_of(&world).0 / BLOCK_LEN as u64 {
-        let (after, reply) = one_event(alloc, world, Step::LogWrite);
+        let (after, reply) = one_event(alloc, rt, world, Step::LogWrite);
         world = after;
         if reply != Reply::Done {
             return (world, reply);
@@ -38,7 +39,7 @@ fn write_log(alloc: Global, world: World<Disk>) -> (World<Disk>, Reply) {
 /// Redoes each page that has pending changes, in rising order, and again until nothing is pending.
 /// Answers the first refusal that is not passed over, after which it stops: Stopped while the world
 /// is down, BadSlot where slot 0 has a lease.
-pub fn drain(alloc: Global, world: World<Disk>) -> (World<Disk>, Reply) {
+pub fn drain<R: Wait>(alloc: Global, rt: &R, world: World<Disk>) -> (World<Disk>, Reply) {
     let Some(engine) = world.engine() else {
         return (world, Reply::Refused(Fault::Stopped));
     };
@@ -49,7 +50,7 @@ pub fn drain(alloc: Global, world: World<Disk>) -> (World<Disk>, Reply) {
         if next_pending(&world, 0).is_none() {
             break;
         }
-        let (after, reply) = redo_each(alloc, world);
+        let (after, reply) = redo_each(alloc, rt, world);
         world = after;
         if is_refusal(&reply) {
             return (world, reply);
@@ -59,14 +60,14 @@ pub fn drain(alloc: Global, world: World<Disk>) -> (World<Disk>, Reply) {
 }
 
 /// One round: each page that has pending changes, once.
-fn redo_each(alloc: Global, world: World<Disk>) -> (World<Disk>, Reply) {
+fn redo_each<R: Wait>(alloc: Global, rt: &R, world: World<Disk>) -> (World<Disk>, Reply) {
     let mut world = world;
     let mut from = 0;
     for _ in 0..world.config().pages {
         let Some(page) = next_pending(&world, from) else {
             break;
         };
-        let (after, reply) = redo_page(alloc, world, page);
+        let (after, reply) = redo_page(alloc, rt, world, page);
         world = after;
         if is_refusal(&reply) {
             return (world, reply);
@@ -77,25 +78,35 @@ fn redo_each(alloc: Global, world: World<Disk>) -> (World<Disk>, Reply) {
 }
 
 /// Lends a page to slot 0, redoes the lease, and gives it back.
-fn redo_page(alloc: Global, world: World<Disk>, page: u32) -> (World<Disk>, Reply) {
-    let (world, reply) = one_step(alloc, world, WorldStep::Lend(page, 0));
+fn redo_page<R: Wait>(
+    alloc: Global,
+    rt: &R,
+    world: World<Disk>,
+    page: u32,
+) -> (World<Disk>, Reply) {
+    let (world, reply) = one_step(alloc, rt, world, WorldStep::Lend(page, 0));
     let batch = match reply {
         WorldReply::Lent { batch, .. } => batch,
         reply => return (world, answer(reply)),
     };
-    let (world, reply) = redo_lease(alloc, world, batch);
+    let (world, reply) = redo_lease(alloc, rt, world, batch);
     if is_refusal(&reply) {
         return (world, reply);
     }
-    let (world, reply) = one_step(alloc, world, WorldStep::Give(0));
+    let (world, reply) = one_step(alloc, rt, world, WorldStep::Give(0));
     (world, answer(reply))
 }
 
 /// Redoes so many changes of the lease in slot 0.
-fn redo_lease(alloc: Global, world: World<Disk>, batch: usize) -> (World<Disk>, Reply) {
+fn redo_lease<R: Wait>(
+    alloc: Global,
+    rt: &R,
+    world: World<Disk>,
+    batch: usize,
+) -> (World<Disk>, Reply) {
     let mut world = world;
     for _ in 0..batch {
-        let (after, reply) = one_step(alloc, world, WorldStep::Redo(0));
+        let (after, reply) = one_step(alloc, rt, world, WorldStep::Redo(0));
         world = after;
         let reply = answer(reply);
         if reply != Reply::Done {
@@ -144,10 +155,10 @@ const PARTS: [Part; 8] = [
 /// Takes over: seals the log once all of it is stable, undoes what was not committed, and ends the
 /// takeover once that is stable and redone. A standby that is recovering is made ready first.
 /// Answers the first refusal that is not passed over, after which it stops.
-pub fn takeover(alloc: Global, world: World<Disk>) -> (World<Disk>, Reply) {
+pub fn takeover<R: Wait>(alloc: Global, rt: &R, world: World<Disk>) -> (World<Disk>, Reply) {
     let mut world = world;
     for part in PARTS {
-        let (after, reply) = do_part(alloc, world, part);
+        let (after, reply) = do_part(alloc, rt, world, part);
         world = after;
         if is_refusal(&reply) {
             return (world, reply);
@@ -157,14 +168,14 @@ pub fn takeover(alloc: Global, world: World<Disk>) -> (World<Disk>, Reply) {
 }
 
 /// One part of a takeover.
-fn do_part(alloc: Global, world: World<Disk>, part: Part) -> (World<Disk>, Reply) {
+fn do_part<R: Wait>(alloc: Global, rt: &R, world: World<Disk>, part: Part) -> (World<Disk>, Reply) {
     match part {
-        Part::Drain => drain(alloc, world),
-        Part::Ready => ready(alloc, world),
-        Part::Force => force(alloc, world),
-        Part::Seal => seal(alloc, world),
-        Part::Undo => undo(alloc, world),
-        Part::Finish => finish(alloc, world),
+        Part::Drain => drain(alloc, rt, world),
+        Part::Ready => ready(alloc, rt, world),
+        Part::Force => force(alloc, rt, world),
+        Part::Seal => seal(alloc, rt, world),
+        Part::Undo => undo(alloc, rt, world),
+        Part::Finish => finish(alloc, rt, world),
     }
 }
 
@@ -177,30 +188,30 @@ fn state(world: &World<Disk>) -> State {
 }
 
 /// Ends the recovery, where it was not ended.
-fn ready(alloc: Global, world: World<Disk>) -> (World<Disk>, Reply) {
+fn ready<R: Wait>(alloc: Global, rt: &R, world: World<Disk>) -> (World<Disk>, Reply) {
     match state(&world) {
-        State::Recovering => one_event(alloc, world, Step::Ready),
+        State::Recovering => one_event(alloc, rt, world, Step::Ready),
         _ => (world, Reply::Done),
     }
 }
 
 /// Seals the log, where it was not sealed.
-fn seal(alloc: Global, world: World<Disk>) -> (World<Disk>, Reply) {
+fn seal<R: Wait>(alloc: Global, rt: &R, world: World<Disk>) -> (World<Disk>, Reply) {
     match state(&world) {
         State::Recovering | State::Following | State::Refusing { .. } => {
-            step_and_sync(alloc, world, Step::Seal)
+            step_and_sync(alloc, rt, world, Step::Seal)
         }
         State::Sealed | State::Primary | State::Stopped => (world, Reply::Done),
     }
 }
 
 /// Holds each record of the log's tail.
-fn undo(alloc: Global, world: World<Disk>) -> (World<Disk>, Reply) {
+fn undo<R: Wait>(alloc: Global, rt: &R, world: World<Disk>) -> (World<Disk>, Reply) {
     let mut world = world;
     // A tail has at most two records for each one of the log, and each of these takes 28 bytes and
     // more.
     for _ in 0..end_of(&world).0 {
-        let (after, reply) = one_event(alloc, world, Step::UndoOne);
+        let (after, reply) = one_event(alloc, rt, world, Step::UndoOne);
         world = after;
         match reply {
             Reply::Undone(_) => {}
@@ -211,20 +222,25 @@ fn undo(alloc: Global, world: World<Disk>) -> (World<Disk>, Reply) {
 }
 
 /// Ends the takeover, where it was not ended.
-fn finish(alloc: Global, world: World<Disk>) -> (World<Disk>, Reply) {
+fn finish<R: Wait>(alloc: Global, rt: &R, world: World<Disk>) -> (World<Disk>, Reply) {
     match state(&world) {
         State::Primary => (world, Reply::Done),
-        _ => step_and_sync(alloc, world, Step::Finish),
+        _ => step_and_sync(alloc, rt, world, Step::Finish),
     }
 }
 
 /// A step that writes the control block, and the sync of it.
-fn step_and_sync(alloc: Global, world: World<Disk>, step: Step) -> (World<Disk>, Reply) {
-    let (world, reply) = one_event(alloc, world, step);
+fn step_and_sync<R: Wait>(
+    alloc: Global,
+    rt: &R,
+    world: World<Disk>,
+    step: Step,
+) -> (World<Disk>, Reply) {
+    let (world, reply) = one_event(alloc, rt, world, step);
     if is_refusal(&reply) {
         return (world, reply);
     }
-    one_event(alloc, world, Step::ControlSync)
+    one_event(alloc, rt, world, Step::ControlSync)
 }
 
 /// Whether a reply ends a combined line: a step that had nothing to do is passed over.

@@ -11,7 +11,7 @@ use std::io::ErrorKind;
 pub enum Failure {
     /// The line of this number, counted from 1, is none of the script language, or it is missing.
     BadLine(u64),
-    /// A growth was refused.
+    /// An allocation failed.
     Memory,
     /// The output fails.
     Stream,

@@ -11,7 +11,7 @@ pub struct Fuses {
     pages: Fuse,
 }
 
-// Written out: a derived drop is proved part by part wherever a value is let go of, this one only
+// Written out: a derived drop is proved part by part wherever a value is dropped, this one only
 // here.
 impl Drop for Fuses {
     fn drop(self) {

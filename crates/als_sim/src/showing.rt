@@ -75,7 +75,7 @@ pub fn dirty<W: Write>(output: &mut W, engine: &Engine<Disk>) -> io::Result<()> 
 }
 
 /// `show page`, of a page that there is. It is gathered, so that a refusal stands alone. Stopped:
-/// the world is down. Device: a read failed. Memory: a growth was refused.
+/// the world is down. Device: a read failed. Memory: an allocation failed.
 // Generic in the device: with the device named, the prover cannot carry a page across `?`.
 pub fn page<D: BlockDisk>(
     alloc: Global,
@@ -119,7 +119,7 @@ fn present(listing: &mut String, number: u32, page: &Page) -> Result<(), AllocEr
 }
 
 /// `show log`: the records from an LSN on. They are gathered, so that a refusal stands alone.
-/// Stopped: the world is down. Device: a read failed. Memory: a growth was refused.
+/// Stopped: the world is down. Device: a read failed. Memory: an allocation failed.
 pub fn log(alloc: Global, world: &mut World<Disk>, from: u64) -> Result<String, Fault> {
     let mut listing = String::new(alloc);
     let mut at = FIRST_LSN.0;

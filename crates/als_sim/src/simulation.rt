@@ -14,6 +14,7 @@ use als_world::{World, WorldStep};
 use std::alloc::Global;
 use std::io;
 use std::io::Write;
+use std::sync::Wait;
 
 /// The most worker slots.
 const WORKER_LIMIT: u64 = 8;
@@ -31,7 +32,7 @@ pub struct Simulation {
     misplaced: Option<Misplaced>,
 }
 
-// Written out: a derived drop is proved part by part wherever a value is let go of, this one only
+// Written out: a derived drop is proved part by part wherever a value is dropped, this one only
 // here.
 impl Drop for Simulation {
     fn drop(self) {
@@ -51,8 +52,9 @@ impl Drop for Simulation {
 
 impl Simulation {
     /// The simulation that a script's first line begins. The inner error is a refused world.
-    pub fn begin(
+    pub fn begin<R: Wait>(
         alloc: Global,
+        rt: &R,
         number: u64,
         line: &str,
     ) -> Result<Result<Simulation, Fault>, Failure> {
@@ -64,7 +66,7 @@ impl Simulation {
             .saturating_add(CONTROL_BLOCKS)
             .saturating_add(line.pages);
         let config = config(line);
-        match world(alloc, line, disks, config) {
+        match world(alloc, rt, line, disks, config) {
             Ok(world) => {
                 let text = LogText::new(alloc, pages_of(&world))?;
                 Ok(Ok(Simulation {
@@ -81,8 +83,9 @@ impl Simulation {
     }
 
     /// Does what a line says, of this number in the script, and prints what it answers.
-    pub fn take<W: Write>(
+    pub fn take<R: Wait, W: Write>(
         self,
+        rt: &R,
         number: u64,
         line: &str,
         output: &mut W,
@@ -90,11 +93,11 @@ impl Simulation {
         let mut simulation = self;
         match Line::parse(line).ok_or(Failure::BadLine(number))? {
             Line::Record(record) => simulation.text.push(&record)?,
-            Line::Step(step) => return simulation.step(number, step, output),
-            Line::Lease(lease) => return simulation.world_step(lease_step(lease), output),
-            Line::Read(read) => return simulation.world_step(read_step(read), output),
-            Line::Crash(crash) => return simulation.crash(crash, output),
-            Line::Combined(combined) => return simulation.combined(combined, output),
+            Line::Step(step) => return simulation.step(rt, number, step, output),
+            Line::Lease(lease) => return simulation.world_step(rt, lease_step(lease), output),
+            Line::Read(read) => return simulation.world_step(rt, read_step(read), output),
+            Line::Crash(crash) => return simulation.crash(rt, crash, output),
+            Line::Combined(combined) => return simulation.combined(rt, combined, output),
             Line::Fail(fail) => {
                 simulation.fuses.set(fail);
                 writeln!(output, "ok")?;
@@ -105,7 +108,7 @@ impl Simulation {
     }
 
     /// What is left of its feeds.
-    pub fn left(&self) -> Left {
+    fn left(&self) -> Left {
         let (end, partial, kept) = match status_of(&self.world) {
             None => (0, 0, None),
             Some(status) => (status.end.0, status.partial as u64, kept_in(status.state)),
@@ -118,8 +121,26 @@ impl Simulation {
         }
     }
 
-    fn step<W: Write>(
+    /// Ends the simulation, and answers what is left of its feeds. It frees what readers looked at.
+    pub fn end<R: Wait>(self, rt: &R) -> Left {
+        let left = self.left();
+        let Simulation {
+            alloc: _,
+            world,
+            fuses,
+            text,
+            blocks: _,
+            misplaced: _,
+        } = self;
+        drop(world.into_disks(rt));
+        drop(fuses);
+        drop(text);
+        left
+    }
+
+    fn step<R: Wait, W: Write>(
         self,
+        rt: &R,
         number: u64,
         line: StepLine,
         output: &mut W,
@@ -134,7 +155,7 @@ impl Simulation {
         } = self;
         let step = step_of(line, text.bytes()).ok_or(Failure::BadLine(number))?;
         let before = status_of(&world);
-        let (world, reply) = one_event(alloc, world, step);
+        let (world, reply) = one_event(alloc, rt, world, step);
         printing::reply(output, &reply, end_of(&world))?;
         let misplaced = misplaced.or(Misplaced::of(number, line, before, status_of(&world)));
         Ok(Simulation {
@@ -147,13 +168,23 @@ impl Simulation {
         })
     }
 
-    fn crash<W: Write>(self, line: CrashLine, output: &mut W) -> Result<Simulation, Failure> {
+    fn crash<R: Wait, W: Write>(
+        self,
+        rt: &R,
+        line: CrashLine,
+        output: &mut W,
+    ) -> Result<Simulation, Failure> {
         let picks = line.picks(self.alloc, self.blocks as usize)?;
-        self.world_step(WorldStep::Crash(picks.as_slice()), output)
+        self.world_step(rt, WorldStep::Crash(picks.as_slice()), output)
     }
 
     /// A step that is no event of the engine.
-    fn world_step<W: Write>(self, step: WorldStep, output: &mut W) -> Result<Simulation, Failure> {
+    fn world_step<R: Wait, W: Write>(
+        self,
+        rt: &R,
+        step: WorldStep,
+        output: &mut W,
+    ) -> Result<Simulation, Failure> {
         let Simulation {
             alloc,
             world,
@@ -162,7 +193,7 @@ impl Simulation {
             blocks,
             misplaced,
         } = self;
-        let (world, reply) = one_step(alloc, world, step);
+        let (world, reply) = one_step(alloc, rt, world, step);
         printing::world_reply(output, &reply)?;
         Ok(Simulation {
             alloc,
@@ -174,7 +205,12 @@ impl Simulation {
         })
     }
 
-    fn combined<W: Write>(self, line: CombinedLine, output: &mut W) -> Result<Simulation, Failure> {
+    fn combined<R: Wait, W: Write>(
+        self,
+        rt: &R,
+        line: CombinedLine,
+        output: &mut W,
+    ) -> Result<Simulation, Failure> {
         let Simulation {
             alloc,
             world,
@@ -184,9 +220,9 @@ impl Simulation {
             misplaced,
         } = self;
         let (world, reply) = match line {
-            CombinedLine::Drain => combined::drain(alloc, world),
-            CombinedLine::Force => combined::force(alloc, world),
-            CombinedLine::Takeover => combined::takeover(alloc, world),
+            CombinedLine::Drain => combined::drain(alloc, rt, world),
+            CombinedLine::Force => combined::force(alloc, rt, world),
+            CombinedLine::Takeover => combined::takeover(alloc, rt, world),
         };
         let end = end_of(&world);
         match line {
@@ -273,8 +309,9 @@ fn config(line: WorldLine) -> Config {
 }
 
 /// The world of a world line, over devices that it formats.
-fn world(
+fn world<R: Wait>(
     alloc: Global,
+    rt: &R,
     line: WorldLine,
     disks: Disks<Disk>,
     config: Config,
@@ -282,7 +319,7 @@ fn world(
     if line.workers == 0 || line.workers > WORKER_LIMIT {
         return Err(Fault::BadConfig);
     }
-    match World::format(alloc, disks, config, line.workers as usize) {
+    match World::format(alloc, rt, disks, config, line.workers as usize) {
         Ok(world) => Ok(world),
         Err(refused) => Err(refused.fault),
     }

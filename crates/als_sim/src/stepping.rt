@@ -4,6 +4,7 @@ use als_record::Lsn;
 use als_script::{LeaseLine, StepLine};
 use als_world::{World, WorldReply, WorldStep, run};
 use std::alloc::Global;
+use std::sync::Wait;
 
 /// The event of a line; None where it names bytes that the text has not.
 pub fn step_of(line: StepLine, text: &[u8]) -> Option<Step<'_>> {
@@ -45,9 +46,14 @@ pub fn lease_step(line: LeaseLine) -> WorldStep<'static> {
 
 /// Runs one step. Where there is no memory for its reply nothing is run, and the step counts as
 /// refused.
-pub fn one_step(alloc: Global, world: World<Disk>, step: WorldStep) -> (World<Disk>, WorldReply) {
+pub fn one_step<R: Wait>(
+    alloc: Global,
+    rt: &R,
+    world: World<Disk>,
+    step: WorldStep,
+) -> (World<Disk>, WorldReply) {
     let steps = [step];
-    match run(alloc, world, &steps) {
+    match run(alloc, rt, world, &steps) {
         Ok((world, mut replies)) => {
             let reply = replies.pop();
             (world, reply.unwrap_or(WorldReply::Refused(Fault::Memory)))
@@ -57,8 +63,13 @@ pub fn one_step(alloc: Global, world: World<Disk>, step: WorldStep) -> (World<Di
 }
 
 /// Runs one event. A world that is down refuses it.
-pub fn one_event(alloc: Global, world: World<Disk>, event: Step) -> (World<Disk>, Reply) {
-    let (world, reply) = one_step(alloc, world, WorldStep::Event(event));
+pub fn one_event<R: Wait>(
+    alloc: Global,
+    rt: &R,
+    world: World<Disk>,
+    event: Step,
+) -> (World<Disk>, Reply) {
+    let (world, reply) = one_step(alloc, rt, world, WorldStep::Event(event));
     let reply = match reply {
         WorldReply::Event(reply) => reply,
         WorldReply::Refused(fault) => refused(&event, fault),

@@ -30,7 +30,7 @@ impl Model for LogText {
     ghost view = { λ t. t.bytes.items };
 }
 
-// Written out: a derived drop is proved part by part wherever a text is let go of, this one only
+// Written out: a derived drop is proved part by part wherever a text is dropped, this one only
 // here.
 impl Drop for LogText {
     fn drop(self) {

@@ -95,9 +95,14 @@ module _ {D : Type 0} (slot : D → ℕ → Slot) (count : D → ℕ) (world : W
   engine-up-of engine (Up m slots) s = s.0
   engine-up-of engine (Down n workers) s = absurd s
 
-  pub engine-up : (engine : Bor Serving) → world.place ≡ place.Up engine.now → (s : Standing) → Shows slot count world s → IsEngineOf (Some engine) s
+  engine-up : (engine : Bor Serving) → world.place ≡ place.Up engine.now → (s : Standing) → Shows slot count world s → IsEngineOf (Some engine) s
   unfolding Shows
   engine-up engine is s shows = engine-up-of engine s (subst (λ (p : Place D). Shown slot count world.config world.slots p s) is shows)
+
+  -- an engine that is what is up
+  pub engine-in : (engine : Bor Serving) (standby : Serving) → world.place ≡ place.Up standby → engine.now ≡ standby → (s : Standing) → Shows slot count world s
+      → IsEngineOf (Some engine) s
+  engine-in engine standby is same = engine-up engine (subst (λ (e : Serving). world.place ≡ place.Up e) (sym same) is)
 
   engine-down-of : (disks : Disks D) (s : Standing) → Shown slot count world.config world.slots (place.Down disks) s → IsEngineOf None s
   unfolding Shown IsEngineOf

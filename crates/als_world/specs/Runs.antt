@@ -22,7 +22,7 @@ use Rattle.als_world.specs.Slots.{no_leases}
 use Rattle.als_world.specs.Leasing.{BySlot, LendsInto, RedoesIn, HandsOver, GivesFrom, DropsFrom}
 use Rattle.als_world.specs.Standing.{Standing, Up, Down, Shows, Keeps}
 
--- What devices hold is taken up again: it begins with that and with empty slots, or a device failed or a growth was refused, and the devices hold
+-- What devices hold is taken up again: it begins with that and with empty slots, or a device failed or an allocation failed, and the devices hold
 -- the same.
 unfoldable pub Opens : Config → Node → ℕ → WorldReply → Standing → Type 0
 Opens config n workers (reply.Restarted end) (Up new slots) = (end.0 ≡ end_of n.log) × IsStarted config n new × (slots ≡ no_leases workers)

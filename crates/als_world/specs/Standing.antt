@@ -8,7 +8,9 @@ use Rattle.als_lease.specs.Lease.{Leased}
 use Rattle.als_ckpt.specs.declared.control_state.ControlState.{ControlState}
 use Rattle.als_ckpt.specs.Control.{phase_byte}
 use Rattle.als_reopen.specs.Taken.{IsTakenFrom}
+use Rattle.als_reopen.specs.declared.disks.Disks.{Disks}
 use Rattle.als_commits.specs.Counting.{ended_count}
+use Rattle.als_store.specs.Stopped.{AreStopped, devices_of}
 use Rattle.als_store.specs.Takeover.{GoesOn, IsUnderTakeover, IsFinished, IsSealOf, is_primary}
 use Rattle.als_engine.specs.declared.config.Config.{Config}
 use Rattle.als_engine.specs.Machine.{Machine}
@@ -37,6 +39,12 @@ Shown slot count config slots (place.Down disks) (Up m leases) = ⊥
 
 unfoldable pub Shows : {D : Type 0} → (D → ℕ → Slot) → (D → ℕ) → World D → Standing → Type 0
 Shows slot count world standing = Shown slot count world.config world.slots world.place standing
+
+-- What a world leaves of its devices: those of a stop of its machine; or, while it is down, they hold what they held.
+abbrev pub IsLeftBy : {D : Type 0} → (D → ℕ → Slot) → (D → ℕ) → Config → Standing → Disks D → Type 0
+IsLeftBy slot count config (Up m leases) disks = AreStopped m.held (devices_of slot count disks)
+IsLeftBy slot count config (Down n workers) disks =
+    StillHolds config (count disks.log) (count disks.control) (count disks.pages) (slot disks.log) (slot disks.control) (slot disks.pages) n
 
 -- the held log, and the one that devices hold
 abbrev pub log_of : Standing → List Record

@@ -23,7 +23,7 @@ impl<D: BlockDisk> World<D> {
             → IsEngineOf result s }
     {
         match &self.place {
-            Place::Up(engine) => Some(engine),
+            Place::Up(standby) => Some(standby.engine()),
             Place::Down(_) => None,
         }
     }
@@ -36,11 +36,11 @@ impl<D: BlockDisk> World<D> {
         ensures same { self.new.config ≡ self.old.config }
     {
         match &mut self.place {
-            Place::Up(engine) => {
-                if page >= engine.pages() {
+            Place::Up(standby) => {
+                if page >= standby.engine().pages() {
                     return Ok(None);
                 }
-                match engine.page_now(page) {
+                match standby.page_now(page) {
                     Ok(shown) => Ok(Some(shown)),
                     Err(fault) => Err(fault),
                 }
@@ -57,7 +57,7 @@ impl<D: BlockDisk> World<D> {
         ensures same { self.new.config ≡ self.old.config }
     {
         match &mut self.place {
-            Place::Up(engine) => engine.record_at(lsn),
+            Place::Up(standby) => standby.record_at(lsn),
             Place::Down(_) => Err(Fault::Stopped),
         }
     }

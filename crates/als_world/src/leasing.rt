@@ -21,6 +21,7 @@ pub(crate) fn lend<D: BlockDisk>(
         (LendsInto engine.old.machine slots.old page to result engine.new.machine slots.new)
         ((engine.new.machine ≡ engine.old.machine) × (slots.new ≡ slots.old)) }
     ensures keeps { EngineKeeps engine.old.machine engine.new.machine }
+    ensures book { engine.new.book ≡ engine.old.book }
 {
     if !slots.is_free(to) {
         return WorldReply::Refused(Fault::BadSlot);
@@ -80,6 +81,7 @@ pub(crate) fn give<D: BlockDisk>(
         (GivesFrom engine.old.machine slots.old from result engine.new.machine slots.new)
         ((engine.new.machine ≡ engine.old.machine) × (slots.new ≡ slots.old)) }
     ensures keeps { EngineKeeps engine.old.machine engine.new.machine }
+    ensures book { engine.new.book ≡ engine.old.book }
 {
     let Some(lease) = slots.take(from) else {
         return WorldReply::Refused(Fault::BadSlot);

@@ -9,6 +9,8 @@ mod slots;
 mod leasing;
 // A step of a standby that stays up.
 mod acting;
+// An engine that is up, and its readers.
+mod standby;
 // A standby that is up, or the devices that it left.
 mod place;
 // A standby that is crashed and begun again.

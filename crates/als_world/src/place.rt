@@ -1,9 +1,10 @@
+use crate::standby::Standby;
 use als_disk::BlockDisk;
-use als_engine::{Disks, Engine};
+use als_engine::Disks;
 
 /// A standby that is up, or the devices that it left.
 #[derive(Drop)]
 pub enum Place<D: BlockDisk> {
-    Up(Engine<D>),
+    Up(Standby<D>),
     Down(Disks<D>),
 }

@@ -6,19 +6,21 @@ ghost use Rattle.als_world.specs.Slots.{no_leases};
 ghost use Rattle.als_world.specs.Standing.{Standing, Shows, Up, Down};
 ghost use Rattle.als_world.specs.Runs.{OpensTo, StepsTo};
 
-use crate::acting::act;
 use crate::place::Place;
 use crate::slots::Slots;
+use crate::standby::Standby;
 use crate::step::{WorldReply, WorldStep};
 use crate::world::{World, down, up};
 use als_disk::Restart;
 use als_engine::{Config, Disks, Engine, Fault};
 use als_store::crash_disks;
 use std::alloc::Global;
+use std::sync::Wait;
 
 /// A standby over what devices hold; or they come back, and the world is down. No slot has a lease.
-fn open<D: Restart>(
+fn open<R: Wait, D: Restart>(
     alloc: Global,
+    rt: &R,
     config: Config,
     slots: Slots,
     disks: Disks<D>,
@@ -30,10 +32,13 @@ fn open<D: Restart>(
         → OpensTo D.slot D.block_count config n workers result.1 result.0 }
     ensures same { result.0.config ≡ config }
 {
-    match Engine::open(alloc, disks, config) {
-        Ok(engine) => {
+    match Engine::open(alloc, rt, disks, config) {
+        Ok((engine, readers)) => {
             let end = engine.status().end;
-            (up(config, slots, engine), WorldReply::Restarted(end))
+            (
+                up(config, slots, Standby::new(engine, readers)),
+                WorldReply::Restarted(end),
+            )
         }
         Err(refused) => {
             let fault = refused.fault;
@@ -46,29 +51,33 @@ fn open<D: Restart>(
 }
 
 /// One step over a standby that is up.
-fn step_up<D: Restart>(
+fn step_up<R: Wait, D: Restart>(
     alloc: Global,
+    rt: &R,
     config: Config,
     slots: Slots,
-    engine: Engine<D>,
+    standby: Standby<D>,
     step: &WorldStep,
 ) -> (World<D>, WorldReply)
-    ensures steps { IsMadeWith config engine.machine → IsWarm engine.machine
-        → StepsTo D.slot D.block_count config (Up engine.machine slots) step.now result.1
+    ensures steps { IsMadeWith config standby.machine → IsWarm standby.machine
+        → StepsTo D.slot D.block_count config (Up standby.machine slots) step.now result.1
         result.0 }
     ensures same { result.0.config ≡ config }
 {
-    let mut engine = engine;
+    let mut standby = standby;
     let mut slots = slots;
-    let _ = engine.status(); // For the prover alone: what always holds of the engine.
+    // For the prover alone: what always holds of the engine.
+    let _ = standby.engine().status();
     if let WorldStep::Crash(picks) = step {
-        let (disks, _) = engine.crash(picks);
+        let engine = standby.into_engine();
+        let (disks, _) = engine.crash(rt, picks);
         slots.clear();
-        return open(alloc, config, slots, disks);
+        return open(alloc, rt, config, slots, disks);
     }
-    let reply = act(&mut engine, &mut slots, step);
-    let _ = engine.status(); // For the prover alone: what always holds of the engine afterwards.
-    (up(config, slots, engine), reply)
+    let reply = standby.act(rt, &mut slots, step);
+    // For the prover alone: what always holds of the engine afterwards.
+    let _ = standby.engine().status();
+    (up(config, slots, standby), reply)
 }
 
 /// What a crash leaves of devices that a standby left.
@@ -86,8 +95,9 @@ fn crash<D: Restart>(disks: Disks<D>, picks: &[u8]) -> Disks<D>
 }
 
 /// One step over devices that a standby left.
-fn step_down<D: Restart>(
+fn step_down<R: Wait, D: Restart>(
     alloc: Global,
+    rt: &R,
     config: Config,
     slots: Slots,
     disks: Disks<D>,
@@ -101,7 +111,7 @@ fn step_down<D: Restart>(
     ensures same { result.0.config ≡ config }
 {
     if let WorldStep::Crash(picks) = step {
-        return open(alloc, config, slots, crash(disks, picks));
+        return open(alloc, rt, config, slots, crash(disks, picks));
     }
     (
         down(config, slots, disks),
@@ -110,8 +120,9 @@ fn step_down<D: Restart>(
 }
 
 /// One step.
-pub(crate) fn step_over<D: Restart>(
+pub(crate) fn step_over<R: Wait, D: Restart>(
     alloc: Global,
+    rt: &R,
     world: World<D>,
     step: &WorldStep,
 ) -> (World<D>, WorldReply)
@@ -121,7 +132,7 @@ pub(crate) fn step_over<D: Restart>(
 {
     let (config, slots, place) = world.into_parts();
     match place {
-        Place::Up(engine) => step_up(alloc, config, slots, engine, step),
-        Place::Down(disks) => step_down(alloc, config, slots, disks, step),
+        Place::Up(standby) => step_up(alloc, rt, config, slots, standby, step),
+        Place::Down(disks) => step_down(alloc, rt, config, slots, disks, step),
     }
 }

@@ -14,11 +14,14 @@ use crate::step::{WorldReply, WorldStep};
 use crate::world::World;
 use als_disk::Restart;
 use std::alloc::Global;
+use std::sync::Wait;
 
 /// Runs the steps one after another, and answers each one's reply. The replies' room is taken
-/// first: where that is refused nothing is run, and the world comes back.
-pub fn run<D: Restart>(
+/// first: where that is refused nothing is run, and the world comes back. It waits for readers
+/// where a step publishes or crashes.
+pub fn run<R: Wait, D: Restart>(
     alloc: Global,
+    rt: &R,
     world: World<D>,
     steps: &[WorldStep],
 ) -> Result<(World<D>, Vec<WorldReply>), World<D>>
@@ -37,7 +40,7 @@ pub fn run<D: Restart>(
         Err(_) => return Err(world),
     };
     for step in steps {
-        let (after, reply) = step_over(alloc, world, step);
+        let (after, reply) = step_over(alloc, rt, world, step);
         world = after;
         replies.push_reserved(reply);
     }

@@ -20,7 +20,7 @@ impl Model for Slots {
     ghost view = { λ s. s.leases.items };
 }
 
-// Written out: a derived drop is proved wherever slots are let go of, this one only here.
+// Written out: a derived drop is proved wherever slots are dropped, this one only here.
 impl Drop for Slots {
     fn drop(self) {
         let Slots { leases } = self;

@@ -41,7 +41,8 @@ pub enum WorldReply {
     Answered(Answer),
     /// BadSlot: a slot does not exist, is empty where a lease is taken from it, or is full where one
     /// is put in. The engine's refusals of a lend or a give. NothingToDo of a redo: the lease is
-    /// finished. Device or Memory of a restart. Warming of a read before a recovery has ended.
-    /// Stopped of each step but a crash while the world is down.
+    /// finished. Device or Memory of a restart. Warming of a read before a recovery has ended, and
+    /// Stopped where the entry of its reader is refused. Stopped of each step but a crash while the
+    /// world is down.
     Refused(Fault),
 }

@@ -1,27 +1,32 @@
-ghost use Rattle.std.specs.Prelude.{◌≡◌, ◌≤◌, ◌+◌, IfOk, IfErr};
+ghost use Rattle.std.specs.Prelude.{◌≡◌, ◌≤◌, ◌+◌, length, IfOk, IfErr};
 ghost use Rattle.als_engine.specs.declared.fault.Fault.TheVariants as fault;
 ghost use Rattle.als_engine.specs.Formatting.{FormatsWorld, RefusesFormat};
 ghost use Rattle.als_engine.specs.Machine.{Machine};
+ghost use Rattle.als_engine.specs.Readers.{AreReaders};
 ghost use Rattle.als_engine.specs.Restarts.{IsMadeWith, IsWarm};
 ghost use Rattle.als_world.specs.declared.place.Place.TheVariants as place;
 ghost use Rattle.als_world.specs.Slots.{no_leases};
-ghost use Rattle.als_world.specs.Standing.{Standing, Up, Shows, IsSteady, IsTrue};
+ghost use Rattle.als_world.specs.Standing.{Standing, Up, Shows, IsSteady, IsTrue, IsLeftBy};
 
 use crate::place::Place;
 use crate::slots::Slots;
+use crate::standby::Standby;
 use als_disk::BlockDisk;
-use als_engine::{Config, Disks, Engine, Fault, Refused};
+use als_engine::{Config, Disks, Engine, Fault, Reader, Refused};
 use std::alloc::Global;
+use std::sync::Wait;
 
-/// What a run of steps goes over: a standby that is up, or the devices that it left, and the slots
-/// of its workers. It knows with what a standby begins again.
+/// What a run of steps goes over: a standby that is up, with its readers, or the devices that it
+/// left, and the slots of its workers. It knows with what a standby begins again.
+///
+/// A world that is dropped while it is up never frees what its readers look at: `into_disks` does.
 pub struct World<D: BlockDisk> {
     pub(crate) config: Config,
     pub(crate) slots: Slots,
     pub(crate) place: Place<D>,
 }
 
-// Written out: a derived drop is proved part by part wherever a world is let go of, this one only
+// Written out: a derived drop is proved part by part wherever a world is dropped, this one only
 // here.
 impl<D: BlockDisk + Drop> Drop for World<D> {
     fn drop(self) {
@@ -36,25 +41,29 @@ impl<D: BlockDisk + Drop> Drop for World<D> {
 }
 
 impl<D: BlockDisk> World<D> {
-    /// A world with this engine, which was made with this configuration, and with empty slots for so
-    /// many workers, 1 to 8. Where there is no memory for the slots the engine comes back.
+    /// A world with this engine, which was made with this configuration, with readers of it, one at
+    /// least, and with empty slots for so many workers, 1 to 8. Where there is no memory for the
+    /// slots the engine and its readers come back.
     pub fn new(
         alloc: Global,
         engine: Engine<D>,
+        readers: Vec<Reader>,
         config: Config,
         workers: usize,
-    ) -> Result<World<D>, Engine<D>>
+    ) -> Result<World<D>, (Engine<D>, Vec<Reader>)>
         requires some { 1 ≤ workers }
         requires few { workers ≤ 8 }
+        requires readers { AreReaders engine.book engine.machine.held.pages readers.items }
+        requires reader { 1 ≤ length readers.items }
         ensures shows { IsMadeWith config engine.machine → IsWarm engine.machine
             → IfOk result (λ w. Shows D.slot D.block_count w
             (Up engine.machine (no_leases workers))) }
         ensures config { IfOk result (λ w. w.config ≡ config) }
-        ensures err { IfErr result (λ e. e ≡ engine) }
+        ensures err { IfErr result (λ e. (e.0 ≡ engine) × (e.1 ≡ readers)) }
     {
         match Slots::new(alloc, workers) {
-            Ok(slots) => Ok(up(config, slots, engine)),
-            Err(_) => Err(engine),
+            Ok(slots) => Ok(up(config, slots, Standby::new(engine, readers))),
+            Err(_) => Err((engine, readers)),
         }
     }
 
@@ -63,8 +72,9 @@ impl<D: BlockDisk> World<D> {
     /// there a run begins.
     ///
     /// BadConfig, Memory, Device: as the engine's `format` says. The devices come back.
-    pub fn format(
+    pub fn format<R: Wait>(
         alloc: Global,
+        rt: &R,
         disks: Disks<D>,
         config: Config,
         workers: usize,
@@ -84,9 +94,23 @@ impl<D: BlockDisk> World<D> {
         let Ok(slots) = Slots::new(alloc, workers) else {
             return Err(unformatted(config, disks));
         };
-        match Engine::format(alloc, disks, config) {
-            Ok(engine) => Ok(up(config, slots, engine)),
+        match Engine::format(alloc, rt, disks, config) {
+            Ok((engine, readers)) => Ok(up(config, slots, Standby::new(engine, readers))),
             Err(refused) => Err(refused),
+        }
+    }
+
+    /// The devices that the world leaves. It waits for the readers that are in a copy of what is
+    /// published, and frees it.
+    pub fn into_disks<R: Wait>(self, rt: &R) -> Disks<D>
+        ensures left { (s : Standing) → Shows D.slot D.block_count self s
+            → IsLeftBy D.slot D.block_count self.config s result }
+    {
+        let (_, slots, place) = self.into_parts();
+        drop(slots);
+        match place {
+            Place::Up(standby) => standby.into_engine().into_disks(rt),
+            Place::Down(disks) => disks,
         }
     }
 
@@ -110,8 +134,8 @@ impl<D: BlockDisk> World<D> {
         ensures whole { (s : Standing) → Shows D.slot D.block_count self.now s → IsTrue s }
     {
         match &self.place {
-            Place::Up(engine) => {
-                let _ = engine.status();
+            Place::Up(standby) => {
+                let _ = standby.engine().status();
             }
             Place::Down(_) => {}
         }
@@ -119,13 +143,13 @@ impl<D: BlockDisk> World<D> {
 }
 
 /// A world that is up.
-pub(crate) fn up<D: BlockDisk>(config: Config, slots: Slots, engine: Engine<D>) -> World<D>
-    ensures { result ≡ record { config = config; slots = slots; place = place.Up engine } }
+pub(crate) fn up<D: BlockDisk>(config: Config, slots: Slots, standby: Standby<D>) -> World<D>
+    ensures { result ≡ record { config = config; slots = slots; place = place.Up standby } }
 {
     World {
         config,
         slots,
-        place: Place::Up(engine),
+        place: Place::Up(standby),
     }
 }
 

@@ -19,9 +19,10 @@ impl<D: BlockDisk> Engine<D> {
         ensures writes { LogWrites self.old.machine result self.new.machine }
         ensures keeps { Keeps self.old.machine self.new.machine }
         ensures told { TellsOk event.LogWrite result self.old.tally self.new.tally }
+        ensures book { self.new.book ≡ self.old.book }
     {
         let answer = self.log_write_in();
-        self.tell(Event::LogWrite, &answer);
+        self.note(Event::LogWrite, &answer);
         answer
     }
 
@@ -29,6 +30,7 @@ impl<D: BlockDisk> Engine<D> {
     fn log_write_in(&mut self) -> Result<(), Fault>
         ensures writes { LogWrites self.old.machine result self.new.machine }
         ensures told { self.new.tally ≡ self.old.tally }
+        ensures book { self.new.book ≡ self.old.book }
     {
         if self.store.is_broken() {
             return Err(Fault::Stopped);
@@ -43,9 +45,10 @@ impl<D: BlockDisk> Engine<D> {
         ensures syncs { LogSyncs self.old.machine result self.new.machine }
         ensures keeps { Keeps self.old.machine self.new.machine }
         ensures told { TellsOk event.LogSync result self.old.tally self.new.tally }
+        ensures book { self.new.book ≡ self.old.book }
     {
         let answer = self.log_sync_in();
-        self.tell(Event::LogSync, &answer);
+        self.note(Event::LogSync, &answer);
         answer
     }
 
@@ -53,6 +56,7 @@ impl<D: BlockDisk> Engine<D> {
     fn log_sync_in(&mut self) -> Result<(), Fault>
         ensures syncs { LogSyncs self.old.machine result self.new.machine }
         ensures told { self.new.tally ≡ self.old.tally }
+        ensures book { self.new.book ≡ self.old.book }
     {
         if self.store.is_broken() {
             return Err(Fault::Stopped);
@@ -68,9 +72,10 @@ impl<D: BlockDisk> Engine<D> {
         ensures writes { MarkWrites self.old.machine result self.new.machine }
         ensures keeps { Keeps self.old.machine self.new.machine }
         ensures told { TellsOk event.MarkWrite result self.old.tally self.new.tally }
+        ensures book { self.new.book ≡ self.old.book }
     {
         let answer = self.mark_write_in();
-        self.tell(Event::MarkWrite, &answer);
+        self.note(Event::MarkWrite, &answer);
         answer
     }
 
@@ -78,6 +83,7 @@ impl<D: BlockDisk> Engine<D> {
     fn mark_write_in(&mut self) -> Result<(), Fault>
         ensures writes { MarkWrites self.old.machine result self.new.machine }
         ensures told { self.new.tally ≡ self.old.tally }
+        ensures book { self.new.book ≡ self.old.book }
     {
         if self.store.is_broken() {
             return Err(Fault::Stopped);
@@ -94,11 +100,12 @@ impl<D: BlockDisk> Engine<D> {
         ensures goes_on { GoesOn self.old.machine.held.control self.new.machine.held.control }
         ensures keeps { Keeps self.old.machine self.new.machine }
         ensures told { TellsOk event.ControlSync result self.old.tally self.new.tally }
+        ensures book { self.new.book ≡ self.old.book }
     {
         // For the prover alone: what always holds of the engine.
         let _ = &self.limit;
         let answer = self.ctl_sync_in();
-        self.tell(Event::ControlSync, &answer);
+        self.note(Event::ControlSync, &answer);
         answer
     }
 
@@ -108,6 +115,7 @@ impl<D: BlockDisk> Engine<D> {
         // Of the synced states the phase never falls, and past Following the seal stays.
         ensures goes_on { GoesOn self.old.machine.held.control self.new.machine.held.control }
         ensures told { self.new.tally ≡ self.old.tally }
+        ensures book { self.new.book ≡ self.old.book }
     {
         if self.store.is_broken() {
             return Err(Fault::Stopped);

@@ -116,6 +116,7 @@ impl<D: BlockDisk> Engine<D> {
         ensures shows { ShowsPage self.old.machine page result self.new.machine }
         ensures keeps { Keeps self.old.machine self.new.machine }
         ensures told { self.new.tally ≡ self.old.tally }
+        ensures book { self.new.book ≡ self.old.book }
     {
         self.page_now_in(page)
     }
@@ -125,6 +126,7 @@ impl<D: BlockDisk> Engine<D> {
         requires { page < self.old.machine.held.pages }
         ensures shows { ShowsPage self.old.machine page result self.new.machine }
         ensures told { self.new.tally ≡ self.old.tally }
+        ensures book { self.new.book ≡ self.old.book }
     {
         let found = self.store.page_now(page)?;
         Ok(found)
@@ -137,6 +139,7 @@ impl<D: BlockDisk> Engine<D> {
         ensures reads { Reads self.old.machine lsn result self.new.machine }
         ensures keeps { Keeps self.old.machine self.new.machine }
         ensures told { self.new.tally ≡ self.old.tally }
+        ensures book { self.new.book ≡ self.old.book }
     {
         self.record_at_in(lsn)
     }
@@ -145,6 +148,7 @@ impl<D: BlockDisk> Engine<D> {
     fn record_at_in(&mut self, lsn: Lsn) -> Result<Option<Record>, Fault>
         ensures reads { Reads self.old.machine lsn result self.new.machine }
         ensures told { self.new.tally ≡ self.old.tally }
+        ensures book { self.new.book ≡ self.old.book }
     {
         let found = self.store.record_at(lsn)?;
         Ok(found)

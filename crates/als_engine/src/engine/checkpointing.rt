@@ -11,14 +11,15 @@ use als_disk::BlockDisk;
 
 impl<D: BlockDisk> Engine<D> {
     /// Begins a checkpoint: copies both tables, the numbers and the end of the log as they are now.
-    /// CkptBusy: one is begun, or the last publish is not synced. Memory: a growth was refused.
+    /// CkptBusy: one is begun, or the last publish is not synced. Memory: an allocation failed.
     pub fn ckpt_begin(&mut self) -> Result<(), Fault>
         ensures begins { CkptBegins self.old.machine result self.new.machine }
         ensures keeps { Keeps self.old.machine self.new.machine }
         ensures told { TellsOk event.CkptBegin result self.old.tally self.new.tally }
+        ensures book { self.new.book ≡ self.old.book }
     {
         let answer = self.ckpt_begin_in();
-        self.tell(Event::CkptBegin, &answer);
+        self.note(Event::CkptBegin, &answer);
         answer
     }
 
@@ -26,6 +27,7 @@ impl<D: BlockDisk> Engine<D> {
     fn ckpt_begin_in(&mut self) -> Result<(), Fault>
         ensures begins { CkptBegins self.old.machine result self.new.machine }
         ensures told { self.new.tally ≡ self.old.tally }
+        ensures book { self.new.book ≡ self.old.book }
     {
         if self.store.is_broken() {
             return Err(Fault::Stopped);
@@ -41,9 +43,10 @@ impl<D: BlockDisk> Engine<D> {
         ensures writes { CkptWrites self.old.machine result self.new.machine }
         ensures keeps { Keeps self.old.machine self.new.machine }
         ensures told { TellsOk event.CkptBlock result self.old.tally self.new.tally }
+        ensures book { self.new.book ≡ self.old.book }
     {
         let answer = self.ckpt_block_in();
-        self.tell(Event::CkptBlock, &answer);
+        self.note(Event::CkptBlock, &answer);
         answer
     }
 
@@ -51,6 +54,7 @@ impl<D: BlockDisk> Engine<D> {
     fn ckpt_block_in(&mut self) -> Result<(), Fault>
         ensures writes { CkptWrites self.old.machine result self.new.machine }
         ensures told { self.new.tally ≡ self.old.tally }
+        ensures book { self.new.book ≡ self.old.book }
     {
         if self.store.is_broken() {
             return Err(Fault::Stopped);
@@ -66,9 +70,10 @@ impl<D: BlockDisk> Engine<D> {
         ensures publishes { CkptPublishes self.old.machine result self.new.machine }
         ensures keeps { Keeps self.old.machine self.new.machine }
         ensures told { TellsOk event.CkptPublish result self.old.tally self.new.tally }
+        ensures book { self.new.book ≡ self.old.book }
     {
         let answer = self.ckpt_publish_in();
-        self.tell(Event::CkptPublish, &answer);
+        self.note(Event::CkptPublish, &answer);
         answer
     }
 
@@ -76,6 +81,7 @@ impl<D: BlockDisk> Engine<D> {
     fn ckpt_publish_in(&mut self) -> Result<(), Fault>
         ensures publishes { CkptPublishes self.old.machine result self.new.machine }
         ensures told { self.new.tally ≡ self.old.tally }
+        ensures book { self.new.book ≡ self.old.book }
     {
         if self.store.is_broken() {
             return Err(Fault::Stopped);

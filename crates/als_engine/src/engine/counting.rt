@@ -16,8 +16,9 @@ impl<D: BlockDisk> Engine<D> {
     }
 
     /// Counts an event, if it answered Ok.
-    pub(crate) fn tell<T, E>(&mut self, made: Event, answer: &Result<T, E>)
+    pub(crate) fn note<T, E>(&mut self, made: Event, answer: &Result<T, E>)
         ensures told { TellsOk made answer.now self.old.tally self.new.tally }
+        ensures book { self.new.book ≡ self.old.book }
         ensures machine { self.new.machine ≡ self.old.machine }
         ensures spare { self.new.spare ≡ self.old.spare }
         ensures room { self.new.room ≡ self.old.room }
@@ -26,8 +27,9 @@ impl<D: BlockDisk> Engine<D> {
     }
 
     /// Counts the bytes that a feed took.
-    pub(crate) fn tell_taken(&mut self, answer: &Result<Fed, FeedFault>)
+    pub(crate) fn note_taken(&mut self, answer: &Result<Fed, FeedFault>)
         ensures told { TellsTaken answer.now self.old.tally self.new.tally }
+        ensures book { self.new.book ≡ self.old.book }
         ensures machine { self.new.machine ≡ self.old.machine }
     {
         self.told.tell_taken(answer);

@@ -32,9 +32,10 @@ impl<D: BlockDisk> Engine<D> {
         ensures keeps { Keeps self.old.machine self.new.machine }
         // The bytes taken are counted.
         ensures told { TellsTaken result self.old.tally self.new.tally }
+        ensures book { self.new.book ≡ self.old.book }
     {
         let answer = self.feed_in(piece);
-        self.tell_taken(&answer);
+        self.note_taken(&answer);
         answer
     }
 
@@ -46,6 +47,7 @@ impl<D: BlockDisk> Engine<D> {
         ensures reserved { HasRoomForPiece self.old piece.now
             → IfErr result (λ refusal. refusal.fault ≡ Fault.Memory → ⊥) }
         ensures told { self.new.tally ≡ self.old.tally }
+        ensures book { self.new.book ≡ self.old.book }
     {
         let stopped = self.store.is_broken();
         if stopped {
@@ -99,9 +101,10 @@ impl<D: BlockDisk> Engine<D> {
             (self.old.room + length self.old.machine.partial ≤ self.new.room) }
         ensures keeps { Keeps self.old.machine self.new.machine }
         ensures told { TellsOk event.Resync result self.old.tally self.new.tally }
+        ensures book { self.new.book ≡ self.old.book }
     {
         let answer = self.resync_in();
-        self.tell(Event::Resync, &answer);
+        self.note(Event::Resync, &answer);
         answer
     }
 
@@ -112,6 +115,7 @@ impl<D: BlockDisk> Engine<D> {
         ensures room { OnOk result
             (self.old.room + length self.old.machine.partial ≤ self.new.room) }
         ensures told { self.new.tally ≡ self.old.tally }
+        ensures book { self.new.book ≡ self.old.book }
     {
         if self.store.is_broken() {
             return Err(Fault::Stopped);

@@ -22,7 +22,7 @@ impl<D: BlockDisk> Engine<D> {
     /// Stopped. PageLent: a lease of the page is out. NothingToDo: no change waits for it, or there
     /// is no such page. NumbersSpent: the last lease number is used. PoolFull: the page has no
     /// frame, all frames are used, and each is lent or not clean. Device: it could not be read.
-    /// BadPage: its block has no image of it that is the log's. Memory: a growth was refused. They
+    /// BadPage: its block has no image of it that is the log's. Memory: an allocation failed. They
     /// come in this order. Then again NothingToDo: the page that was read has all that waited.
     pub fn lend(&mut self, page: u32) -> Result<PageLease, Fault>
         ensures lends { Lends self.old.machine page result self.new.machine }
@@ -32,9 +32,10 @@ impl<D: BlockDisk> Engine<D> {
         ensures reserved { 0 < self.old.spare.pool.frames → 0 < self.old.spare.pool.leases
             → IsErrOf result Fault.Memory → ⊥ }
         ensures told { TellsOk event.Lend result self.old.tally self.new.tally }
+        ensures book { self.new.book ≡ self.old.book }
     {
         let answer = self.lend_in(page);
-        self.tell(Event::Lend, &answer);
+        self.note(Event::Lend, &answer);
         answer
     }
 
@@ -44,6 +45,7 @@ impl<D: BlockDisk> Engine<D> {
         ensures reserved { 0 < self.old.spare.pool.frames → 0 < self.old.spare.pool.leases
             → IsErrOf result Fault.Memory → ⊥ }
         ensures told { self.new.tally ≡ self.old.tally }
+        ensures book { self.new.book ≡ self.old.book }
     {
         if self.store.is_broken() {
             return Err(Fault::Stopped);
@@ -65,9 +67,10 @@ impl<D: BlockDisk> Engine<D> {
         // What the lease took is room for another one.
         ensures room { OnOk result (KeepsRoom self.old.spare self.new.spare) }
         ensures told { TellsOk event.Give result self.old.tally self.new.tally }
+        ensures book { self.new.book ≡ self.old.book }
     {
         let answer = self.give_in(lease);
-        self.tell(Event::Give, &answer);
+        self.note(Event::Give, &answer);
         answer
     }
 
@@ -76,6 +79,7 @@ impl<D: BlockDisk> Engine<D> {
         ensures gives { Gives self.old.machine lease result self.new.machine }
         ensures room { OnOk result (KeepsRoom self.old.spare self.new.spare) }
         ensures told { self.new.tally ≡ self.old.tally }
+        ensures book { self.new.book ≡ self.old.book }
     {
         if self.store.is_broken() {
             return Err(not_given(lease, Fault::Stopped));
@@ -95,9 +99,10 @@ impl<D: BlockDisk> Engine<D> {
         ensures keeps { Keeps self.old.machine self.new.machine }
         ensures attempts { self.new.machine.held.attempts ≡ self.old.machine.held.attempts }
         ensures told { TellsOk event.Recall result self.old.tally self.new.tally }
+        ensures book { self.new.book ≡ self.old.book }
     {
         let answer = self.recall_in(page);
-        self.tell(Event::Recall, &answer);
+        self.note(Event::Recall, &answer);
         answer
     }
 
@@ -105,6 +110,7 @@ impl<D: BlockDisk> Engine<D> {
     fn recall_in(&mut self, page: u32) -> Result<(), Fault>
         ensures recalls { Recalls self.old.machine page result self.new.machine }
         ensures told { self.new.tally ≡ self.old.tally }
+        ensures book { self.new.book ≡ self.old.book }
     {
         if self.store.is_broken() {
             return Err(Fault::Stopped);

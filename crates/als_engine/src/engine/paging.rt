@@ -20,9 +20,10 @@ impl<D: BlockDisk> Engine<D> {
         ensures flushes { FlushesOne self.old.machine page result self.new.machine }
         ensures keeps { Keeps self.old.machine self.new.machine }
         ensures told { TellsOk event.Flush result self.old.tally self.new.tally }
+        ensures book { self.new.book ≡ self.old.book }
     {
         let answer = self.flush_in(page);
-        self.tell(Event::Flush, &answer);
+        self.note(Event::Flush, &answer);
         answer
     }
 
@@ -30,6 +31,7 @@ impl<D: BlockDisk> Engine<D> {
     fn flush_in(&mut self, page: u32) -> Result<(), Fault>
         ensures flushes { FlushesOne self.old.machine page result self.new.machine }
         ensures told { self.new.tally ≡ self.old.tally }
+        ensures book { self.new.book ≡ self.old.book }
     {
         if self.store.is_broken() {
             return Err(Fault::Stopped);
@@ -44,9 +46,10 @@ impl<D: BlockDisk> Engine<D> {
         ensures syncs { PagesSync self.old.machine result self.new.machine }
         ensures keeps { Keeps self.old.machine self.new.machine }
         ensures told { TellsOk event.SyncPages result self.old.tally self.new.tally }
+        ensures book { self.new.book ≡ self.old.book }
     {
         let answer = self.sync_pages_in();
-        self.tell(Event::SyncPages, &answer);
+        self.note(Event::SyncPages, &answer);
         answer
     }
 
@@ -54,6 +57,7 @@ impl<D: BlockDisk> Engine<D> {
     fn sync_pages_in(&mut self) -> Result<(), Fault>
         ensures syncs { PagesSync self.old.machine result self.new.machine }
         ensures told { self.new.tally ≡ self.old.tally }
+        ensures book { self.new.book ≡ self.old.book }
     {
         if self.store.is_broken() {
             return Err(Fault::Stopped);

@@ -9,30 +9,35 @@ use crate::event::Event;
 use crate::fault::Fault;
 use als_commits::all_commits_end;
 use als_disk::BlockDisk;
+use als_view::shown_commits_may_be_published;
+use std::sync::Wait;
 
 impl<D: BlockDisk> Engine<D> {
     /// Ends the recovery of a standby that was opened: from then on it takes the primary's log, or
     /// goes on with its takeover, by the phase of the control block. All commits of its log are
-    /// published, and readers are answered. It calls no device, and takes no memory.
+    /// published, and readers are answered. It calls no device. It waits for readers that are still in
+    /// the copy of before.
     ///
     /// Stopped. NothingToDo: the standby is not recovering. NotDrained: a change waits for redo.
-    /// They come in this order.
-    pub fn ready(&mut self) -> Result<(), Fault>
+    /// They come in this order. Memory: an allocation failed.
+    pub fn ready<R: Wait>(&mut self, rt: &R) -> Result<(), Fault>
         ensures readies { Readies self.old.machine result self.new.machine }
         ensures keeps { Keeps self.old.machine self.new.machine }
         ensures told { TellsOk event.Ready result self.old.tally self.new.tally }
+        ensures book { self.new.book ≡ self.old.book }
     {
-        let answer = self.ready_in();
-        self.tell(Event::Ready, &answer);
+        let answer = self.ready_in(rt);
+        self.note(Event::Ready, &answer);
         answer
     }
 
     /// The event itself: what it keeps follows at the public call.
-    fn ready_in(&mut self) -> Result<(), Fault>
+    fn ready_in<R: Wait>(&mut self, rt: &R) -> Result<(), Fault>
         ensures readies { Readies self.old.machine result self.new.machine }
         // What was published stays so.
         ensures grows { self.old.machine.published ≤ self.new.machine.published }
         ensures told { self.new.tally ≡ self.old.tally }
+        ensures book { self.new.book ≡ self.old.book }
     {
         if self.store.is_broken() {
             return Err(Fault::Stopped);
@@ -46,7 +51,12 @@ impl<D: BlockDisk> Engine<D> {
         all_commits_end();
         // For the prover alone: what always holds of the log.
         let _ = self.store.end();
-        self.shown.publish_ended(self.store.acknowledged());
+        // And what the view shows may be published.
+        shown_commits_may_be_published();
+        match self.shown.publish_ended(rt, self.store.acknowledged()) {
+            Ok(()) => {}
+            Err(_) => return Err(Fault::Memory),
+        }
         self.store.ready();
         Ok(())
     }

@@ -1,4 +1,4 @@
-ghost use Rattle.std.specs.Prelude.{◌≡◌, ⊤, ◌≤◌, ◌+◌, ◌⊎◌, false, IfOk, IfErr};
+ghost use Rattle.std.specs.Prelude.{◌≡◌, ⊤, ◌≤◌, ◌+◌, ◌⊎◌, false, length, IfOk, IfErr};
 ghost use Rattle.als_engine.specs.declared.config.Config.{Config as AnyConfig};
 ghost use Rattle.als_engine.specs.declared.fault.Fault.TheVariants as fault;
 ghost use Rattle.als_engine.specs.Config.{IsWorld};
@@ -8,6 +8,7 @@ ghost use Rattle.als_store.specs.Devices.{AreKept};
 ghost use Rattle.als_store.specs.Stopped.{CrashesTo, NamesState, devices_of};
 ghost use Rattle.als_engine.specs.Restarts.{IsWarm, IsMadeWith, Holds, StillHolds, Leaves};
 ghost use Rattle.als_engine.specs.Restarts.{IsStarted, IsRestarted, RefusesRestart};
+ghost use Rattle.als_engine.specs.Readers.{AreReaders};
 ghost use Rattle.als_engine.specs.Tally.{no_events};
 
 use super::Engine;
@@ -18,8 +19,9 @@ use crate::tally::Tally;
 use als_disk::{BlockDisk, Restart};
 use als_receiver::Receiver;
 use als_store::{Disks, Store};
-use als_view::{View, a_view_goes_on};
+use als_view::{Reader, View, a_view_goes_on};
 use std::alloc::Global;
+use std::sync::Wait;
 
 impl<D: BlockDisk> Engine<D> {
     /// A standby over devices that one left: it syncs the log's, the control block's and the pages'
@@ -27,22 +29,30 @@ impl<D: BlockDisk> Engine<D> {
     /// its image may lack. It is Recovering. On a refusal the devices come back.
     ///
     /// BadConfig: a number of the configuration is out of its range, or a device has too few
-    /// blocks, or the log's too many. Device: a device failed. Memory: a growth was refused. Else
+    /// blocks, or the log's too many. Device: a device failed. Memory: an allocation failed. Else
     /// the first met in reading control block, checkpoint, log header and records: BadControl,
     /// BadHeader, or the fault of a record. LogFull: the log and its tail together exceed the log
     /// device.
-    pub fn open(alloc: Global, disks: Disks<D>, config: Config) -> Result<Engine<D>, Refused<D>>
+    pub fn open<R: Wait>(
+        alloc: Global,
+        rt: &R,
+        disks: Disks<D>,
+        config: Config,
+    ) -> Result<(Engine<D>, Vec<Reader>), Refused<D>>
         // Whatever the devices hold, an engine comes only where the configuration fits them, and
         // has a valid log.
-        ensures fits { IfOk result (λ e. IsWorld config (D.block_count disks.log)
+        ensures fits { IfOk result (λ t. IsWorld config (D.block_count disks.log)
             (D.block_count disks.control) (D.block_count disks.pages)) }
-        ensures ok { IfOk result (λ e. IsRestarted config (D.block_count disks.log)
+        ensures ok { IfOk result (λ t. IsRestarted config (D.block_count disks.log)
             (D.failures disks.log + D.failures disks.control + D.failures disks.pages)
             (D.attempts disks.log + 1 + (D.attempts disks.control + 1)
-            + (D.attempts disks.pages + 1)) e.machine) }
-        ensures tally { IfOk result (λ e. e.tally ≡ no_events) }
+            + (D.attempts disks.pages + 1)) t.0.machine) }
+        ensures tally { IfOk result (λ t. t.0.tally ≡ no_events) }
+        // Its readers, as many as the configuration says.
+        ensures readers { IfOk result (λ t. AreReaders t.0.book config.pages t.1.items
+            × (length t.1.items ≡ config.readers)) }
         // As many frames as the configuration says there may be, none fewer and none more.
-        ensures frames { IfOk result (λ e. e.machine.held.pool.frames.most ≡ config.frames) }
+        ensures frames { IfOk result (λ t. t.0.machine.held.pool.frames.most ≡ config.frames) }
         // Where it does not fit them, BadConfig comes and the devices are as they were; else it
         // never comes.
         ensures config { (IsWorld config (D.block_count disks.log) (D.block_count disks.control)
@@ -75,8 +85,8 @@ impl<D: BlockDisk> Engine<D> {
         ensures warm { (n : Node) → Holds config (D.block_count disks.log)
             (D.block_count disks.control) (D.block_count disks.pages)
             (D.slot disks.log) (D.slot disks.control) (D.slot disks.pages) n
-            → IfOk result (λ e. IsStarted config n e.machine) }
-        // or else a device failed or a growth was refused, and the devices still hold the same.
+            → IfOk result (λ t. IsStarted config n t.0.machine) }
+        // or else a device failed or an allocation failed, and the devices still hold the same.
         ensures bare { (n : Node) → Holds config (D.block_count disks.log)
             (D.block_count disks.control) (D.block_count disks.pages)
             (D.slot disks.log) (D.slot disks.control) (D.slot disks.pages) n
@@ -86,10 +96,10 @@ impl<D: BlockDisk> Engine<D> {
             (D.slot r.disks.pages) n) }
         // Devices that were left with no crash need not be synced: they are taken up by one outcome
         // of the sync that comes first, by one content of each block, which a read might have given.
-        ensures synced { IfOk result (λ e. (kept : Synced (D.slot disks.log) (D.slot disks.control)
+        ensures synced { IfOk result (λ t. (kept : Synced (D.slot disks.log) (D.slot disks.control)
             (D.slot disks.pages))
             × ((n : Node) → IsNode config.pages (D.block_count disks.log) kept.log_now
-            kept.control_now kept.pages_now n → IsStarted config n e.machine)) }
+            kept.control_now kept.pages_now n → IsStarted config n t.0.machine)) }
         // Where they fit, a failed device or want of memory is in the way, or there is an outcome
         // that holds no log.
         ensures unsynced { IsWorld config (D.block_count disks.log) (D.block_count disks.control)
@@ -106,7 +116,8 @@ impl<D: BlockDisk> Engine<D> {
             });
         }
         let pages = config.pages as u32;
-        let Ok(unlisted) = View::new(alloc, pages, false) else {
+        let Ok((unlisted, readers)) = View::new(alloc, rt, pages, config.readers as usize, false)
+        else {
             return Err(Refused {
                 disks,
                 fault: Fault::Memory,
@@ -118,7 +129,7 @@ impl<D: BlockDisk> Engine<D> {
                 let shown = unlisted.with_waiting(waiting);
                 a_view_goes_on();
                 let receiver = Receiver::new(alloc, store.end(), pages);
-                Ok(Engine {
+                let engine = Engine {
                     alloc,
                     store,
                     receiver,
@@ -126,12 +137,17 @@ impl<D: BlockDisk> Engine<D> {
                     refused: None,
                     shown,
                     told: Tally::none(),
+                };
+                Ok((engine, readers))
+            }
+            Err(unopened) => {
+                drop(readers);
+                unlisted.close(rt);
+                Err(Refused {
+                    disks: unopened.disks,
+                    fault: Fault::from(unopened.fault),
                 })
             }
-            Err(unopened) => Err(Refused {
-                disks: unopened.disks,
-                fault: Fault::from(unopened.fault),
-            }),
         }
     }
 }
@@ -140,7 +156,7 @@ impl<D: Restart> Engine<D> {
     /// What a crash leaves of the devices: in each block the one of its candidates that the picks
     /// name. The blocks of the log's device take the picks first, then those of the control device,
     /// then those of the pages. The answer tells how many picks were used.
-    pub fn crash(self, picks: &[u8]) -> (Disks<D>, usize)
+    pub fn crash<R: Wait>(self, rt: &R, picks: &[u8]) -> (Disks<D>, usize)
         ensures picked { CrashesTo self.machine.held picks.now
             (devices_of D.slot D.block_count result.0) result.1 }
         // Where no device has failed, one of the first picks names the control state that is left.
@@ -175,7 +191,7 @@ impl<D: Restart> Engine<D> {
             told,
         } = self;
         drop(receiver);
-        drop(shown);
+        shown.close(rt);
         drop(told);
         store.crash(picks)
     }

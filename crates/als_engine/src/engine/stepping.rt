@@ -6,13 +6,16 @@ use super::Engine;
 use crate::fault::Fault;
 use crate::step::{Reply, Step};
 use als_disk::BlockDisk;
+use std::sync::Wait;
 
 impl<D: BlockDisk> Engine<D> {
     /// One step of the small machine.
-    pub fn step(&mut self, step: &Step) -> Reply
+    pub fn step<R: Wait>(&mut self, rt: &R, step: &Step) -> Reply
         ensures steps { Steps self.old.machine step.now result self.new.machine }
         // what is acknowledged stays so, and the log only grows
         ensures keeps { Keeps self.old.machine self.new.machine }
+        // its readers stay those of this engine
+        ensures book { self.new.book ≡ self.old.book }
         // one write or sync of a device at most
         ensures attempts { self.new.machine.held.attempts ≤ self.old.machine.held.attempts + 1 }
     {
@@ -37,8 +40,8 @@ impl<D: BlockDisk> Engine<D> {
             Step::CkptBegin => done(self.ckpt_begin()),
             Step::CkptBlock => done(self.ckpt_block()),
             Step::CkptPublish => done(self.ckpt_publish()),
-            Step::PublishView => done(self.publish_view()),
-            Step::Ready => done(self.ready()),
+            Step::PublishView => done(self.publish_view(rt)),
+            Step::Ready => done(self.ready(rt)),
             Step::Seal => done(self.seal()),
             Step::UndoOne => match self.undo_one() {
                 Ok(lsn) => Reply::Undone(lsn),

@@ -25,9 +25,10 @@ impl<D: BlockDisk> Engine<D> {
         ensures seals { Seals self.old.machine result self.new.machine }
         ensures keeps { Keeps self.old.machine self.new.machine }
         ensures told { TellsOk event.Seal result self.old.tally self.new.tally }
+        ensures book { self.new.book ≡ self.old.book }
     {
         let answer = self.seal_in();
-        self.tell(Event::Seal, &answer);
+        self.note(Event::Seal, &answer);
         answer
     }
 
@@ -35,6 +36,7 @@ impl<D: BlockDisk> Engine<D> {
     fn seal_in(&mut self) -> Result<(), Fault>
         ensures seals { Seals self.old.machine result self.new.machine }
         ensures told { self.new.tally ≡ self.old.tally }
+        ensures book { self.new.book ≡ self.old.book }
     {
         if self.store.is_broken() {
             return Err(Fault::Stopped);
@@ -59,7 +61,7 @@ impl<D: BlockDisk> Engine<D> {
     /// whole tail.
     ///
     /// Stopped. Recovering: it is not ready yet. NotSealed: the log was not sealed. NothingToDo:
-    /// nothing of the tail is left to append. Memory: a growth was refused; nothing has changed.
+    /// nothing of the tail is left to append. Memory: an allocation failed; nothing has changed.
     /// They come in this order.
     pub fn undo_one(&mut self) -> Result<Lsn, Fault>
         ensures undoes { UndoesOneOf self.old.machine result self.new.machine }
@@ -67,9 +69,10 @@ impl<D: BlockDisk> Engine<D> {
             → IsErrOf result Fault.Memory → ⊥ }
         ensures keeps { Keeps self.old.machine self.new.machine }
         ensures told { TellsOk event.UndoOne result self.old.tally self.new.tally }
+        ensures book { self.new.book ≡ self.old.book }
     {
         let answer = self.undo_one_in();
-        self.tell(Event::UndoOne, &answer);
+        self.note(Event::UndoOne, &answer);
         answer
     }
 
@@ -79,6 +82,7 @@ impl<D: BlockDisk> Engine<D> {
         ensures reserved { HasRoomToUndo self.old.machine.held self.old.spare
             → IsErrOf result Fault.Memory → ⊥ }
         ensures told { self.new.tally ≡ self.old.tally }
+        ensures book { self.new.book ≡ self.old.book }
     {
         if self.store.is_broken() {
             return Err(Fault::Stopped);
@@ -109,9 +113,10 @@ impl<D: BlockDisk> Engine<D> {
         ensures finishes { Finishes self.old.machine result self.new.machine }
         ensures keeps { Keeps self.old.machine self.new.machine }
         ensures told { TellsOk event.Finish result self.old.tally self.new.tally }
+        ensures book { self.new.book ≡ self.old.book }
     {
         let answer = self.finish_in();
-        self.tell(Event::Finish, &answer);
+        self.note(Event::Finish, &answer);
         answer
     }
 
@@ -119,6 +124,7 @@ impl<D: BlockDisk> Engine<D> {
     fn finish_in(&mut self) -> Result<(), Fault>
         ensures finishes { Finishes self.old.machine result self.new.machine }
         ensures told { self.new.tally ≡ self.old.tally }
+        ensures book { self.new.book ≡ self.old.book }
     {
         if self.store.is_broken() {
             return Err(Fault::Stopped);

@@ -53,3 +53,10 @@ returns-in_err-take_chunk-clause-err g c =
     rw (p.1, p.2) (subst (λ (bytes : List ℕ). TakesFront c.args.held.now.stored bytes
     c.take_chunk-in-loop-rest.new.held.stored fault)
     (ap (λ (m : List ℕ). so_far.done ++ m) parts ∙ so_far.whole) front)
+
+pub returns-in_err-take_chunk-clause-goes_on : goal.returns-in_err-take_chunk-clause-goes_on
+returns-in_err-take_chunk-clause-goes_on g c =
+    goes_on_then c.args.held.now.stored.log c.loop-rest.held.stored.log
+    c.take_chunk-in-loop-rest.new.held.stored.log c.args.shown.now c.loop-rest.shown
+    c.take_chunk-in-loop-rest.new.shown c.loop-rest.invariant.goes_on
+    c.take_chunk-in-loop-rest.ensures.goes_on

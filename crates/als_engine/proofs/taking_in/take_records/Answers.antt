@@ -39,3 +39,15 @@ returns-in_err-take_next-clause-err g c =
     rw (p.1, p.2, refused.0) (front_from_so_far c.args.held.now.stored c.loop.held.stored
     c.args.receiver.now.kept c.loop.receiver c.in_err-take_next.field-0.0
     c.loop.invariant.so_far refused.1)
+
+pub returns-in_err-take_next-clause-goes_on : goal.returns-in_err-take_next-clause-goes_on
+returns-in_err-take_next-clause-goes_on g c =
+    goes_on_then c.args.held.now.stored.log c.loop.held.stored.log
+    c.take_next.new.held.stored.log c.args.shown.now c.loop.shown c.take_next.new.shown
+    c.loop.invariant.goes_on c.take_next.ensures.goes_on
+
+pub returns-clause-goes_on : goal.returns-clause-goes_on
+returns-clause-goes_on g c =
+    goes_on_then c.args.held.now.stored.log c.loop.held.stored.log
+    c.take_next.new.held.stored.log c.args.shown.now c.loop.shown c.take_next.new.shown
+    c.loop.invariant.goes_on c.take_next.ensures.goes_on

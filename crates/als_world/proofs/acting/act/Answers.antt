@@ -3,6 +3,7 @@ use Rattle.als_world.specs.declared.step.WorldStep.{WorldStep}
 use Rattle.als_world.specs.declared.step.WorldReply.TheVariants as reply
 use Rattle.als_world.specs.Runs.{Acts}
 use Rattle.als_world.proofs.ActLaws.{acts_event, acts_read, acts_lend, acts_redo, acts_hand, acts_give, acts_drop}
+use Rattle.als_world.proofs.KeepLaws.{stays}
 use Rattle.als_world.proofs.acting.act.Goals as goal
 
 pub returns-in-Event-clause-acts : goal.returns-in-Event-clause-acts
@@ -15,7 +16,7 @@ pub returns-in-Read-clause-acts : goal.returns-in-Read-clause-acts
 returns-in-Read-clause-acts g c =
     let old = c.args.engine.now.machine in
     let slots = c.args.slots.now in
-    subst (λ (s : WorldStep). Acts old slots s c.read.result c.args.engine.now.machine c.args.slots.now) (sym c.in-Read.is) (acts_read old slots c.in-Read.key c.read.result c.read.ensures)
+    subst (λ (s : WorldStep). Acts old slots s c.read.result c.args.engine.now.machine c.args.slots.now) (sym c.in-Read.is) (acts_read old slots c.in-Read.key c.read.result c.read.ensures.answers)
 
 pub returns-in-Lend-clause-acts : goal.returns-in-Lend-clause-acts
 returns-in-Lend-clause-acts g c =
@@ -46,3 +47,17 @@ returns-in-Drop-clause-acts g c =
     let old = c.args.engine.now.machine in
     let slots = c.args.slots.now in
     subst (λ (s : WorldStep). Acts old slots s c.discard.result c.args.engine.now.machine c.discard.new.slots) (sym c.in-Drop.is) (acts_drop old slots c.in-Drop.from c.discard.result c.discard.new.slots c.discard.ensures)
+
+-- ---- nothing was done to the engine
+
+pub returns-in-Read-clause-keeps : goal.returns-in-Read-clause-keeps
+returns-in-Read-clause-keeps g c = stays c.args.engine.now.machine
+
+pub returns-in-Redo-clause-keeps : goal.returns-in-Redo-clause-keeps
+returns-in-Redo-clause-keeps g c = stays c.args.engine.now.machine
+
+pub returns-in-Hand-clause-keeps : goal.returns-in-Hand-clause-keeps
+returns-in-Hand-clause-keeps g c = stays c.args.engine.now.machine
+
+pub returns-in-Drop-clause-keeps : goal.returns-in-Drop-clause-keeps
+returns-in-Drop-clause-keeps g c = stays c.args.engine.now.machine

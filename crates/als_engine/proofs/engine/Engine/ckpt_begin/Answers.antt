@@ -4,7 +4,7 @@ use Rattle.als_engine.proofs.engine.Engine.ckpt_begin.Goals as goal
 
 pub returns-clause-keeps : goal.returns-clause-keeps
 returns-clause-keeps g c =
-    keeps_then c.args.self.now.machine c.ckpt_begin_in-answer.new.self.machine c.tell.new.self.machine
-    c.tell.ensures.machine
+    keeps_then c.args.self.now.machine c.ckpt_begin_in-answer.new.self.machine c.note.new.self.machine
+    c.note.ensures.machine
     (keeps_ckpt_begin c.args.self.now.machine c.ckpt_begin_in-answer.new.self.machine c.ckpt_begin_in-answer.result
     c.ckpt_begin_in-answer.ensures.begins)

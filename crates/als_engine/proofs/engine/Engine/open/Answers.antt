@@ -1,22 +1,22 @@
 use Rattle.std.proofs.Common.{None, refl, ap, sym, subst, ◌∙◌}
 use Rattle.als_commits.specs.Waiting.{Waiting}
 use Rattle.als_receiver.specs.Reception.{Reception}
-use Rattle.als_view.specs.Showing.{published_of}
+use Rattle.als_view.specs.Showing.{View, published_of}
 use Rattle.als_store.specs.Stored.{Stored}
 use Rattle.als_store.specs.Opening.{TakesUp}
 use Rattle.als_store.specs.Spare.{Holding}
 use Rattle.als_engine.proofs.FeedLaws.{machine}
-use Rattle.als_engine.proofs.RestartLaws.{restarted, started}
-use Rattle.als_engine.proofs.ReaderLaws.{serving_opened}
+use Rattle.als_engine.proofs.RestartLaws.{restarted, started, bare_or}
+use Rattle.als_engine.proofs.ReaderLaws.{serving_opened, warms_none}
 use Rattle.als_engine.proofs.engine.Engine.open.Goals as goal
 
-pub invariant_of-result : goal.invariant_of-result
-invariant_of-result g c =
+pub invariant_of-engine : goal.invariant_of-engine
+invariant_of-engine g c =
     let from = c.in-Ok-open.opened.store.stored in
     let waits = ap (λ (w : Waiting). w.queued) c.into_parts-store.ensures.1
     ∙ c.in-Ok-open.ensures.waiting in
     let w = c.with_waiting-shown.ensures.warming c.args.config.pages from.log
-    (c.in-Ok.ensures.warming refl) waits in
+    (warms_none c.args.config.pages c.in-Ok.unlisted c.in-Ok.ensures.view) waits in
     serving_opened c.into_parts-store.result.0.stored from c.new-receiver.result
     c.with_waiting-shown.result c.with_waiting-shown.result _ _ _ _ _
     (ap (λ (h : Holding). h.stored) c.into_parts-store.ensures.0) refl
@@ -29,7 +29,7 @@ returns-in-Ok-open-clause-ok g c =
     let waits = ap (λ (w : Waiting). w.queued) c.into_parts-store.ensures.1
     ∙ c.in-Ok-open.ensures.waiting in
     let w = c.with_waiting-shown.ensures.warming c.args.config.pages from.log
-    (c.in-Ok.ensures.warming refl) waits in
+    (warms_none c.args.config.pages c.in-Ok.unlisted c.in-Ok.ensures.view) waits in
     restarted c.args.config c.into_parts-store.result.0.stored from
     c.with_waiting-shown.result c.with_waiting-shown.result c.new-receiver.result.kept _ _ _
     (c.fits.ensures.0 c.if-not-fits.false).numbers
@@ -60,3 +60,15 @@ returns-in-Ok-open-clause-synced g c =
           node.held.count
           (ap (λ (h : Stored). h.pool.frames.most) same ∙ c.in-Ok-open.ensures.frames),
     )
+
+pub returns-in-Ok-open-clause-readers : goal.returns-in-Ok-open-clause-readers
+returns-in-Ok-open-clause-readers g c = (
+  λ k d lt.
+      let r = c.in-Ok.ensures.readers k d lt in
+      (r.0 ∙ sym (ap (λ (v : View). v.book) c.with_waiting-shown.ensures.queued), r.1),
+  c.in-Ok.ensures.count,
+)
+
+pub returns-in-Err-clause-unsynced : goal.returns-in-Err-clause-unsynced
+returns-in-Err-clause-unsynced g c = λ world.
+    bare_or c.in-Err.unopened.fault c.from.result c.from.ensures c.in-Err.ensures.unsynced

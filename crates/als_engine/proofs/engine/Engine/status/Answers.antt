@@ -1,4 +1,3 @@
-use Rattle.std.proofs.Common.{arith}
 use Rattle.als_engine.proofs.KeepLaws.{reaches_front}
 use Rattle.als_engine.proofs.ReaderLaws.{counted}
 use Rattle.als_engine.proofs.engine.Engine.status.Goals as goal
@@ -9,5 +8,4 @@ returns-clause-stable g c = rw (← c.self.view_is) (reaches_front _ _ c.acknowl
 pub returns-clause-counted : goal.returns-clause-counted
 returns-clause-counted g c =
     let s = c.self.inside in
-    rw (← c.self.view_is) (counted s.store.stored s.shown c.end-end.ensures.log.valid
-    (omega (arith, c.end-end.ensures.limit)) c.self.invariant.seen)
+    rw (← c.self.view_is) (counted s.store.stored s.shown c.self.invariant.seen)

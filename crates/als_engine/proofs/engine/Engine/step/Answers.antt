@@ -2,8 +2,8 @@ use Rattle.als_engine.specs.Refusals.{feed_refusal}
 use Rattle.als_engine.proofs.LeaseLaws.{recalls_step}
 use Rattle.als_engine.proofs.StepLaws.{attempts_refused, begins_step, attempts_finish}
 use Rattle.als_engine.proofs.StepLaws.{flushes_step, finishes_step, attempts_flush, attempts_begin}
-use Rattle.als_engine.proofs.StepLaws.{attempts_seal, attempts_not_undone, attempts_resync}
-use Rattle.als_engine.proofs.StepLaws.{attempts_log_write, attempts_ready, seals_step}
+use Rattle.als_engine.proofs.StepLaws.{attempts_seal, attempts_not_undone, seals_step}
+use Rattle.als_engine.proofs.StepLaws.{attempts_ready, attempts_resync, attempts_log_write}
 use Rattle.als_engine.proofs.engine.Engine.step.Goals as goal
 
 pub returns-in-Recall-clause-steps : goal.returns-in-Recall-clause-steps

@@ -4,7 +4,7 @@ use Rattle.als_engine.proofs.engine.Engine.undo_one.Goals as goal
 
 pub returns-clause-keeps : goal.returns-clause-keeps
 returns-clause-keeps g c =
-    keeps_then c.args.self.now.machine c.undo_one_in-answer.new.self.machine c.tell.new.self.machine
-    c.tell.ensures.machine
+    keeps_then c.args.self.now.machine c.undo_one_in-answer.new.self.machine c.note.new.self.machine
+    c.note.ensures.machine
     (keeps_undo_one c.args.self.now.machine c.undo_one_in-answer.new.self.machine c.undo_one_in-answer.result
     c.undo_one_in-answer.ensures.undoes)

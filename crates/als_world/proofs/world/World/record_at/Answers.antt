@@ -7,7 +7,7 @@ use Rattle.als_world.proofs.world.World.record_at.Goals as goal
 
 pub returns-in-Up-clause-tells : goal.returns-in-Up-clause-tells
 returns-in-Up-clause-tells g c =
-    let old = c.in-Up.engine in
+    let old = c.in-Up.standby in
     let new = c.record_at.new.self in
     tells-up g.D.BlockDisk.slot g.D.BlockDisk.block_count c.args.self.now (λ (a : Standing). λ (b : Standing). TellsRecord a c.args.lsn c.record_at.result b) old new c.in-Up.is
     (stays-read old.machine c.args.lsn c.record_at.result new.machine c.record_at.ensures.reads) (told-record old.machine c.args.self.now.slots c.args.lsn c.record_at.result new.machine c.record_at.ensures.reads)
