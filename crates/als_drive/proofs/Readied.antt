@@ -23,7 +23,7 @@ nothing_to_end : (broken recovering pending : Bool) (answer : Result (Unit {0}) 
 nothing_to_end true recovering pending answer old new is e = cc (sym is ∙ e.0)
 nothing_to_end false false pending answer old new is e = (refl, e.1)
 nothing_to_end false true true answer old new is e = cc (sym is ∙ e.0)
-nothing_to_end false true false answer old new is e = absurd (subst (λ (r : Result (Unit {0}) Fault). BecomesReady old r new) is e)
+nothing_to_end false true false answer old new is e = let acts = subst (λ (r : Result (Unit {0}) Fault). BecomesReady old r new) is e in cc acts.0
 
 pub ready_before : (old new : Machine) → IsDrained old → Readies old (Err NothingToDo) new → IsRecovered new
 ready_before old new drained e =

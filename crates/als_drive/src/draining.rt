@@ -6,7 +6,7 @@ use crate::progress::{Progress, Silent};
 use als_engine::{Events, Fault};
 use als_lease::PageLease;
 
-/// After so many redos it is told again how many changes wait.
+/// After so many redos `progress` hears how many changes wait.
 const TOLD_EACH: u64 = 64;
 
 /// Redoes each page that waits for changes, in rising order, and again until none does. The first

@@ -2,7 +2,7 @@
 //! as lines.
 #![tactic(auto)]
 
-// Who is told how a long redo goes on.
+// Receives the progress of a long redo.
 mod progress;
 // All that waits for redo.
 mod draining;

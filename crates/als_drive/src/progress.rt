@@ -1,10 +1,10 @@
-/// Who is told how a long redo goes on.
+/// Receives the progress of a long redo.
 pub trait Progress {
     /// So many changes wait for redo.
     fn waits(&mut self, changes: u64);
 }
 
-/// Nobody is told.
+/// Reports to nobody.
 #[derive(Clone, Copy, Debug)]
 pub struct Silent;
 

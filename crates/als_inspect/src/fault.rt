@@ -17,7 +17,7 @@ use std::{fmt, io};
 /// Why a log or a standby is not sound, or can't be read. The numbers are common to all crates.
 #[derive(Clone, Copy, Debug, PartialEq, Eq)]
 pub enum Fault {
-    /// A growth was refused.
+    /// An allocation failed.
     Memory,
     /// The log file or the output failed, or the file is longer than the largest log.
     Stream,

@@ -24,7 +24,7 @@ pub struct LogText {
     pub pages: u32,
 }
 
-// Written out: a derived drop is proved wherever a text is let go of, this one only here.
+// Written out: a derived drop is proved wherever a text is dropped, this one only here.
 impl Drop for LogText {
     fn drop(self) {
         let LogText { records, pages: _ } = self;

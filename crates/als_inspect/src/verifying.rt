@@ -16,6 +16,7 @@ use std::fs;
 use std::fs::File;
 use std::io::Write;
 use std::rt::Files;
+use std::sync::Wait;
 
 /// A sound log.
 #[derive(Clone, Copy)]
@@ -34,7 +35,7 @@ struct Found {
 ///
 /// What is unsound is answered too. Stream: the file or the output failed. Folder: the folder or a
 /// file of it failed, or another program has it. Memory: there was none for a copy of it.
-pub fn verify<R: AllocGlobal + Files<File = File>, O: Write>(
+pub fn verify<R: AllocGlobal + Files<File = File> + Wait, O: Write>(
     rt: &R,
     path: &str,
     output: &mut O,
@@ -63,7 +64,7 @@ fn is_finding(fault: Fault) -> bool {
 }
 
 /// Reads and judges what stands at the path.
-fn judge<R: AllocGlobal + Files<File = File>>(rt: &R, path: &str) -> Result<Found, Unsound> {
+fn judge<R: AllocGlobal + Files<File = File> + Wait>(rt: &R, path: &str) -> Result<Found, Unsound> {
     if is_folder(rt, path)? {
         judge_folder(rt, path)
     } else {
@@ -78,10 +79,13 @@ fn is_folder<R: Files<File = File>>(rt: &R, path: &str) -> Result<bool, Fault> {
 
 /// Reads the log of a folder's standby, and then opens a copy of it as a restart does, with each of
 /// its pages.
-fn judge_folder<R: AllocGlobal + Files<File = File>>(rt: &R, path: &str) -> Result<Found, Unsound> {
+fn judge_folder<R: AllocGlobal + Files<File = File> + Wait>(
+    rt: &R,
+    path: &str,
+) -> Result<Found, Unsound> {
     let folder = hold(rt, path)?;
     let found = judge_text(text_of_folder(rt, &folder)?, false)?;
-    restart(rt.alloc(), copies(rt, &folder, found)?, found.pages)?;
+    restart(rt, copies(rt, &folder, found)?, found.pages)?;
     Ok(found)
 }
 
@@ -165,16 +169,18 @@ fn copy_part(
 }
 
 /// Opens devices as a restart does, redoes what it would redo, and reads each page.
-fn restart(alloc: Global, disks: Disks<MemDisk>, pages: u32) -> Result<(), Fault> {
+fn restart<R: AllocGlobal + Wait>(rt: &R, disks: Disks<MemDisk>, pages: u32) -> Result<(), Fault> {
+    let alloc = rt.alloc();
     let config = Config {
         pages: pages as u64,
         frames: pages as u64,
         pending: 1_000_000,
         readers: 1,
     };
-    match Engine::open(alloc, disks, config) {
-        Ok(mut engine) => {
-            recover(&mut engine)?;
+    match Engine::open(alloc, rt, disks, config) {
+        Ok((mut engine, readers)) => {
+            drop(readers);
+            recover(rt, &mut engine)?;
             listing(alloc, &mut engine)?;
             Ok(())
         }

@@ -23,7 +23,7 @@ redoes_same old new r = record { pages = ap (λ (m : Machine). m.held.pages) r; 
 
 publishes_acts : (old new : Machine) (result : Result (Unit {0}) Fault) → PublishesEnded old result new → SameText old new
 publishes_acts old new (Ok done) acts = record { pages = ap (λ (m : Machine). m.held.pages) acts.1; log = ap (λ (m : Machine). m.held.log) acts.1; partial = ap (λ (m : Machine). m.partial) acts.1 }
-publishes_acts old new (Err fault) acts = absurd acts
+publishes_acts old new (Err fault) acts = same_equal old new acts.1
 
 pub publish_same : (old new : Machine) (result : Result (Unit {0}) Fault) → PublishesView old result new → SameText old new
 publish_same old new result e = refused_or_acts (refusal old step.PublishView) (PublishesEnded old result new) (SameText old new) (λ f. (result ≡ Err f) × (new ≡ old)) (publishes_acts old new result) (λ f same. same_equal old new same.1) e

@@ -1,4 +1,5 @@
 mod Limits
+pub mod Visiting
 pub mod Keeping
 pub mod Checkpoints
 pub mod Refusing

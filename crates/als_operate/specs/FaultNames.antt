@@ -25,6 +25,6 @@ trouble_of (Folder fault) = folder_trouble_of fault
 trouble_of (Session fault) = None
 trouble_of (Refused fault) = trouble_of_kind (engine_kind_of fault)
 
--- a reader failed or has too much, or a growth was refused
+-- a reader failed or has too much, or an allocation failed
 abbrev pub IsOfReader : Fault → Type 0
 IsOfReader fault = (fault ≡ Memory) ⊎ (fault ≡ Stream)

@@ -1,4 +1,6 @@
 pub mod FaultNames
+pub mod Visits
+pub mod History
 pub mod Lines
 pub mod Upkeep
 pub mod Following

@@ -18,7 +18,7 @@ use std::{fmt, io};
 /// Why a command is refused. The numbers are common to all crates.
 #[derive(Clone, Copy, Debug, PartialEq, Eq)]
 pub enum Fault {
-    /// A growth was refused.
+    /// Allocation failed.
     Memory,
     /// A file, an address or a stream failed, or there was more than the limit.
     Stream,

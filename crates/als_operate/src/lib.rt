@@ -6,6 +6,12 @@
 mod fault;
 // A reader, whole.
 mod whole;
+// Who comes to a shipper.
+mod visitors;
+// Who came and who went, for clauses alone.
+mod history;
+// Who connects to a listener.
+mod callers;
 // A session as the sending end, and what it prints.
 mod shipping;
 // One checkpoint.
@@ -20,22 +26,27 @@ mod taking_over;
 mod upkeep;
 // How long a connection may be silent.
 mod silence;
-// Who is told of those that a shipper meets.
+// Receives the sessions that a shipper meets.
 mod meeting;
 // The engine of a folder.
 mod opening;
+// A session of a standby.
+mod following;
 // A standby that follows one session.
 mod standby_command;
 // A standby that becomes a primary.
 mod takeover_command;
 
+pub use callers::Callers;
 pub use checkpointing::checkpoint;
 pub use fault::Fault;
+pub use following::follow;
 pub use meeting::{Meetings, Untold};
 pub use settling::settle;
-pub use shipping::{Shipping, serve, ship};
-pub use standby_command::{Following, follow, standby};
+pub use shipping::{Shipping, serve, serve_next, ship};
+pub use standby_command::{Following, Prepared, conclude, prepare, standby};
 pub use takeover_command::takeover;
 pub use taking_over::{take_over, take_over_telling};
 pub use upkeep::StandbyUpkeep;
+pub use visitors::Visitors;
 pub use whole::read_whole;

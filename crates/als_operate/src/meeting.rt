@@ -1,7 +1,7 @@
 use als_record::Lsn;
 use als_ship::Fault;
 
-/// Who is told of those that a shipper meets.
+/// Receives the sessions that a shipper meets.
 pub trait Meetings {
     /// Somebody came who asked for nothing, for this reason: the next one is waited for.
     fn passed_over(&mut self, fault: Fault);
@@ -10,7 +10,7 @@ pub trait Meetings {
     fn acknowledged(&mut self, lsn: Option<Lsn>);
 }
 
-/// Nobody is told.
+/// Reports to nobody.
 #[derive(Clone, Copy, Debug)]
 pub struct Untold;
 

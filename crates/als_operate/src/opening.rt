@@ -5,17 +5,17 @@ ghost use Rattle.als_operate.specs.FaultNames.{kind_of};
 use crate::fault::Fault;
 use als_ckpt::read_state;
 use als_disk::{BlockDisk, FileDisk};
-use als_engine::{CONTROL_BLOCKS, Config, Disks, Engine, Refused};
+use als_engine::{CONTROL_BLOCKS, Config, Disks, Engine, Reader, Refused};
 use als_fault::FaultKind;
 use als_folder::{Devices, Fault as FolderFault, Folder, LOG_LIMIT, Part, Sizes, Trouble, Wrong};
 use als_record::LogHeader;
-use std::alloc::Global;
 use std::fs::File;
 use std::rt::Files;
+use std::sync::Wait;
 
 /// The engine of the folder's database, or, where there is none, of a new one whose log device has
 /// so many blocks.
-pub fn start<R: AllocGlobal + Files<File = File>>(
+pub fn start<R: AllocGlobal + Files<File = File> + Wait>(
     rt: &R,
     folder: &Folder,
     config: Config,
@@ -23,7 +23,7 @@ pub fn start<R: AllocGlobal + Files<File = File>>(
 ) -> Result<Engine<FileDisk>, Fault> {
     if folder.is_kept(rt)? {
         let devices = folder.open(rt)?;
-        open(rt.alloc(), devices, config)
+        open(rt, devices, config)
     } else {
         begin(rt, folder, config, log_blocks)
     }
@@ -31,16 +31,20 @@ pub fn start<R: AllocGlobal + Files<File = File>>(
 
 /// The engine of the database that these devices hold. Files that are too short for it are refused
 /// as damaged, before they are read further.
-fn open(alloc: Global, devices: Devices, config: Config) -> Result<Engine<FileDisk>, Fault>
+fn open<R: AllocGlobal + Wait>(
+    rt: &R,
+    devices: Devices,
+    config: Config,
+) -> Result<Engine<FileDisk>, Fault>
     requires { (k : ℕ) → IsSettled (⟦<FileDisk<File> as BlockDisk>⟧.slot devices.control k) }
 {
     let mut devices = devices;
     check_lengths(&mut devices, config.pages)?;
-    engine_or_fault(Engine::open(alloc, disks(devices), config))
+    engine_or_fault(Engine::open(rt.alloc(), rt, disks(devices), config))
 }
 
 /// The engine of the folder's database, of as many pages as its log says.
-pub fn reopen<R: AllocGlobal + Files<File = File>>(
+pub fn reopen<R: AllocGlobal + Files<File = File> + Wait>(
     rt: &R,
     folder: &Folder,
     pending: u64,
@@ -54,7 +58,7 @@ pub fn reopen<R: AllocGlobal + Files<File = File>>(
         pending,
         readers: 1,
     };
-    engine_or_fault(Engine::open(rt.alloc(), disks(devices), config))
+    engine_or_fault(Engine::open(rt.alloc(), rt, disks(devices), config))
 }
 
 /// Refuses files that are too short for a database of so many pages, and for the mark that its
@@ -136,7 +140,7 @@ pub fn named(folder: &Folder, fault: Fault) -> Fault
 }
 
 /// The engine of a new database. The folder has it once it is formatted.
-fn begin<R: AllocGlobal + Files<File = File>>(
+fn begin<R: AllocGlobal + Files<File = File> + Wait>(
     rt: &R,
     folder: &Folder,
     config: Config,
@@ -148,7 +152,7 @@ fn begin<R: AllocGlobal + Files<File = File>>(
         pages: config.pages,
     };
     let devices = folder.lay_out(rt, sizes)?;
-    let engine = engine_or_fault(Engine::format(rt.alloc(), disks(devices), config))?;
+    let engine = engine_or_fault(Engine::format(rt.alloc(), rt, disks(devices), config))?;
     folder.keep(rt)?;
     Ok(engine)
 }
@@ -163,12 +167,16 @@ fn disks(devices: Devices) -> Disks<FileDisk> {
     }
 }
 
-/// The engine, or why there is none. The devices are let go of then.
+/// The engine, or why there is none. Nobody reads here: its readers are dropped. So are the devices
+/// on a refusal.
 fn engine_or_fault(
-    made: Result<Engine<FileDisk>, Refused<FileDisk>>,
+    made: Result<(Engine<FileDisk>, Vec<Reader>), Refused<FileDisk>>,
 ) -> Result<Engine<FileDisk>, Fault> {
     match made {
-        Ok(engine) => Ok(engine),
+        Ok((engine, readers)) => {
+            drop(readers);
+            Ok(engine)
+        }
         Err(refused) => {
             let fault = refused.fault;
             drop(refused);

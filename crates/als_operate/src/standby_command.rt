@@ -1,27 +1,23 @@
-ghost use Rattle.std.specs.Prelude.{◌≡◌, ◌≤◌, ℕ, Option, List, IfOk, IfErr, OnOk};
+ghost use Rattle.std.specs.Prelude.{◌≡◌, ◌≤◌, IfOk, IfErr};
 ghost use Rattle.als_engine.specs.declared.fault.Fault.TheVariants.{BadConfig};
 ghost use Rattle.als_engine.specs.Config.{IsConfig};
 ghost use Rattle.als_operate.specs.declared.fault.Fault.TheVariants.{Refused};
-ghost use Rattle.als_ship.specs.Sessions.{KeepsFront};
-ghost use Rattle.als_operate.specs.Following.{FollowsAll, FollowsPart};
 
 use crate::fault::Fault;
+use crate::following::follow;
 use crate::opening::{named, start};
-use crate::settling::settle;
 use crate::silence::{connect, silence};
-use crate::upkeep::StandbyUpkeep;
+use als_disk::FileDisk;
 use als_drive::{Progress, recover_telling};
-use als_engine::{Config, Events, Fault as EngineFault, LOG_BLOCK_LIMIT};
+use als_engine::{Config, Engine, Fault as EngineFault, LOG_BLOCK_LIMIT};
 use als_folder::Folder;
-use als_record::LogHeader;
-use als_ship::Follower;
-use std::alloc::Global;
 use std::fs::File;
-use std::io::{Read, Write};
+use std::io::Write;
 use std::net::{Net, OpenStream};
 use std::rt::Files;
+use std::sync::Wait;
 
-/// From how many pending changes on a feed is refused.
+/// Feeds are refused at this many pending changes.
 pub(crate) const PENDING: u64 = 1_000_000;
 
 /// The bytes of a megabyte.
@@ -44,38 +40,76 @@ pub struct Following<'a> {
     pub timeout: u64,
 }
 
-/// Follows one session as the standby of a folder, and then prints `end=E ack=A`. Where the folder
-/// has no database, a new one is laid out, once the primary has answered. It is told how the redo
-/// of what the folder holds goes on.
+/// A standby that is about to follow: its folder is held, what it held is redone, and its primary
+/// has answered.
+pub struct Prepared<S> {
+    pub folder: Folder,
+    pub engine: Engine<FileDisk>,
+    /// The connection, to be read.
+    pub reader: S,
+    /// The same connection, to be written.
+    pub writer: S,
+    /// Log bytes from one checkpoint to the next. 0: none is taken on the way.
+    pub each: u64,
+}
+
+/// Follows one session as the standby of a folder, all in this thread, and then prints `end=E
+/// ack=A`. `progress` receives the progress of the redo before that.
 ///
-/// BadConfig: a number is out of its range; no file was touched. Device: the folder or one of its
-/// files failed, or another program has the folder. Stream: nobody serves at the address, the
-/// network failed or the primary was silent too long, or the output failed. Else as `Engine::open`
-/// and `Follower::follow` say. However the session ends, what is held is put on the devices.
-pub fn standby<R: AllocGlobal + Files<File = File> + Net, P: Progress, O: Write>(
+/// As `prepare` says, and `Follower::follow`; Stream: the output failed. However the session ends,
+/// what is held is put on the devices.
+pub fn standby<R: AllocGlobal + Files<File = File> + Net + Wait, P: Progress, O: Write>(
     rt: &R,
     following: Following<'_>,
     progress: &mut P,
     output: &mut O,
 ) -> Result<(), Fault> {
+    let Prepared {
+        folder,
+        mut engine,
+        mut reader,
+        mut writer,
+        each,
+    } = prepare(rt, following, progress)?;
+    let ended = follow(rt, rt.alloc(), &mut engine, each, &mut reader, &mut writer);
+    conclude(&folder, &engine, ended, output)
+}
+
+/// Holds the folder, opens its database and redoes what it holds, and connects to the primary.
+/// Where the folder has no database, a new one is laid out, once the primary has answered.
+///
+/// BadConfig: a number is out of its range; no file was touched. Device: the folder or one of its
+/// files failed, or another program has the folder. Stream: nobody serves at the address, or the
+/// network failed. Memory: allocation failed. Else as `Engine::open` says.
+pub fn prepare<R: AllocGlobal + Files<File = File> + Net + Wait, P: Progress>(
+    rt: &R,
+    following: Following<'_>,
+    progress: &mut P,
+) -> Result<Prepared<R::Stream>, Fault> {
     let config = config_of(following.pages, following.log_blocks)?;
     let folder = Folder::hold(rt, following.dir)?;
-    match standby_in(rt, &folder, config, following, progress, output) {
-        Ok(()) => Ok(()),
+    match prepare_in(rt, &folder, config, following, progress) {
+        Ok((engine, reader, writer)) => Ok(Prepared {
+            folder,
+            engine,
+            reader,
+            writer,
+            each: following.checkpoint_mb.saturating_mul(MEGABYTE),
+        }),
         Err(fault) => Err(named(&folder, fault)),
     }
 }
 
-/// The standby of a folder that is held. A new database is laid out only where the primary answers.
-/// One that is there is redone first, so that the primary does not wait for that.
-fn standby_in<R: AllocGlobal + Files<File = File> + Net, P: Progress, O: Write>(
+/// The engine of a folder that is held, and the connection to its primary, twice. A new database is
+/// laid out only where the primary answers. One that is there is redone first, so that the primary
+/// does not wait for that.
+fn prepare_in<R: AllocGlobal + Files<File = File> + Net + Wait, P: Progress>(
     rt: &R,
     folder: &Folder,
     config: Config,
     following: Following<'_>,
     progress: &mut P,
-    output: &mut O,
-) -> Result<(), Fault> {
+) -> Result<(Engine<FileDisk>, R::Stream, R::Stream), Fault> {
     let silence = silence(following.timeout);
     let answered = if folder.is_kept(rt)? {
         None
@@ -83,17 +117,31 @@ fn standby_in<R: AllocGlobal + Files<File = File> + Net, P: Progress, O: Write>(
         Some(connect(rt, following.from, silence)?)
     };
     let mut engine = start(rt, folder, config, following.log_blocks)?;
-    recover_telling(&mut engine, progress)?;
-    let mut writer = match answered {
+    recover_telling(rt, &mut engine, progress)?;
+    let writer = match answered {
         Some(stream) => stream,
         None => connect(rt, following.from, silence)?,
     };
-    let mut reader = writer.try_clone()?;
-    let each = following.checkpoint_mb.saturating_mul(MEGABYTE);
-    follow(rt.alloc(), &mut engine, each, &mut reader, &mut writer)?;
-    let status = engine.status();
-    writeln!(output, "end={} ack={}", status.end.0, status.acknowledged.0)?;
-    Ok(())
+    let reader = writer.try_clone()?;
+    Ok((engine, reader, writer))
+}
+
+/// Prints `end=E ack=A` after a session that ended well. The refusal of one that did not is
+/// answered, with the file that it is about.
+pub fn conclude<O: Write>(
+    folder: &Folder,
+    engine: &Engine<FileDisk>,
+    ended: Result<(), Fault>,
+    output: &mut O,
+) -> Result<(), Fault> {
+    match ended {
+        Ok(()) => {
+            let status = engine.status();
+            writeln!(output, "end={} ack={}", status.end.0, status.acknowledged.0)?;
+            Ok(())
+        }
+        Err(fault) => Err(named(folder, fault)),
+    }
 }
 
 /// The configuration that is asked for. BadConfig: a number is out of its range.
@@ -112,43 +160,5 @@ fn config_of(pages: u64, log_blocks: u64) -> Result<Config, Fault>
         Ok(config)
     } else {
         Err(Fault::Refused(EngineFault::BadConfig))
-    }
-}
-
-/// Follows one session with pages that are kept warm and a checkpoint each so many bytes of log (0:
-/// none), and then settles, however the session ended. `standby` does this over a socket, with an
-/// engine that nobody else drives.
-///
-/// The refusal of the session, or else that of settling.
-pub fn follow<E: Events, R: Read, W: Write>(
-    alloc: Global,
-    events: &mut E,
-    each: u64,
-    reader: &mut R,
-    writer: &mut W,
-) -> Result<(), Fault>
-    // Each frame was fed, forced and answered in order, by what its force acknowledged.
-    ensures done { OnOk result (FollowsAll E.alone (E.machine events.old) (E.machine events.new)
-        (R.remaining reader.old)
-        (R.remaining reader.new) (W.contents writer.old) (W.contents writer.new)) }
-    // So it is of the frames that were answered in a session that fails.
-    ensures fails { IfErr result (λ f. FollowsPart E.alone f (E.machine events.old)
-        (E.machine events.new) (R.remaining reader.old)
-        (R.remaining reader.new) (W.contents writer.old) (W.contents writer.new)) }
-    // Over true frames the held text stays a front of the source's.
-    ensures front { (behind : Option (List ℕ))
-        × KeepsFront E.alone (R.remaining reader.old) behind (E.machine events.old)
-        (E.machine events.new) }
-{
-    let header = LogHeader {
-        pages: events.pages(),
-    };
-    let mut upkeep = StandbyUpkeep::new(each, events.status().end);
-    let follower = Follower::new(header);
-    let followed = follower.follow_keeping(alloc, events, &mut upkeep, reader, writer);
-    let settled = settle(events);
-    match followed {
-        Ok(()) => settled,
-        Err(fault) => Err(Fault::Session(fault)),
     }
 }

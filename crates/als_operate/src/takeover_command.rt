@@ -7,14 +7,15 @@ use als_folder::Folder;
 use std::fs::File;
 use std::io::Write;
 use std::rt::Files;
+use std::sync::Wait;
 
 /// Makes a primary of the standby of a folder, and then prints `end=E` and each record of its
-/// database. It may be called again after a stop: the takeover then goes on. It is told how its
-/// redo goes on.
+/// database. It may be called again after a stop: the takeover then goes on. `progress` receives
+/// the progress of its redo.
 ///
 /// Device: the folder or one of its files failed, it has no database, or another program has it.
-/// Stream: the output failed. Else as `Engine::open` says, or the first refusal of an event.
-pub fn takeover<R: AllocGlobal + Files<File = File>, P: Progress, O: Write>(
+/// Stream: the output failed. Memory: allocation failed. Else as `Engine::open` says, or the first refusal of an event.
+pub fn takeover<R: AllocGlobal + Files<File = File> + Wait, P: Progress, O: Write>(
     rt: &R,
     dir: &str,
     progress: &mut P,
@@ -28,14 +29,14 @@ pub fn takeover<R: AllocGlobal + Files<File = File>, P: Progress, O: Write>(
 }
 
 /// The takeover of a folder that is held.
-fn takeover_in<R: AllocGlobal + Files<File = File>, P: Progress, O: Write>(
+fn takeover_in<R: AllocGlobal + Files<File = File> + Wait, P: Progress, O: Write>(
     rt: &R,
     folder: &Folder,
     progress: &mut P,
     output: &mut O,
 ) -> Result<(), Fault> {
     let mut engine = reopen(rt, folder, PENDING)?;
-    take_over_telling(&mut engine, progress)?;
+    take_over_telling(rt, &mut engine, progress)?;
     let records = listing(rt.alloc(), &mut engine)?;
     writeln!(output, "end={}", engine.status().end.0)?;
     output.write_all(records.as_bytes())?;

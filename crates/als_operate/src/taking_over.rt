@@ -6,25 +6,28 @@ use crate::fault::Fault;
 use als_drive::{Progress, Silent, drain, recover_telling};
 use als_engine::{Events, Fault as EngineFault, State};
 use als_ship::force;
+use std::sync::Wait;
 
 /// Makes a primary of a standby: seals the log once all of it is stable, undoes what was not
 /// committed, and ends the takeover once that is stable and redone. The first refusal ends it. It
-/// may be called again after a stop: the takeover then goes on.
-pub fn take_over<E: Events>(events: &mut E) -> Result<(), Fault>
+/// may be called again after a stop: the takeover then goes on. Memory: `ready` had none for the
+/// readers' list, and nothing of the standby was lost.
+pub fn take_over<R: Wait, E: Events>(rt: &R, events: &mut E) -> Result<(), Fault>
     // Only a primary is answered.
     ensures done { OnOk result (E.alone → state_of (E.machine events.new) ≡ Primary) }
 {
-    take_over_telling(events, &mut Silent)
+    take_over_telling(rt, events, &mut Silent)
 }
 
-/// The same, and tells how the redo of what it was opened with goes on.
-pub fn take_over_telling<E: Events, P: Progress>(
+/// The same. `progress` receives the progress of the redo of what it was opened with.
+pub fn take_over_telling<R: Wait, E: Events, P: Progress>(
+    rt: &R,
     events: &mut E,
     progress: &mut P,
 ) -> Result<(), Fault>
     ensures done { OnOk result (E.alone → state_of (E.machine events.new) ≡ Primary) }
 {
-    recover_telling(events, progress)?;
+    recover_telling(rt, events, progress)?;
     force(events)?;
     seal(events)?;
     undo_all(events)?;

@@ -7,23 +7,27 @@ use als_drive::drain;
 use als_engine::{Events, Fault};
 use als_record::Lsn;
 use als_ship::Upkeep;
+use std::sync::Wait;
 
 /// The upkeep of a standby that follows: after each acknowledged frame its commits are published
 /// and its pages redone, so that what waits never comes near its limit. After so many log bytes the
 /// pages are written too, and a checkpoint is taken, so that a restart has little to redo.
-#[derive(Clone, Copy, Debug)]
-pub struct StandbyUpkeep {
+#[derive(Drop)]
+pub struct StandbyUpkeep<'a, R: Wait> {
+    /// What waits for readers when commits are published.
+    rt: &'a R,
     /// The log bytes from one checkpoint to the next. 0: none is taken.
     each: u64,
     /// Where the log ends when the next one is due.
     due: u64,
 }
 
-impl StandbyUpkeep {
+impl<'a, R: Wait> StandbyUpkeep<'a, R> {
     /// The upkeep of a standby whose log ends there, with a checkpoint each so many bytes of log;
     /// with none for 0.
-    pub fn new(each: u64, end: Lsn) -> StandbyUpkeep {
+    pub fn new(rt: &'a R, each: u64, end: Lsn) -> StandbyUpkeep<'a, R> {
         StandbyUpkeep {
+            rt,
             each,
             due: end.0.saturating_add(each),
         }
@@ -35,14 +39,14 @@ impl StandbyUpkeep {
     }
 }
 
-impl Upkeep for StandbyUpkeep {
+impl<R: Wait> Upkeep for StandbyUpkeep<'_, R> {
     ghost use Rattle.als_operate.specs.Upkeep.{UpkeepRefused};
 
     ghost refuses = { UpkeepRefused };
 
     #[tactic(auto, using(als_ship::proofs::LogForcing::same_trans, crate::proofs::Keeping::redoes_same, crate::proofs::Refusing::redo_refused, crate::proofs::Refusing::store_refused))]
     fn keep_up<E: Events>(&mut self, events: &mut E) -> Result<(), Fault> {
-        publish(events)?;
+        publish(self.rt, events)?;
         drain(events)?;
         let end = events.status().end;
         if self.is_due(end) {
@@ -53,13 +57,14 @@ impl Upkeep for StandbyUpkeep {
     }
 }
 
-/// Publishes the commits that are acknowledged, if there are more than before.
+/// Publishes the commits that are acknowledged, if there are more than before. Memory: the list of
+/// readers could not grow, and nothing has changed.
 #[tactic(auto, using(crate::proofs::Keeping::publish_same, crate::proofs::Refusing::view_refused))]
-fn publish<E: Events>(events: &mut E) -> Result<(), Fault>
+fn publish<R: Wait, E: Events>(rt: &R, events: &mut E) -> Result<(), Fault>
     ensures same { E.alone → SameText (E.machine events.old) (E.machine events.new) }
     ensures fails { IfErr result (λ f. E.alone → UpkeepRefused f (E.machine events.new)) }
 {
-    match events.publish_view() {
+    match events.publish_view(rt) {
         Ok(()) => Ok(()),
         Err(Fault::NothingToDo) => Ok(()),
         Err(fault) => Err(fault),

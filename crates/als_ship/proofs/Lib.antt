@@ -8,3 +8,4 @@ pub mod LogForcing
 pub mod Fronts
 pub mod Stopping
 pub mod Sessions
+pub mod Vouching

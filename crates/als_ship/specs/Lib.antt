@@ -6,3 +6,4 @@ pub mod Wire
 pub mod Follows
 pub mod Forcing
 pub mod Sessions
+pub mod Vouching

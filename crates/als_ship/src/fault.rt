@@ -14,7 +14,7 @@ use std::{fmt, io};
 pub enum Fault {
     /// The header of the other end's log is damaged, or it is of another database.
     BadHeader,
-    /// A growth was refused.
+    /// An allocation failed.
     Memory,
     /// A frame begins past the follower's position, or the follower holds more than there is.
     Gap,

@@ -1,5 +1,5 @@
 ghost use Rattle.std.specs.Prelude.{◌≡◌, ◌≤◌, ◌<◌, ◌+◌, ◌⊎◌, ℕ, Option, List, length, IfOk};
-ghost use Rattle.std.specs.Prelude.{IfErr, OnOk};
+ghost use Rattle.std.specs.Prelude.{IfErr, OnOk, OnErr};
 ghost use Rattle.std.specs.Prelude.{Ok, Err};
 ghost use Rattle.als_engine.specs.declared.fault.Fault.{Fault as AnyFault};
 ghost use Rattle.als_ship.specs.declared.fault.Fault.TheVariants.{Refused};
@@ -9,15 +9,17 @@ ghost use Rattle.als_ship.specs.Follows.{held_text, position, IsFront, IsTrueFra
 ghost use Rattle.als_ship.specs.Follows.{SameText, Takes, Handles, WasResynced};
 ghost use Rattle.als_ship.specs.Sessions.{KeepsFront, TakesOne, Follows, Stops, StopsEarly};
 ghost use Rattle.als_ship.specs.Sessions.{TellsPart, AsksInVain, GivesUp, EndsEarly};
+ghost use Rattle.als_ship.specs.Vouching.{AnswersOne, AnswersPart, TellsVouched};
 
 use crate::fault::Fault;
-use crate::forcing::force;
+use crate::forcing::force_by;
 use crate::frame::{Frame, is_piece};
 use crate::tag::Tag;
 use crate::upkeep::{NoUpkeep, Upkeep};
 use crate::writing::{write_acknowledged, write_resume};
 use als_engine::Events;
 use als_record::{LogHeader, Lsn};
+use als_vouch::{Direct, Voucher};
 use std::alloc::Global;
 use std::io::{Read, Write};
 use std::marker::Model;
@@ -90,14 +92,17 @@ impl Follower {
             × KeepsFront E.alone (R.remaining reader.old) behind (E.machine events.old)
             (E.machine events.new) }
     {
-        self.follow_keeping(alloc, events, &mut NoUpkeep, reader, writer)
+        let mut direct = Direct::new();
+        self.follow_keeping(alloc, events, &mut direct, &mut NoUpkeep, reader, writer)
     }
 
-    /// The same, and after each answer the upkeep is done. It ends with its first refusal too.
-    pub fn follow_keeping<E: Events, U: Upkeep, R: Read, W: Write>(
+    /// The same, acknowledged by a voucher, and after each answer the upkeep is done. It ends with its
+    /// first refusal too.
+    pub fn follow_keeping<E: Events, V: Voucher<E>, U: Upkeep, R: Read, W: Write>(
         &self,
         alloc: Global,
         events: &mut E,
+        voucher: &mut V,
         upkeep: &mut U,
         reader: &mut R,
         writer: &mut W,
@@ -113,8 +118,13 @@ impl Follower {
         ensures front { (behind : Option (List ℕ))
             × KeepsFront E.alone (R.remaining reader.old) behind (E.machine events.old)
             (E.machine events.new) }
+        // The voucher stands for each answer, whatever ends the session and whoever else drives the
+        // standby.
+        ensures vouched { TellsVouched (V.floor voucher.new) (W.contents writer.old)
+            (W.contents writer.new) }
+        ensures rises { V.floor voucher.old ≤ V.floor voucher.new }
     {
-        match session(alloc, self.header, events, upkeep, reader, writer) {
+        match session(alloc, self.header, events, voucher, upkeep, reader, writer) {
             Ok(()) => Ok(()),
             Err(fault) => {
                 give_up(events, fault);
@@ -137,10 +147,11 @@ fn give_up<E: Events>(events: &mut E, fault: Fault)
 }
 
 /// Asks for what is behind the held log, and takes frames to the end of the source.
-fn session<E: Events, U: Upkeep, R: Read, W: Write>(
+fn session<E: Events, V: Voucher<E>, U: Upkeep, R: Read, W: Write>(
     alloc: Global,
     header: LogHeader,
     events: &mut E,
+    voucher: &mut V,
     upkeep: &mut U,
     reader: &mut R,
     writer: &mut W,
@@ -155,11 +166,14 @@ fn session<E: Events, U: Upkeep, R: Read, W: Write>(
     ensures front { (behind : Option (List ℕ))
         × KeepsFront E.alone (R.remaining reader.old) behind (E.machine events.old)
         (E.machine events.new) }
+    ensures vouched { TellsVouched (V.floor voucher.new) (W.contents writer.old)
+        (W.contents writer.new) }
+    ensures rises { V.floor voucher.old ≤ V.floor voucher.new }
 {
     let from = events.status().end;
     write_resume(writer, from, header)?;
     for _ in 0..FRAME_LIMIT {
-        let last = turn(alloc, events, upkeep, reader, writer)?;
+        let last = turn(alloc, events, voucher, upkeep, reader, writer)?;
         if last {
             return Ok(());
         }
@@ -169,9 +183,10 @@ fn session<E: Events, U: Upkeep, R: Read, W: Write>(
 
 /// Takes one frame, forces the log, acknowledges, and then does the upkeep. It answers whether that
 /// was the last frame.
-fn turn<E: Events, U: Upkeep, R: Read, W: Write>(
+fn turn<E: Events, V: Voucher<E>, U: Upkeep, R: Read, W: Write>(
     alloc: Global,
     events: &mut E,
+    voucher: &mut V,
     upkeep: &mut U,
     reader: &mut R,
     writer: &mut W,
@@ -186,11 +201,16 @@ fn turn<E: Events, U: Upkeep, R: Read, W: Write>(
     ensures front { (behind : Option (List ℕ))
         × KeepsFront E.alone (R.remaining reader.old) behind (E.machine events.old)
         (E.machine events.new) }
+    ensures answers { OnOk result (AnswersOne (V.floor voucher.new) (W.contents writer.old)
+        (W.contents writer.new)) }
+    ensures begins { OnErr result (AnswersPart (V.floor voucher.new) (W.contents writer.old)
+        (W.contents writer.new)) }
+    ensures rises { V.floor voucher.old ≤ V.floor voucher.new }
 {
     let frame = Frame::read(alloc, reader, Tag::Data)?;
     let last = frame.is_last();
     handle(events, frame)?;
-    let lsn = force(events)?;
+    let lsn = force_by(events, voucher)?;
     write_acknowledged(writer, lsn)?;
     keep_up(events, upkeep)?;
     Ok(last)

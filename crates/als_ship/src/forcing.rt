@@ -1,4 +1,4 @@
-ghost use Rattle.std.specs.Prelude.{◌≡◌, IfOk, IfErr, OnOk, Ok};
+ghost use Rattle.std.specs.Prelude.{◌≡◌, ◌≤◌, IfOk, IfErr, OnOk, Ok};
 ghost use Rattle.als_engine.specs.Events.{ControlSyncs};
 ghost use Rattle.als_ship.specs.Follows.{SameText};
 ghost use Rattle.als_ship.specs.Forcing.{WritesAll, Syncs, Forces, FailsToForce};
@@ -6,19 +6,35 @@ ghost use Rattle.als_ship.specs.Forcing.{WritesAll, Syncs, Forces, FailsToForce}
 use crate::fault::Fault;
 use als_engine::{Events, Fault as EngineFault};
 use als_record::Lsn;
+use als_vouch::{Direct, Voucher};
 
 /// Forces the log: what is held is put on the devices, and the acknowledged LSN answered. The
 /// standby's refusal: an event was refused, and not for want of something to do.
-#[tactic(auto, using(crate::proofs::LogForcing::same_trans))]
 pub fn force<E: Events>(events: &mut E) -> Result<Lsn, Fault>
     ensures same { E.alone → SameText (E.machine events.old) (E.machine events.new) }
     ensures forces { IfOk result (λ lsn. E.alone
         → Forces (E.machine events.old) lsn (E.machine events.new)) }
     ensures fails { IfErr result (λ f. E.alone → FailsToForce f (E.machine events.new)) }
 {
+    force_by(events, &mut Direct::new())
+}
+
+/// The same, acknowledged by a voucher, which stands for the answer.
+#[tactic(auto, using(crate::proofs::LogForcing::same_trans))]
+pub(crate) fn force_by<E: Events, V: Voucher<E>>(
+    events: &mut E,
+    voucher: &mut V,
+) -> Result<Lsn, Fault>
+    ensures same { E.alone → SameText (E.machine events.old) (E.machine events.new) }
+    ensures forces { IfOk result (λ lsn. E.alone
+        → Forces (E.machine events.old) lsn (E.machine events.new)) }
+    ensures fails { IfErr result (λ f. E.alone → FailsToForce f (E.machine events.new)) }
+    ensures vouched { IfOk result (λ lsn. lsn.0 ≤ V.floor voucher.new) }
+    ensures rises { V.floor voucher.old ≤ V.floor voucher.new }
+{
     write_log(events)?;
     sync_log(events)?;
-    acknowledge(events)
+    acknowledge(events, voucher)
 }
 
 /// Writes what is unwritten of the log.
@@ -59,13 +75,15 @@ fn sync_log<E: Events>(events: &mut E) -> Result<(), Fault>
 
 /// Syncs the control block.
 #[tactic(auto, using(crate::proofs::LogForcing::ctl_sync_same, crate::proofs::LogForcing::control_refused))]
-fn acknowledge<E: Events>(events: &mut E) -> Result<Lsn, Fault>
+fn acknowledge<E: Events, V: Voucher<E>>(events: &mut E, voucher: &mut V) -> Result<Lsn, Fault>
     ensures same { E.alone → SameText (E.machine events.old) (E.machine events.new) }
     ensures acknowledges { IfOk result (λ lsn. E.alone
         → ControlSyncs (E.machine events.old) (Ok lsn) (E.machine events.new)) }
     ensures fails { IfErr result (λ f. E.alone → FailsToForce f (E.machine events.new)) }
+    ensures vouched { IfOk result (λ lsn. lsn.0 ≤ V.floor voucher.new) }
+    ensures rises { V.floor voucher.old ≤ V.floor voucher.new }
 {
-    match events.ctl_sync() {
+    match voucher.acknowledge(events) {
         Ok(lsn) => Ok(lsn),
         Err(fault) => Err(Fault::Refused(fault)),
     }

@@ -38,7 +38,7 @@ pub struct LogBytes {
     bytes: Vec<u8>,
 }
 
-// Written out: a derived drop is proved wherever a log is let go of, this one only here.
+// Written out: a derived drop is proved wherever a log is dropped, this one only here.
 impl Drop for LogBytes {
     fn drop(self) {
         let LogBytes { header: _, bytes } = self;

@@ -3,6 +3,7 @@ use Rattle.als_ship.proofs.LogForcing.{same_refl, same_trans}
 use Rattle.als_ship.proofs.Sessions.{keeps_nothing, keeps_handled, tells_nothing, turned, tells_part}
 use Rattle.std.proofs.lemmas.Result.{err_from_is_err_and}
 use Rattle.als_ship.proofs.Stopping.{stops_handled, stops_forced, stops_told, stops_kept}
+use Rattle.als_ship.proofs.Vouching.{answers_nothing, answers_begun}
 use Rattle.als_ship.proofs.follower.turn.Goals as goal
 
 pub returns-in_err-frame-clause-front : goal.returns-in_err-frame-clause-front
@@ -24,8 +25,8 @@ returns-in_err-lsn-clause-front g c =
     let old = g.E.Events.machine c.args.events.now in
     let mid = g.E.Events.machine c.handle.new.events in (
       g.R.Read.remaining c.read.new.reader,
-      keeps_handled g.E.Events.alone (g.R.Read.remaining c.args.reader.now) (g.R.Read.remaining c.read.new.reader) old mid (g.E.Events.machine c.force.new.events) c.in_ok-frame.frame c.in_ok-frame.ensures.found.2
-          (λ a text true front. handles_front old mid c.in_ok-frame.frame c.handle.result text (c.handle.ensures a) true front) c.force.ensures.same,
+      keeps_handled g.E.Events.alone (g.R.Read.remaining c.args.reader.now) (g.R.Read.remaining c.read.new.reader) old mid (g.E.Events.machine c.force_by.new.events) c.in_ok-frame.frame c.in_ok-frame.ensures.found.2
+          (λ a text true front. handles_front old mid c.in_ok-frame.frame c.handle.result text (c.handle.ensures a) true front) c.force_by.ensures.same,
     )
 
 pub returns-in_err-write_acknowledged-clause-front : goal.returns-in_err-write_acknowledged-clause-front
@@ -33,30 +34,30 @@ returns-in_err-write_acknowledged-clause-front g c =
     let old = g.E.Events.machine c.args.events.now in
     let mid = g.E.Events.machine c.handle.new.events in (
       g.R.Read.remaining c.read.new.reader,
-      keeps_handled g.E.Events.alone (g.R.Read.remaining c.args.reader.now) (g.R.Read.remaining c.read.new.reader) old mid (g.E.Events.machine c.force.new.events) c.in_ok-frame.frame c.in_ok-frame.ensures.found.2
-          (λ a text true front. handles_front old mid c.in_ok-frame.frame c.handle.result text (c.handle.ensures a) true front) c.force.ensures.same,
+      keeps_handled g.E.Events.alone (g.R.Read.remaining c.args.reader.now) (g.R.Read.remaining c.read.new.reader) old mid (g.E.Events.machine c.force_by.new.events) c.in_ok-frame.frame c.in_ok-frame.ensures.found.2
+          (λ a text true front. handles_front old mid c.in_ok-frame.frame c.handle.result text (c.handle.ensures a) true front) c.force_by.ensures.same,
     )
 
 pub returns-in_err-keep_up-clause-front : goal.returns-in_err-keep_up-clause-front
 returns-in_err-keep_up-clause-front g c =
     let old = g.E.Events.machine c.args.events.now in
     let mid = g.E.Events.machine c.handle.new.events in
-    let forced = g.E.Events.machine c.force.new.events in
+    let forced = g.E.Events.machine c.force_by.new.events in
     let new = g.E.Events.machine c.keep_up.new.events in (
       g.R.Read.remaining c.read.new.reader,
       keeps_handled g.E.Events.alone (g.R.Read.remaining c.args.reader.now) (g.R.Read.remaining c.read.new.reader) old mid new c.in_ok-frame.frame c.in_ok-frame.ensures.found.2
-          (λ a text true front. handles_front old mid c.in_ok-frame.frame c.handle.result text (c.handle.ensures a) true front) (λ a. same_trans mid forced new (c.force.ensures.same a) (c.keep_up.ensures.same a)),
+          (λ a text true front. handles_front old mid c.in_ok-frame.frame c.handle.result text (c.handle.ensures a) true front) (λ a. same_trans mid forced new (c.force_by.ensures.same a) (c.keep_up.ensures.same a)),
     )
 
 pub returns-clause-front : goal.returns-clause-front
 returns-clause-front g c =
     let old = g.E.Events.machine c.args.events.now in
     let mid = g.E.Events.machine c.handle.new.events in
-    let forced = g.E.Events.machine c.force.new.events in
+    let forced = g.E.Events.machine c.force_by.new.events in
     let new = g.E.Events.machine c.keep_up.new.events in (
       g.R.Read.remaining c.read.new.reader,
       keeps_handled g.E.Events.alone (g.R.Read.remaining c.args.reader.now) (g.R.Read.remaining c.read.new.reader) old mid new c.in_ok-frame.frame c.in_ok-frame.ensures.found.2
-          (λ a text true front. handles_front old mid c.in_ok-frame.frame c.handle.result text (c.handle.ensures a) true front) (λ a. same_trans mid forced new (c.force.ensures.same a) (c.keep_up.ensures.same a)),
+          (λ a text true front. handles_front old mid c.in_ok-frame.frame c.handle.result text (c.handle.ensures a) true front) (λ a. same_trans mid forced new (c.force_by.ensures.same a) (c.keep_up.ensures.same a)),
     )
 
 pub returns-in_err-handle-clause-fails : goal.returns-in_err-handle-clause-fails
@@ -70,23 +71,23 @@ pub returns-in_err-lsn-clause-fails : goal.returns-in_err-lsn-clause-fails
 returns-in_err-lsn-clause-fails g c =
     let old = g.E.Events.machine c.args.events.now in
     let mid = g.E.Events.machine c.handle.new.events in
-    let new = g.E.Events.machine c.force.new.events in
-    let found = λ (a : g.E.Events.alone). stops_forced g.U.Upkeep.refuses old mid new c.in_err-lsn.field-0.0 c.in_ok-frame.frame c.in_ok-handle.field-0 (c.in_ok-handle.ensures a) (c.force.ensures.same a) (c.in_err-lsn.ensures.fails a) in
+    let new = g.E.Events.machine c.force_by.new.events in
+    let found = λ (a : g.E.Events.alone). stops_forced g.U.Upkeep.refuses old mid new c.in_err-lsn.field-0.0 c.in_ok-frame.frame c.in_ok-handle.field-0 (c.in_ok-handle.ensures a) (c.force_by.ensures.same a) (c.in_err-lsn.ensures.fails a) in
     let p = err_from_is_err_and c.from_residual-in_err-lsn.result c.from_residual-in_err-lsn.ensures.1 in rw (p.1, p.2) found
 
 pub returns-in_err-write_acknowledged-clause-fails : goal.returns-in_err-write_acknowledged-clause-fails
 returns-in_err-write_acknowledged-clause-fails g c =
     let old = g.E.Events.machine c.args.events.now in
     let mid = g.E.Events.machine c.handle.new.events in
-    let new = g.E.Events.machine c.force.new.events in
-    let found = λ (a : g.E.Events.alone). stops_told g.U.Upkeep.refuses old mid new c.in_err-write_acknowledged.field-0.0 c.in_ok-frame.frame c.in_ok-handle.field-0 (c.in_ok-handle.ensures a) (c.force.ensures.same a) c.in_err-write_acknowledged.ensures.fails in
+    let new = g.E.Events.machine c.force_by.new.events in
+    let found = λ (a : g.E.Events.alone). stops_told g.U.Upkeep.refuses old mid new c.in_err-write_acknowledged.field-0.0 c.in_ok-frame.frame c.in_ok-handle.field-0 (c.in_ok-handle.ensures a) (c.force_by.ensures.same a) c.in_err-write_acknowledged.ensures.fails in
     let p = err_from_is_err_and c.from_residual-in_err-write_acknowledged.result c.from_residual-in_err-write_acknowledged.ensures.1 in rw (p.1, p.2) found
 
 pub returns-in_err-keep_up-clause-fails : goal.returns-in_err-keep_up-clause-fails
 returns-in_err-keep_up-clause-fails g c =
     let old = g.E.Events.machine c.args.events.now in
     let mid = g.E.Events.machine c.handle.new.events in
-    let forced = g.E.Events.machine c.force.new.events in
+    let forced = g.E.Events.machine c.force_by.new.events in
     let new = g.E.Events.machine c.keep_up.new.events in
     let frame = c.in_ok-frame.frame in
     let lsn = c.in_ok-lsn.lsn in
@@ -106,14 +107,14 @@ returns-in_err-handle-clause-part g c =
 
 pub returns-in_err-lsn-clause-part : goal.returns-in_err-lsn-clause-part
 returns-in_err-lsn-clause-part g c =
-    let found = tells_nothing g.E.Events.alone (g.E.Events.machine c.args.events.now) (g.E.Events.machine c.force.new.events) (g.W.Write.contents c.args.writer.now) in
+    let found = tells_nothing g.E.Events.alone (g.E.Events.machine c.args.events.now) (g.E.Events.machine c.force_by.new.events) (g.W.Write.contents c.args.writer.now) in
     let p = err_from_is_err_and c.from_residual-in_err-lsn.result c.from_residual-in_err-lsn.ensures.1 in rw (p.1) found
 
 pub returns-in_err-write_acknowledged-clause-part : goal.returns-in_err-write_acknowledged-clause-part
 returns-in_err-write_acknowledged-clause-part g c =
     let old = g.E.Events.machine c.args.events.now in
     let mid = g.E.Events.machine c.handle.new.events in
-    let forced = g.E.Events.machine c.force.new.events in
+    let forced = g.E.Events.machine c.force_by.new.events in
     let frame = c.in_ok-frame.frame in
     let lsn = c.in_ok-lsn.lsn in
     let found = tells_part g.E.Events.alone old forced (g.W.Write.contents c.args.writer.now) (g.W.Write.contents c.write_acknowledged.new.writer) frame lsn c.write_acknowledged.ensures.part (λ a. turned old mid forced forced frame c.in_ok-handle.field-0 lsn (c.in_ok-handle.ensures a) (c.in_ok-lsn.ensures.forces a) (same_refl forced)) in
@@ -123,7 +124,7 @@ pub returns-in_err-keep_up-clause-part : goal.returns-in_err-keep_up-clause-part
 returns-in_err-keep_up-clause-part g c =
     let old = g.E.Events.machine c.args.events.now in
     let mid = g.E.Events.machine c.handle.new.events in
-    let forced = g.E.Events.machine c.force.new.events in
+    let forced = g.E.Events.machine c.force_by.new.events in
     let new = g.E.Events.machine c.keep_up.new.events in
     let frame = c.in_ok-frame.frame in
     let lsn = c.in_ok-lsn.lsn in
@@ -137,5 +138,33 @@ returns-clause-ok g c = record {
   read = c.in_ok-frame.ensures.found.2;
   told = c.in_ok-write_acknowledged.ensures.all;
   is_last = c.is_last-last.ensures;
-  turns = λ a. turned (g.E.Events.machine c.args.events.now) (g.E.Events.machine c.handle.new.events) (g.E.Events.machine c.force.new.events) (g.E.Events.machine c.keep_up.new.events) c.in_ok-frame.frame c.in_ok-handle.field-0 c.in_ok-lsn.lsn (c.in_ok-handle.ensures a) (c.in_ok-lsn.ensures.forces a) (c.keep_up.ensures.same a);
+  turns = λ a. turned (g.E.Events.machine c.args.events.now) (g.E.Events.machine c.handle.new.events) (g.E.Events.machine c.force_by.new.events) (g.E.Events.machine c.keep_up.new.events) c.in_ok-frame.frame c.in_ok-handle.field-0 c.in_ok-lsn.lsn (c.in_ok-handle.ensures a) (c.in_ok-lsn.ensures.forces a) (c.keep_up.ensures.same a);
 }
+
+pub returns-in_err-frame-clause-begins : goal.returns-in_err-frame-clause-begins
+returns-in_err-frame-clause-begins g c =
+    let found = answers_nothing (g.V.Voucher.floor c.args.voucher.now) (g.W.Write.contents c.args.writer.now) in
+    let p = err_from_is_err_and c.from_residual.result c.from_residual.ensures.1 in rw (p.1) found
+
+pub returns-in_err-handle-clause-begins : goal.returns-in_err-handle-clause-begins
+returns-in_err-handle-clause-begins g c =
+    let found = answers_nothing (g.V.Voucher.floor c.args.voucher.now) (g.W.Write.contents c.args.writer.now) in
+    let p = err_from_is_err_and c.from_residual-in_err-handle.result c.from_residual-in_err-handle.ensures.1 in rw (p.1) found
+
+pub returns-in_err-lsn-clause-begins : goal.returns-in_err-lsn-clause-begins
+returns-in_err-lsn-clause-begins g c =
+    let found = answers_nothing (g.V.Voucher.floor c.force_by.new.voucher) (g.W.Write.contents c.args.writer.now) in
+    let p = err_from_is_err_and c.from_residual-in_err-lsn.result c.from_residual-in_err-lsn.ensures.1 in rw (p.1) found
+
+pub returns-in_err-write_acknowledged-clause-begins : goal.returns-in_err-write_acknowledged-clause-begins
+returns-in_err-write_acknowledged-clause-begins g c =
+    let found = answers_begun (g.V.Voucher.floor c.force_by.new.voucher) (g.W.Write.contents c.args.writer.now) (g.W.Write.contents c.write_acknowledged.new.writer) c.in_ok-lsn.lsn c.in_ok-lsn.ensures.vouched c.write_acknowledged.ensures.part in
+    let p = err_from_is_err_and c.from_residual-in_err-write_acknowledged.result c.from_residual-in_err-write_acknowledged.ensures.1 in rw (p.1) found
+
+pub returns-in_err-keep_up-clause-begins : goal.returns-in_err-keep_up-clause-begins
+returns-in_err-keep_up-clause-begins g c =
+    let found = answers_begun (g.V.Voucher.floor c.force_by.new.voucher) (g.W.Write.contents c.args.writer.now) (g.W.Write.contents c.write_acknowledged.new.writer) c.in_ok-lsn.lsn c.in_ok-lsn.ensures.vouched c.write_acknowledged.ensures.part in
+    let p = err_from_is_err_and c.from_residual-in_err-keep_up.result c.from_residual-in_err-keep_up.ensures.1 in rw (p.1) found
+
+pub returns-clause-answers : goal.returns-clause-answers
+returns-clause-answers g c = (c.in_ok-lsn.lsn, c.in_ok-lsn.ensures.vouched, c.in_ok-write_acknowledged.ensures.all)

@@ -1,10 +1,10 @@
 use Rattle.als_ship.proofs.Sessions.{keeps_nothing, keeps_both}
-use Rattle.als_operate.proofs.standby_command.follow.Goals as goal
+use Rattle.als_operate.proofs.following.follow.Goals as goal
 
 pub returns-in-Ok-clause-front : goal.returns-in-Ok-clause-front
 returns-in-Ok-clause-front g c =
     let alone = g.E.Events.alone in
-    let before = g.R.Read.remaining c.args.reader.now in
+    let before = g.I.Read.remaining c.args.reader.now in
     let old = g.E.Events.machine c.args.events.now in
     let mid = g.E.Events.machine c.follow_keeping-followed.new.events in
     let new = g.E.Events.machine c.settle-settled.new.events in
@@ -14,7 +14,7 @@ returns-in-Ok-clause-front g c =
 pub returns-in-Err-clause-front : goal.returns-in-Err-clause-front
 returns-in-Err-clause-front g c =
     let alone = g.E.Events.alone in
-    let before = g.R.Read.remaining c.args.reader.now in
+    let before = g.I.Read.remaining c.args.reader.now in
     let old = g.E.Events.machine c.args.events.now in
     let mid = g.E.Events.machine c.follow_keeping-followed.new.events in
     let new = g.E.Events.machine c.settle-settled.new.events in

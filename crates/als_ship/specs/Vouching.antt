@@ -1,0 +1,27 @@
+-- What a session tells, for each answer of which a voucher stands.
+use Rattle.std.specs.Prelude.{◌≤◌, ℕ, List, ◌++◌, Option}
+use Rattle.std.specs.List.{AllByRecursion}
+use Rattle.std.specs.Io.KnownBytes.{Appends}
+use Rattle.als_record.specs.declared.lsn.Lsn.{Lsn}
+use Rattle.als_ship.specs.Frames.{acknowledged_bytes, answers_bytes, resume_bytes}
+use Rattle.als_ship.specs.Sending.{Puts}
+
+-- each of these LSNs is at most the floor
+abbrev pub AreVouched : ℕ → List Lsn → Type 0
+AreVouched floor answers = AllByRecursion (λ lsn. lsn.0 ≤ floor) answers
+
+-- Acknowledged frames with such LSNs were written
+abbrev pub AnswersAll : ℕ → Option (List ℕ) → Option (List ℕ) → Type 0
+AnswersAll floor old new = (answers : List Lsn) × AreVouched floor answers × Appends old new (answers_bytes answers)
+
+-- one such frame was
+abbrev pub AnswersOne : ℕ → Option (List ℕ) → Option (List ℕ) → Type 0
+AnswersOne floor old new = (answer : Lsn) × (answer.0 ≤ floor) × Appends old new (acknowledged_bytes answer.0)
+
+-- a front of one such frame was, or nothing
+abbrev pub AnswersPart : ℕ → Option (List ℕ) → Option (List ℕ) → Type 0
+AnswersPart floor old new = (answer : Lsn) × (answer.0 ≤ floor) × Puts (acknowledged_bytes answer.0) old new
+
+-- A Resume frame was written, and behind it Acknowledged frames, each of an LSN that is at most the floor; or a front of all that.
+abbrev pub TellsVouched : ℕ → Option (List ℕ) → Option (List ℕ) → Type 0
+TellsVouched floor old new = (from pages : ℕ) × (answers : List Lsn) × AreVouched floor answers × Puts (resume_bytes from pages ++ answers_bytes answers) old new
