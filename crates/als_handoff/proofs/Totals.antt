@@ -5,8 +5,8 @@ use lib.ListN.{get_elem?}
 use Rattle.atomic_table.proofs.Lists.{at_set, at_snoc}
 use Rattle.als_handoff.specs.declared.job.Job.{Job}
 use Rattle.als_handoff.specs.declared.rule.PassState.{PassState}
-use Rattle.als_handoff.specs.Pairs.{pairs_of, pairs_in, weigh}
-use Rattle.als_handoff.specs.Rule.{total, IdleIsEmpty}
+use Rattle.als_handoff.specs.Pairs.{pairs_of, pairs_in, stops_of, stops_in, weigh}
+use Rattle.als_handoff.specs.Rule.{total, IsEmpty, IdleIsEmpty}
 
 -- weights of two lists
 pub weigh-append : (h : (ℕ × ℕ) → ℕ) (xs ys : List (ℕ × ℕ)) → weigh h (xs ++ ys) ≡ weigh h xs + weigh h ys
@@ -17,6 +17,10 @@ weigh-append h (x ∷ xs) ys = omega (arith, weigh-append h xs ys)
 pub weigh-snoc : (h : (ℕ × ℕ) → ℕ) (jobs : List Job) (job : Job) → weigh h (pairs_in (jobs ++ job ∷ [])) ≡ weigh h (pairs_in jobs) + weigh h (pairs_of job)
 weigh-snoc h [] job = omega (arith, weigh-append h (pairs_of job) [])
 weigh-snoc h (x ∷ jobs) job = omega (arith, weigh-append h (pairs_of x) (pairs_in (jobs ++ job ∷ [])), weigh-append h (pairs_of x) (pairs_in jobs), weigh-snoc h jobs job)
+
+pub stops-snoc : (jobs : List Job) (job : Job) → stops_in (jobs ++ job ∷ []) ≡ stops_in jobs + stops_of job
+stops-snoc [] job = omega arith
+stops-snoc (x ∷ jobs) job = omega (arith, stops-snoc jobs job)
 
 -- the total after a change of one pass
 pub total-set : (f : PassState → ℕ) (views : List PassState) (port : ℕ) (v w : PassState) → get_elem? views port ≡ some v → total f (set views port w) + f v ≡ total f views + f w
@@ -61,13 +65,13 @@ alone f (x ∷ views) (suc port) v at all idle =
     omega arith
 
 -- who has no part has nothing, also after a change of one pass
-pub idle-set : (views : List PassState) (port : ℕ) (w : PassState) → (w.parts ≡ 0 → (w.put ≡ []) × (w.taken ≡ [])) → IdleIsEmpty views → IdleIsEmpty (set views port w)
+pub idle-set : (views : List PassState) (port : ℕ) (w : PassState) → (w.parts ≡ 0 → IsEmpty w) → IdleIsEmpty views → IdleIsEmpty (set views port w)
 idle-set views port w mine idle j u at none =
-    ⊎_elim (λ (x : (j ≡ port) × (w ≡ u)). subst (λ (y : PassState). (y.put ≡ []) × (y.taken ≡ [])) x.1 (mine (ap (λ (y : PassState). y.parts) x.1 ∙ none)))
+    ⊎_elim (λ (x : (j ≡ port) × (w ≡ u)). subst IsEmpty x.1 (mine (ap (λ (y : PassState). y.parts) x.1 ∙ none)))
     (λ (x : (j ≢ port) × (get_elem? views j ≡ some u)). idle j u x.1 none) (at_set views port j w u at)
 
 -- and with a new one
-pub idle-snoc : (views : List PassState) (w : PassState) → (w.parts ≡ 0 → (w.put ≡ []) × (w.taken ≡ [])) → IdleIsEmpty views → IdleIsEmpty (views ++ w ∷ [])
+pub idle-snoc : (views : List PassState) (w : PassState) → (w.parts ≡ 0 → IsEmpty w) → IdleIsEmpty views → IdleIsEmpty (views ++ w ∷ [])
 idle-snoc views w mine idle j u at none =
     ⊎_elim (λ (x : get_elem? views j ≡ some u). idle j u x none)
-    (λ (x : w ≡ u). subst (λ (y : PassState). (y.put ≡ []) × (y.taken ≡ [])) x (mine (ap (λ (y : PassState). y.parts) x ∙ none))) (at_snoc views w u j at)
+    (λ (x : w ≡ u). subst IsEmpty x (mine (ap (λ (y : PassState). y.parts) x ∙ none))) (at_snoc views w u j at)

@@ -9,9 +9,9 @@
 //! 1. A job is a lease to work on, or a stop. A lease cannot be copied, so a thread that put one has
 //!    it no longer.
 //! 2. A thread puts and takes with a pass. A pass takes no bytes: contracts alone see what it put and
-//!    what it took, as pairs of a lease's number and its turn.
+//!    what it took, as pairs of a lease's number and its turn, and how many jobs came back to it.
 //! 3. At each moment, over all passes, each pair was put as often as it was taken plus as often as it
-//!    is in the queue. No pass can put or take without recording it.
+//!    is in the queue, and so were stops. No pass can put or take without recording it.
 //! 4. The first pass has 1024 parts, and each pass cut from it has one. Who joined them all has all
 //!    parts, and so knows what all threads put and took: `settle` says so.
 #![tactic(auto)]

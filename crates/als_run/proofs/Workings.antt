@@ -6,13 +6,14 @@ use Rattle.std.proofs.lemmas.Nat.{le-div}
 use Rattle.als_lease.specs.Lease.{Leased}
 use Rattle.als_handoff.specs.declared.rule.PassState.{PassState}
 use Rattle.als_handoff.specs.Pairs.{pair_of}
-use Rattle.als_handoff.specs.Rule.{pass_state}
+use Rattle.als_handoff.specs.declared.job.Job.TheVariants as job
+use Rattle.als_handoff.specs.Rule.{pass_state, has_put, has_taken, was_refused}
 use Rattle.als_handoff.proofs.Totals.{weigh-append}
-use Rattle.als_run.specs.declared.via.Offer.{Offer}
+use Rattle.als_run.specs.declared.offer.Offer.{Offer}
 use Rattle.als_run.specs.declared.ended.Ended.{Ended}
 use Rattle.als_run.specs.declared.ended.Ended.TheVariants.{Stop, Empty, Gate, Back, Memory}
 use Rattle.als_run.specs.Offers.{offer_of}
-use Rattle.als_run.specs.Worked.{one_if, times, times_offered, TakenBelow, HaveRisen, HaveNotFallen, AreFinished, MayLeave, Worked, HasTaken}
+use Rattle.als_run.specs.Worked.{one_if, times, times_offered, TakenBelow, HaveRisen, HaveNotFallen, AreFinished, MayLeave, stops_for, returns_for, Worked, HasTaken}
 
 -- ---- lists
 
@@ -67,6 +68,29 @@ turn-le m n h =
     let le : m / 16 ≤ n / 16 = le-div (m / 16) n 16 (lit< tt) (omega arith) in
     omega arith
 
+-- ---- passes
+
+-- what a pass is, number by number
+same_state : (parts : ℕ) {put put' taken taken' : List (ℕ × ℕ)} {a a' b b' c c' : ℕ} → put ≡ put' → taken ≡ taken' → a ≡ a' → b ≡ b' → c ≡ c'
+    → pass_state parts put taken a b c ≡ pass_state parts put' taken' a' b' c'
+same_state parts {put} {put'} {taken} {taken'} {a} {a'} {b} {b'} {c} {c'} p t x y z =
+    ap₂ (λ (i j : List (ℕ × ℕ)). pass_state parts i j a b c) p t ∙ ap₂ (λ (i j : ℕ). pass_state parts put' taken' i j c) x y
+    ∙ ap (λ (i : ℕ). pass_state parts put' taken' a' b' i) z
+
+-- a worker ends for this reason, or goes on, and so it took a stop or a lease came back
+abbrev pub ends : Option Ended → PassState → PassState
+ends why v = pass_state v.parts v.put v.taken v.stops_put (v.stops_taken + stops_for why) (v.handed_back + returns_for why)
+
+-- neither
+pub stays : (v w : PassState) → w ≡ v → w ≡ pass_state v.parts v.put v.taken v.stops_put (v.stops_taken + 0) (v.handed_back + 0)
+stays v w same = same ∙ same_state v.parts refl refl refl (omega arith) (omega arith)
+
+pub took_stop : (v w : PassState) → w ≡ has_taken v job.Stop → w ≡ ends (Some Stop) v
+took_stop v w took = took ∙ same_state v.parts refl (append-nil v.taken) refl refl (omega arith)
+
+pub came_back : (v w : PassState) → w ≡ was_refused v → w ≡ ends (Some Back) v
+came_back v w back = back ∙ same_state v.parts refl refl refl (omega arith) refl
+
 -- ---- one step
 
 -- nothing was done
@@ -78,14 +102,14 @@ no_left (Some Memory) = refl
 no_left (Some Gate) = omega arith
 no_left (Some Back) = omega arith
 
-pub idle : (v w : PassState) (before after : List Offer) (why : Option Ended) → w ≡ v → after ≡ before → Worked v w before after why
+pub idle : (v w : PassState) (before after : List Offer) (why : Option Ended) → w ≡ ends why v → after ≡ before → Worked v w before after why
 idle v w before after why same same' =
     record {
       put = [];
       taken = [];
       finished = [];
       left = [];
-      passes = same ∙ ap₂ (pass_state v.parts) (sym (append-nil v.put)) (sym (append-nil v.taken));
+      passes = same ∙ same_state v.parts (sym (append-nil v.put)) (sym (append-nil v.taken)) refl refl refl;
       offers = same' ∙ sym (append-nil before);
       balance = λ number. refl;
       rose = tt;
@@ -96,7 +120,7 @@ idle v w before after why same same' =
 
 -- a lease was taken, and then given as it is or with more redone
 pub gave : (u v w : PassState) (l now : Leased) (before after : List Offer) (why : Option Ended) (finished left : List Offer)
-    → HasTaken u l v → w ≡ v → now.number ≡ l.number → l.done ≤ now.done → after ≡ before ++ offer_of now ∷ []
+    → HasTaken u l v → w ≡ ends why v → now.number ≡ l.number → l.done ≤ now.done → after ≡ before ++ offer_of now ∷ []
     → finished ++ left ≡ offer_of now ∷ [] → AreFinished finished → MayLeave why left
     → Worked u w before after why
 gave u v w l now before after why finished left taken same number further after_is offer whole may =
@@ -105,7 +129,7 @@ gave u v w l now before after why finished left taken same number further after_
       taken = pair_of l ∷ [];
       finished = finished;
       left = left;
-      passes = same ∙ taken ∙ ap (λ put. pass_state u.parts put (u.taken ++ pair_of l ∷ [])) (sym (append-nil u.put));
+      passes = same ∙ ap (ends why) taken ∙ same_state u.parts (sym (append-nil u.put)) refl refl (omega arith) refl;
       offers = after_is ∙ ap (λ es. before ++ es) (sym offer);
       balance = λ n.
           let given : times_offered n (finished ++ left) ≡ one_if n now.number + 0 = ap (times_offered n) offer in
@@ -119,7 +143,7 @@ gave u v w l now before after why finished left taken same number further after_
 
 -- a lease was taken, and put again with a turn more redone
 pub put_again : (u v w : PassState) (l now : Leased) (before after : List Offer)
-    → HasTaken u l v → w ≡ pass_state v.parts (v.put ++ pair_of now ∷ []) v.taken → now.number ≡ l.number → now.done ≡ l.done + 16 → after ≡ before
+    → HasTaken u l v → w ≡ has_put v (job.Work now) → now.number ≡ l.number → now.done ≡ l.done + 16 → after ≡ before
     → Worked u w before after None
 put_again u v w l now before after taken put number turn after_is =
     record {
@@ -127,7 +151,7 @@ put_again u v w l now before after taken put number turn after_is =
       taken = pair_of l ∷ [];
       finished = [];
       left = [];
-      passes = put ∙ ap (λ (h : PassState). pass_state h.parts (h.put ++ pair_of now ∷ []) h.taken) taken;
+      passes = put ∙ ap (λ (h : PassState). has_put h (job.Work now)) taken ∙ same_state u.parts refl refl (omega arith) (omega arith) (omega arith);
       offers = after_is ∙ sym (append-nil before);
       balance = λ n. let one : one_if n now.number ≡ one_if n l.number = ap (one_if n) number in omega arith;
       rose = (inl (sym number, subst (λ d. l.done / 16 < d / 16) (sym turn) (turn-more l.done)), tt);
@@ -149,8 +173,8 @@ then u v w before between after why a b =
       taken = a.taken ++ b.taken;
       finished = a.finished ++ b.finished;
       left = b.left;
-      passes = b.passes ∙ ap (λ (h : PassState). pass_state h.parts (h.put ++ b.put) (h.taken ++ b.taken)) a.passes
-          ∙ ap₂ (pass_state u.parts) (append_assoc u.put a.put b.put) (append_assoc u.taken a.taken b.taken);
+      passes = b.passes ∙ ap (λ (h : PassState). pass_state h.parts (h.put ++ b.put) (h.taken ++ b.taken) h.stops_put (h.stops_taken + stops_for why) (h.handed_back + returns_for why)) a.passes
+          ∙ same_state u.parts (append_assoc u.put a.put b.put) (append_assoc u.taken a.taken b.taken) refl (omega arith) (omega arith);
       offers = b.offers ∙ ap (λ es. es ++ (b.finished ++ b.left)) (a.offers ∙ ap (λ es. before ++ es) whole)
           ∙ append_assoc before a.finished (b.finished ++ b.left) ∙ ap (λ es. before ++ es) (sym all);
       balance = λ n.

@@ -1,22 +1,24 @@
 -- What a worker offered to `give`.
-use Rattle.std.specs.Prelude.{◌<◌, List}
-use Rattle.std.specs.Vec.{vec_len, vec_capacity}
+use Rattle.std.specs.Prelude.{List, [], ◌∷◌, ◌++◌}
 use Rattle.als_lease.specs.Lease.{Leased, turn_of, is_finished}
-use Rattle.als_run.specs.declared.via.Offer.{Offer}
+use Rattle.als_run.specs.declared.offer.Offer.{Offer}
 use Rattle.als_run.specs.declared.via.Via.{Via}
+use Rattle.als_run.specs.declared.ghost_offers.Offered.{Offered}
+use Rattle.als_run.specs.declared.ghost_offers.Offered.TheVariants.{Nothing, Then'}
 
--- the leases offered so far, in order
-abbrev pub offers_of : {E : Type 0} → Via E → List Offer
-offers_of via = via.offers.items
-
--- the events to which they were offered
-abbrev pub events_of : {E : Type 0} → Via E → E
+-- the events to which leases were offered
+abbrev pub events_of : {E O : Type 0} → Via E O → E
 events_of via = via.events
 
--- one more fits without memory
-abbrev pub HasRoom : {E : Type 0} → Via E → Type 0
-HasRoom via = vec_len via.offers < vec_capacity via.offers
+-- the record of what was offered
+abbrev pub record_of : {E O : Type 0} → Via E O → O
+record_of via = via.offers
 
 -- what is recorded of a lease
 abbrev pub offer_of : Leased → Offer
 offer_of l = record { number = l.number; turn = turn_of l; finished = is_finished l }
+
+-- the offers of a record that contracts alone see
+abbrev pub offers_in : Offered → List Offer
+offers_in Nothing = []
+offers_in (Then' mark before offer) = offers_in before ++ offer ∷ []

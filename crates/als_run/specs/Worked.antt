@@ -3,8 +3,9 @@ use Rattle.std.specs.Prelude.{◌≡◌, ◌⊎◌, ℕ, ◌+◌, ◌<◌, ◌�
 use Rattle.als_lease.specs.Lease.{Leased, is_finished}
 use Rattle.als_handoff.specs.declared.rule.PassState.{PassState}
 use Rattle.als_handoff.specs.Pairs.{pair_of, weigh}
-use Rattle.als_handoff.specs.Rule.{pass_state}
-use Rattle.als_run.specs.declared.via.Offer.{Offer}
+use Rattle.als_handoff.specs.declared.job.Job.TheVariants.{Work}
+use Rattle.als_handoff.specs.Rule.{pass_state, has_taken}
+use Rattle.als_run.specs.declared.offer.Offer.{Offer}
 use Rattle.als_run.specs.declared.ended.Ended.{Ended}
 use Rattle.als_run.specs.declared.ended.Ended.TheVariants.{Stop, Empty, Gate, Back, Memory}
 
@@ -50,14 +51,32 @@ MayLeave (Some Empty) left = left ≡ []
 MayLeave (Some Memory) left = left ≡ []
 MayLeave None left = left ≡ []
 
+-- how many stops a worker took that ended so
+abbrev pub stops_for : Option Ended → ℕ
+stops_for (Some Stop) = 1
+stops_for (Some Empty) = 0
+stops_for (Some Gate) = 0
+stops_for (Some Back) = 0
+stops_for (Some Memory) = 0
+stops_for None = 0
+
+-- how many leases the queue handed back to it
+abbrev pub returns_for : Option Ended → ℕ
+returns_for (Some Back) = 1
+returns_for (Some Stop) = 0
+returns_for (Some Empty) = 0
+returns_for (Some Gate) = 0
+returns_for (Some Memory) = 0
+returns_for None = 0
+
 -- Between two moments a worker took and put these pairs and gave these leases: of each number as many were taken as were put and given
--- together. Without a reason it goes on.
+-- together. It took a stop where that is its reason, and put none. Without a reason it goes on.
 pub record Worked (v w : PassState) (before after : List Offer) (why : Option Ended) : Type 0 where
   pub put : List (ℕ × ℕ)
   pub taken : List (ℕ × ℕ)
   pub finished : List Offer
   pub left : List Offer
-  pub passes : w ≡ pass_state v.parts (v.put ++ put) (v.taken ++ taken)
+  pub passes : w ≡ pass_state v.parts (v.put ++ put) (v.taken ++ taken) v.stops_put (v.stops_taken + stops_for why) (v.handed_back + returns_for why)
   pub offers : after ≡ before ++ (finished ++ left)
   pub balance : (number : ℕ) → times number taken ≡ times number put + times_offered number (finished ++ left)
   pub rose : HaveRisen taken put
@@ -73,4 +92,4 @@ pub record IsTurnOf (old new : Leased) : Type 0 where
 
 -- a pass that has just taken this lease
 abbrev pub HasTaken : PassState → Leased → PassState → Type 0
-HasTaken u l v = v ≡ pass_state u.parts u.put (u.taken ++ pair_of l ∷ [])
+HasTaken u l v = v ≡ has_taken u (Work l)

@@ -1,7 +1,7 @@
-ghost use Rattle.std.specs.Prelude.{◌≡◌, ◌+◌, ◌<◌, ◌≤◌, ◌++◌};
+ghost use Rattle.std.specs.Prelude.{◌≡◌, ◌<◌};
 ghost use Rattle.crossbeam_channel.specs.Claims.{view};
 ghost use Rattle.als_handoff.specs.Passes.{IsPassOf};
-ghost use Rattle.als_run.specs.Dispatching.{Dispatches};
+ghost use Rattle.als_run.specs.Dispatching.{Dispatches, HasStopped};
 
 use crate::gate::{Gate, Point};
 use crate::outcome::{DispatchEnd, Dispatched};
@@ -15,8 +15,9 @@ use std::thread;
 pub const LEASE_LIMIT: u64 = 32;
 
 /// Lends the pages that wait for redo, in rising order and again from the first, and puts the leases.
-/// It ends where nothing more is fed and nothing waits or is lent, where the engine has stopped, or
-/// by its gate, and then puts a stop for each worker.
+/// It ends where nothing more is fed and nothing waits or is lent, where the engine has stopped, where
+/// the last lease number is spent, or by its gate, and then puts a stop for each worker. A page that
+/// can't be lent otherwise is passed over, and comes again with the next round.
 ///
 /// It counts the leases that are out by itself: at most those in the queue and one for each worker.
 /// The engine's own count leaves out those that were recalled and are queued still.
@@ -31,8 +32,9 @@ pub fn dispatcher<E: Events, G: Gate, R: Wait>(
     requires queue { IsPassOf queue.now pass.old }
     requires parts { 0 < (view pass.old).parts }
     ensures queue { IsPassOf queue.now pass.new }
-    ensures dispatches { Dispatches (view pass.old) (view pass.new) (E.tally events.old) (E.tally events.new) }
-    ensures stops { result.stops ≤ workers }
+    // A stop for each worker is put, but for those that the queue handed back.
+    ensures dispatches { Dispatches (view pass.old) (view pass.new) (E.tally events.old) (E.tally events.new)
+        workers result.stops }
 {
     let end = lend_all(rt, queue, pass, events, gate, workers);
     let stops = stop_all(rt, queue, pass, workers);
@@ -52,7 +54,7 @@ fn lend_all<E: Events, G: Gate, R: Wait>(
     requires queue { IsPassOf queue.now pass.old }
     requires parts { 0 < (view pass.old).parts }
     ensures queue { IsPassOf queue.now pass.new }
-    ensures dispatches { Dispatches (view pass.old) (view pass.new) (E.tally events.old) (E.tally events.new) }
+    ensures dispatches { Dispatches (view pass.old) (view pass.new) (E.tally events.old) (E.tally events.new) 0 0 }
 {
     let mut from = 0;
     for _ in rt.forever() {
@@ -67,8 +69,8 @@ fn lend_all<E: Events, G: Gate, R: Wait>(
         }
         match events.next_pending(from) {
             Some(page) => {
-                if let Err(Fault::Stopped) = lend_one(rt, queue, pass, events, page) {
-                    return DispatchEnd::Stopped;
+                if let Err(end) = lend_one(rt, queue, pass, events, page) {
+                    return end;
                 }
                 from = page.saturating_add(1);
             }
@@ -101,20 +103,24 @@ fn idle_end<E: Events>(events: &E, last: bool) -> Option<DispatchEnd> {
     None
 }
 
-// Lends a page and puts the lease. A lease that the queue hands back is offered to `give`.
+// Lends a page and puts the lease. A lease that the queue hands back is offered to `give`. A page that
+// can't be lent now is passed over. `Err`: nothing can be lent any more.
 fn lend_one<E: Events, R: Wait>(
     rt: &R,
     queue: &HandOff,
     pass: &mut Pass,
     events: &mut E,
     page: u32,
-) -> Result<(), Fault>
+) -> Result<(), DispatchEnd>
     requires queue { IsPassOf queue.now pass.old }
     requires parts { 0 < (view pass.old).parts }
     ensures queue { IsPassOf queue.now pass.new }
-    ensures dispatches { Dispatches (view pass.old) (view pass.new) (E.tally events.old) (E.tally events.new) }
+    ensures dispatches { Dispatches (view pass.old) (view pass.new) (E.tally events.old) (E.tally events.new) 0 0 }
 {
-    let lease = events.lend(page)?;
+    let lease = match events.lend(page) {
+        Ok(lease) => lease,
+        Err(fault) => return end_at(fault),
+    };
     match queue.put(rt, pass, Job::Work(lease)) {
         Ok(()) => {}
         Err(Job::Work(lease)) => {
@@ -126,19 +132,39 @@ fn lend_one<E: Events, R: Wait>(
     Ok(())
 }
 
+// `Err`: by this refusal of a lend nothing can be lent any more.
+fn end_at(fault: Fault) -> Result<(), DispatchEnd> {
+    match fault {
+        Fault::Stopped => Err(DispatchEnd::Stopped),
+        Fault::NumbersSpent => Err(DispatchEnd::NumbersSpent),
+        _ => Ok(()),
+    }
+}
+
 // Puts a stop for each worker, and counts those that the queue took.
 fn stop_all<R: Wait>(rt: &R, queue: &HandOff, pass: &mut Pass, workers: usize) -> usize
     requires queue { IsPassOf queue.now pass.old }
     requires parts { 0 < (view pass.old).parts }
     ensures queue { IsPassOf queue.now pass.new }
-    ensures same { view pass.new ≡ view pass.old }
-    ensures stops { result ≤ workers }
+    ensures stops { HasStopped (view pass.old) (view pass.new) workers result }
 {
     let mut stops = 0;
     for _ in 0..workers {
-        if queue.put(rt, pass, Job::Stop).is_ok() {
-            stops += 1;
-        }
+        stops += stop_one(rt, queue, pass);
     }
     stops
+}
+
+// Puts a stop. 1, or 0 where the queue handed it back.
+fn stop_one<R: Wait>(rt: &R, queue: &HandOff, pass: &mut Pass) -> usize
+    requires queue { IsPassOf queue.now pass.old }
+    requires parts { 0 < (view pass.old).parts }
+    ensures queue { IsPassOf queue.now pass.new }
+    ensures stops { HasStopped (view pass.old) (view pass.new) 1 result }
+{
+    match queue.put(rt, pass, Job::Stop) {
+        Ok(()) => {}
+        Err(_) => return 0,
+    }
+    1
 }

@@ -7,12 +7,14 @@ pub enum DispatchEnd {
     Drained,
     /// The engine has stopped.
     Stopped,
+    /// The last lease number is spent, so nothing can be lent any more.
+    NumbersSpent,
     /// The gate stopped it.
     Gate,
 }
 
-/// Why a dispatcher ended, and how many stops it put: one for each worker, less those that the queue
-/// handed back.
+/// Why a dispatcher ended, and how many stops it put: one for each worker, but for those that the
+/// queue handed back.
 #[derive(Clone, Copy, Debug, PartialEq, Eq)]
 pub struct Dispatched {
     pub end: DispatchEnd,

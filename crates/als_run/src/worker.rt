@@ -3,15 +3,14 @@ ghost use Rattle.crossbeam_channel.specs.Claims.{view};
 ghost use Rattle.als_engine.specs.declared.event.Event.TheVariants as event;
 ghost use Rattle.als_lease.specs.Lease.{is_finished};
 ghost use Rattle.als_handoff.specs.declared.rule.PassState.{PassState};
-ghost use Rattle.als_handoff.specs.Pairs.{pair_of};
-ghost use Rattle.als_handoff.specs.Rule.{pass_state};
 ghost use Rattle.als_handoff.specs.Passes.{IsPassOf};
-ghost use Rattle.als_run.specs.Offers.{offers_of, events_of, HasRoom};
+ghost use Rattle.als_run.specs.Offers.{events_of, record_of};
 ghost use Rattle.als_run.specs.Tallies.{AloneRaise};
 ghost use Rattle.als_run.specs.Worked.{Worked, IsTurnOf, HasTaken};
 
 use crate::ended::Ended;
 use crate::gate::{Gate, Point};
+use crate::offer_record::OfferRecord;
 use crate::via::Via;
 use als_engine::Events;
 use als_handoff::{HandOff, Job, Pass};
@@ -22,19 +21,20 @@ use std::sync::Wait;
 const TURN_LEN: usize = 16;
 
 /// Takes leases and redoes a turn of each, outside the engine, until it takes a stop. A finished lease
-/// is given, an unfinished one goes to the back of the queue.
+/// is given, an unfinished one goes to the back of the queue. What it offers is recorded as `O` does:
+/// the clauses are the same for each kind of record.
 #[tactic(auto, using(crate::proofs::Tallies::none))]
-pub fn apply_worker<E: Events, G: Gate, R: Wait>(
+pub fn apply_worker<E: Events, O: OfferRecord, G: Gate, R: Wait>(
     rt: &R,
     queue: &HandOff,
     pass: &mut Pass,
-    via: &mut Via<E>,
+    via: &mut Via<E, O>,
     gate: &G,
 ) -> Ended
     requires queue { IsPassOf queue.now pass.old }
     requires parts { 0 < (view pass.old).parts }
     ensures queue { IsPassOf queue.now pass.new }
-    ensures worked { Worked (view pass.old) (view pass.new) (offers_of via.old) (offers_of via.new) (Some result) }
+    ensures worked { Worked (view pass.old) (view pass.new) (O.offers (record_of via.old)) (O.offers (record_of via.new)) (Some result) }
     // It makes no event but `give`.
     ensures gives { AloneRaise (event.Give ∷ []) (E.tally (events_of via.old)) (E.tally (events_of via.new)) }
 {
@@ -48,17 +48,17 @@ pub fn apply_worker<E: Events, G: Gate, R: Wait>(
 
 // Takes one job, and works on it for a turn. `None`: the worker goes on.
 #[tactic(auto, using(crate::proofs::Tallies::none))]
-fn work_once<E: Events, G: Gate, R: Wait>(
+fn work_once<E: Events, O: OfferRecord, G: Gate, R: Wait>(
     rt: &R,
     queue: &HandOff,
     pass: &mut Pass,
-    via: &mut Via<E>,
+    via: &mut Via<E, O>,
     gate: &G,
 ) -> Option<Ended>
     requires queue { IsPassOf queue.now pass.old }
     requires parts { 0 < (view pass.old).parts }
     ensures queue { IsPassOf queue.now pass.new }
-    ensures worked { Worked (view pass.old) (view pass.new) (offers_of via.old) (offers_of via.new) result }
+    ensures worked { Worked (view pass.old) (view pass.new) (O.offers (record_of via.old)) (O.offers (record_of via.new)) result }
     ensures gives { AloneRaise (event.Give ∷ []) (E.tally (events_of via.old)) (E.tally (events_of via.new)) }
 {
     if via.room().is_err() {
@@ -76,20 +76,20 @@ fn work_once<E: Events, G: Gate, R: Wait>(
 
 // Works for a turn on a lease that was taken.
 #[tactic(auto, using(crate::proofs::Tallies::none))]
-fn work_on<E: Events, G: Gate, R: Wait>(
+fn work_on<E: Events, O: OfferRecord, G: Gate, R: Wait>(
     rt: &R,
     queue: &HandOff,
     pass: &mut Pass,
-    via: &mut Via<E>,
+    via: &mut Via<E, O>,
     gate: &G,
     mut lease: PageLease,
 ) -> Option<Ended>
     requires queue { IsPassOf queue.now pass.old }
     requires parts { 0 < (view pass.old).parts }
-    requires room { HasRoom via.old }
+    requires room { O.has_room (record_of via.old) }
     ensures queue { IsPassOf queue.now pass.new }
     ensures worked { (u : PassState) → HasTaken u lease (view pass.old)
-        → Worked u (view pass.new) (offers_of via.old) (offers_of via.new) result }
+        → Worked u (view pass.new) (O.offers (record_of via.old)) (O.offers (record_of via.new)) result }
     ensures gives { AloneRaise (event.Give ∷ []) (E.tally (events_of via.old)) (E.tally (events_of via.new)) }
 {
     let number = lease.number();

@@ -2,3 +2,4 @@ pub mod Sums
 pub mod Shares
 pub mod Booked
 pub mod Going
+pub mod Floors

@@ -1,5 +1,6 @@
 -- Ledgers of a shared engine, and what was done by them.
 use Rattle.std.specs.Prelude.{◌≡◌, ℕ, ◌+◌, ◌<◌, List, [], ◌∷◌, slice_index}
+use Rattle.logbook.specs.Pages.{Book}
 use Rattle.als_store.specs.Stored.{formatted_pool}
 use Rattle.als_engine.specs.declared.config.Config.{Config}
 use Rattle.als_engine.specs.Machine.{Machine, formatted_machine}
@@ -33,3 +34,7 @@ AreNew (xs ∷ xss) = (xs ≡ no_events) × AreNew xss
 -- a machine for what is said of a machine that nobody sees
 unfoldable pub nobody_sees : Machine
 nobody_sees = formatted_machine (record { pages = 0; frames = 0; pending = 0; readers = 0 }) (formatted_pool 0 0 0 0 0) 0 0 0
+
+-- a view that no reader has
+abbrev pub no_book : Book
+no_book = record { number = 0; log_name = 0; cells_name = 0 }

@@ -2,13 +2,15 @@ ghost use Rattle.std.specs.Prelude.{◌≡◌};
 ghost use Rattle.als_engine.specs.Tally.{no_events};
 ghost use Rattle.als_share.specs.Ledgers.{Named, Parted, AreNamed};
 
+use crate::acknowledger::Acknowledger;
 use crate::books::Books;
-use crate::ledgers::{Ledgers, Of};
+use crate::ledgers::{Floor, Ledgers, Of};
 use crate::part::Part;
 use std::marker::Model;
-use std::sync::ledger::Blank;
+use std::sync::ledger::{Blank, Book};
 
-/// A new ledger for each event, which are no engine's yet.
+/// A new ledger for each event, and one for what is acknowledged for a session, which are no engine's
+/// yet.
 pub struct Blanks {
     pub(crate) feed: Blank,
     pub(crate) resync: Blank,
@@ -29,6 +31,7 @@ pub struct Blanks {
     pub(crate) seal: Blank,
     pub(crate) undo_one: Blank,
     pub(crate) finish: Blank,
+    pub(crate) floor: Blank,
 }
 
 impl Model for Blanks {
@@ -38,14 +41,14 @@ impl Model for Blanks {
     ghost Value = { Named };
 
     ghost view = { λ b. record {
-      names = b.feed.name ∷ b.resync.name ∷ b.lend.name ∷ b.give.name ∷ b.recall.name ∷ b.flush.name ∷ b.sync_pages.name ∷ b.log_write.name ∷ b.log_sync.name ∷ b.mark_write.name ∷ b.ctl_sync.name ∷ b.ckpt_begin.name ∷ b.ckpt_block.name ∷ b.ckpt_publish.name ∷ b.publish_view.name ∷ b.ready.name ∷ b.seal.name ∷ b.undo_one.name ∷ b.finish.name ∷ [];
+      names = b.feed.name ∷ b.resync.name ∷ b.lend.name ∷ b.give.name ∷ b.recall.name ∷ b.flush.name ∷ b.sync_pages.name ∷ b.log_write.name ∷ b.log_sync.name ∷ b.mark_write.name ∷ b.ctl_sync.name ∷ b.ckpt_begin.name ∷ b.ckpt_block.name ∷ b.ckpt_publish.name ∷ b.publish_view.name ∷ b.ready.name ∷ b.seal.name ∷ b.undo_one.name ∷ b.finish.name ∷ b.floor.name ∷ [];
       parts = b.feed.parts;
     } };
 
-    ghost invariant = { λ b. (b.resync.parts ≡ b.feed.parts) × (b.lend.parts ≡ b.feed.parts) × (b.give.parts ≡ b.feed.parts) × (b.recall.parts ≡ b.feed.parts) × (b.flush.parts ≡ b.feed.parts) × (b.sync_pages.parts ≡ b.feed.parts) × (b.log_write.parts ≡ b.feed.parts) × (b.log_sync.parts ≡ b.feed.parts) × (b.mark_write.parts ≡ b.feed.parts) × (b.ctl_sync.parts ≡ b.feed.parts) × (b.ckpt_begin.parts ≡ b.feed.parts) × (b.ckpt_block.parts ≡ b.feed.parts) × (b.ckpt_publish.parts ≡ b.feed.parts) × (b.publish_view.parts ≡ b.feed.parts) × (b.ready.parts ≡ b.feed.parts) × (b.seal.parts ≡ b.feed.parts) × (b.undo_one.parts ≡ b.feed.parts) × (b.finish.parts ≡ b.feed.parts) };
+    ghost invariant = { λ b. (b.resync.parts ≡ b.feed.parts) × (b.lend.parts ≡ b.feed.parts) × (b.give.parts ≡ b.feed.parts) × (b.recall.parts ≡ b.feed.parts) × (b.flush.parts ≡ b.feed.parts) × (b.sync_pages.parts ≡ b.feed.parts) × (b.log_write.parts ≡ b.feed.parts) × (b.log_sync.parts ≡ b.feed.parts) × (b.mark_write.parts ≡ b.feed.parts) × (b.ctl_sync.parts ≡ b.feed.parts) × (b.ckpt_begin.parts ≡ b.feed.parts) × (b.ckpt_block.parts ≡ b.feed.parts) × (b.ckpt_publish.parts ≡ b.feed.parts) × (b.publish_view.parts ≡ b.feed.parts) × (b.ready.parts ≡ b.feed.parts) × (b.seal.parts ≡ b.feed.parts) × (b.undo_one.parts ≡ b.feed.parts) × (b.finish.parts ≡ b.feed.parts) × (b.floor.parts ≡ 1) };
 }
 
-// Written out: a derived drop is proved wherever blanks are let go of, this one only here.
+// Written out: a derived drop is proved wherever blanks are dropped, this one only here.
 impl Drop for Blanks {
     fn drop(self) {
         let Blanks {
@@ -68,12 +71,13 @@ impl Drop for Blanks {
             seal: _,
             undo_one: _,
             finish: _,
+            floor: _,
         } = self;
     }
 }
 
 impl Blanks {
-    /// New ledgers, each cut into this many parts.
+    /// New ledgers, those of the events each cut into this many parts.
     pub fn new(parts: u64) -> Blanks
         ensures { result.parts ≡ parts }
     {
@@ -97,15 +101,17 @@ impl Blanks {
             seal: Blank::new(parts),
             undo_one: Blank::new(parts),
             finish: Blank::new(parts),
+            floor: Blank::new(1),
         }
     }
 
     /// Opens the ledgers: the books, and all parts, with nothing done yet.
-    pub fn open<L: Ledgers>(self) -> (Books<L>, Part<L>)
+    pub fn open<L: Ledgers>(self) -> (Books<L>, Part<L>, Book<Floor<L>>, Acknowledger<L>)
         requires names { AreNamed L.names self.names }
         requires parts { self.parts ≡ L.shares }
         ensures books { result.0 ≡ no_events }
         ensures part { result.1 ≡ record { parts = L.shares; tally = no_events } }
+        ensures floor { (result.2.total ≡ 0) × (result.3 ≡ 0) }
     {
         let Blanks {
             feed,
@@ -127,6 +133,7 @@ impl Blanks {
             seal,
             undo_one,
             finish,
+            floor,
         } = self;
         let (feed, feed_part) = feed.open::<Of<L, 0>>();
         let (resync, resync_part) = resync.open::<Of<L, 1>>();
@@ -147,6 +154,7 @@ impl Blanks {
         let (seal, seal_part) = seal.open::<Of<L, 16>>();
         let (undo_one, undo_one_part) = undo_one.open::<Of<L, 17>>();
         let (finish, finish_part) = finish.open::<Of<L, 18>>();
+        let (floor, floor_part) = floor.open::<Floor<L>>();
         (
             Books {
                 feed,
@@ -190,6 +198,8 @@ impl Blanks {
                 undo_one: undo_one_part,
                 finish: finish_part,
             },
+            floor,
+            Acknowledger::new(floor_part),
         )
     }
 }

@@ -39,7 +39,7 @@ impl<L: Ledgers> Model for Books<L> {
     ghost view = { λ b. b.feed.total ∷ b.resync.total ∷ b.lend.total ∷ b.give.total ∷ b.recall.total ∷ b.flush.total ∷ b.sync_pages.total ∷ b.log_write.total ∷ b.log_sync.total ∷ b.mark_write.total ∷ b.ctl_sync.total ∷ b.ckpt_begin.total ∷ b.ckpt_block.total ∷ b.ckpt_publish.total ∷ b.publish_view.total ∷ b.ready.total ∷ b.seal.total ∷ b.undo_one.total ∷ b.finish.total ∷ [] };
 }
 
-// Written out: a derived drop is proved wherever books are let go of, this one only here.
+// Written out: a derived drop is proved wherever books are dropped, this one only here.
 impl<L: Ledgers> Drop for Books<L> {
     fn drop(self) {
         let Books {

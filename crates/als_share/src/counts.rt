@@ -9,7 +9,8 @@ pub trait Counts: Events {
     /// Starts the tally: no event is counted yet. Nothing else changes.
     fn start_tally(&mut self)
         ensures tally { Self.tally self.new ≡ no_events }
-        ensures same { Self.machine self.new ≡ Self.machine self.old };
+        ensures same { Self.machine self.new ≡ Self.machine self.old }
+        ensures book { Self.book self.new ≡ Self.book self.old };
 }
 
 impl<D: BlockDisk> Counts for Engine<D> {

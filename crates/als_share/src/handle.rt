@@ -1,11 +1,14 @@
 ghost use Rattle.std.specs.Prelude.{◌≡◌};
 
+use crate::acknowledger::Acknowledger;
 use crate::ledgers::Ledgers;
 use crate::shared::Shared;
 use crate::thread_share::Share;
-use als_engine::{Answer, Events, Fault, Fed, FeedFault, NotGiven, PageLease, Status};
+use als_engine::{Events, Fault, Fed, FeedFault, NotGiven, PageLease, Status};
 use als_page::Page;
-use als_record::{Key, LoggedPage, Lsn, Record, TransactionRow};
+use als_record::{LoggedPage, Lsn, Record, TransactionRow};
+use als_view::Told;
+use als_vouch::Voucher;
 use std::alloc::Global;
 use std::sync::Wait;
 
@@ -16,7 +19,7 @@ pub struct Handle<'a, L: Ledgers, E: Events, R: Wait> {
     share: Share<L>,
 }
 
-// Written out: a derived drop is proved wherever a handle is let go of, this one only here.
+// Written out: a derived drop is proved wherever a handle is dropped, this one only here.
 impl<L: Ledgers, E: Events, R: Wait> Drop for Handle<'_, L, E, R> {
     fn drop(self) {
         let Handle {
@@ -49,7 +52,7 @@ impl<'a, L: Ledgers, E: Events, R: Wait> Handle<'a, L, E, R> {
     }
 }
 
-// Others drive the engine too, so of its machine a handle says nothing.
+// Others drive the engine too, so of its machine a handle says nothing. Its readers stay the same.
 impl<L: Ledgers, E: Events, R: Wait> Events for Handle<'_, L, E, R> {
     ghost use Rattle.als_share.specs.Ledgers.{nobody_sees};
 
@@ -58,6 +61,8 @@ impl<L: Ledgers, E: Events, R: Wait> Events for Handle<'_, L, E, R> {
     ghost machine = { λ h. nobody_sees };
 
     ghost tally = { λ h. h.share };
+
+    ghost book = { λ h. L.book };
 
     fn feed(&mut self, piece: &[u8]) -> Result<Fed, FeedFault> {
         let mut locked = self.shared.lock.lock(self.rt);
@@ -129,14 +134,14 @@ impl<L: Ledgers, E: Events, R: Wait> Events for Handle<'_, L, E, R> {
         locked.ckpt_publish(&mut self.share)
     }
 
-    fn publish_view(&mut self) -> Result<(), Fault> {
+    fn publish_view<W: Wait>(&mut self, rt: &W) -> Result<(), Fault> {
         let mut locked = self.shared.lock.lock(self.rt);
-        locked.publish_view(&mut self.share)
+        locked.publish_view(rt, &mut self.share)
     }
 
-    fn ready(&mut self) -> Result<(), Fault> {
+    fn ready<W: Wait>(&mut self, rt: &W) -> Result<(), Fault> {
         let mut locked = self.shared.lock.lock(self.rt);
-        locked.ready(&mut self.share)
+        locked.ready(rt, &mut self.share)
     }
 
     fn seal(&mut self) -> Result<(), Fault> {
@@ -174,8 +179,8 @@ impl<L: Ledgers, E: Events, R: Wait> Events for Handle<'_, L, E, R> {
         self.shared.lock.lock(self.rt).engine.next_pending(from)
     }
 
-    fn read(&self, key: Key) -> Result<Answer, Fault> {
-        self.shared.lock.lock(self.rt).engine.read(key)
+    fn tell(&self) -> Told {
+        self.shared.lock.lock(self.rt).tell()
     }
 
     fn page_now(&mut self, page: u32) -> Result<Page, Fault> {
@@ -184,5 +189,15 @@ impl<L: Ledgers, E: Events, R: Wait> Events for Handle<'_, L, E, R> {
 
     fn record_at(&mut self, lsn: Lsn) -> Result<Option<Record>, Fault> {
         self.shared.lock.lock(self.rt).record_at(lsn)
+    }
+}
+
+// An answer that it gave stays acknowledged, whoever else drives the engine.
+impl<'a, L: Ledgers, E: Events, R: Wait> Voucher<Handle<'a, L, E, R>> for Acknowledger<L> {
+    ghost floor = { λ a. a };
+
+    fn acknowledge(&mut self, events: &mut Handle<'a, L, E, R>) -> Result<Lsn, Fault> {
+        let mut locked = events.shared.lock.lock(events.rt);
+        locked.acknowledge(&mut events.share, self)
     }
 }

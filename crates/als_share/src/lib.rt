@@ -11,7 +11,9 @@
 //! 3. Whenever the lock is free, the engine's machine is reached from the one that was shared, by
 //!    events of the small machine. So what is true of each run is true of a standby that threads
 //!    drive.
-//! 4. Books and shares take no bytes and no time: they are there for contracts.
+//! 4. Readers stay those of the engine that was shared: what a handle tells, each of them may learn.
+//! 5. Whenever the lock is free, what was acknowledged for a session is acknowledged in the engine.
+//! 6. Books and shares take no bytes and no time: they are there for contracts.
 #![tactic(auto)]
 
 // Which ledgers belong together.
@@ -22,6 +24,8 @@ mod blanks;
 mod part;
 // What a thread did.
 mod thread_share;
+// What was acknowledged for a session.
+mod acknowledger;
 // What all threads did.
 mod books;
 // An engine whose tally can be started.
@@ -33,6 +37,7 @@ mod shared;
 // A thread's way to it.
 mod handle;
 
+pub use acknowledger::Acknowledger;
 pub use blanks::Blanks;
 pub use counts::Counts;
 pub use handle::Handle;

@@ -1,26 +1,35 @@
-ghost use Rattle.std.specs.Prelude.{◌≡◌, IfOk, IfErr, Some};
+ghost use Rattle.std.specs.Prelude.{◌≡◌, ◌≤◌, IfOk, IfErr, Some};
+ghost use Rattle.als_store.specs.Stored.{acknowledged};
 ghost use Rattle.als_engine.specs.declared.event.Event.TheVariants as event;
 ghost use Rattle.als_engine.specs.Tally.{TellsOk, TellsTaken};
+ghost use Rattle.als_engine.specs.Readers.{book_told};
 ghost use Rattle.als_engine.specs.Telling.{Stands};
 ghost use Rattle.als_reach.specs.Reaching.{ReachesFrom};
 
+use crate::acknowledger::Acknowledger;
 use crate::books::Books;
-use crate::ledgers::Ledgers;
+use crate::ledgers::{Floor, Ledgers};
 use crate::thread_share::Share;
 use als_engine::{Event, Events, Fault, Fed, FeedFault, NotGiven, PageLease};
 use als_page::Page;
 use als_record::{Lsn, Record};
+use als_view::Told;
 use std::marker::Model;
+use std::sync::Wait;
+use std::sync::ledger::Book;
 
-/// What is under the lock: an engine that events made of the one that was shared, and books that are
-/// its tally.
+/// What is under the lock: an engine that events made of the one that was shared, with the same
+/// readers, books that are its tally, and the book of what was acknowledged for a session, which the
+/// engine still has.
 pub struct Locked<L: Ledgers, E: Events> {
     pub(crate) engine: E,
     pub(crate) books: Books<L>,
+    pub(crate) floor: Book<Floor<L>>,
 }
 
 impl<L: Ledgers, E: Events> Model for Locked<L, E> {
-    ghost use Rattle.std.specs.Prelude.{◌≡◌};
+    ghost use Rattle.std.specs.Prelude.{◌≡◌, ◌≤◌};
+    ghost use Rattle.als_store.specs.Stored.{acknowledged};
     ghost use Rattle.als_engine.specs.Machine.{Machine};
     ghost use Rattle.als_reach.specs.Reaching.{ReachesFrom};
 
@@ -29,13 +38,19 @@ impl<L: Ledgers, E: Events> Model for Locked<L, E> {
     ghost view = { λ l. E.machine l.engine };
 
     ghost invariant = { λ l. (l.books ≡ E.tally l.engine)
-        × (E.alone → ReachesFrom L.start (E.machine l.engine)) };
+        × (E.alone → ReachesFrom L.start (E.machine l.engine))
+        × (E.book l.engine ≡ L.book)
+        × (E.alone → l.floor.total ≤ acknowledged (E.machine l.engine).held) };
 }
 
 // Written out, as an engine's.
 impl<L: Ledgers, E: Events + Drop> Drop for Locked<L, E> {
     fn drop(self) {
-        let Locked { engine, books } = self;
+        let Locked {
+            engine,
+            books,
+            floor: _,
+        } = self;
         drop(engine);
         drop(books);
     }
@@ -49,29 +64,46 @@ fn stands<E: Events>(engine: &E)
 }
 
 impl<L: Ledgers, E: Events> Locked<L, E> {
-    /// The engine that is shared, with books that say what it counted.
-    pub fn new(engine: E, books: Books<L>) -> Locked<L, E>
+    /// The engine that is shared, with books that say what it counted. Nothing was acknowledged for
+    /// a session.
+    pub fn new(engine: E, books: Books<L>, floor: Book<Floor<L>>) -> Locked<L, E>
         requires start { L.start ≡ Some (E.machine engine) }
         requires books { books ≡ E.tally engine }
+        requires book { L.book ≡ E.book engine }
+        requires floor { floor.total ≡ 0 }
         ensures { result ≡ E.machine engine }
     {
-        Locked { engine, books }
+        Locked {
+            engine,
+            books,
+            floor,
+        }
     }
 
     /// The engine and its books.
-    pub fn into_parts(self) -> (E, Books<L>)
+    pub fn into_parts(self) -> (E, Books<L>, Book<Floor<L>>)
         ensures books { result.1 ≡ E.tally result.0 }
         ensures reached { E.alone → ReachesFrom L.start (E.machine result.0) }
+        ensures book { E.book result.0 ≡ L.book }
+        ensures floor { E.alone → result.2.total ≤ acknowledged (E.machine result.0).held }
     {
-        let Locked { engine, books } = self;
-        (engine, books)
+        let Locked {
+            engine,
+            books,
+            floor,
+        } = self;
+        (engine, books, floor)
     }
 
     /// One feed.
     pub fn feed(&mut self, share: &mut Share<L>, piece: &[u8]) -> Result<Fed, FeedFault>
         ensures { TellsTaken result share.old share.new }
     {
-        let Locked { engine, books } = self;
+        let Locked {
+            engine,
+            books,
+            floor: _,
+        } = self;
         let answer = engine.feed(piece);
         stands(engine);
         books.note_taken(share, &answer);
@@ -82,7 +114,11 @@ impl<L: Ledgers, E: Events> Locked<L, E> {
     pub fn resync(&mut self, share: &mut Share<L>) -> Result<(), Fault>
         ensures { TellsOk event.Resync result share.old share.new }
     {
-        let Locked { engine, books } = self;
+        let Locked {
+            engine,
+            books,
+            floor: _,
+        } = self;
         let answer = engine.resync();
         stands(engine);
         books.note(share, Event::Resync, &answer);
@@ -94,7 +130,11 @@ impl<L: Ledgers, E: Events> Locked<L, E> {
         ensures told { TellsOk event.Lend result share.old share.new }
         ensures fresh { IfOk result (λ lease. lease.done ≡ 0) }
     {
-        let Locked { engine, books } = self;
+        let Locked {
+            engine,
+            books,
+            floor: _,
+        } = self;
         let answer = engine.lend(page);
         stands(engine);
         books.note(share, Event::Lend, &answer);
@@ -106,7 +146,11 @@ impl<L: Ledgers, E: Events> Locked<L, E> {
         ensures told { TellsOk event.Give result share.old share.new }
         ensures back { IfErr result (λ refused. refused.lease ≡ lease) }
     {
-        let Locked { engine, books } = self;
+        let Locked {
+            engine,
+            books,
+            floor: _,
+        } = self;
         let answer = engine.give(lease);
         stands(engine);
         books.note(share, Event::Give, &answer);
@@ -117,7 +161,11 @@ impl<L: Ledgers, E: Events> Locked<L, E> {
     pub fn recall(&mut self, share: &mut Share<L>, page: u32) -> Result<(), Fault>
         ensures { TellsOk event.Recall result share.old share.new }
     {
-        let Locked { engine, books } = self;
+        let Locked {
+            engine,
+            books,
+            floor: _,
+        } = self;
         let answer = engine.recall(page);
         stands(engine);
         books.note(share, Event::Recall, &answer);
@@ -128,7 +176,11 @@ impl<L: Ledgers, E: Events> Locked<L, E> {
     pub fn flush(&mut self, share: &mut Share<L>, page: u32) -> Result<(), Fault>
         ensures { TellsOk event.Flush result share.old share.new }
     {
-        let Locked { engine, books } = self;
+        let Locked {
+            engine,
+            books,
+            floor: _,
+        } = self;
         let answer = engine.flush(page);
         stands(engine);
         books.note(share, Event::Flush, &answer);
@@ -139,7 +191,11 @@ impl<L: Ledgers, E: Events> Locked<L, E> {
     pub fn sync_pages(&mut self, share: &mut Share<L>) -> Result<(), Fault>
         ensures { TellsOk event.SyncPages result share.old share.new }
     {
-        let Locked { engine, books } = self;
+        let Locked {
+            engine,
+            books,
+            floor: _,
+        } = self;
         let answer = engine.sync_pages();
         stands(engine);
         books.note(share, Event::SyncPages, &answer);
@@ -150,7 +206,11 @@ impl<L: Ledgers, E: Events> Locked<L, E> {
     pub fn log_write(&mut self, share: &mut Share<L>) -> Result<(), Fault>
         ensures { TellsOk event.LogWrite result share.old share.new }
     {
-        let Locked { engine, books } = self;
+        let Locked {
+            engine,
+            books,
+            floor: _,
+        } = self;
         let answer = engine.log_write();
         stands(engine);
         books.note(share, Event::LogWrite, &answer);
@@ -161,7 +221,11 @@ impl<L: Ledgers, E: Events> Locked<L, E> {
     pub fn log_sync(&mut self, share: &mut Share<L>) -> Result<(), Fault>
         ensures { TellsOk event.LogSync result share.old share.new }
     {
-        let Locked { engine, books } = self;
+        let Locked {
+            engine,
+            books,
+            floor: _,
+        } = self;
         let answer = engine.log_sync();
         stands(engine);
         books.note(share, Event::LogSync, &answer);
@@ -172,7 +236,11 @@ impl<L: Ledgers, E: Events> Locked<L, E> {
     pub fn mark_write(&mut self, share: &mut Share<L>) -> Result<(), Fault>
         ensures { TellsOk event.MarkWrite result share.old share.new }
     {
-        let Locked { engine, books } = self;
+        let Locked {
+            engine,
+            books,
+            floor: _,
+        } = self;
         let answer = engine.mark_write();
         stands(engine);
         books.note(share, Event::MarkWrite, &answer);
@@ -181,20 +249,48 @@ impl<L: Ledgers, E: Events> Locked<L, E> {
 
     /// One `ctl_sync`.
     pub fn ctl_sync(&mut self, share: &mut Share<L>) -> Result<Lsn, Fault>
-        ensures { TellsOk event.ControlSync result share.old share.new }
+        ensures told { TellsOk event.ControlSync result share.old share.new }
+        ensures answer { IfOk result (λ lsn. E.alone → lsn.0 ≡ acknowledged self.new.held) }
     {
-        let Locked { engine, books } = self;
+        let Locked {
+            engine,
+            books,
+            floor: _,
+        } = self;
         let answer = engine.ctl_sync();
         stands(engine);
         books.note(share, Event::ControlSync, &answer);
         answer
     }
 
+    /// The same for a session, whose acknowledger notes the answer.
+    pub fn acknowledge(
+        &mut self,
+        share: &mut Share<L>,
+        acknowledger: &mut Acknowledger<L>,
+    ) -> Result<Lsn, Fault>
+        ensures told { TellsOk event.ControlSync result share.old share.new }
+        ensures vouched { IfOk result (λ lsn. lsn.0 ≤ acknowledger.new) }
+        ensures rises { acknowledger.old ≤ acknowledger.new }
+    {
+        match self.ctl_sync(share) {
+            Ok(lsn) => {
+                acknowledger.note(&mut self.floor, lsn);
+                Ok(lsn)
+            }
+            Err(fault) => Err(fault),
+        }
+    }
+
     /// One `ckpt_begin`.
     pub fn ckpt_begin(&mut self, share: &mut Share<L>) -> Result<(), Fault>
         ensures { TellsOk event.CkptBegin result share.old share.new }
     {
-        let Locked { engine, books } = self;
+        let Locked {
+            engine,
+            books,
+            floor: _,
+        } = self;
         let answer = engine.ckpt_begin();
         stands(engine);
         books.note(share, Event::CkptBegin, &answer);
@@ -205,7 +301,11 @@ impl<L: Ledgers, E: Events> Locked<L, E> {
     pub fn ckpt_block(&mut self, share: &mut Share<L>) -> Result<(), Fault>
         ensures { TellsOk event.CkptBlock result share.old share.new }
     {
-        let Locked { engine, books } = self;
+        let Locked {
+            engine,
+            books,
+            floor: _,
+        } = self;
         let answer = engine.ckpt_block();
         stands(engine);
         books.note(share, Event::CkptBlock, &answer);
@@ -216,7 +316,11 @@ impl<L: Ledgers, E: Events> Locked<L, E> {
     pub fn ckpt_publish(&mut self, share: &mut Share<L>) -> Result<(), Fault>
         ensures { TellsOk event.CkptPublish result share.old share.new }
     {
-        let Locked { engine, books } = self;
+        let Locked {
+            engine,
+            books,
+            floor: _,
+        } = self;
         let answer = engine.ckpt_publish();
         stands(engine);
         books.note(share, Event::CkptPublish, &answer);
@@ -224,22 +328,30 @@ impl<L: Ledgers, E: Events> Locked<L, E> {
     }
 
     /// One `publish_view`.
-    pub fn publish_view(&mut self, share: &mut Share<L>) -> Result<(), Fault>
+    pub fn publish_view<R: Wait>(&mut self, rt: &R, share: &mut Share<L>) -> Result<(), Fault>
         ensures { TellsOk event.PublishView result share.old share.new }
     {
-        let Locked { engine, books } = self;
-        let answer = engine.publish_view();
+        let Locked {
+            engine,
+            books,
+            floor: _,
+        } = self;
+        let answer = engine.publish_view(rt);
         stands(engine);
         books.note(share, Event::PublishView, &answer);
         answer
     }
 
     /// One `ready`.
-    pub fn ready(&mut self, share: &mut Share<L>) -> Result<(), Fault>
+    pub fn ready<R: Wait>(&mut self, rt: &R, share: &mut Share<L>) -> Result<(), Fault>
         ensures { TellsOk event.Ready result share.old share.new }
     {
-        let Locked { engine, books } = self;
-        let answer = engine.ready();
+        let Locked {
+            engine,
+            books,
+            floor: _,
+        } = self;
+        let answer = engine.ready(rt);
         stands(engine);
         books.note(share, Event::Ready, &answer);
         answer
@@ -249,7 +361,11 @@ impl<L: Ledgers, E: Events> Locked<L, E> {
     pub fn seal(&mut self, share: &mut Share<L>) -> Result<(), Fault>
         ensures { TellsOk event.Seal result share.old share.new }
     {
-        let Locked { engine, books } = self;
+        let Locked {
+            engine,
+            books,
+            floor: _,
+        } = self;
         let answer = engine.seal();
         stands(engine);
         books.note(share, Event::Seal, &answer);
@@ -260,7 +376,11 @@ impl<L: Ledgers, E: Events> Locked<L, E> {
     pub fn undo_one(&mut self, share: &mut Share<L>) -> Result<Lsn, Fault>
         ensures { TellsOk event.UndoOne result share.old share.new }
     {
-        let Locked { engine, books } = self;
+        let Locked {
+            engine,
+            books,
+            floor: _,
+        } = self;
         let answer = engine.undo_one();
         stands(engine);
         books.note(share, Event::UndoOne, &answer);
@@ -271,11 +391,22 @@ impl<L: Ledgers, E: Events> Locked<L, E> {
     pub fn finish(&mut self, share: &mut Share<L>) -> Result<(), Fault>
         ensures { TellsOk event.Finish result share.old share.new }
     {
-        let Locked { engine, books } = self;
+        let Locked {
+            engine,
+            books,
+            floor: _,
+        } = self;
         let answer = engine.finish();
         stands(engine);
         books.note(share, Event::Finish, &answer);
         answer
+    }
+
+    /// What its readers are told.
+    pub fn tell(&self) -> Told
+        ensures { book_told result ≡ L.book }
+    {
+        self.engine.tell()
     }
 
     /// The page as it is now. A page past the last one is refused.

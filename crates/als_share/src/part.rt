@@ -44,7 +44,7 @@ impl<L: Ledgers> Model for Part<L> {
     ghost invariant = { λ p. (p.resync.parts ≡ p.feed.parts) × (p.lend.parts ≡ p.feed.parts) × (p.give.parts ≡ p.feed.parts) × (p.recall.parts ≡ p.feed.parts) × (p.flush.parts ≡ p.feed.parts) × (p.sync_pages.parts ≡ p.feed.parts) × (p.log_write.parts ≡ p.feed.parts) × (p.log_sync.parts ≡ p.feed.parts) × (p.mark_write.parts ≡ p.feed.parts) × (p.ctl_sync.parts ≡ p.feed.parts) × (p.ckpt_begin.parts ≡ p.feed.parts) × (p.ckpt_block.parts ≡ p.feed.parts) × (p.ckpt_publish.parts ≡ p.feed.parts) × (p.publish_view.parts ≡ p.feed.parts) × (p.ready.parts ≡ p.feed.parts) × (p.seal.parts ≡ p.feed.parts) × (p.undo_one.parts ≡ p.feed.parts) × (p.finish.parts ≡ p.feed.parts) };
 }
 
-// Written out: a derived drop is proved wherever a part is let go of, this one only here.
+// Written out: a derived drop is proved wherever a part is dropped, this one only here.
 impl<L: Ledgers> Drop for Part<L> {
     fn drop(self) {
         let Part {

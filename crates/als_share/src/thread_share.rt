@@ -20,7 +20,7 @@ impl<L: Ledgers> Model for Share<L> {
     ghost invariant = { λ s. s.part.parts ≡ 1 };
 }
 
-// Written out: a derived drop is proved wherever a share is let go of, this one only here.
+// Written out: a derived drop is proved wherever a share is dropped, this one only here.
 impl<L: Ledgers> Drop for Share<L> {
     fn drop(self) {
         let Share { part } = self;

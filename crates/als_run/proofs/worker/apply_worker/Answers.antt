@@ -1,11 +1,11 @@
 use Rattle.std.proofs.Common.{None, refl, ◌∙◌, ap}
 use Rattle.als_handoff.specs.declared.rule.PassState.{PassState}
-use Rattle.als_run.proofs.Workings.{idle, then}
+use Rattle.als_run.proofs.Workings.{idle, stays, then}
 use Rattle.als_run.proofs.Tallies.{none, both}
 use Rattle.als_run.proofs.worker.apply_worker.Goals as goal
 
 pub loop-init : goal.loop-init
-loop-init g c = (tt, tt, c.requires.queue, refl, idle _ _ _ _ None refl refl, none _ _)
+loop-init g c = (tt, tt, c.requires.queue, refl, idle _ _ _ _ None (stays _ _ refl) refl, none _ _)
 
 pub returns-in-Some-work_once-clause-worked : goal.returns-in-Some-work_once-clause-worked
 returns-in-Some-work_once-clause-worked g c = then _ _ _ _ _ _ _ c.loop.invariant.4 c.in-Some-work_once.ensures.worked

@@ -2,7 +2,7 @@ use Rattle.std.proofs.Common.{◌≡◌, [], ◌∷◌, None}
 use Rattle.crossbeam_channel.specs.Claims.{view}
 use Rattle.als_handoff.specs.Passes.{IsPassOf}
 use Rattle.als_engine.specs.declared.event.Event.TheVariants as event
-use Rattle.als_run.specs.Offers.{offers_of, events_of}
+use Rattle.als_run.specs.Offers.{events_of, record_of}
 use Rattle.als_run.specs.Tallies.{AloneRaise}
 use Rattle.als_run.specs.Worked.{Worked}
 use Rattle.als_run.proofs.worker.apply_worker.Given as goal
@@ -11,5 +11,5 @@ abbrev pub invariant-loop : goal.invariant-loop
 invariant-loop g l =
     (goal.iterator-loop g).can_next l.iterator' × (goal.iterator-loop g).is_finite l.iterator' × IsPassOf l.queue l.pass
     × ((view l.pass).parts ≡ (view l.fn.pass).parts)
-    × Worked (view l.fn.pass) (view l.pass) (offers_of l.fn.via) (offers_of l.via) None
+    × Worked (view l.fn.pass) (view l.pass) (g.O.OfferRecord.offers (record_of l.fn.via)) (g.O.OfferRecord.offers (record_of l.via)) None
     × AloneRaise (event.Give ∷ []) (g.E.Events.tally (events_of l.fn.via)) (g.E.Events.tally (events_of l.via))

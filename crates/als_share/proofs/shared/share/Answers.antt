@@ -15,9 +15,8 @@ loop-preserved g c =
       subst AreNew (sym p.items) (new-more c.loop.shares.items c.split.result.tally i.4 (ap (λ (p : Parted). p.tally) c.split.ensures.one)),
     )
 
-pub returns : goal.returns
-returns g c =
+pub returns-clause-shares : goal.returns-clause-shares
+returns-clause-shares g c =
     let i = c.loop.invariant in
-    let p = c.push_reserved-2.ensures in record {
-      shares = (omega (arith, i.2, p.len, c.loop.auto.counter, c.loop-test.false), subst AreNew (sym p.items) (new-more c.loop.shares.items c.loop.rest.tally i.4 i.1));
-    }
+    let p = c.push_reserved-2.ensures in
+    (omega (arith, i.2, p.len, c.loop.auto.counter, c.loop-test.false), subst AreNew (sym p.items) (new-more c.loop.shares.items c.loop.rest.tally i.4 i.1))

@@ -1,4 +1,6 @@
+use Rattle.std.proofs.Common.{◌∙◌}
 use Rattle.als_share.proofs.Booked.{booked_taken}
+use Rattle.als_share.proofs.Floors.{stays_low}
 use Rattle.als_share.proofs.Going as going
 use Rattle.als_share.proofs.locked.Locked.feed.Goals as goal
 
@@ -9,4 +11,6 @@ invariant_of-self g c = (
       going.feed g.L.Ledgers.start _ _ c.args.piece c.feed-answer.result
       (record { reached = c.self.invariant.1 alone; keeps = c.feed-answer.ensures.keeps alone; stands = c.stands.ensures alone })
       (c.feed-answer.ensures.feeds alone)),
+  c.feed-answer.ensures.book ∙ c.self.invariant.2,
+  (λ alone. stays_low _ _ _ (c.self.invariant.3 alone) (c.feed-answer.ensures.keeps alone)),
 )

@@ -1,4 +1,5 @@
 use Rattle.std.proofs.Common.{◌∙◌, sym}
+use Rattle.als_share.proofs.Floors.{stays_low}
 use Rattle.als_share.proofs.Going as going
 use Rattle.als_share.proofs.locked.Locked.page_now.Goals as goal
 
@@ -9,4 +10,6 @@ invariant_of-self g c = (
       going.page_now g.L.Ledgers.start _ _ c.args.page c.page_now-answer.result
       (record { reached = c.self.invariant.1 alone; keeps = c.page_now-answer.ensures.keeps alone; stands = c.stands.ensures alone })
       (c.page_now-answer.ensures.shows alone)),
+  c.page_now-answer.ensures.book ∙ c.self.invariant.2,
+  (λ alone. stays_low _ _ _ (c.self.invariant.3 alone) (c.page_now-answer.ensures.keeps alone)),
 )

@@ -1,5 +1,7 @@
+use Rattle.std.proofs.Common.{◌∙◌}
 use Rattle.als_engine.specs.declared.event.Event.TheVariants as event
 use Rattle.als_share.proofs.Booked.{booked}
+use Rattle.als_share.proofs.Floors.{stays_low}
 use Rattle.als_share.proofs.Going as going
 use Rattle.als_share.proofs.locked.Locked.ready.Goals as goal
 
@@ -10,4 +12,6 @@ invariant_of-self g c = (
       going.ready g.L.Ledgers.start _ _ c.ready-answer.result
       (record { reached = c.self.invariant.1 alone; keeps = c.ready-answer.ensures.keeps alone; stands = c.stands.ensures alone })
       (c.ready-answer.ensures.readies alone)),
+  c.ready-answer.ensures.book ∙ c.self.invariant.2,
+  (λ alone. stays_low _ _ _ (c.self.invariant.3 alone) (c.ready-answer.ensures.keeps alone)),
 )

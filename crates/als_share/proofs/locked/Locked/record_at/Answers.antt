@@ -1,4 +1,5 @@
 use Rattle.std.proofs.Common.{◌∙◌, sym}
+use Rattle.als_share.proofs.Floors.{stays_low}
 use Rattle.als_share.proofs.Going as going
 use Rattle.als_share.proofs.locked.Locked.record_at.Goals as goal
 
@@ -9,4 +10,6 @@ invariant_of-self g c = (
       going.record_at g.L.Ledgers.start _ _ c.args.lsn c.record_at-answer.result
       (record { reached = c.self.invariant.1 alone; keeps = c.record_at-answer.ensures.keeps alone; stands = c.stands.ensures alone })
       (c.record_at-answer.ensures.reads alone)),
+  c.record_at-answer.ensures.book ∙ c.self.invariant.2,
+  (λ alone. stays_low _ _ _ (c.self.invariant.3 alone) (c.record_at-answer.ensures.keeps alone)),
 )
