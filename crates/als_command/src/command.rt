@@ -24,6 +24,7 @@ pub enum Command<'a> {
         pages: u64,
         log_blocks: u64,
         checkpoint_mb: u64,
+        workers: u64,
         timeout: u64,
         explain: bool,
     },

@@ -74,6 +74,12 @@ pub(crate) const LINES: [Line; 7] = [
                 help: "Megabytes of log from one checkpoint to the next [default: 4]",
                 is_wanted: false,
             },
+            Word::Long {
+                name: "workers",
+                value: "W",
+                help: "Threads that redo pages, 0 to 8; 0 follows in one thread [default: 4]",
+                is_wanted: false,
+            },
             TIMEOUT,
             EXPLAIN,
         ],

@@ -10,7 +10,7 @@ pub enum NoCommand {
     Help(String),
     /// There is a mistake in them: what is said of it, for standard error.
     Mistake(String),
-    /// A growth was refused.
+    /// An allocation failed.
     Memory,
 }
 

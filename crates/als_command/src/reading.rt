@@ -12,6 +12,9 @@ const LOG_BLOCKS: u64 = 2_048;
 /// The megabytes of log from one checkpoint to the next, where the command line does not say.
 const CHECKPOINT_MB: u64 = 4;
 
+/// The threads that redo pages, where the command line does not say.
+const WORKERS: u64 = 4;
+
 /// The seconds that the other end may be silent, where the command line does not say.
 const TIMEOUT: u64 = 60;
 
@@ -94,6 +97,7 @@ fn standby<'a>(matches: &ArgMatches<'a>) -> Option<Command<'a>> {
         pages: matches.get_one("pages")?,
         log_blocks: matches.get_one("log-blocks").unwrap_or(LOG_BLOCKS),
         checkpoint_mb: matches.get_one("checkpoint-mb").unwrap_or(CHECKPOINT_MB),
+        workers: matches.get_one("workers").unwrap_or(WORKERS),
         timeout: matches.get_one("timeout").unwrap_or(TIMEOUT),
         explain: matches.get_flag("explain"),
     })

@@ -107,7 +107,8 @@ N pages with a log of B blocks of 512 bytes, once it is connected.
 Redoes what was not redone, connects to ADDR, where `als ship` serves the primary's log,
 and follows it: each piece is stored, synced, acknowledged and then redone, up to the end of
 the log. After M megabytes of log (0: never), and however the session ends, the pages and a
-checkpoint are put on the files.
+checkpoint are put on the files. W threads redo pages beside the one that follows, and others
+write pages and checkpoints; with 0 that one thread does all.
 Writes standard output: `end=E ack=A`, where the held log ends, and up to where no crash
 can lose it.
 To follow on, run it again: it goes on where it was left, also after a crash.
@@ -123,7 +124,7 @@ Exit statuses: 0 done, 2 a fault of the command line, 3 `als: refused N Name`:
   30  DIR or a file of it failed, or another program has DIR; or control.blk is missing,
       but log.blk or pages.blk has data: nothing was touched
   34  DIR has a database of another number of pages, or a damaged one (1, 33 too)
-  37  N is not 1 to 4,096, or B not 1 to 4,194,304; no file was touched
+  37  N is not 1 to 4,096, B not 1 to 4,194,304, or W not 0 to 8; no file was touched
   40, 41 what came is no frame that may come
   43  the primary went away; it does so too where its log is another or a shorter one
   44  nobody serves at ADDR, the network or standard output failed, or the primary was

@@ -23,7 +23,7 @@ pub enum Failure {
     /// A log text would go to a terminal.
     #[error("als: a log text is bytes, which no terminal shows: write it to a file, or ask for --hex")]
     BytesOnTerminal,
-    /// A growth was refused.
+    /// An allocation failed.
     #[error("als: refused {kind}", kind = FaultKind::Memory)]
     Memory,
     /// Standard input has more bytes than the program takes.

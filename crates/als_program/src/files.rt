@@ -8,7 +8,10 @@ use crate::refusal::Refusal;
 use crate::terminals::Terminals;
 use crate::troubles;
 use als_command::Command;
+use als_drive::Progress;
+use als_fault::FaultKind;
 use als_folder::Trouble;
+use als_follow::standby as standby_with_workers;
 use als_inspect::{Wanted, dump, verify};
 use als_operate::{Following, Shipping, ship, standby, takeover};
 use als_record::{Lsn, TransId};
@@ -17,10 +20,19 @@ use std::fs::File;
 use std::io::Write;
 use std::net::Net;
 use std::rt::Files;
+use std::sync::Wait;
+use std::thread::Threads;
+
+/// The most threads that redo pages beside the one that follows.
+const WORKER_LIMIT: u64 = 8;
 
 /// A command on files, that reads no standard input. More is said of a refusal where that was asked
 /// for, or a person sees it.
-pub fn operate<R: AllocGlobal + Files<File = File> + Net, O: Write, E: Write>(
+pub fn operate<
+    R: AllocGlobal + Files<File = File> + Net + Threads + Wait + Sync,
+    O: Write,
+    E: Write,
+>(
     rt: &R,
     terminals: Terminals,
     command: Command,
@@ -50,7 +62,7 @@ pub fn operate<R: AllocGlobal + Files<File = File> + Net, O: Write, E: Write>(
 }
 
 /// Does what is asked for. A person who sees standard error is told how a long redo goes on.
-fn attempt<R: AllocGlobal + Files<File = File> + Net, O: Write, E: Write>(
+fn attempt<R: AllocGlobal + Files<File = File> + Net + Threads + Wait + Sync, O: Write, E: Write>(
     rt: &R,
     seen: bool,
     command: Command,
@@ -79,6 +91,7 @@ fn attempt<R: AllocGlobal + Files<File = File> + Net, O: Write, E: Write>(
             pages,
             log_blocks,
             checkpoint_mb,
+            workers,
             timeout,
             ..
         } => {
@@ -91,7 +104,7 @@ fn attempt<R: AllocGlobal + Files<File = File> + Net, O: Write, E: Write>(
                 timeout,
             };
             let mut lines = RedoLines::new(errors, seen);
-            standby(rt, following, &mut lines, output)?
+            stand_by(rt, following, workers, &mut lines, output)?
         }
         Command::Takeover { dir, .. } => {
             let mut lines = RedoLines::new(errors, seen);
@@ -105,6 +118,34 @@ fn attempt<R: AllocGlobal + Files<File = File> + Net, O: Write, E: Write>(
             ..
         } => dump(rt, path, wanted(from, trans, page), output)?,
         Command::Verify { path, .. } => verify(rt, path, output)?,
+    }
+    Ok(())
+}
+
+/// Follows a session with this many threads that redo; with none in the calling thread alone.
+/// BadConfig: more than `WORKER_LIMIT`.
+fn stand_by<
+    R: AllocGlobal + Files<File = File> + Net + Threads + Wait + Sync,
+    P: Progress,
+    O: Write,
+>(
+    rt: &R,
+    following: Following<'_>,
+    workers: u64,
+    progress: &mut P,
+    output: &mut O,
+) -> Result<(), Refusal> {
+    match workers {
+        0 => standby(rt, following, progress, output)?,
+        1..=WORKER_LIMIT => {
+            standby_with_workers(rt, following, workers as usize, progress, output)?
+        }
+        _ => {
+            return Err(Refusal {
+                kind: FaultKind::BadConfig,
+                trouble: None,
+            });
+        }
     }
     Ok(())
 }

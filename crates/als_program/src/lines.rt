@@ -10,6 +10,7 @@ use crate::terminals::Terminals;
 use als_sim::sim;
 use std::alloc::Global;
 use std::io::{Read, Write};
+use std::sync::Wait;
 
 /// What is said beside what a command answers.
 #[derive(Clone, Copy)]
@@ -55,8 +56,8 @@ pub fn make_lines<I: Read + Drop, O: Write, E: Write>(
 }
 
 /// `als sim`: runs the script of the input.
-pub fn run_script<I: Read + Drop, O: Write, E: Write>(
-    alloc: Global,
+pub fn run_script<R: AllocGlobal + Wait, I: Read + Drop, O: Write, E: Write>(
+    rt: &R,
     telling: Telling,
     input: I,
     output: &mut O,
@@ -64,11 +65,12 @@ pub fn run_script<I: Read + Drop, O: Write, E: Write>(
 ) -> Result<u8, Failure>
     ensures status { IfOk result IsStatus }
 {
+    let alloc = rt.alloc();
     let script = match take_input(alloc, telling, input, errors) {
         Ok(script) => script,
         Err(failure) => return explained(failure, telling, b"", errors),
     };
-    match sim(alloc, script.as_slice(), output) {
+    match sim(alloc, rt, script.as_slice(), output) {
         Ok(ending) => {
             if telling.explain {
                 // Where it can't be said, the status has to do.
@@ -80,7 +82,7 @@ pub fn run_script<I: Read + Drop, O: Write, E: Write>(
     }
 }
 
-/// Standard input, whole. Who types it is told what it is.
+/// Standard input, whole. A person who types it is shown what it is.
 fn take_input<I: Read + Drop, E: Write>(
     alloc: Global,
     telling: Telling,

@@ -12,10 +12,12 @@ use std::fs::File;
 use std::io::{BufWriter, Read, Write};
 use std::net::Net;
 use std::rt::Files;
+use std::sync::Wait;
+use std::thread::Threads;
 
 /// All of the program, where no stream is a terminal.
 pub fn program<
-    R: AllocGlobal + Files<File = File> + Net,
+    R: AllocGlobal + Files<File = File> + Net + Threads + Wait + Sync,
     S: AsStr,
     I: Read + Drop,
     O: Write + Drop,
@@ -35,7 +37,7 @@ pub fn program<
 /// answers the exit status: 0, 2 for a fault of what the caller wrote, 3 for a refusal. What it has
 /// to say of itself goes to `errors`.
 pub fn program_on<
-    R: AllocGlobal + Files<File = File> + Net,
+    R: AllocGlobal + Files<File = File> + Net + Threads + Wait + Sync,
     S: AsStr,
     I: Read + Drop,
     O: Write + Drop,
@@ -52,7 +54,7 @@ pub fn program_on<
 
 /// Runs the command over a buffer, which is written out also where the command fails.
 fn execute<
-    R: AllocGlobal + Files<File = File> + Net,
+    R: AllocGlobal + Files<File = File> + Net + Threads + Wait + Sync,
     S: AsStr,
     I: Read + Drop,
     O: Write + Drop,
@@ -73,7 +75,13 @@ fn execute<
     outcome
 }
 
-fn obey<R: AllocGlobal + Files<File = File> + Net, S: AsStr, I: Read + Drop, O: Write, E: Write>(
+fn obey<
+    R: AllocGlobal + Files<File = File> + Net + Threads + Wait + Sync,
+    S: AsStr,
+    I: Read + Drop,
+    O: Write,
+    E: Write,
+>(
     rt: &R,
     terminals: Terminals,
     words: &[S],
@@ -103,7 +111,7 @@ fn obey<R: AllocGlobal + Files<File = File> + Net, S: AsStr, I: Read + Drop, O: 
         }
         Command::Sim { explain } => {
             let telling = Telling::new(Language::Script, terminals, explain);
-            run_script(alloc, telling, input, output, errors)
+            run_script(rt, telling, input, output, errors)
         }
         command => operate(rt, terminals, command, output, errors),
     }

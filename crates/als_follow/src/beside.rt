@@ -1,0 +1,167 @@
+ghost use Rattle.std.specs.Prelude.{◌≡◌, ◌+◌, ◌<◌, ◌≤◌, OnOk, IfSome, Some};
+ghost use Rattle.als_store.specs.Stored.{acknowledged};
+ghost use Rattle.als_reach.specs.Reaching.{Reaches, ReachesFrom};
+ghost use Rattle.als_ship.specs.Vouching.{TellsVouched};
+ghost use Rattle.als_operate.specs.Upkeep.{IsQuiet};
+ghost use Rattle.als_share.specs.Ledgers.{AreNamed};
+
+use crate::conducting::{Conducted, conduct};
+use crate::desk::Desk;
+use crate::followed::Followed;
+use crate::session::Session;
+use crate::stage::Stage;
+use als_engine::{Events, Fault as EngineFault};
+use als_handoff::HandOff;
+use als_operate::Fault;
+use als_share::{Blanks, Counts, Ledgers, settle, share};
+use std::alloc::Global;
+use std::io::{Read, Write};
+use std::marker::Brand;
+use std::sync::Wait;
+use std::thread::Threads;
+
+/// Beside the workers: a dispatcher, a flusher, a checkpointer and the follower.
+const OTHERS: usize = 4;
+
+/// Follows one session with so many workers, 1 to 8, and with a checkpoint each so many bytes of log
+/// (0: none on the way), and then puts all that is held on the devices, however the session ended.
+/// The engine and both ends of the stream come back.
+pub fn follow_beside<
+    E: Counts + Send + Drop,
+    R: Threads + Wait + Sync,
+    I: Read + Drop,
+    O: Write + Drop,
+>(
+    rt: &R,
+    alloc: Global,
+    engine: E,
+    workers: usize,
+    each: u64,
+    reader: I,
+    writer: O,
+) -> Followed<E, I, O>
+    // What threads did is a run of the small machine's events, so that what is true of each run is
+    // true of this one.
+    ensures reached { E.alone → Reaches (E.machine engine) (E.machine result.engine) }
+    ensures book { E.book result.engine ≡ E.book engine }
+    // Each LSN that its primary was answered is acknowledged in the engine that comes back: it was
+    // written a Resume frame, and behind it Acknowledged frames of such LSNs, or a front of that.
+    ensures vouched { E.alone → TellsVouched (acknowledged (E.machine result.engine).held)
+        (O.contents writer) (O.contents result.writer) }
+    // Then nothing waits, no page is dirty, and the log is acknowledged to its end.
+    ensures quiet { IfSome result.ended (λ ended. OnOk ended
+        (E.alone → IsQuiet (E.machine result.engine))) }
+{
+    let workers = workers.clamp(1, 8);
+    let blanks = Blanks::new((workers + OTHERS) as u64);
+    beside::<Brand, E, R, I, O>(rt, alloc, engine, blanks, workers, each, reader, writer)
+}
+
+/// The same, over ledgers that are picked.
+fn beside<
+    L: Ledgers + Send + Sync,
+    E: Counts + Send + Drop,
+    R: Threads + Wait + Sync,
+    I: Read + Drop,
+    O: Write + Drop,
+>(
+    rt: &R,
+    alloc: Global,
+    engine: E,
+    blanks: Blanks,
+    workers: usize,
+    each: u64,
+    reader: I,
+    writer: O,
+) -> Followed<E, I, O>
+    requires start { L.start ≡ Some (E.machine engine) }
+    requires book { L.book ≡ E.book engine }
+    requires names { AreNamed L.names blanks.names }
+    requires parts { (blanks.parts ≡ L.shares) × (workers + 4 ≡ L.shares) }
+    requires workers { (0 < workers) × (workers ≤ 8) }
+    ensures reached { E.alone → ReachesFrom L.start (E.machine result.engine) }
+    ensures book { E.book result.engine ≡ L.book }
+    ensures vouched { E.alone → TellsVouched (acknowledged (E.machine result.engine).held)
+        (O.contents writer) (O.contents result.writer) }
+    ensures quiet { IfSome result.ended (λ ended. OnOk ended
+        (E.alone → IsQuiet (E.machine result.engine))) }
+{
+    let Ok((queue, pass)) = HandOff::new(alloc) else {
+        return not_followed(engine, reader, writer);
+    };
+    let desk = Desk::new(rt, engine.pages(), engine.status().end, each);
+    match share::<L, E>(alloc, engine, workers + OTHERS, blanks) {
+        Ok((shared, shares, acknowledger)) => {
+            let stage = Stage {
+                rt,
+                alloc,
+                shared: &shared,
+                queue: &queue,
+                desk: &desk,
+            };
+            let Conducted {
+                session,
+                others,
+                ended,
+            } = conduct(&stage, pass, shares, acknowledger, workers, reader, writer);
+            let Session {
+                share,
+                acknowledger,
+                reader,
+                writer,
+            } = session;
+            let (engine, ended) = checked(settle(shared, share, others, acknowledger), ended);
+            Followed {
+                engine,
+                reader,
+                writer,
+                ended,
+            }
+        }
+        Err(engine) => not_followed(engine, reader, writer),
+    }
+}
+
+/// Allocation failed, and no frame was asked for.
+fn not_followed<E, I, O>(engine: E, reader: I, writer: O) -> Followed<E, I, O>
+    ensures engine { result.engine ≡ engine }
+    ensures writer { result.writer ≡ writer }
+    ensures ended { result.ended ≡ None }
+{
+    Followed {
+        engine,
+        reader,
+        writer,
+        ended: None,
+    }
+}
+
+/// The engine that nobody shares any more. Where all was put away, it is asked whether that is so.
+fn checked<E: Events>(engine: E, ended: Option<Result<(), Fault>>) -> (E, Option<Result<(), Fault>>)
+    ensures same { result.0 ≡ engine }
+    ensures quiet { IfSome result.1 (λ ended. OnOk ended (E.alone → IsQuiet (E.machine result.0))) }
+{
+    let ended = match ended {
+        Some(Ok(())) => Some(quiet(&engine)),
+        Some(Err(fault)) => Some(Err(fault)),
+        None => None,
+    };
+    (engine, ended)
+}
+
+/// Refused as NotDrained, unless nothing waits, no page is dirty and the log is acknowledged to its
+/// end.
+fn quiet<E: Events>(engine: &E) -> Result<(), Fault>
+    ensures { OnOk result (E.alone → IsQuiet (E.machine engine.now)) }
+{
+    let status = engine.status();
+    let waits = engine.next_pending(0);
+    let dirty = engine.dirty(0);
+    if status.acknowledged.0 < status.end.0 {
+        return Err(Fault::Refused(EngineFault::NotDrained));
+    }
+    match (waits, dirty) {
+        (None, None) => Ok(()),
+        _ => Err(Fault::Refused(EngineFault::NotDrained)),
+    }
+}

@@ -1,0 +1,270 @@
+use crate::bell::Bell;
+use als_record::Lsn;
+use als_run::{Gate, Point};
+use std::sync::Wait;
+use std::sync::atomic::{AtomicBool, AtomicU64, Ordering};
+
+/// Redo of this many changes a page is worth a lease of it.
+const DEEP: u64 = 64;
+
+/// Redo is due at this many pending changes, however many pages there are. The follower waits while
+/// more are pending.
+const MUCH: u64 = 500_000;
+
+/// So many passes are answered at once where no redo goes on; then each waits up to a millisecond.
+const BRISK: u64 = 64;
+
+/// After this many passes where no redo goes on it ends: each read of a device may fail.
+const IDLE_LIMIT: u64 = 10_000;
+
+/// The follower waits at most this many naps of a millisecond for its threads to start.
+const START_LIMIT: u64 = 1_000;
+
+/// What each thread of a session asks before it goes on, and what they tell each other. Threads
+/// sleep here while nothing is due for them.
+#[derive(Drop)]
+pub(crate) struct Desk<'a, R: Wait> {
+    rt: &'a R,
+    /// Redo is due from this many pending changes on, up to an eighth of it.
+    deep: u64,
+    /// Log bytes from one checkpoint to the next. 0: none is due.
+    each: u64,
+    pending: AtomicU64,
+    // Whether redo is under way.
+    lending: AtomicBool,
+    // Passes since redo last went on.
+    idle: AtomicU64,
+    // The dispatcher has ended: nothing more is lent.
+    spent: AtomicBool,
+    // Nothing more is fed.
+    last: AtomicBool,
+    closed: AtomicBool,
+    started: AtomicU64,
+    refusals: AtomicU64,
+    // The log's acknowledged end at which the next checkpoint is due.
+    next: AtomicU64,
+    flush_due: AtomicBool,
+    flushing: AtomicBool,
+    checkpoint_due: AtomicBool,
+    redo: Bell,
+    upkeep: Bell,
+    follower: Bell,
+}
+
+impl<'a, R: Wait> Desk<'a, R> {
+    /// A desk for a standby of so many pages whose log ends there, with a checkpoint each so many
+    /// bytes of log.
+    pub fn new(rt: &'a R, pages: u32, end: Lsn, each: u64) -> Desk<'a, R> {
+        Desk {
+            rt,
+            deep: MUCH.min(DEEP * pages as u64),
+            each,
+            pending: AtomicU64::new(0),
+            lending: AtomicBool::new(false),
+            idle: AtomicU64::new(0),
+            spent: AtomicBool::new(false),
+            last: AtomicBool::new(false),
+            closed: AtomicBool::new(false),
+            started: AtomicU64::new(0),
+            refusals: AtomicU64::new(0),
+            next: AtomicU64::new(end.0.saturating_add(each)),
+            flush_due: AtomicBool::new(false),
+            flushing: AtomicBool::new(false),
+            checkpoint_due: AtomicBool::new(false),
+            redo: Bell::new(),
+            upkeep: Bell::new(),
+            follower: Bell::new(),
+        }
+    }
+
+    // ---- what threads tell
+
+    /// A thread has started.
+    pub fn enter(&self) {
+        self.started.fetch_add(1, Ordering::SeqCst);
+        self.follower.ring();
+    }
+
+    /// So many changes wait for redo.
+    pub fn tell_pending(&self, pending: u64) {
+        if pending < self.pending.swap(pending, Ordering::SeqCst) {
+            self.idle.store(0, Ordering::SeqCst);
+        }
+        if pending >= self.deep {
+            self.redo.ring();
+        }
+        if pending <= MUCH {
+            self.follower.ring();
+        }
+    }
+
+    /// The log is acknowledged so far.
+    pub fn tell_acknowledged(&self, lsn: Lsn) {
+        if self.each == 0 || lsn.0 < self.next.load(Ordering::SeqCst) {
+            return;
+        }
+        self.next
+            .store(lsn.0.saturating_add(self.each), Ordering::SeqCst);
+        self.flush_due.store(true, Ordering::SeqCst);
+        self.upkeep.ring();
+    }
+
+    /// Nothing more is fed: what waits is redone to its end.
+    pub fn end_feeding(&self) {
+        self.last.store(true, Ordering::SeqCst);
+        self.redo.ring();
+    }
+
+    /// Nothing more is lent.
+    pub fn end_lending(&self) {
+        self.spent.store(true, Ordering::SeqCst);
+        self.follower.ring();
+    }
+
+    /// Ends each thread at its next pass.
+    pub fn close(&self) {
+        self.closed.store(true, Ordering::SeqCst);
+        self.redo.ring();
+        self.upkeep.ring();
+        self.follower.ring();
+    }
+
+    /// The place of one more refusal among all.
+    pub fn next_refusal(&self) -> u64 {
+        self.refusals.fetch_add(1, Ordering::SeqCst)
+    }
+
+    pub fn is_closed(&self) -> bool {
+        self.closed.load(Ordering::SeqCst)
+    }
+
+    // ---- what the follower waits for
+
+    /// Waits until so many threads have started. False: they have not in a second, since one could
+    /// not be started.
+    pub fn have_started(&self, threads: u64) -> bool {
+        for _ in 0..START_LIMIT {
+            let count = self.follower.listen();
+            if self.started.load(Ordering::SeqCst) >= threads {
+                self.follower.leave();
+                return true;
+            }
+            self.follower.nap(self.rt, count);
+        }
+        self.started.load(Ordering::SeqCst) >= threads
+    }
+
+    /// Waits while too many changes wait and redo goes on.
+    pub fn give_way(&self) {
+        for _ in 0..IDLE_LIMIT {
+            let count = self.follower.listen();
+            if !self.is_too_much() {
+                self.follower.leave();
+                return;
+            }
+            self.follower.nap(self.rt, count);
+        }
+    }
+
+    fn is_too_much(&self) -> bool {
+        self.pending.load(Ordering::SeqCst) > MUCH
+            && !self.spent.load(Ordering::SeqCst)
+            && !self.is_closed()
+    }
+
+    // ---- what the others wait for
+
+    /// Waits until redo is due. False: the desk is closed, or no redo goes on.
+    fn may_lend(&self) -> bool {
+        for _ in self.rt.forever() {
+            let count = self.redo.listen();
+            if self.is_closed() {
+                self.redo.leave();
+                return false;
+            }
+            if self.is_redo_due() {
+                return self.may_try(count);
+            }
+            self.redo.sleep(self.rt, count);
+        }
+        unreachable!()
+    }
+
+    /// Whether the dispatcher may try once more. It waits a little where no redo goes on.
+    fn may_try(&self, count: u64) -> bool {
+        let idle = self.idle.fetch_add(1, Ordering::SeqCst);
+        if idle < BRISK {
+            self.redo.leave();
+        } else {
+            self.redo.nap(self.rt, count);
+        }
+        idle < IDLE_LIMIT && !self.is_closed()
+    }
+
+    /// Whether enough waits that leases are deep, or nothing more comes.
+    fn is_redo_due(&self) -> bool {
+        let floor = if self.lending.load(Ordering::SeqCst) {
+            self.deep / 8
+        } else {
+            self.deep
+        };
+        let due = self.pending.load(Ordering::SeqCst) >= floor;
+        self.lending.store(due, Ordering::SeqCst);
+        due || self.last.load(Ordering::SeqCst)
+    }
+
+    /// Notes that redo goes on.
+    fn go_on(&self) {
+        if self.idle.swap(0, Ordering::SeqCst) >= BRISK {
+            self.redo.ring();
+        }
+    }
+
+    /// Waits until the pages are due to be written. The round before has ended, and a checkpoint is
+    /// due after it.
+    fn may_flush(&self) -> bool {
+        if self.flushing.swap(false, Ordering::SeqCst) {
+            self.checkpoint_due.store(true, Ordering::SeqCst);
+            self.upkeep.ring();
+        }
+        let due = self.wait_for(&self.flush_due);
+        self.flushing.store(due, Ordering::SeqCst);
+        due
+    }
+
+    /// Waits until this is due, and takes it up. False: the desk is closed.
+    fn wait_for(&self, due: &AtomicBool) -> bool {
+        for _ in self.rt.forever() {
+            let count = self.upkeep.listen();
+            if self.is_closed() {
+                self.upkeep.leave();
+                return false;
+            }
+            if due.swap(false, Ordering::SeqCst) {
+                self.upkeep.leave();
+                return true;
+            }
+            self.upkeep.sleep(self.rt, count);
+        }
+        unreachable!()
+    }
+}
+
+impl<R: Wait> Gate for Desk<'_, R> {
+    fn pass(&self, point: Point) -> bool {
+        match point {
+            Point::Lend => self.may_lend(),
+            Point::Flush => self.may_flush(),
+            Point::Ckpt => self.wait_for(&self.checkpoint_due),
+            Point::Redone(_) => {
+                self.go_on();
+                !self.is_closed()
+            }
+            Point::Take | Point::Redo(_) | Point::Give(_) | Point::Force => !self.is_closed(),
+        }
+    }
+
+    fn last(&self) -> bool {
+        self.last.load(Ordering::SeqCst)
+    }
+}

@@ -1,0 +1,161 @@
+ghost use Rattle.std.specs.Prelude.{◌≡◌};
+
+use crate::desk::Desk;
+use als_engine::{Events, Fault, Fed, FeedFault, NotGiven, PageLease, Status};
+use als_page::Page;
+use als_record::{LoggedPage, Lsn, Record, TransactionRow};
+use als_view::Told;
+use std::alloc::Global;
+use std::sync::Wait;
+
+/// The same events. Before a feed it waits while too much waits for redo, and each status that is
+/// asked for tells the desk how much does. It makes no event of its own.
+pub(crate) struct Paced<'a, E, R: Wait> {
+    desk: &'a Desk<'a, R>,
+    pub(crate) events: E,
+}
+
+// Written out: a derived drop is proved wherever the events are dropped, this one only here.
+impl<E: Drop, R: Wait> Drop for Paced<'_, E, R> {
+    fn drop(self) {
+        let Paced { desk: _, events } = self;
+        drop(events);
+    }
+}
+
+impl<'a, E: Events, R: Wait> Paced<'a, E, R> {
+    pub fn new(desk: &'a Desk<'a, R>, events: E) -> Paced<'a, E, R>
+        ensures { result.events ≡ events }
+    {
+        Paced { desk, events }
+    }
+
+    /// The events.
+    pub fn end(self) -> E
+        ensures { result ≡ self.entry.events }
+    {
+        let Paced { desk: _, events } = self;
+        events
+    }
+}
+
+impl<E: Events, R: Wait> Events for Paced<'_, E, R> {
+    ghost alone = { E.alone };
+
+    ghost machine = { λ p. E.machine p.events };
+
+    ghost tally = { λ p. E.tally p.events };
+
+    ghost book = { λ p. E.book p.events };
+
+    fn feed(&mut self, piece: &[u8]) -> Result<Fed, FeedFault> {
+        self.desk.give_way();
+        self.events.feed(piece)
+    }
+
+    fn resync(&mut self) -> Result<(), Fault> {
+        self.events.resync()
+    }
+
+    fn lend(&mut self, page: u32) -> Result<PageLease, Fault> {
+        self.events.lend(page)
+    }
+
+    fn give(&mut self, lease: PageLease) -> Result<(), NotGiven> {
+        self.events.give(lease)
+    }
+
+    fn recall(&mut self, page: u32) -> Result<(), Fault> {
+        self.events.recall(page)
+    }
+
+    fn flush(&mut self, page: u32) -> Result<(), Fault> {
+        self.events.flush(page)
+    }
+
+    fn sync_pages(&mut self) -> Result<(), Fault> {
+        self.events.sync_pages()
+    }
+
+    fn log_write(&mut self) -> Result<(), Fault> {
+        self.events.log_write()
+    }
+
+    fn log_sync(&mut self) -> Result<(), Fault> {
+        self.events.log_sync()
+    }
+
+    fn mark_write(&mut self) -> Result<(), Fault> {
+        self.events.mark_write()
+    }
+
+    fn ctl_sync(&mut self) -> Result<Lsn, Fault> {
+        self.events.ctl_sync()
+    }
+
+    fn ckpt_begin(&mut self) -> Result<(), Fault> {
+        self.events.ckpt_begin()
+    }
+
+    fn ckpt_block(&mut self) -> Result<(), Fault> {
+        self.events.ckpt_block()
+    }
+
+    fn ckpt_publish(&mut self) -> Result<(), Fault> {
+        self.events.ckpt_publish()
+    }
+
+    fn publish_view<W: Wait>(&mut self, rt: &W) -> Result<(), Fault> {
+        self.events.publish_view(rt)
+    }
+
+    fn ready<W: Wait>(&mut self, rt: &W) -> Result<(), Fault> {
+        self.events.ready(rt)
+    }
+
+    fn seal(&mut self) -> Result<(), Fault> {
+        self.events.seal()
+    }
+
+    fn undo_one(&mut self) -> Result<Lsn, Fault> {
+        self.events.undo_one()
+    }
+
+    fn finish(&mut self) -> Result<(), Fault> {
+        self.events.finish()
+    }
+
+    fn status(&self) -> Status {
+        let status = self.events.status();
+        self.desk.tell_pending(status.pending as u64);
+        status
+    }
+
+    fn table(&self, alloc: Global) -> Result<Vec<TransactionRow>, Fault> {
+        self.events.table(alloc)
+    }
+
+    fn pages(&self) -> u32 {
+        self.events.pages()
+    }
+
+    fn dirty(&self, from: u32) -> Option<LoggedPage> {
+        self.events.dirty(from)
+    }
+
+    fn next_pending(&self, from: u32) -> Option<u32> {
+        self.events.next_pending(from)
+    }
+
+    fn tell(&self) -> Told {
+        self.events.tell()
+    }
+
+    fn page_now(&mut self, page: u32) -> Result<Page, Fault> {
+        self.events.page_now(page)
+    }
+
+    fn record_at(&mut self, lsn: Lsn) -> Result<Option<Record>, Fault> {
+        self.events.record_at(lsn)
+    }
+}

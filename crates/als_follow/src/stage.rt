@@ -1,0 +1,16 @@
+use crate::desk::Desk;
+use als_engine::Events;
+use als_handoff::HandOff;
+use als_share::{Ledgers, Shared};
+use std::alloc::Global;
+use std::sync::Wait;
+
+/// What all threads of a session work with.
+#[derive(Drop)]
+pub(crate) struct Stage<'a, L: Ledgers, E: Events, R: Wait> {
+    pub rt: &'a R,
+    pub alloc: Global,
+    pub shared: &'a Shared<L, E>,
+    pub queue: &'a HandOff,
+    pub desk: &'a Desk<'a, R>,
+}
