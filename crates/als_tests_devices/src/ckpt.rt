@@ -187,7 +187,7 @@ fn life(disk: FailingDisk<MemDisk>) -> Result<Lsn, Fault>
     Ok(state.mark)
 }
 
-/// The life over devices of which this call fails ends so. False also where memory was refused.
+/// The life over devices of which this call fails ends so. False also where allocation failed.
 fn lives_so(alloc: Global, call: u64, wanted: Result<Lsn, Fault>) -> bool
     requires { 0 < call }
 {
@@ -215,7 +215,7 @@ fn each_call_of_the_device_fails_in_turn(rt: HostRuntime) {
 }
 
 /// A new control block that acknowledges 100, where the write of the mark 200 has failed. `None`:
-/// memory was refused.
+/// allocation failed.
 fn with_a_failed_mark<D: BlockDisk + Drop>(
     rt: &impl Abort,
     disk: D,
@@ -235,7 +235,7 @@ fn with_a_failed_mark<D: BlockDisk + Drop>(
 }
 
 /// What is acknowledged after a crash with this pick, where the write of a mark has failed. `None`:
-/// memory was refused.
+/// allocation failed.
 fn left_by(rt: &impl Abort, alloc: Global, pick: u8) -> Option<Lsn> {
     let fuse = Fuse::new(alloc).ok()?;
     let disk = FailingDisk::new(MemDisk::new(alloc, 321), fuse.clone().ok()?);

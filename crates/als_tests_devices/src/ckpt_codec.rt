@@ -73,7 +73,7 @@ fn read_checkpoint_with(
     ))
 }
 
-/// The same, by a second try where memory was refused.
+/// The same, by a second try where allocation failed.
 fn read_again_with(alloc: Global, at: u16, byte: u8) -> Result<(Numbers, usize, usize), Fault> {
     match read_checkpoint_with(alloc, at, byte) {
         Err(Fault::Memory) => read_checkpoint_with(alloc, at, byte),

@@ -89,7 +89,7 @@ fn three(alloc: Global) -> Result<MemDisk, DeviceError>
 }
 
 /// A crash with these picks leaves these bytes, uses so many picks, and leaves no choice. `None`:
-/// memory was refused.
+/// allocation failed.
 fn crashes_so(
     rt: &impl Abort,
     alloc: Global,
@@ -108,7 +108,7 @@ fn crashes_so(
     Some(())
 }
 
-// A growth is refused once at most: the second try meets none.
+// An allocation fails once at most: the second try meets none.
 #[test]
 fn a_crash_picks(rt: HostRuntime) {
     let rows: [(&[u8], [u8; 3], usize); 8] = [
@@ -145,7 +145,7 @@ fn round<D: BlockDisk>(disk: &mut D, byte: u8) -> [bool; 3]
 }
 
 /// Once a fuse is set to this call, the next two rounds go so; of the two after them only the write
-/// that is call 7 fails. False also where memory was refused.
+/// that is call 7 fails. False also where allocation failed.
 fn burns_so(alloc: Global, call: u64, now: [bool; 3], then: [bool; 3]) -> bool
     requires { 0 < call }
 {
@@ -282,7 +282,7 @@ fn a_write_without_memory(rt: HostRuntime) -> Result<(), Fail> {
     Ok(())
 }
 
-/// A device of three blocks takes block 1, synced, and block 2. `None`: memory was refused.
+/// A device of three blocks takes block 1, synced, and block 2. `None`: allocation failed.
 fn takes_two_blocks<D: BlockDisk>(rt: &impl Abort, disk: &mut D) -> Option<()> {
     assert!(rt; disk.blocks() == 3);
     store(disk, 1, &filled(1)).ok()?;
@@ -330,7 +330,7 @@ fn expect_no_write<D: BlockDisk>(rt: &impl Abort, disk: &mut D)
 }
 
 /// A device of one block that takes no write fails each call from its first write on. `None`:
-/// memory was refused for the write, and the device has not failed.
+/// allocation failed for the write, and the device has not failed.
 fn fails_from_its_first_write<D: BlockDisk>(rt: &impl Abort, disk: &mut D) -> Option<()> {
     assert!(rt; disk.blocks() == 1);
     expect_first(rt, disk, 0, 0);
@@ -344,7 +344,7 @@ fn fails_from_its_first_write<D: BlockDisk>(rt: &impl Abort, disk: &mut D) -> Op
     Some(())
 }
 
-/// So does a file that is open for reading. `None`: memory was refused.
+/// So does a file that is open for reading. `None`: allocation failed.
 fn stays_failed<R: Abort + AllocGlobal + Files<File = File>>(rt: &R) -> Option<()> {
     let path = "read_only.blk";
     fs::write(rt, path, filled(0).as_slice()).ok()?;
@@ -365,7 +365,7 @@ fn a_file_that_failed_stays_failed(rt: HostRuntime) {
 
 fn can_be_sent<T: Send + Drop>(_: T) {}
 
-/// A device and its fuse may go to another thread. `None`: memory was refused.
+/// A device and its fuse may go to another thread. `None`: allocation failed.
 fn are_sent(alloc: Global) -> Option<()> {
     let fuse = Fuse::new(alloc).ok()?;
     can_be_sent(FailingDisk::new(MemDisk::new(alloc, 1), fuse.clone().ok()?));

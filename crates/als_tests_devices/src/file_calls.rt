@@ -120,7 +120,7 @@ fn device(alloc: Global, blocks: u64, seen: &Arc<Seen>) -> Option<FileDisk<SeenF
 }
 
 /// An opening reads each piece, writes back the one that is not zeros, and then syncs. `None`:
-/// memory was refused.
+/// allocation failed.
 fn opens_in_pieces(rt: &impl Abort, alloc: Global) -> Option<()> {
     let seen = Seen::new(alloc, 8)?;
     let disk = device(alloc, 2048 + 1, &seen)?;
@@ -136,7 +136,7 @@ fn an_opening_writes_back_what_it_read(rt: HostRuntime) {
     assert!(rt; opens_in_pieces(&rt, alloc).is_some() || opens_in_pieces(&rt, alloc).is_some());
 }
 
-/// A write reaches the file, at the block's place, and a sync syncs it. `None`: memory was refused.
+/// A write reaches the file, at the block's place, and a sync syncs it. `None`: allocation failed.
 fn reaches_the_file<D: BlockDisk>(rt: &impl Abort, disk: &mut D, seen: &Seen) -> Option<()> {
     assert!(rt; disk.blocks() == 3);
     let _ = seen.calls();

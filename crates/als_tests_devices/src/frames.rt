@@ -29,7 +29,7 @@ fn formatted<D: BlockDisk + Drop>(rt: &impl Abort, alloc: Global, disk: D, most:
     panic!(rt; "the device fails each time");
 }
 
-// Makes room for one more frame, again where memory is refused once.
+// Makes room for one more frame, again where allocation fails once.
 fn reserve<D: BlockDisk + Drop>(rt: &impl Abort, frames: &mut Frames<D>)
     ensures same { frames.new.paged ≡ frames.old.paged }
     ensures room { 0 < frames.new.spare }
@@ -281,7 +281,7 @@ fn a_page_reaches_the_device_and_comes_back(rt: HostRuntime) {
     one_frame(&rt, formatted(&rt, rt.alloc(), disk, 1));
 }
 
-// A fuse, again where memory is refused once.
+// A fuse, again where allocation fails once.
 fn fuse_of(alloc: Global) -> Result<Fuse, Fail> {
     match Fuse::new(alloc) {
         Ok(fuse) => Ok(fuse),

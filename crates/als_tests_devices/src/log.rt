@@ -29,7 +29,7 @@ fn commit_at(at: Lsn) -> [u8; 28] {
     bytes
 }
 
-// The memory of an empty log of a database of four pages, made again where memory is refused once.
+// The memory of an empty log of a database of four pages, made again where allocation fails once.
 fn new_log(rt: &impl Abort, alloc: Global) -> NewLog {
     for _ in 0..2 {
         match NewLog::new(alloc, 4) {
@@ -78,7 +78,7 @@ fn append<D: BlockDisk + Drop>(
     }
 }
 
-// Appends the record of these bytes, again where memory is refused once.
+// Appends the record of these bytes, again where allocation fails once.
 fn put<D: BlockDisk + Drop>(rt: &impl Abort, alloc: Global, log: &mut LocalLog<D>, bytes: &[u8]) {
     if let Err(fault) = append(rt, alloc, log, bytes, 0) {
         assert!(rt; fault == Fault::Memory);
@@ -180,7 +180,7 @@ fn a_transaction_reaches_the_device(rt: HostRuntime) {
     one_transaction(&rt, rt.alloc(), log);
 }
 
-// A fuse, again where memory is refused once.
+// A fuse, again where allocation fails once.
 fn fuse_of(alloc: Global) -> Result<Fuse, Fail> {
     match Fuse::new(alloc) {
         Ok(fuse) => Ok(fuse),

@@ -93,7 +93,7 @@ fn in_memory(rt: &impl Abort, alloc: Global, frames: usize) -> Pool<MemDisk> {
     two_changes(rt, alloc, MemDisk::new(alloc, 2), frames)
 }
 
-// Lends a page, again where memory is refused once.
+// Lends a page, again where allocation fails once.
 fn lend<D: BlockDisk>(pool: &mut Pool<D>, page: u32) -> Result<PageLease, Fault> {
     match pool.lend(page, Lsn(116)) {
         Err(Fault::Memory) => pool.lend(page, Lsn(116)),
@@ -141,7 +141,7 @@ fn flush<D: BlockDisk>(pool: &mut Pool<D>, page: u32, acknowledged: u64) -> Resu
     }
 }
 
-// All rows, again where memory is refused once.
+// All rows, again where allocation fails once.
 fn rows_of<D: BlockDisk>(pool: &Pool<D>, alloc: Global) -> Result<PageRows, AllocError> {
     match pool.rows(alloc) {
         Ok(rows) => Ok(rows),
@@ -331,7 +331,7 @@ fn try_numbered(alloc: Global, first: u64) -> Option<Pool<MemDisk>>
     }
 }
 
-// The same, again where memory is refused once.
+// The same, again where allocation fails once.
 fn numbered(rt: &impl Abort, alloc: Global, first: u64) -> Pool<MemDisk>
     ensures { (page : ℕ) → page < 2 → (pending_of result.pool.waits page ≡ [])
         × (frame_of result.pool.frames page ≡ None) }
@@ -396,7 +396,7 @@ fn a_page_is_written_to_its_block(rt: HostRuntime) {
     assert!(rt; (&block[32..34]) == [2, 0xaa].as_slice());
 }
 
-// A fuse, again where memory is refused once.
+// A fuse, again where allocation fails once.
 fn fuse_of(alloc: Global) -> Result<Fuse, Fail> {
     match Fuse::new(alloc) {
         Ok(fuse) => Ok(fuse),

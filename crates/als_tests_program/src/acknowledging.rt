@@ -3,6 +3,8 @@ use std::fs::File;
 use std::net::Net;
 use std::process::Abort;
 use std::rt::Files;
+use std::sync::Wait;
+use std::thread::Threads;
 
 /// Scripts behind that.
 const FORCED: [(&str, &str); 11] = [
@@ -222,7 +224,9 @@ fn devices_are_written(rt: HostRuntime) {
 
 /// Records that only the log device has are read from it; a read that fails is refused alone, and
 /// changes nothing.
-fn reads_fail<R: Abort + AllocGlobal + Files<File = File> + Net>(rt: &R) -> Option<()> {
+fn reads_fail<R: Abort + AllocGlobal + Files<File = File> + Net + Threads + Wait + Sync>(
+    rt: &R,
+) -> Option<()> {
     let mut script = String::from_str(rt.alloc(), WORLD).ok()?;
     for trans in 1..21 {
         writeln!(script, "rollback {trans}").ok()?;

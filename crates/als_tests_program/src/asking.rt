@@ -3,6 +3,8 @@ use std::fs::File;
 use std::net::Net;
 use std::process::Abort;
 use std::rt::Files;
+use std::sync::Wait;
+use std::thread::Threads;
 
 /// A request for help goes to standard output and ends with 0; it needs no input.
 #[test]
@@ -18,13 +20,18 @@ fn help_is_written(rt: HostRuntime) {
     );
     asks(&rt, &["als", "ship", "--help"], "--listen <ADDR>");
     asks(&rt, &["als", "help", "ship"], "als ship --log primary.log");
+    asks(
+        &rt,
+        &["als", "standby", "--help"],
+        "0 follows in one thread [default: 4]",
+    );
     for command in ["make", "sim", "standby", "takeover", "dump", "verify"] {
         asks(&rt, &["als", command, "--help"], "      --explain");
     }
     asks(&rt, &["als", "--version"], "als 0.2, proved with");
 }
 
-/// A fault of the command line is told on standard error and ends with 2.
+/// A fault of the command line is printed on standard error and ends with 2.
 #[test]
 fn faults_are_told(rt: HostRuntime) {
     errs(&rt, &[], "requires a subcommand");
@@ -53,17 +60,32 @@ fn faults_are_told(rt: HostRuntime) {
         &rt,
         &["als", "ship", "--log", "primary.log"],
         "--listen <ADDR>",
-    )
+    );
+    for workers in ["four", "18446744073709551616"] {
+        errs(
+            &rt,
+            &["als", "standby", "--workers", workers],
+            "--workers <W>",
+        );
+    }
 }
 
-fn asks<R: Abort + AllocGlobal + Files<File = File> + Net>(rt: &R, words: &[&str], part: &str) {
+fn asks<R: Abort + AllocGlobal + Files<File = File> + Net + Threads + Wait + Sync>(
+    rt: &R,
+    words: &[&str],
+    part: &str,
+) {
     assert!(rt;
         answers(rt, words, 0, part) || answers(rt, words, 0, part),
         "{part}"
     );
 }
 
-fn errs<R: Abort + AllocGlobal + Files<File = File> + Net>(rt: &R, words: &[&str], part: &str) {
+fn errs<R: Abort + AllocGlobal + Files<File = File> + Net + Threads + Wait + Sync>(
+    rt: &R,
+    words: &[&str],
+    part: &str,
+) {
     assert!(rt;
         answers(rt, words, 2, part) || answers(rt, words, 2, part),
         "{part}"
@@ -72,7 +94,7 @@ fn errs<R: Abort + AllocGlobal + Files<File = File> + Net>(rt: &R, words: &[&str
 
 /// Whether a run without input ends with this status and writes one text, with this part in it: to
 /// standard output where it ends well, else to standard error.
-fn answers<R: AllocGlobal + Files<File = File> + Net>(
+fn answers<R: AllocGlobal + Files<File = File> + Net + Threads + Wait + Sync>(
     rt: &R,
     words: &[&str],
     wanted: u8,

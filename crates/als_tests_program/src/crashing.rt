@@ -3,6 +3,8 @@ use std::fs::File;
 use std::net::Net;
 use std::process::Abort;
 use std::rt::Files;
+use std::sync::Wait;
+use std::thread::Threads;
 
 /// A transaction that is committed and one that is not, under a takeover.
 const SEALED: (&str, &str) = (
@@ -257,7 +259,7 @@ show log 166
 );
 
 /// Takes a takeover on that crashed, whichever candidates the devices keep.
-fn take_on<R: Abort + AllocGlobal + Files<File = File> + Net>(
+fn take_on<R: Abort + AllocGlobal + Files<File = File> + Net + Threads + Wait + Sync>(
     rt: &R,
     begun: (&str, &str),
     undone: &[(&str, &str)],

@@ -5,6 +5,8 @@ use std::fs::{File, OpenOptions};
 use std::net::Net;
 use std::process::Abort;
 use std::rt::Files;
+use std::sync::Wait;
+use std::thread::Threads;
 use std::{fs, io};
 
 /// The files of the folder that is damaged.
@@ -33,7 +35,7 @@ struct Refusal<'a> {
 }
 
 /// Whether the program prints this, is refused so, and says no more.
-fn is_told<R: AllocGlobal + Files<File = File> + Net>(
+fn is_told<R: AllocGlobal + Files<File = File> + Net + Threads + Wait + Sync>(
     rt: &R,
     words: &[&str],
     wanted: Refusal,
@@ -47,8 +49,8 @@ fn is_told<R: AllocGlobal + Files<File = File> + Net>(
         && told == Some(wanted.explained.as_bytes())
 }
 
-/// A command is refused so, and with `--explain` more is said. `None`: memory was refused.
-fn refuses<R: AllocGlobal + Files<File = File> + Net>(
+/// A command is refused so, and with `--explain` more is said. `None`: allocation failed.
+fn refuses<R: AllocGlobal + Files<File = File> + Net + Threads + Wait + Sync>(
     rt: &R,
     words: &[&str],
     wanted: Refusal,
@@ -67,7 +69,7 @@ fn refuses<R: AllocGlobal + Files<File = File> + Net>(
 }
 
 /// The same, twice at most.
-fn is_refused<R: Abort + AllocGlobal + Files<File = File> + Net>(
+fn is_refused<R: Abort + AllocGlobal + Files<File = File> + Net + Threads + Wait + Sync>(
     rt: &R,
     words: &[&str],
     wanted: Refusal,
@@ -116,7 +118,9 @@ fn laid_out<R: Abort + AllocGlobal + Files<File = File>>(rt: &R, altered: [Optio
 }
 
 /// Each file of a folder, damaged.
-fn files_are_told<R: Abort + AllocGlobal + Files<File = File> + Net>(rt: &R) {
+fn files_are_told<R: Abort + AllocGlobal + Files<File = File> + Net + Threads + Wait + Sync>(
+    rt: &R,
+) {
     laid_out(rt, [Some(0), None, None]);
     let header = Refusal {
         printed: "",
@@ -180,7 +184,9 @@ fn cuts<R: AllocGlobal + Files<File = File>>(rt: &R, number: usize, len: u64) ->
 }
 
 /// A file that is shorter than its database is told as that one, and each command is refused so.
-fn a_short_file_is_told<R: Abort + AllocGlobal + Files<File = File> + Net>(rt: &R) {
+fn a_short_file_is_told<R: Abort + AllocGlobal + Files<File = File> + Net + Threads + Wait + Sync>(
+    rt: &R,
+) {
     let refusal = "als: refused 34 BadControl\n";
     let rows = [
         (0, 0, "als: damaged/log.blk: the file ends too early\n"),
@@ -210,7 +216,9 @@ fn a_short_file_is_told<R: Abort + AllocGlobal + Files<File = File> + Net>(rt: &
 }
 
 /// A folder without its control block.
-fn a_missing_file_is_told<R: Abort + AllocGlobal + Files<File = File> + Net>(rt: &R) {
+fn a_missing_file_is_told<
+    R: Abort + AllocGlobal + Files<File = File> + Net + Threads + Wait + Sync,
+>(rt: &R) {
     laid_out(rt, [None, None, None]);
     assert!(rt; fs::remove_file(rt, FILES[1]).is_ok());
     let missing = Refusal {

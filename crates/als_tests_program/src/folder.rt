@@ -13,7 +13,7 @@ pub struct Folder {
 }
 
 impl Folder {
-    /// The files of this log. `None`: memory was refused.
+    /// The files of this log. `None`: allocation failed.
     pub fn of(alloc: Global, text: &[u8]) -> Option<Folder> {
         let mut log = Vec::from_slice(alloc, text).ok()?;
         log.resize(

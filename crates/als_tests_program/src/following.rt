@@ -2,6 +2,8 @@ use als_program::program;
 use std::fs::File;
 use std::net::{Ipv4Addr, Net, SocketAddr, TcpListener, TcpStream};
 use std::rt::Files;
+use std::sync::Wait;
+use std::thread::Threads;
 use std::{fs, io, thread};
 
 /// A log of a database of four pages: its header, an update of 0/0 to `aa` at 16, its commit at 52
@@ -14,7 +16,11 @@ pub const TEXT: [u8; 108] = [
 ];
 
 /// Whether the program ends well, tells nothing and prints this.
-fn prints<R: AllocGlobal + Files<File = File> + Net>(rt: &R, words: &[&str], wanted: &str) -> bool {
+fn prints<R: AllocGlobal + Files<File = File> + Net + Threads + Wait + Sync>(
+    rt: &R,
+    words: &[&str],
+    wanted: &str,
+) -> bool {
     let mut output = Vec::new(rt.alloc());
     let mut errors = Vec::new(rt.alloc());
     let status = program(rt, words, io::empty(), &mut output, &mut errors);
@@ -22,7 +28,7 @@ fn prints<R: AllocGlobal + Files<File = File> + Net>(rt: &R, words: &[&str], wan
 }
 
 /// Whether the program is refused so, and prints this.
-fn refuses<R: AllocGlobal + Files<File = File> + Net>(
+fn refuses<R: AllocGlobal + Files<File = File> + Net + Threads + Wait + Sync>(
     rt: &R,
     words: &[&str],
     printed: &str,
@@ -36,7 +42,7 @@ fn refuses<R: AllocGlobal + Files<File = File> + Net>(
         && errors.as_slice() == refusal.as_bytes()
 }
 
-/// A port of this machine that nobody listens at, as text. `None`: memory was refused.
+/// A port of this machine that nobody listens at, as text. `None`: allocation failed.
 fn free_port<N>(rt: &N) -> Option<String>
 where
     N: AllocGlobal + Net<Listener = TcpListener, Stream = TcpStream>,
@@ -46,11 +52,24 @@ where
     format!(in rt.alloc(); "{addr}").ok()
 }
 
-/// Follows a session, and is called again while it is refused: nobody may listen yet, or a growth
-/// was refused.
-fn stands<R: AllocGlobal + Files<File = File> + Net>(rt: &R, addr: &str) -> bool {
+/// Follows a session with so many threads that redo, and is called again while it is refused:
+/// nobody may listen yet, or allocation failed.
+fn stands<R: AllocGlobal + Files<File = File> + Net + Threads + Wait + Sync>(
+    rt: &R,
+    addr: &str,
+    workers: &str,
+) -> bool {
     let words = [
-        "als", "standby", "--dir", "followed", "--from", addr, "--pages", "4",
+        "als",
+        "standby",
+        "--dir",
+        "followed",
+        "--from",
+        addr,
+        "--pages",
+        "4",
+        "--workers",
+        workers,
     ];
     for _ in 0..1000 {
         if prints(rt, &words, "end=108 ack=108\n") {
@@ -72,7 +91,11 @@ fn scans<R: Net>(rt: &R, addr: &str) -> bool {
 
 /// Serves a session: whether the sending end prints this. A growth that was refused is met by a
 /// second try.
-fn ships<R: AllocGlobal + Files<File = File> + Net>(rt: &R, addr: &str, sent: &str) -> bool {
+fn ships<R: AllocGlobal + Files<File = File> + Net + Threads + Wait + Sync>(
+    rt: &R,
+    addr: &str,
+    sent: &str,
+) -> bool {
     let words = ["als", "ship", "--log", "followed.log", "--listen", addr];
     prints(rt, &words, sent) || prints(rt, &words, sent)
 }
@@ -83,7 +106,7 @@ fn lays_out<R: Files<File = File>>(rt: &R) -> bool {
 }
 
 /// What the folder then holds, and a takeover, twice.
-fn takes_over<R: AllocGlobal + Files<File = File> + Net>(rt: &R) -> bool {
+fn takes_over<R: AllocGlobal + Files<File = File> + Net + Threads + Wait + Sync>(rt: &R) -> bool {
     let verify = ["als", "verify", "followed"];
     let dump = ["als", "dump", "followed", "--trans", "1", "--from", "52"];
     let takeover = ["als", "takeover", "--dir", "followed"];
@@ -116,7 +139,7 @@ fn takes_over<R: AllocGlobal + Files<File = File> + Net>(rt: &R) -> bool {
 #[test]
 fn a_standby_follows_and_takes_over(rt: HostRuntime) {
     assert!(rt; lays_out(&rt) || lays_out(&rt));
-    for sent in ["sent=92\n", "sent=0\n"] {
+    for (sent, workers) in [("sent=92\n", "4"), ("sent=0\n", "0")] {
         let addr = free_port(&rt)
             .or_else(|| free_port(&rt))
             .expect(&rt, "a port");
@@ -124,7 +147,7 @@ fn a_standby_follows_and_takes_over(rt: HostRuntime) {
         let (shipped, stood) = thread::join(
             rt,
             move || ships(rt, addr, sent),
-            move || scans(rt, addr) && stands(rt, addr),
+            move || scans(rt, addr) && stands(rt, addr, workers),
         );
         assert!(rt; shipped && stood);
     }
@@ -139,13 +162,15 @@ fn a_standby_follows_and_takes_over(rt: HostRuntime) {
 fn standbys_that_are_refused(rt: HostRuntime) {
     let bad = "als: refused 37 BadConfig\n";
     let rows = [
-        ("0", "2048"),
-        ("4097", "2048"),
-        ("18446744073709551615", "1"),
-        ("4", "0"),
-        ("4", "4194305"),
+        ("0", "2048", "4"),
+        ("4097", "2048", "4"),
+        ("18446744073709551615", "1", "4"),
+        ("4", "0", "4"),
+        ("4", "4194305", "0"),
+        ("4", "2048", "9"),
+        ("4", "2048", "18446744073709551615"),
     ];
-    for (pages, blocks) in rows {
+    for (pages, blocks, workers) in rows {
         let words = [
             "als",
             "standby",
@@ -157,6 +182,8 @@ fn standbys_that_are_refused(rt: HostRuntime) {
             pages,
             "--log-blocks",
             blocks,
+            "--workers",
+            workers,
         ];
         assert!(rt; refuses(&rt, &words, "", bad) || refuses(&rt, &words, "", bad));
     }

@@ -4,6 +4,8 @@ use std::fs::File;
 use std::net::Net;
 use std::process::Abort;
 use std::rt::Files;
+use std::sync::Wait;
+use std::thread::Threads;
 
 /// First lines that are no world.
 const BAD_WORLDS: [&str; 9] = [
@@ -115,7 +117,9 @@ const BAD_LINES: [&str; 78] = [
     "world pages=4 log=8 frames=4 workers=2 pending=1000",
 ];
 
-fn tells_bad_worlds<R: Abort + AllocGlobal + Files<File = File> + Net>(rt: &R) -> Option<()> {
+fn tells_bad_worlds<R: Abort + AllocGlobal + Files<File = File> + Net + Threads + Wait + Sync>(
+    rt: &R,
+) -> Option<()> {
     for line in BAD_WORLDS {
         let script = format!(in rt.alloc();
             "#
@@ -136,7 +140,9 @@ fn sim_tells_bad_worlds(rt: HostRuntime) {
     assert!(rt; tells_bad_worlds(&rt).is_some() || tells_bad_worlds(&rt).is_some());
 }
 
-fn tells_bad_lines<R: Abort + AllocGlobal + Files<File = File> + Net>(rt: &R) -> Option<()> {
+fn tells_bad_lines<R: Abort + AllocGlobal + Files<File = File> + Net + Threads + Wait + Sync>(
+    rt: &R,
+) -> Option<()> {
     for line in BAD_LINES {
         let script = format!(in rt.alloc();
             "{WORLD}feed 16 16
@@ -161,7 +167,9 @@ fn sim_tells_bad_lines(rt: HostRuntime) {
 
 /// Empty lines and comments are passed over and counted; a missing first line would come behind the
 /// last.
-fn counts_lines<R: Abort + AllocGlobal + Files<File = File> + Net>(rt: &R) -> Option<()> {
+fn counts_lines<R: Abort + AllocGlobal + Files<File = File> + Net + Threads + Wait + Sync>(
+    rt: &R,
+) -> Option<()> {
     let bare = "world pages=4 log=8 frames=4 workers=2 pending=1000";
     let zeros =
         "world pages=0004 log=08 frames=4 workers=2 pending=1000\nfeed 0016 000000000000000000000016";
@@ -203,7 +211,9 @@ fn sim_counts_lines(rt: HostRuntime) {
 }
 
 /// A line that is no text is a bad line, also where a comment that is none is passed over.
-fn wants_text<R: Abort + AllocGlobal + Files<File = File> + Net>(rt: &R) -> Option<()> {
+fn wants_text<R: Abort + AllocGlobal + Files<File = File> + Net + Threads + Wait + Sync>(
+    rt: &R,
+) -> Option<()> {
     let script = b"#\xff\nworld pages=4 log=8 frames=4 workers=2 pending=1000\ncommit 1\xff\n";
     let mut output = Vec::new(rt.alloc());
     let mut errors = Vec::new(rt.alloc());
@@ -221,7 +231,9 @@ fn sim_wants_text(rt: HostRuntime) {
 }
 
 /// A world that is refused ends the script, whatever follows.
-fn refuses_worlds<R: Abort + AllocGlobal + Files<File = File> + Net>(rt: &R) -> Option<()> {
+fn refuses_worlds<R: Abort + AllocGlobal + Files<File = File> + Net + Threads + Wait + Sync>(
+    rt: &R,
+) -> Option<()> {
     for line in REFUSED_WORLDS {
         let script = format!(in rt.alloc();
             "{line}

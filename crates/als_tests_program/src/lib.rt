@@ -2,7 +2,7 @@
 //! on files, with what it prints. They use public names alone.
 #![tactic(auto)]
 
-// A growth is refused once at most: a test that meets one is run once more.
+// An allocation fails once at most: a test that meets one is run once more.
 
 // A row of a table, and how it is run.
 #[cfg(test)]

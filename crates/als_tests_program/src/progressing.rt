@@ -3,6 +3,8 @@ use als_program::{Terminals, program, program_on};
 use std::fs::File;
 use std::net::Net;
 use std::rt::Files;
+use std::sync::Wait;
+use std::thread::Threads;
 use std::{fs, io};
 
 /// The files of the folder that is taken over.
@@ -12,8 +14,11 @@ const FILES: [&str; 3] = [
     "waiting/pages.blk",
 ];
 
-/// A log of so many updates of one record. `None`: memory was refused.
-fn log_of<R: AllocGlobal + Files<File = File> + Net>(rt: &R, updates: u32) -> Option<Vec<u8>> {
+/// A log of so many updates of one record. `None`: allocation failed.
+fn log_of<R: AllocGlobal + Files<File = File> + Net + Threads + Wait + Sync>(
+    rt: &R,
+    updates: u32,
+) -> Option<Vec<u8>> {
     let mut script = String::new(rt.alloc());
     script
         .push_str(
@@ -44,15 +49,18 @@ end 1
 }
 
 /// The same, twice at most.
-fn made<R: AllocGlobal + Files<File = File> + Net>(rt: &R, updates: u32) -> Option<Vec<u8>> {
+fn made<R: AllocGlobal + Files<File = File> + Net + Threads + Wait + Sync>(
+    rt: &R,
+    updates: u32,
+) -> Option<Vec<u8>> {
     match log_of(rt, updates) {
         Some(log) => Some(log),
         None => log_of(rt, updates),
     }
 }
 
-/// What a takeover that has to redo this log says on standard error. `None`: memory was refused.
-fn said<R: AllocGlobal + Files<File = File> + Net>(
+/// What a takeover that has to redo this log says on standard error. `None`: allocation failed.
+fn said<R: AllocGlobal + Files<File = File> + Net + Threads + Wait + Sync>(
     rt: &R,
     log: &[u8],
     errors: bool,
@@ -70,7 +78,7 @@ fn said<R: AllocGlobal + Files<File = File> + Net>(
 }
 
 /// The same, twice at most.
-fn says<R: AllocGlobal + Files<File = File> + Net>(
+fn says<R: AllocGlobal + Files<File = File> + Net + Threads + Wait + Sync>(
     rt: &R,
     log: &[u8],
     errors: bool,

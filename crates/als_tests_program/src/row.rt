@@ -3,6 +3,8 @@ use std::fs::File;
 use std::net::Net;
 use std::process::Abort;
 use std::rt::Files;
+use std::sync::Wait;
+use std::thread::Threads;
 
 /// A world as most scripts have it.
 pub const WORLD: &str = "world pages=4 log=8 frames=4 workers=2 pending=1000\n";
@@ -67,7 +69,10 @@ impl<'a> Row<'a> {
 }
 
 /// Whether the program writes and answers what the row says.
-fn is_so<R: AllocGlobal + Files<File = File> + Net>(rt: &R, row: Row) -> bool {
+fn is_so<R: AllocGlobal + Files<File = File> + Net + Threads + Wait + Sync>(
+    rt: &R,
+    row: Row,
+) -> bool {
     let mut output = Vec::new(rt.alloc());
     let mut errors = Vec::new(rt.alloc());
     let script = row.script.as_bytes();
@@ -77,9 +82,12 @@ fn is_so<R: AllocGlobal + Files<File = File> + Net>(rt: &R, row: Row) -> bool {
         && status == row.status
 }
 
-/// Runs a row of a table, and again where its first run does not end so: a growth is refused once
+/// Runs a row of a table, and again where its first run does not end so: an allocation fails once
 /// at most, so the second run meets none, and tells what differs.
-pub fn run_row<R: Abort + AllocGlobal + Files<File = File> + Net>(rt: &R, row: Row) {
+pub fn run_row<R: Abort + AllocGlobal + Files<File = File> + Net + Threads + Wait + Sync>(
+    rt: &R,
+    row: Row,
+) {
     if is_so(rt, row) {
         return;
     }
@@ -98,7 +106,7 @@ pub fn run_row<R: Abort + AllocGlobal + Files<File = File> + Net>(rt: &R, row: R
 }
 
 /// One text behind the other. A growth that is refused once is met by a second try.
-pub fn joined<R: Abort + AllocGlobal + Files<File = File> + Net>(
+pub fn joined<R: Abort + AllocGlobal + Files<File = File> + Net + Threads + Wait + Sync>(
     rt: &R,
     front: &str,
     back: &str,
@@ -114,7 +122,7 @@ pub fn joined<R: Abort + AllocGlobal + Files<File = File> + Net>(
 
 /// Runs scripts that end well, each given by its lines and by what they print. In front of each
 /// stand lines that print this by themselves.
-pub fn run_scripts<R: Abort + AllocGlobal + Files<File = File> + Net>(
+pub fn run_scripts<R: Abort + AllocGlobal + Files<File = File> + Net + Threads + Wait + Sync>(
     rt: &R,
     front: (&str, &str),
     scripts: &[(&str, &str)],

@@ -3,10 +3,16 @@ use std::fs::File;
 use std::io;
 use std::net::Net;
 use std::rt::Files;
+use std::sync::Wait;
+use std::thread::Threads;
 
 /// Whether shipping this file is refused so, with nothing on standard output. Standard input is not
 /// read.
-fn refuses<R: AllocGlobal + Files<File = File> + Net>(rt: &R, log: &str, wanted: &str) -> bool {
+fn refuses<R: AllocGlobal + Files<File = File> + Net + Threads + Wait + Sync>(
+    rt: &R,
+    log: &str,
+    wanted: &str,
+) -> bool {
     let mut output = Vec::new(rt.alloc());
     let mut errors = Vec::new(rt.alloc());
     let words = ["als", "ship", "--log", log, "--listen", "127.0.0.1:0"];

@@ -4,6 +4,8 @@
 #[cfg(test)]
 mod analysis;
 #[cfg(test)]
+mod commits;
+#[cfg(test)]
 mod made;
 #[cfg(test)]
 mod receiver;
@@ -15,5 +17,3 @@ mod tables;
 mod takeover;
 #[cfg(test)]
 mod validator;
-#[cfg(test)]
-mod view;

@@ -14,7 +14,7 @@ struct Held {
     log: LocalLog<MemDisk>,
 }
 
-// The memory of an empty log of a database of four pages, made again where memory is refused once.
+// The memory of an empty log of a database of four pages, made again where allocation fails once.
 fn new_log(rt: &impl Abort, alloc: Global) -> NewLog {
     for _ in 0..2 {
         if let Ok(new) = NewLog::new(alloc, 4) {
@@ -24,7 +24,7 @@ fn new_log(rt: &impl Abort, alloc: Global) -> NewLog {
     panic!(rt; "memory is refused twice")
 }
 
-// An empty log on a device of eight blocks. A device in memory fails where a growth is refused,
+// An empty log on a device of eight blocks. A device in memory fails where an allocation fails,
 // once at most.
 fn empty(rt: &impl Abort, alloc: Global) -> Held {
     for _ in 0..2 {
@@ -36,7 +36,7 @@ fn empty(rt: &impl Abort, alloc: Global) -> Held {
     panic!(rt; "the device fails twice")
 }
 
-// The bytes of a record, spelled again where memory is refused once.
+// The bytes of a record, spelled again where allocation fails once.
 fn spelled(rt: &impl Abort, alloc: Global, logged: &Record) -> Vec<u8> {
     for _ in 0..2 {
         let mut bytes = Vec::new(alloc);
@@ -47,7 +47,7 @@ fn spelled(rt: &impl Abort, alloc: Global, logged: &Record) -> Vec<u8> {
     panic!(rt; "memory is refused twice")
 }
 
-// Appends a record and notes it, again where memory is refused once.
+// Appends a record and notes it, again where allocation fails once.
 fn put(rt: &impl Abort, alloc: Global, held: &mut Held, made: &Record) {
     let bytes = spelled(rt, alloc, made);
     let end = held.log.end();

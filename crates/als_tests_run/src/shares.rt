@@ -5,7 +5,8 @@ ghost use Rattle.als_share.specs.Ledgers.{AreNamed};
 use crate::standbys::{TEXT, standby};
 use als_engine::{Events, State};
 use als_record::Lsn;
-use als_share::{Blanks, Counts, Handle, Ledgers, Share, Shared, settle, share};
+use als_share::{Acknowledger, Blanks, Counts, Handle, Ledgers, Share, Shared, settle, share};
+use als_vouch::Voucher;
 use std::alloc::Global;
 use std::marker::Brand;
 use std::sync::Wait;
@@ -17,7 +18,8 @@ fn follow<L: Ledgers, E: Events, R: Wait>(
     rt: &R,
     shared: &Shared<L, E>,
     mine: Share<L>,
-) -> Share<L> {
+    acknowledger: Acknowledger<L>,
+) -> (Share<L>, Acknowledger<L>) {
     let mut handle = Handle::new(rt, shared, mine);
     for piece in TEXT.chunks(7) {
         let _ = handle.feed(piece);
@@ -25,8 +27,9 @@ fn follow<L: Ledgers, E: Events, R: Wait>(
     let _ = handle.log_write();
     let _ = handle.log_sync();
     let _ = handle.mark_write();
-    let _ = handle.ctl_sync();
-    handle.end()
+    let mut acknowledger = acknowledger;
+    let _ = acknowledger.acknowledge(&mut handle);
+    (handle.end(), acknowledger)
 }
 
 /// Another one lends page 0, redoes it without the lock, and gives it.
@@ -49,21 +52,22 @@ fn drive<L: Ledgers + Send + Sync, E: Counts + Send + Drop, R: Threads + Wait + 
     blanks: Blanks,
 ) -> Option<E>
     requires start { L.start ≡ Some (E.machine engine) }
+    requires book { L.book ≡ E.book engine }
     requires names { AreNamed L.names blanks.names }
     requires parts { (blanks.parts ≡ L.shares) × (L.shares ≡ 2) }
     ensures { IfSome result (λ settled. E.alone → ReachesFrom L.start (E.machine settled)) }
 {
-    let (shared, mut shares) = share::<L, E>(alloc, engine, 2, blanks).ok()?;
+    let (shared, mut shares, acknowledger) = share::<L, E>(alloc, engine, 2, blanks).ok()?;
     let one = shares.pop()?;
     let other = shares.pop()?;
     let lent = &shared;
-    let (one, other) = thread::join(
+    let ((one, acknowledger), other) = thread::join(
         rt,
-        move || follow(rt, lent, one),
+        move || follow(rt, lent, one, acknowledger),
         move || redo(rt, lent, other),
     );
     shares.push(other).ok()?;
-    Some(settle(shared, one, shares))
+    Some(settle(shared, one, shares, acknowledger))
 }
 
 /// The same, over ledgers that are picked here. What comes back is reached from what went in.
@@ -89,10 +93,10 @@ fn has_all<E: Events>(engine: &E) -> bool {
 
 #[test]
 fn handles_drive_one_engine(rt: HostRuntime) {
-    let engine = standby(rt.alloc()).expect(&rt, "a standby");
+    let engine = standby(&rt, rt.alloc()).expect(&rt, "a standby");
     match driven(&rt, rt.alloc(), engine) {
         Some(engine) => assert!(rt; has_all(&engine)),
-        // Memory was refused.
+        // Allocation failed.
         None => {}
     }
 }

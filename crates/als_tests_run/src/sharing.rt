@@ -63,7 +63,7 @@ fn has_all<D: BlockDisk>(engine: &Engine<D>) -> bool {
 
 #[test]
 fn two_threads_drive_one_engine(rt: HostRuntime) {
-    let engine = standby(rt.alloc()).expect(&rt, "a standby");
+    let engine = standby(&rt, rt.alloc()).expect(&rt, "a standby");
     let shared = Mutex::new(engine);
     let (rt, lock) = (&rt, &shared);
     thread::join(rt, move || follow(rt, lock), move || redo(rt, lock));
@@ -76,7 +76,7 @@ fn two_threads_drive_one_engine(rt: HostRuntime) {
     assert!(rt; engine.status().pending == 0);
 }
 
-/// A session over memory. `None`: memory was refused.
+/// A session over memory. `None`: allocation failed.
 fn session<D: BlockDisk>(alloc: Global, engine: &mut Engine<D>) -> Option<()> {
     let mut told = Vec::new(alloc);
     let mut reader = SENT.as_slice();
@@ -88,7 +88,7 @@ fn session<D: BlockDisk>(alloc: Global, engine: &mut Engine<D>) -> Option<()> {
 #[test]
 fn a_session_in_a_thread_of_its_own(rt: HostRuntime) -> Result<(), Fail> {
     let alloc = rt.alloc();
-    let engine = standby(alloc).expect(&rt, "a standby");
+    let engine = standby(&rt, alloc).expect(&rt, "a standby");
     let child = thread::spawn(&rt, move || {
         let mut engine = engine;
         let _ = session(alloc, &mut engine);

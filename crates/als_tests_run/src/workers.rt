@@ -1,13 +1,13 @@
-ghost use Rattle.std.specs.Prelude.{◌≡◌, ◌<◌, [], Some};
+ghost use Rattle.std.specs.Prelude.{◌≡◌, ◌<◌, Some};
 ghost use Rattle.crossbeam_channel.specs.Claims.{view};
-ghost use Rattle.als_handoff.specs.Rule.{pass_state};
+ghost use Rattle.als_handoff.specs.Rule.{new_pass};
 ghost use Rattle.als_handoff.specs.Passes.{IsPassOf};
 ghost use Rattle.als_share.specs.Ledgers.{AreNamed};
 
 use crate::standbys::{TWO_PAGES, standby};
 use als_engine::Events;
 use als_handoff::{HandOff, Job, Pass};
-use als_run::{Ended, Gate, Point, Via, apply_worker};
+use als_run::{Ended, Gate, Point, StoredOffers, Via, apply_worker};
 use als_share::{Blanks, Counts, Handle, Ledgers, Share, Shared, settle, share};
 use std::alloc::Global;
 use std::marker::Brand;
@@ -73,15 +73,15 @@ fn work<L: Ledgers, E: Events, G: Gate, R: Wait>(
     pass: Pass,
     gate: &G,
 ) -> Worked<L>
-    requires { IsPassOf queue.now pass × (view pass ≡ pass_state 1 [] []) }
+    requires { IsPassOf queue.now pass × (view pass ≡ new_pass 1) }
     ensures { IsPassOf queue.now result.0 }
 {
     let mut pass = pass;
-    let mut via = Via::new(alloc, Handle::new(rt, shared, mine));
+    let mut via = Via::new(Handle::new(rt, shared, mine), StoredOffers::new(alloc));
     let ended = apply_worker(rt, queue, &mut pass, &mut via, gate);
     let (handle, offers) = via.end();
     let offered = if ended == Ended::Stop {
-        Some(offers.len())
+        Some(offers.offers().len())
     } else {
         None
     };
@@ -98,8 +98,8 @@ fn work_twice<L: Ledgers + Send + Sync, E: Events + Send, G: Gate + Sync, R: Thr
     other: (Share<L>, Pass),
     gate: &G,
 ) -> (Worked<L>, Worked<L>)
-    requires one { IsPassOf queue.now one.1 × (view one.1 ≡ pass_state 1 [] []) }
-    requires other { IsPassOf queue.now other.1 × (view other.1 ≡ pass_state 1 [] []) }
+    requires one { IsPassOf queue.now one.1 × (view one.1 ≡ new_pass 1) }
+    requires other { IsPassOf queue.now other.1 × (view other.1 ≡ new_pass 1) }
     ensures { IsPassOf queue.now result.0.0 × IsPassOf queue.now result.1.0 }
 {
     let (one_share, one_pass) = one;
@@ -107,11 +107,11 @@ fn work_twice<L: Ledgers + Send + Sync, E: Events + Send, G: Gate + Sync, R: Thr
     thread::join(
         rt,
         move || -> Worked<L>
-            requires { IsPassOf queue.now one_pass × (view one_pass ≡ pass_state 1 [] []) }
+            requires { IsPassOf queue.now one_pass × (view one_pass ≡ new_pass 1) }
             ensures { IsPassOf queue.entry.now result.0 }
         { work(rt, alloc, shared, queue, one_share, one_pass, gate) },
         move || -> Worked<L>
-            requires { IsPassOf queue.now other_pass × (view other_pass ≡ pass_state 1 [] []) }
+            requires { IsPassOf queue.now other_pass × (view other_pass ≡ new_pass 1) }
             ensures { IsPassOf queue.entry.now result.0 }
         { work(rt, alloc, shared, queue, other_share, other_pass, gate) },
     )
@@ -144,10 +144,11 @@ fn race<L: Ledgers + Send + Sync, E: Counts + Send + Drop, R: Threads + Wait + S
     gate: &Held,
 ) -> Option<(E, usize, usize)>
     requires start { L.start ≡ Some (E.machine engine) }
+    requires book { L.book ≡ E.book engine }
     requires names { AreNamed L.names blanks.names }
     requires parts { (blanks.parts ≡ L.shares) × (L.shares ≡ 3) }
 {
-    let (shared, mut shares) = share::<L, E>(alloc, engine, 3, blanks).ok()?;
+    let (shared, mut shares, acknowledger) = share::<L, E>(alloc, engine, 3, blanks).ok()?;
     let (one, other, mine) = (shares.pop()?, shares.pop()?, shares.pop()?);
     let (queue, mut pass) = HandOff::new(alloc).ok()?;
     let one_pass = queue.cut(&mut pass);
@@ -173,7 +174,8 @@ fn race<L: Ledgers + Send + Sync, E: Counts + Send + Drop, R: Threads + Wait + S
     queue.join(&mut pass, other_pass);
     shares.push(one_share).ok()?;
     shares.push(other_share).ok()?;
-    Some((settle(shared, mine, shares), one_offered?, other_offered?))
+    let engine = settle(shared, mine, shares, acknowledger);
+    Some((engine, one_offered?, other_offered?))
 }
 
 /// The same, over ledgers that are picked here.
@@ -195,7 +197,7 @@ fn has_redone<E: Events>(engine: &E) -> bool {
 #[test]
 fn two_workers_redo_at_once(rt: HostRuntime) {
     let alloc = rt.alloc();
-    let mut engine = standby(alloc).expect(&rt, "a standby");
+    let mut engine = standby(&rt, alloc).expect(&rt, "a standby");
     assert!(rt; engine.feed(&TWO_PAGES).is_ok());
     let gate = Held::new();
     match raced(&rt, alloc, engine, &gate) {
@@ -204,7 +206,7 @@ fn two_workers_redo_at_once(rt: HostRuntime) {
             assert!(rt; one == 1 && other == 1);
             assert!(rt; has_redone(&engine));
         }
-        // Memory was refused.
+        // Allocation failed.
         None => {}
     }
 }

@@ -73,7 +73,7 @@ pub fn redo<D: BlockDisk>(engine: &mut Engine<D>, page: u32) -> Result<Lsn, Faul
     }
 }
 
-/// The log as a source. `None`: memory was refused.
+/// The log as a source. `None`: allocation failed.
 pub fn source(alloc: Global) -> Option<LogBytes> {
     let bytes = Vec::from_slice(alloc, &TEXT).ok()?;
     LogBytes::new(bytes).ok()

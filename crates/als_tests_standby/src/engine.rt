@@ -13,6 +13,7 @@ use als_engine::{
 use als_record::Lsn;
 use std::alloc::{AllocError, Global};
 use std::process::Abort;
+use std::sync::Wait;
 
 /// An update of 0/0 to `aa` at 16, its commit at 52 and its end at 80.
 fn text() -> [u8; 92] {
@@ -74,19 +75,24 @@ fn devices(alloc: Global, blocks: u64) -> Result<(Disks<Disk>, Fuses), AllocErro
     Ok((disks, Fuses { log, control }))
 }
 
-/// A standby over new devices. `None`: memory was refused.
-fn standby(alloc: Global, blocks: u64) -> Option<(Engine<Disk>, Fuses)> {
+/// A standby over new devices. `None`: allocation failed.
+fn standby<R: Wait>(rt: &R, alloc: Global, blocks: u64) -> Option<(Engine<Disk>, Fuses)> {
     let (disks, fuses) = devices(alloc, blocks).ok()?;
-    let engine = Engine::format(alloc, disks, CONFIG).ok()?;
+    let (engine, _) = Engine::format(alloc, rt, disks, CONFIG).ok()?;
     Some((engine, fuses))
 }
 
 /// A standby after these steps. None: a reply is another one than is wanted, as where memory was
 /// refused.
-fn replies_are(engine: Engine<Disk>, steps: &[Step], wanted: &[Reply]) -> Option<Engine<Disk>> {
+fn replies_are<R: Wait>(
+    rt: &R,
+    engine: Engine<Disk>,
+    steps: &[Step],
+    wanted: &[Reply],
+) -> Option<Engine<Disk>> {
     let mut engine = engine;
     for (i, step) in steps.iter().enumerate() {
-        let reply = engine.step(step);
+        let reply = engine.step(rt, step);
         if wanted.get(i) != Some(&reply) {
             return None;
         }
@@ -94,7 +100,7 @@ fn replies_are(engine: Engine<Disk>, steps: &[Step], wanted: &[Reply]) -> Option
     Some(engine)
 }
 
-/// Feeds a piece, and once more what is left of it where memory is refused: then the whole records
+/// Feeds a piece, and once more what is left of it where allocation fails: then the whole records
 /// in front are held, and nothing else has changed.
 fn feed_again(rt: &impl Abort, engine: &mut Engine<Disk>, piece: &[u8]) -> bool {
     let before = engine.status();
@@ -116,8 +122,8 @@ fn feed_again(rt: &impl Abort, engine: &mut Engine<Disk>, piece: &[u8]) -> bool 
 }
 
 /// The log in pieces, and the page that it makes.
-fn takes_pieces(rt: &impl Abort, alloc: Global) -> bool {
-    let Some((mut engine, _)) = standby(alloc, 8) else {
+fn takes_pieces<R: Wait + Abort>(rt: &R, alloc: Global) -> bool {
+    let Some((mut engine, _)) = standby(rt, alloc, 8) else {
         return false;
     };
     let text = text();
@@ -159,8 +165,8 @@ fn a_log_in_pieces_makes_warm_pages(rt: HostRuntime) {
 
 /// Bytes that are no record, in the room of a partial record that was dropped: their refusal takes
 /// no memory.
-fn refuses_with_no_memory(rt: &impl Abort, alloc: Global) -> bool {
-    let Some((mut engine, _)) = standby(alloc, 8) else {
+fn refuses_with_no_memory<R: Wait + Abort>(rt: &R, alloc: Global) -> bool {
+    let Some((mut engine, _)) = standby(rt, alloc, 8) else {
         return false;
     };
     let partial = [
@@ -188,8 +194,8 @@ fn a_refusal_takes_no_memory(rt: HostRuntime) {
 
 /// The log is written and synced, then marked and acknowledged, each where there is something to
 /// do.
-fn acknowledges(rt: &impl Abort, alloc: Global) -> bool {
-    let Some((engine, _)) = standby(alloc, 8) else {
+fn acknowledges<R: Wait + Abort>(rt: &R, alloc: Global) -> bool {
+    let Some((engine, _)) = standby(rt, alloc, 8) else {
         return false;
     };
     let text = text();
@@ -222,7 +228,7 @@ fn acknowledges(rt: &impl Abort, alloc: Global) -> bool {
         Reply::Done,
         Reply::Refused(Fault::NothingToDo),
     ];
-    let Some(mut engine) = replies_are(engine, &steps, &wanted) else {
+    let Some(mut engine) = replies_are(rt, engine, &steps, &wanted) else {
         return false;
     };
     assert!(rt; engine.status().acknowledged == Lsn(108));
@@ -231,7 +237,7 @@ fn acknowledges(rt: &impl Abort, alloc: Global) -> bool {
     };
     assert!(rt; commit.is_some());
     assert!(rt; nothing.is_none());
-    assert!(rt; engine.into_disks().log.blocks() == 8);
+    assert!(rt; engine.into_disks(rt).log.blocks() == 8);
     true
 }
 
@@ -242,11 +248,11 @@ fn what_is_stored_is_acknowledged(rt: HostRuntime) {
 
 /// The log device's or the control device's next call but so many fails. Then each event is
 /// refused, and the queries go on.
-fn stops(rt: &impl Abort, alloc: Global, log: u64, control: u64, wanted: &[Reply]) -> bool
+fn stops<R: Wait + Abort>(rt: &R, alloc: Global, log: u64, control: u64, wanted: &[Reply]) -> bool
     requires log { 0 < log }
     requires control { 0 < control }
 {
-    let Some((engine, fuses)) = standby(alloc, 8) else {
+    let Some((engine, fuses)) = standby(rt, alloc, 8) else {
         return false;
     };
     fuses.log.fail_at(log);
@@ -266,7 +272,7 @@ fn stops(rt: &impl Abort, alloc: Global, log: u64, control: u64, wanted: &[Reply
         Step::MarkWrite,
         Step::ControlSync,
     ];
-    let Some(engine) = replies_are(engine, &steps, wanted) else {
+    let Some(engine) = replies_are(rt, engine, &steps, wanted) else {
         return false;
     };
     let status = engine.status();
@@ -306,8 +312,14 @@ fn a_failed_write_or_sync_stops_the_engine(rt: HostRuntime) {
     }
 }
 
-/// Devices of which these calls fail are formatted so. False also where memory was refused.
-fn formats_so(alloc: Global, log: u64, control: u64, wanted: Result<Status, Fault>) -> bool
+/// Devices of which these calls fail are formatted so. False also where allocation failed.
+fn formats_so<R: Wait>(
+    rt: &R,
+    alloc: Global,
+    log: u64,
+    control: u64,
+    wanted: Result<Status, Fault>,
+) -> bool
     requires log { 0 < log }
     requires control { 0 < control }
 {
@@ -316,8 +328,8 @@ fn formats_so(alloc: Global, log: u64, control: u64, wanted: Result<Status, Faul
     };
     fuses.log.fail_at(log);
     fuses.control.fail_at(control);
-    match Engine::format(alloc, disks, CONFIG) {
-        Ok(engine) => wanted == Ok(engine.status()),
+    match Engine::format(alloc, rt, disks, CONFIG) {
+        Ok((engine, _)) => wanted == Ok(engine.status()),
         Err(refused) => wanted == Err(refused.fault),
     }
 }
@@ -345,17 +357,18 @@ fn a_format_whose_device_fails_is_refused(rt: HostRuntime) {
     for (log, control, wanted) in worlds {
         let alloc = rt.alloc();
         assert!(rt;
-            formats_so(alloc, log, control, wanted) || formats_so(alloc, log, control, wanted)
+            formats_so(&rt, alloc, log, control, wanted)
+                || formats_so(&rt, alloc, log, control, wanted)
         );
     }
 }
 
 /// A standby over a log device of one block answers a piece so, ends there and goes on.
-fn fills_to(rt: &impl Abort, alloc: Global, piece: &[u8], wanted: Reply, end: Lsn) -> bool {
-    let Some((engine, _)) = standby(alloc, 1) else {
+fn fills_to<R: Wait + Abort>(rt: &R, alloc: Global, piece: &[u8], wanted: Reply, end: Lsn) -> bool {
+    let Some((engine, _)) = standby(rt, alloc, 1) else {
         return false;
     };
-    let Some(engine) = replies_are(engine, &[Step::Feed(piece)], &[wanted]) else {
+    let Some(engine) = replies_are(rt, engine, &[Step::Feed(piece)], &[wanted]) else {
         return false;
     };
     let status = engine.status();
@@ -366,7 +379,7 @@ fn fills_to(rt: &impl Abort, alloc: Global, piece: &[u8], wanted: Reply, end: Ls
 
 /// A log device of one block has room for a sixth record and the tail after it only if its value
 /// has one byte.
-fn fills_one_block(rt: &impl Abort, alloc: Global) -> bool {
+fn fills_one_block<R: Wait + Abort>(rt: &R, alloc: Global) -> bool {
     let all = Reply::Fed(Fed {
         taken: 216,
         records: 6,
@@ -385,15 +398,22 @@ fn a_log_device_keeps_room_for_the_tail(rt: HostRuntime) {
     assert!(rt; fills_one_block(&rt, rt.alloc()) || fills_one_block(&rt, rt.alloc()));
 }
 
-/// How new devices with so many blocks each are refused. `None`: memory was refused, or they were
+/// How new devices with so many blocks each are refused. `None`: allocation failed, or they were
 /// not.
-fn refused(alloc: Global, config: Config, log: u64, control: u64, pages: u64) -> Option<Fault> {
+fn refused<R: Wait>(
+    rt: &R,
+    alloc: Global,
+    config: Config,
+    log: u64,
+    control: u64,
+    pages: u64,
+) -> Option<Fault> {
     let disks = Disks {
         log: MemDisk::new(alloc, log),
         control: MemDisk::new(alloc, control),
         pages: MemDisk::new(alloc, pages),
     };
-    match Engine::format(alloc, disks, config) {
+    match Engine::format(alloc, rt, disks, config) {
         Ok(_) => None,
         Err(refused) => Some(refused.fault),
     }
@@ -403,9 +423,11 @@ fn refused(alloc: Global, config: Config, log: u64, control: u64, pages: u64) ->
 fn worlds_out_of_range_are_refused(rt: HostRuntime) {
     for pages in [0, 4097, u64::MAX] {
         let config = Config { pages, ..CONFIG };
-        assert!(rt; refused(rt.alloc(), config, 8, 321, 4096) == Some(Fault::BadConfig));
+        assert!(rt; refused(&rt, rt.alloc(), config, 8, 321, 4096) == Some(Fault::BadConfig));
     }
     for (log, control, pages) in [(0, 321, 4), (4_194_305, 321, 4), (8, 320, 4), (8, 321, 3)] {
-        assert!(rt; refused(rt.alloc(), CONFIG, log, control, pages) == Some(Fault::BadConfig));
+        assert!(rt;
+            refused(&rt, rt.alloc(), CONFIG, log, control, pages) == Some(Fault::BadConfig)
+        );
     }
 }

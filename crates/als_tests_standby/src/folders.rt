@@ -46,7 +46,7 @@ fn tells(refused: Option<Fault>, wanted: Fault) -> bool {
     refused == Some(wanted) || refused == Some(Fault::Memory)
 }
 
-/// Lays out a database whose blocks begin with these bytes. `None`: memory was refused.
+/// Lays out a database whose blocks begin with these bytes. `None`: allocation failed.
 fn lay_out<R: Files<File = File> + AllocGlobal>(
     rt: &R,
     folder: &Folder,
@@ -107,7 +107,7 @@ fn a_folder_that_is_missing(rt: HostRuntime) {
     assert!(rt; Fault::Memory.number() == 32);
 }
 
-/// A file is no folder. `None`: memory was refused.
+/// A file is no folder. `None`: allocation failed.
 fn is_no_folder<R: Abort + AllocGlobal + Files<File = File>>(rt: &R) -> Option<()> {
     fs::write(rt, "a file", "").ok()?;
     let folder = Folder::hold(rt, "a file").ok()?;

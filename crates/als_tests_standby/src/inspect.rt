@@ -5,6 +5,7 @@ use std::fs;
 use std::fs::File;
 use std::process::Abort;
 use std::rt::Files;
+use std::sync::Wait;
 
 /// An update of page 3 by transaction 2, at 52.
 fn update() -> Record {
@@ -80,9 +81,9 @@ fn records_are_chosen(rt: HostRuntime) {
     }
 }
 
-/// Whether verifying a file with these bytes is refused so, with this line. A growth is refused
+/// Whether verifying a file with these bytes is refused so, with this line. An allocation fails
 /// once at most.
-fn tells<R: AllocGlobal + Files<File = File>>(
+fn tells<R: AllocGlobal + Files<File = File> + Wait>(
     rt: &R,
     bytes: &[u8],
     line: &str,
@@ -99,7 +100,7 @@ fn tells<R: AllocGlobal + Files<File = File>>(
 }
 
 /// The same, twice at most.
-fn is_told<R: Abort + AllocGlobal + Files<File = File>>(
+fn is_told<R: Abort + AllocGlobal + Files<File = File> + Wait>(
     rt: &R,
     bytes: &[u8],
     line: &str,

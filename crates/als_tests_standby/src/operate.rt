@@ -10,6 +10,7 @@ use std::io::{Read, Write};
 use std::net::{Net, SocketAddr, TcpListener, TcpStream};
 use std::process::Abort;
 use std::rt::Files;
+use std::sync::Wait;
 use std::test::Fail;
 use std::{fs, io, thread};
 
@@ -113,19 +114,25 @@ fn what_is_not_served(rt: HostRuntime) {
 }
 
 // A session over memory, as `als standby` follows it over its engine: what it tells, and what it
-// leaves, with a checkpoint after each frame or with none on the way. `None`: memory was refused.
-fn follows_warm(rt: &impl Abort, alloc: Global, each: u64) -> Option<()> {
-    let mut engine = Engine::format(alloc, devices_in_memory(alloc), CONFIG).ok()?;
+// leaves, with a checkpoint after each frame or with none on the way. `None`: allocation failed.
+fn follows_warm<R: Wait + Abort>(rt: &R, alloc: Global, each: u64) -> Option<()> {
+    let (mut engine, mut readers) = Engine::format(
+        alloc,
+        rt,
+        devices_in_memory(alloc),
+        CONFIG,
+    ).ok()?;
     let mut told = Vec::new(alloc);
     let mut reader = SENT.as_slice();
-    follow_session(alloc, &mut engine, each, &mut reader, &mut told).ok()?;
+    follow_session(rt, alloc, &mut engine, each, &mut reader, &mut told).ok()?;
     assert!(rt; told.as_slice() == TOLD.as_slice());
     let status = engine.status();
     assert!(rt; status.pending == 0);
     assert!(rt; status.acknowledged == Lsn(108));
     assert!(rt; Events::dirty(&engine, 0).is_none());
     // The commit was published on the way.
-    let answer = engine.read(Key { page: 0, slot: 0 }).ok()?;
+    let mut one = readers.pop()?;
+    let answer = one.get(Key { page: 0, slot: 0 }).ok()?;
     assert!(rt; answer.commits == 1);
     Some(())
 }
@@ -156,9 +163,9 @@ impl Progress for Heard {
     }
 }
 
-// A redo of one change is told. `None`: memory was refused.
-fn tells_of_redo(rt: &impl Abort, alloc: Global) -> Option<()> {
-    let mut engine = Engine::format(alloc, devices_in_memory(alloc), CONFIG).ok()?;
+// A redo of one change is reported. `None`: allocation failed.
+fn tells_of_redo<R: Wait + Abort>(rt: &R, alloc: Global) -> Option<()> {
+    let (mut engine, _) = Engine::format(alloc, rt, devices_in_memory(alloc), CONFIG).ok()?;
     engine.feed(&TEXT[16..]).ok()?;
     let mut heard = Heard {
         first: None,

@@ -7,17 +7,19 @@ use bytes::Bytes;
 use std::alloc::Global;
 use std::net::{Net, SocketAddr, TcpListener, TcpStream};
 use std::process::Abort;
+use std::sync::Wait;
 use std::test::Fail;
 use std::thread;
 
 const HEADER: LogHeader = LogHeader { pages: 4 };
 
-// A standby of four pages with nothing in it. `None`: memory was refused.
-fn standby(alloc: Global) -> Option<Engine<MemDisk>> {
-    Engine::format(alloc, devices_in_memory(alloc), CONFIG).ok()
+// A standby of four pages with nothing in it. `None`: allocation failed.
+fn standby<R: Wait>(rt: &R, alloc: Global) -> Option<Engine<MemDisk>> {
+    let (engine, _) = Engine::format(alloc, rt, devices_in_memory(alloc), CONFIG).ok()?;
+    Some(engine)
 }
 
-// The bytes of the log from one offset to another, as a frame. `None`: memory was refused.
+// The bytes of the log from one offset to another, as a frame. `None`: allocation failed.
 fn data(alloc: Global, from: usize, to: usize) -> Option<Frame> {
     let bytes = Bytes::copy_from_slice(alloc, TEXT.get(from..to)?).ok()?;
     Some(Frame::Data {
@@ -27,9 +29,9 @@ fn data(alloc: Global, from: usize, to: usize) -> Option<Frame> {
 }
 
 // Frames in some order, some of them again and some that overlap: the position after each, and then
-// a gap. `None`: memory was refused.
-fn takes_frames(rt: &impl Abort, alloc: Global) -> Option<()> {
-    let mut engine = standby(alloc)?;
+// a gap. `None`: allocation failed.
+fn takes_frames<R: Wait + Abort>(rt: &R, alloc: Global) -> Option<()> {
+    let mut engine = standby(rt, alloc)?;
     let follower = Follower::new(HEADER);
     let rows = [(16, 40, 40), (16, 40, 40), (40, 70, 70), (16, 108, 108)];
     for (from, to, wanted) in rows {
@@ -70,9 +72,9 @@ fn ships(rt: &impl Abort, alloc: Global) -> Option<Vec<u8>> {
     Some(sent)
 }
 
-// What a follower writes in that session. `None`: memory was refused.
-fn follows(rt: &impl Abort, alloc: Global) -> Option<()> {
-    let mut engine = standby(alloc)?;
+// What a follower writes in that session. `None`: allocation failed.
+fn follows<R: Wait + Abort>(rt: &R, alloc: Global) -> Option<()> {
+    let mut engine = standby(rt, alloc)?;
     let mut told = Vec::new(alloc);
     let mut reader = SENT.as_slice();
     let follower = Follower::new(HEADER);
@@ -94,9 +96,9 @@ fn a_session_over_memory(rt: HostRuntime) {
 }
 
 // What a follower that holds the log answers to a stream, which leaves its position as it was.
-// `None`: memory was refused.
-fn meets(rt: &impl Abort, alloc: Global, stream: &[u8], wanted: Fault) -> Option<()> {
-    let mut engine = standby(alloc)?;
+// `None`: allocation failed.
+fn meets<R: Wait + Abort>(rt: &R, alloc: Global, stream: &[u8], wanted: Fault) -> Option<()> {
+    let mut engine = standby(rt, alloc)?;
     let follower = Follower::new(HEADER);
     follower.frame(&mut engine, data(alloc, 16, 108)?).ok()?;
     let mut told = Vec::new(alloc);
@@ -151,7 +153,7 @@ fn hostile_frames(rt: HostRuntime) {
     }
 }
 
-// Why a shipper refuses a follower, to which nothing was sent. `None`: memory was refused.
+// Why a shipper refuses a follower, to which nothing was sent. `None`: allocation failed.
 fn refuses(rt: &impl Abort, alloc: Global, asked: &[u8], wanted: Fault) -> Option<()> {
     let mut source = source(alloc)?;
     let mut sent = Vec::new(alloc);
@@ -223,7 +225,7 @@ fn follow_at<R: Net<Stream = TcpStream>, E: Events>(
 #[test]
 fn a_session_over_tcp(rt: HostRuntime) -> Result<(), Fail> {
     let alloc = rt.alloc();
-    let mut engine = standby(alloc).expect(&rt, "a standby");
+    let mut engine = standby(&rt, alloc).expect(&rt, "a standby");
     let mut source = source(alloc).expect(&rt, "a source");
     let (listener, addr) = listen(&rt)?;
     let (rt, listener, source, engine) = (&rt, &listener, &mut source, &mut engine);

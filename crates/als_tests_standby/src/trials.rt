@@ -1,5 +1,5 @@
 // The contracts of `Engine::open`, `Engine::crash` and `als_world::run` admit a body that always wants
-// memory. These trials show that they succeed. A growth is refused once at most: a trial that meets
+// memory. These trials show that they succeed. An allocation fails once at most: a trial that meets
 // one is made once more.
 
 // A log text, and the page that it makes.

@@ -1,10 +1,10 @@
 ghost use Rattle.std.specs.Prelude.{◌≡◌, ◌≤◌, IfSome};
 
 use crate::logs::OPEN;
+use als_commits::Waiting;
 use als_disk::{BlockDisk, MemDisk};
-use als_record::{Fault as ShapeFault, Key, Lsn};
+use als_record::{Fault as ShapeFault, Lsn};
 use als_reopen::{Disks, Fault, reopen};
-use als_view::{Answer, View};
 use std::alloc::Global;
 use std::process::Abort;
 
@@ -56,7 +56,7 @@ fn checkpoint_block(position: u8, commits: u8) -> [u8; 512] {
     block
 }
 
-// A device with a block at its front, and another behind that. `None`: a growth was refused.
+// A device with a block at its front, and another behind that. `None`: an allocation failed.
 fn device(alloc: Global, blocks: u64, first: &[u8; 512], second: &[u8; 512]) -> Option<MemDisk>
     requires { 2 ≤ blocks }
     ensures { IfSome result (λ d. ⟦<MemDisk as BlockDisk>⟧.block_count d ≡ blocks) }
@@ -77,7 +77,7 @@ fn log_block(at: usize, byte: u8) -> [u8; 512]
     block
 }
 
-// Three such devices. `None`: a growth was refused.
+// Three such devices. `None`: an allocation failed.
 fn laid_out(
     alloc: Global,
     log: &[u8; 512],
@@ -96,7 +96,7 @@ fn laid_out(
 }
 
 // How many changes wait, and where the log ends, once three such devices are taken up; or why they
-// are not. `None`: a growth was refused.
+// are not. `None`: an allocation failed.
 fn outcome(
     alloc: Global,
     log: &[u8; 512],
@@ -195,49 +195,37 @@ fn a_damaged_header_is_refused(rt: HostRuntime) {
     assert!(rt; found == Err(Fault::Shape(ShapeFault::BadHeader)));
 }
 
-// What a reader sees of a slot of page 0: the first byte of its value, how many commits there are,
-// and the LSN of the last one.
-fn seen(view: &View, slot: u8) -> Option<(Option<u8>, u64, Lsn)> {
-    let answer = view.get(Key { page: 0, slot }).ok()?;
-    let Answer {
-        value,
-        commits,
-        lsn,
-    } = answer;
-    let Some(bytes) = value else {
-        return Some((None, commits, lsn));
-    };
-    Some((bytes.as_slice().first().copied(), commits, lsn))
-}
-
-// A reader sees this of a slot: the first byte of its value, so many commits, and the last one's
-// LSN.
-fn expect_seen(rt: &impl Abort, view: &View, slot: u8, first: Option<u8>, commits: u64, lsn: u64) {
-    assert!(rt; seen(view, slot) == Some((first, commits, Lsn(lsn))));
-}
-
-// The view of the log with two commits. `None`: a growth was refused.
-fn two_commits(alloc: Global) -> Option<View> {
+// The log with two commits is taken up: they wait for readers, in order, each with what survives of
+// its transaction. `None`: allocation failed.
+fn two_commits(alloc: Global) -> Option<Waiting> {
     let mut log = [0; 512];
     log[..223].copy_from_slice(&COMMITS);
     let disks = laid_out(alloc, &log, &control_block(223, 0), &[0; 512])?;
     let found = reopen(alloc, disks, 4, 2).ok()?;
-    let waiting = found.into_parts().5;
-    Some(View::new(alloc, 4, false).ok()?.with_waiting(waiting))
+    Some(found.into_parts().5)
 }
 
-// The commits of the log wait, and readers see them once they are published. `None`: a growth was
-// refused.
-fn commits(rt: &impl Abort, alloc: Global) -> Option<()> {
-    let mut view = two_commits(alloc)?;
-    assert!(rt; view.queued() == 2);
-    assert!(rt; seen(&view, 0).is_none());
-    view.publish_first(1);
-    expect_seen(rt, &view, 0, Some(0xaa), 1, 130);
-    expect_seen(rt, &view, 1, None, 1, 130);
-    view.publish();
-    expect_seen(rt, &view, 0, Some(0xcc), 2, 195);
+// The next commit that waits has this LSN and one write, which gives slot 0 of page 0 a value of
+// this byte.
+fn expect_next(rt: &impl Abort, waiting: &mut Waiting, lsn: u64, byte: u8) -> Option<()> {
+    let commit = waiting.pop()?;
+    assert!(rt; (commit.lsn.0, commit.writes.len()) == (lsn, 1));
+    for (key, after) in commit.writes {
+        assert!(rt; (key.page, key.slot) == (0, 0));
+        let first = match &after {
+            Some(value) => value.as_slice().first().copied(),
+            None => None,
+        };
+        assert!(rt; first == Some(byte));
+    }
     Some(())
+}
+
+fn commits(rt: &impl Abort, alloc: Global) -> Option<()> {
+    let mut waiting = two_commits(alloc)?;
+    assert!(rt; waiting.len() == 2);
+    expect_next(rt, &mut waiting, 130, 0xaa)?;
+    expect_next(rt, &mut waiting, 195, 0xcc)
 }
 
 #[test]

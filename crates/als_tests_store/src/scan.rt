@@ -40,7 +40,7 @@ fn block_of(bytes: &[u8]) -> [u8; 512] {
     block
 }
 
-/// A device of two blocks that begins with these bytes. `None`: a growth was refused.
+/// A device of two blocks that begins with these bytes. `None`: an allocation failed.
 fn disk_of(alloc: Global, bytes: &[u8]) -> Option<MemDisk> {
     let block = block_of(bytes);
     let mut disk = MemDisk::new(alloc, 2);
@@ -74,7 +74,7 @@ fn scan_of<D: BlockDisk + Drop>(
     Scan::new(alloc, disk, pages, mark)
 }
 
-/// A scan of a log with the records of a text. `None`: a growth was refused.
+/// A scan of a log with the records of a text. `None`: an allocation failed.
 fn scan_of_text(rt: &impl Abort, alloc: Global, text: &[u8], mark: u64) -> Option<Scan<MemDisk>> {
     let disk = settled(appended(alloc, text)?)?;
     scan_of(rt, alloc, disk, 4, mark).ok()
@@ -88,7 +88,7 @@ fn next_at<D: BlockDisk + Drop>(scan: &mut Scan<D>) -> Result<Option<u64>, Fault
     }
 }
 
-/// The scan is there, and there stands the next record. `None`: a growth was refused.
+/// The scan is there, and there stands the next record. `None`: an allocation failed.
 fn expect<D: BlockDisk + Drop>(rt: &impl Abort, scan: &mut Scan<D>, at: u64) -> Option<()> {
     assert!(rt; scan.end().0 == at);
     match next_at(scan) {
@@ -113,7 +113,7 @@ fn expect_the_ended<D: BlockDisk + Drop>(rt: &impl Abort, scan: &mut Scan<D>) ->
     Some(())
 }
 
-/// The log and its validator, behind the last record. `None`: a growth was refused.
+/// The log and its validator, behind the last record. `None`: an allocation failed.
 fn parts_of<D: BlockDisk + Drop>(
     rt: &impl Abort,
     mut scan: Scan<D>,
@@ -165,7 +165,7 @@ fn a_log_is_read_back(rt: HostRuntime) {
 }
 
 /// The next four records are those of the log of an open transaction, which is in the table beside
-/// the one that has committed. `None`: a growth was refused.
+/// the one that has committed. `None`: an allocation failed.
 fn expect_the_open<D: BlockDisk + Drop>(rt: &impl Abort, scan: &mut Scan<D>) -> Option<()> {
     expect(rt, scan, 16)?;
     expect(rt, scan, 52)?;
@@ -212,7 +212,7 @@ fn an_open_transaction_is_read_back(rt: HostRuntime) {
     );
 }
 
-/// How many records a scan reads, and then what. `None`: a growth was refused.
+/// How many records a scan reads, and then what. `None`: an allocation failed.
 fn counted<D: BlockDisk + Drop>(
     rt: &impl Abort,
     scan: &mut Scan<D>,
@@ -228,7 +228,7 @@ fn counted<D: BlockDisk + Drop>(
     panic!(rt; "too many records")
 }
 
-/// What is read below a mark: how many records, and then what. `None`: a growth was refused.
+/// What is read below a mark: how many records, and then what. `None`: an allocation failed.
 fn read_below(
     rt: &impl Abort,
     alloc: Global,
@@ -305,7 +305,7 @@ fn a_mark_within_a_record_is_refused(rt: HostRuntime) {
     assert!(rt; Fault::BadControl.name() == "BadControl");
 }
 
-/// The header is refused. `None`: a growth was refused.
+/// The header is refused. `None`: an allocation failed.
 fn expect_bad_header(rt: &impl Abort, alloc: Global, bytes: &[u8], pages: u32) -> Option<()> {
     let found = read_below(rt, alloc, bytes, pages, 108)?;
     assert!(rt; found.1 == Some(Fault::Shape(ShapeFault::BadHeader)));

@@ -25,7 +25,7 @@ fn commit_at(lsn: Lsn, prev: Lsn) -> Record
     }
 }
 
-/// The bytes of a record, spelled again where memory is refused once.
+/// The bytes of a record, spelled again where allocation fails once.
 fn spelled(rt: &impl Abort, alloc: Global, logged: &Record) -> Vec<u8>
     ensures { result.items ≡ spelling logged.now }
 {
@@ -53,7 +53,7 @@ fn offer(
     store.admit(&logged.view(), bytes)
 }
 
-/// Admits a commit that names this record before it, again where memory is refused once: then
+/// Admits a commit that names this record before it, again where allocation fails once: then
 /// nothing has changed.
 fn admit(
     rt: &impl Abort,
@@ -123,7 +123,7 @@ fn expect_one<D: BlockDisk + Drop>(rt: &impl Abort, store: &Store<D>, acknowledg
     assert!(rt; store.acknowledged().0 == acknowledged);
 }
 
-/// A record is held and acknowledged. False: memory was refused, and where that failed a write the
+/// A record is held and acknowledged. False: allocation failed, and where that failed a write the
 /// store is broken.
 fn acknowledges(rt: &impl Abort, alloc: Global) -> bool {
     let Ok(mut store) = Store::format(alloc, devices(alloc), 4, 2) else {
@@ -140,13 +140,13 @@ fn acknowledges(rt: &impl Abort, alloc: Global) -> bool {
     true
 }
 
-// A growth is refused once at most: the second try meets none.
+// An allocation fails once at most: the second try meets none.
 #[test]
 fn a_record_is_acknowledged_or_the_store_is_broken(rt: HostRuntime) {
     assert!(rt; acknowledges(&rt, rt.alloc()) || acknowledges(&rt, rt.alloc()));
 }
 
-/// A record is held in the room that was made for it. False: memory was refused where the devices
+/// A record is held in the room that was made for it. False: allocation failed where the devices
 /// were formatted.
 fn holds(rt: &impl Abort, alloc: Global) -> bool {
     let Ok(mut store) = Store::format(alloc, devices(alloc), 4, 2) else {
@@ -177,7 +177,7 @@ fn seal<D: BlockDisk + Drop>(rt: &impl Abort, store: &mut Store<D>) -> Result<()
     store.seal()
 }
 
-/// Holds the next record of the tail, again where memory is refused once: then nothing has changed.
+/// Holds the next record of the tail, again where allocation fails once: then nothing has changed.
 fn undo<D: BlockDisk + Drop>(rt: &impl Abort, store: &mut Store<D>) -> Result<Lsn, Fault> {
     let before = store.end();
     assert!(rt; !store.is_following());
@@ -236,7 +236,7 @@ fn take_over<D: BlockDisk + Drop>(rt: &impl Abort, store: &mut Store<D>) -> bool
 }
 
 /// A log with a committed transaction is sealed, its tail is held, and the takeover ends. False:
-/// memory was refused, and where that failed a write the store is broken.
+/// allocation failed, and where that failed a write the store is broken.
 fn takes_over(rt: &impl Abort, alloc: Global) -> bool {
     let Ok(mut store) = Store::format(alloc, devices(alloc), 4, 2) else {
         return false;

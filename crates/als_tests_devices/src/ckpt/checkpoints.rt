@@ -20,7 +20,7 @@ pub(crate) fn checkpoint_bytes(position: u8) -> [u8; 1024] {
     bytes
 }
 
-/// That checkpoint. `None`: memory was refused.
+/// That checkpoint. `None`: allocation failed.
 pub(crate) fn checkpoint(alloc: Global, position: u8) -> Option<Checkpoint>
     requires { 16 ≤ position }
     ensures { IfSome result (λ c. IsBeginning 64 c) }
@@ -30,7 +30,7 @@ pub(crate) fn checkpoint(alloc: Global, position: u8) -> Option<Checkpoint>
     Some(made)
 }
 
-/// Whether its bytes are these. `None`: memory was refused.
+/// Whether its bytes are these. `None`: allocation failed.
 fn is_spelled_so(alloc: Global) -> Option<bool> {
     let bytes = encode_checkpoint(alloc, checkpoint(alloc, 108)?).ok()?;
     let wanted = checkpoint_bytes(108);
@@ -56,7 +56,7 @@ pub(crate) fn marked<D: BlockDisk + Drop>(disk: D) -> Option<Control<D>>
     Some(control)
 }
 
-/// Begins the checkpoint at that position. `None`: it can't, or memory was refused.
+/// Begins the checkpoint at that position. `None`: it can't, or allocation failed.
 pub(crate) fn begun<D: BlockDisk>(
     control: &mut Control<D>,
     alloc: Global,
@@ -97,7 +97,7 @@ pub(crate) fn publishes_it<D: BlockDisk>(control: &mut Control<D>) -> Option<()>
 }
 
 /// Begins the checkpoint at that position and writes it. `None`: it can't, the device failed, or
-/// memory was refused.
+/// allocation failed.
 pub(crate) fn written<D: BlockDisk>(
     control: &mut Control<D>,
     alloc: Global,
@@ -114,7 +114,7 @@ pub(crate) fn written<D: BlockDisk>(
 }
 
 /// Publishes the checkpoint at that position, with no sync of that. `None`: it can't, the device
-/// failed, or memory was refused.
+/// failed, or allocation failed.
 pub(crate) fn named<D: BlockDisk>(
     control: &mut Control<D>,
     alloc: Global,

@@ -25,7 +25,7 @@ fn left_whole<D: Restart + Drop>(control: Control<D>, picks: &[u8]) -> Option<u6
     Some(position)
 }
 
-/// What is left where a second checkpoint is published and not synced. `None`: memory was refused.
+/// What is left where a second checkpoint is published and not synced. `None`: allocation failed.
 fn left_of_a_publish(alloc: Global, picks: &[u8]) -> Option<u64> {
     let mut control = marked(MemDisk::new(alloc, 321))?;
     published(&mut control, alloc, 108)?;
@@ -42,7 +42,7 @@ fn left_of_blocks(alloc: Global, picks: &[u8]) -> Option<u64> {
     left_whole(control, picks)
 }
 
-/// A crash amid the blocks leaves this position, by a second try where memory was refused.
+/// A crash amid the blocks leaves this position, by a second try where allocation failed.
 fn leaves(rt: &impl Abort, alloc: Global, picks: &[u8], wanted: u64) {
     let left = left_of_blocks(alloc, picks);
     assert!(rt; left == Some(wanted) || left_of_blocks(alloc, picks) == Some(wanted));

@@ -48,7 +48,7 @@ fn expect_place<D: BlockDisk>(rt: &impl Abort, control: &Control<D>, region: Reg
     assert!(rt; state.position.0 == at);
 }
 
-/// Three checkpoints, and the regions that they take. `None`: memory was refused.
+/// Three checkpoints, and the regions that they take. `None`: allocation failed.
 fn three_published<D: BlockDisk>(
     rt: &impl Abort,
     control: &mut Control<D>,
@@ -66,7 +66,7 @@ fn three_published<D: BlockDisk>(
     Some(())
 }
 
-/// The same, and where the last two stand. `None`: memory was refused.
+/// The same, and where the last two stand. `None`: allocation failed.
 fn takes_regions_in_turn(rt: &impl Abort, alloc: Global) -> Option<()> {
     let mut control = marked(MemDisk::new(alloc, 321))?;
     three_published(rt, &mut control, alloc)?;

@@ -31,7 +31,7 @@ fn read_again<D: Restart + Drop>(
 }
 
 /// What is read of the second checkpoint over a device of which this call fails from then on.
-/// `None`: memory was refused.
+/// `None`: allocation failed.
 fn read_failing(alloc: Global, call: u64) -> Option<Result<Option<(Lsn, bool)>, Fault>>
     requires { 0 < call }
 {

@@ -9,7 +9,7 @@ use als_record::Lsn;
 use std::alloc::Global;
 use std::process::Abort;
 
-/// A checkpoint can't be begun: 28. `None`: it was, or memory was refused.
+/// A checkpoint can't be begun: 28. `None`: it was, or allocation failed.
 fn is_busy<D: BlockDisk>(control: &mut Control<D>, alloc: Global) -> Option<()>
     requires { control.old.pages ≡ 64 }
     ensures { IfSome result (λ _. control.new ≡ control.old) }
@@ -55,7 +55,7 @@ fn expect_unpublished<D: BlockDisk>(
     Some(())
 }
 
-/// Nothing is begun: 27. `None`: memory was refused.
+/// Nothing is begun: 27. `None`: allocation failed.
 fn nothing_is_begun(rt: &impl Abort, alloc: Global) -> Option<()> {
     let mut control = marked(MemDisk::new(alloc, 321))?;
     has_no_next(&mut control)?;
@@ -68,7 +68,7 @@ fn nothing_to_do_before_a_checkpoint(rt: HostRuntime) {
     assert!(rt; nothing_is_begun(&rt, alloc).is_some() || nothing_is_begun(&rt, alloc).is_some());
 }
 
-/// While a checkpoint is begun: 28. `None`: memory was refused.
+/// While a checkpoint is begun: 28. `None`: allocation failed.
 fn is_busy_once_begun<D: BlockDisk>(
     rt: &impl Abort,
     control: &mut Control<D>,
@@ -84,7 +84,7 @@ fn is_busy_once_begun<D: BlockDisk>(
     is_busy(control, alloc)
 }
 
-/// And 28 until its blocks are synced. `None`: memory was refused.
+/// And 28 until its blocks are synced. `None`: allocation failed.
 fn is_busy_until_the_sync<D: BlockDisk>(
     rt: &impl Abort,
     control: &mut Control<D>,
@@ -116,7 +116,7 @@ fn a_checkpoint_waits_for_its_sync(rt: HostRuntime) {
     );
 }
 
-/// A position above the acknowledged LSN: 22. `None`: memory was refused.
+/// A position above the acknowledged LSN: 22. `None`: allocation failed.
 fn waits_for_the_mark(rt: &impl Abort, alloc: Global) -> Option<()> {
     let mut control = marked(MemDisk::new(alloc, 321))?;
     written(&mut control, alloc, 201)?;
@@ -137,7 +137,7 @@ fn a_checkpoint_waits_for_the_mark(rt: HostRuntime) {
     );
 }
 
-/// After a publish: 27, and 28 until it is synced. `None`: memory was refused.
+/// After a publish: 27, and 28 until it is synced. `None`: allocation failed.
 fn is_busy_until_the_last<D: BlockDisk>(
     rt: &impl Abort,
     control: &mut Control<D>,

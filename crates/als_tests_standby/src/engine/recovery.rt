@@ -3,29 +3,29 @@ use super::*;
 
 /// The devices of a standby that was stopped after its log was acknowledged. None: memory was
 /// refused.
-fn stopped(rt: &impl Abort, alloc: Global) -> Option<Disks<MemDisk>> {
-    let mut engine = Engine::format(alloc, devices_in_memory(alloc), CONFIG).ok()?;
+fn stopped<R: Wait + Abort>(rt: &R, alloc: Global) -> Option<Disks<MemDisk>> {
+    let (mut engine, _) = Engine::format(alloc, rt, devices_in_memory(alloc), CONFIG).ok()?;
     engine.feed(&text()).ok()?;
     engine.log_write().ok()?;
     engine.log_sync().ok()?;
     engine.mark_write().ok()?;
     assert!(rt; engine.ctl_sync() == Ok(Lsn(108)));
-    let (disks, used) = engine.crash(&[]);
+    let (disks, used) = engine.crash(rt, &[]);
     assert!(rt; used == 0);
     Some(disks)
 }
 
 /// It takes no log before its pages are redone and its recovery has ended. None: memory was
 /// refused.
-fn recovers(rt: &impl Abort, alloc: Global) -> Option<()> {
+fn recovers<R: Wait + Abort>(rt: &R, alloc: Global) -> Option<()> {
     let disks = stopped(rt, alloc)?;
-    let mut engine = Engine::open(alloc, disks, CONFIG).ok()?;
+    let (mut engine, _) = Engine::open(alloc, rt, disks, CONFIG).ok()?;
     assert!(rt; engine.status().state == State::Recovering);
     assert!(rt; engine.resync() == Err(Fault::Recovering));
-    assert!(rt; engine.ready() == Err(Fault::NotDrained));
+    assert!(rt; engine.ready(rt) == Err(Fault::NotDrained));
     redo(&mut engine, 0).ok()?;
-    assert!(rt; engine.ready() == Ok(()));
-    assert!(rt; engine.ready() == Err(Fault::NothingToDo));
+    engine.ready(rt).ok()?;
+    assert!(rt; engine.ready(rt) == Err(Fault::NothingToDo));
     assert!(rt; engine.status().state == State::Following);
     assert!(rt; engine.resync() == Ok(()));
     Some(())
@@ -37,21 +37,21 @@ fn a_standby_that_is_opened_is_ready_once_its_pages_are(rt: HostRuntime) {
 }
 
 /// The end of the log after a crash with these picks, of a standby whose mark is written and not
-/// synced. None: memory was refused.
-fn end_after(rt: &impl Abort, alloc: Global, picks: &[u8]) -> Option<u64> {
-    let mut engine = Engine::format(alloc, devices_in_memory(alloc), CONFIG).ok()?;
+/// synced. None: allocation failed.
+fn end_after<R: Wait + Abort>(rt: &R, alloc: Global, picks: &[u8]) -> Option<u64> {
+    let (mut engine, _) = Engine::format(alloc, rt, devices_in_memory(alloc), CONFIG).ok()?;
     engine.feed(&text()).ok()?;
     engine.log_write().ok()?;
     engine.log_sync().ok()?;
     engine.mark_write().ok()?;
-    let (disks, used) = engine.crash(picks);
+    let (disks, used) = engine.crash(rt, picks);
     assert!(rt; used == picks.len().min(1));
-    let engine = Engine::open(alloc, disks, CONFIG).ok()?;
+    let (engine, _) = Engine::open(alloc, rt, disks, CONFIG).ok()?;
     Some(engine.status().end.0)
 }
 
-/// The old state of the control block, or the new one. None: memory was refused.
-fn picks_choose(rt: &impl Abort, alloc: Global) -> Option<()> {
+/// The old state of the control block, or the new one. None: allocation failed.
+fn picks_choose<R: Wait + Abort>(rt: &R, alloc: Global) -> Option<()> {
     assert!(rt; end_after(rt, alloc, &[])? == 16);
     assert!(rt; end_after(rt, alloc, &[0])? == 16);
     assert!(rt; end_after(rt, alloc, &[1])? == 108);

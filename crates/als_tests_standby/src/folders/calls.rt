@@ -185,7 +185,7 @@ const SIZES: Sizes = Sizes {
     pages: 1,
 };
 
-/// A database is laid out and kept, and opened. `None`: memory was refused.
+/// A database is laid out and kept, and opened. `None`: allocation failed.
 fn calls_in_order(rt: &impl Abort, alloc: Global) -> Option<()> {
     let digits = AtomicU64::new(0);
     let calls = Arc::new(alloc, Calls { digits }).ok()?;

@@ -25,7 +25,7 @@ fn tells(refused: Option<Fault>, wanted: Fault) -> bool {
     refused == Some(wanted) || refused == Some(Fault::Memory)
 }
 
-/// Neither asking nor laying out does more than refuse. `None`: memory was refused.
+/// Neither asking nor laying out does more than refuse. `None`: allocation failed.
 fn is_refused<R: Abort + AllocGlobal + Files<File = File>>(rt: &R, part: Part) -> Option<()> {
     let folder = Folder::hold(rt, "lost").ok()?;
     assert!(rt; tells(folder.is_kept(rt).err(), no_control(part)));
@@ -34,7 +34,7 @@ fn is_refused<R: Abort + AllocGlobal + Files<File = File>>(rt: &R, part: Part) -
     Some(())
 }
 
-/// A log or pages of more than an empty database stay as they are. `None`: memory was refused.
+/// A log or pages of more than an empty database stay as they are. `None`: allocation failed.
 fn stays<R: Abort + AllocGlobal + Files<File = File>>(
     rt: &R,
     path: &str,
@@ -47,7 +47,7 @@ fn stays<R: Abort + AllocGlobal + Files<File = File>>(
     fs::remove_file(rt, path).ok()
 }
 
-/// So does a file behind a link. `None`: memory was refused.
+/// So does a file behind a link. `None`: allocation failed.
 fn stays_behind_a_link<R: Abort + AllocGlobal + Files<File = File>>(rt: &R) -> Option<()> {
     fs::write(rt, "elsewhere", "").ok()?;
     symlink(rt, "../elsewhere", "lost/log.blk").ok()?;
@@ -56,7 +56,7 @@ fn stays_behind_a_link<R: Abort + AllocGlobal + Files<File = File>>(rt: &R) -> O
     fs::remove_file(rt, "elsewhere").ok()
 }
 
-/// A control block that is a link which leads nowhere is refused. `None`: memory was refused.
+/// A control block that is a link which leads nowhere is refused. `None`: allocation failed.
 fn is_no_database<R: Abort + AllocGlobal + Files<File = File>>(rt: &R) -> Option<()> {
     symlink(rt, "nowhere", "lost/control.blk").ok()?;
     let folder = Folder::hold(rt, "lost").ok()?;
@@ -72,7 +72,7 @@ fn is_no_database<R: Abort + AllocGlobal + Files<File = File>>(rt: &R) -> Option
 }
 
 /// The log of an empty database has its header alone, and what an earlier layout left is taken
-/// away, the link and not what it leads to. `None`: memory was refused.
+/// away, the link and not what it leads to. `None`: allocation failed.
 fn is_laid_out_again<R: Abort + AllocGlobal + Files<File = File>>(rt: &R) -> Option<()> {
     fs::write(rt, "lost/log.blk", b"ALSLOG01\0\0\0\x04\0\0\0\0\0\0\0\0").ok()?;
     fs::write(rt, "lost/pages.blk", [0; 512].as_slice()).ok()?;
@@ -88,7 +88,7 @@ fn is_laid_out_again<R: Abort + AllocGlobal + Files<File = File>>(rt: &R) -> Opt
     fs::remove_file(rt, "elsewhere").ok()
 }
 
-/// All of these, in a folder of their own. `None`: memory was refused.
+/// All of these, in a folder of their own. `None`: allocation failed.
 fn loses_nothing<R: Abort + AllocGlobal + Files<File = File>>(rt: &R) -> Option<()> {
     stays(
         rt,

@@ -6,6 +6,7 @@ use als_engine::{Disks, Engine, Fault};
 use als_record::Lsn;
 use std::alloc::Global;
 use std::process::Abort;
+use std::sync::Wait;
 
 /// A block of stopped devices.
 #[derive(Clone, Copy, Debug, PartialEq, Eq)]
@@ -40,7 +41,7 @@ fn block_of(disks: &mut Disks<MemDisk>, part: Part) -> Option<[u8; 512]> {
     }
 }
 
-/// Gives a block other bytes. None: memory was refused.
+/// Gives a block other bytes. None: allocation failed.
 fn put(disks: &mut Disks<MemDisk>, part: Part, block: &[u8; 512]) -> Option<()> {
     let (disk, number) = place(disks, part);
     if disk.blocks() <= number {
@@ -54,20 +55,24 @@ fn put(disks: &mut Disks<MemDisk>, part: Part, block: &[u8; 512]) -> Option<()> 
 
 /// The devices of a standby that was stopped after so many steps of the script. None: memory was
 /// refused.
-fn stopped(rt: &impl Abort, alloc: Global, taken: usize) -> Option<Disks<MemDisk>> {
-    let mut engine = standby(alloc, 8)?;
+fn stopped<R: Wait + Abort>(rt: &R, alloc: Global, taken: usize) -> Option<Disks<MemDisk>> {
+    let mut engine = standby(rt, alloc, 8)?;
     let steps = script(&TEXT);
     take(rt, &mut engine, steps.get(..taken)?)?;
-    Some(engine.into_disks())
+    Some(engine.into_disks(rt))
 }
 
 /// Where the log ends that a standby over these devices holds, or why they are refused. The devices
 /// come back.
-fn answer(alloc: Global, disks: Disks<MemDisk>) -> (Disks<MemDisk>, Result<Lsn, Fault>) {
-    match Engine::open(alloc, disks, CONFIG) {
-        Ok(engine) => {
+fn answer<R: Wait>(
+    rt: &R,
+    alloc: Global,
+    disks: Disks<MemDisk>,
+) -> (Disks<MemDisk>, Result<Lsn, Fault>) {
+    match Engine::open(alloc, rt, disks, CONFIG) {
+        Ok((engine, _)) => {
             let end = engine.status().end;
-            (engine.into_disks(), Ok(end))
+            (engine.into_disks(rt), Ok(end))
         }
         Err(refused) => (refused.disks, Err(refused.fault)),
     }
@@ -117,7 +122,12 @@ fn is_answer(part: Part, at: usize, byte: u8, answer: Result<Lsn, Fault>) -> boo
 
 /// Devices are opened with each byte of a block set to 0, 1 and 255 in turn. None: memory was
 /// refused.
-fn opens_with_each_byte(rt: &impl Abort, alloc: Global, taken: usize, part: Part) -> Option<()> {
+fn opens_with_each_byte<R: Wait + Abort>(
+    rt: &R,
+    alloc: Global,
+    taken: usize,
+    part: Part,
+) -> Option<()> {
     let mut disks = stopped(rt, alloc, taken)?;
     let block = block_of(&mut disks, part)?;
     for at in 0..512 {
@@ -125,7 +135,7 @@ fn opens_with_each_byte(rt: &impl Abort, alloc: Global, taken: usize, part: Part
             let mut altered = block;
             altered[at] = byte;
             put(&mut disks, part, &altered)?;
-            let (back, found) = answer(alloc, disks);
+            let (back, found) = answer(rt, alloc, disks);
             disks = back;
             if found == Err(Fault::Memory) {
                 return None;
@@ -168,16 +178,16 @@ struct Change {
     byte: u8,
 }
 
-/// Sets a byte of a block. None: memory was refused.
+/// Sets a byte of a block. None: allocation failed.
 fn set(disks: &mut Disks<MemDisk>, change: &Change) -> Option<()> {
     let mut block = block_of(disks, change.part)?;
     *block.get_mut(change.at)? = change.byte;
     put(disks, change.part, &block)
 }
 
-/// Devices are stopped after so many steps and opened with these bytes. None: memory was refused.
-fn opens_so(
-    rt: &impl Abort,
+/// Devices are stopped after so many steps and opened with these bytes. None: allocation failed.
+fn opens_so<R: Wait + Abort>(
+    rt: &R,
     alloc: Global,
     taken: usize,
     changes: &[Change],
@@ -187,7 +197,7 @@ fn opens_so(
     for change in changes {
         set(&mut disks, change)?;
     }
-    let (disks, found) = answer(alloc, disks);
+    let (disks, found) = answer(rt, alloc, disks);
     drop(disks);
     if found == Err(Fault::Memory) {
         return None;
@@ -242,13 +252,13 @@ fn what_the_control_device_says_is_checked(rt: HostRuntime) {
 
 /// A log device of one block holds a log that leaves no room for its tail. None: memory was
 /// refused.
-fn leaves_no_room(rt: &impl Abort, alloc: Global) -> Option<()> {
-    let mut disks = standby(alloc, 1)?.into_disks();
+fn leaves_no_room<R: Wait + Abort>(rt: &R, alloc: Global) -> Option<()> {
+    let mut disks = standby(rt, alloc, 1)?.into_disks(rt);
     let mut log = block_of(&mut disks, Part::Log)?;
     log[16..233].copy_from_slice(&SIX_LONG);
     put(&mut disks, Part::Log, &log)?;
     set(&mut disks, &control(23, 233))?;
-    let (disks, found) = answer(alloc, disks);
+    let (disks, found) = answer(rt, alloc, disks);
     drop(disks);
     if found == Err(Fault::Memory) {
         return None;

@@ -4,6 +4,7 @@ use super::takeover::takes_over;
 use super::text::TEXT;
 use std::alloc::Global;
 use std::process::Abort;
+use std::sync::Wait;
 
 /// Picks for the blocks that have more than one candidate.
 const PICKS: [[u8; 3]; 12] = [
@@ -21,13 +22,13 @@ const PICKS: [[u8; 3]; 12] = [
     [255, 255, 255],
 ];
 
-/// A standby is crashed after so many steps, with these picks. None: memory was refused.
-fn survives(rt: &impl Abort, alloc: Global, taken: usize, picks: &[u8]) -> Option<()> {
-    let mut engine = standby(alloc, 8)?;
+/// A standby is crashed after so many steps, with these picks. None: allocation failed.
+fn survives<R: Wait + Abort>(rt: &R, alloc: Global, taken: usize, picks: &[u8]) -> Option<()> {
+    let mut engine = standby(rt, alloc, 8)?;
     let steps = script(&TEXT);
     take(rt, &mut engine, steps.get(..taken)?)?;
     let acknowledged = engine.status().acknowledged;
-    let (disks, _) = engine.crash(picks);
+    let (disks, _) = engine.crash(rt, picks);
     let mut engine = opened(rt, alloc, disks)?;
     stands(rt, alloc, &mut engine, acknowledged)?;
     takes_over(rt, &mut engine)

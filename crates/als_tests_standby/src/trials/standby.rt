@@ -5,6 +5,7 @@ use als_engine::{Config, Disks, Engine, Fault, Reply, Step};
 use als_record::{Lsn, encode};
 use std::alloc::Global;
 use std::process::Abort;
+use std::sync::Wait;
 
 /// A standby of four pages.
 pub const CONFIG: Config = Config {
@@ -16,14 +17,14 @@ pub const CONFIG: Config = Config {
 
 /// A standby over new devices in memory, of which the log's has so many blocks. None: memory was
 /// refused.
-pub fn standby(alloc: Global, blocks: u64) -> Option<Engine<MemDisk>> {
+pub fn standby<R: Wait>(rt: &R, alloc: Global, blocks: u64) -> Option<Engine<MemDisk>> {
     let disks = Disks {
         log: MemDisk::new(alloc, blocks),
         control: MemDisk::new(alloc, 321),
         pages: MemDisk::new(alloc, 4),
     };
-    match Engine::format(alloc, disks, CONFIG) {
-        Ok(engine) => Some(engine),
+    match Engine::format(alloc, rt, disks, CONFIG) {
+        Ok((engine, _)) => Some(engine),
         Err(_) => None,
     }
 }
@@ -37,9 +38,9 @@ pub enum Act<'a> {
 
 impl<'a> Act<'a> {
     /// What a standby answers.
-    pub fn over(&self, engine: &mut Engine<MemDisk>) -> Reply {
+    pub fn over<R: Wait>(&self, rt: &R, engine: &mut Engine<MemDisk>) -> Reply {
         match self {
-            Act::Step(step) => engine.step(step),
+            Act::Step(step) => engine.step(rt, step),
             Act::Redo(page) => match redo(engine, *page) {
                 Ok(_) => Reply::Done,
                 Err(fault) => Reply::Refused(fault),
@@ -48,10 +49,10 @@ impl<'a> Act<'a> {
     }
 }
 
-/// Makes the acts. None: memory was refused, also to a device; nothing else refuses one.
-pub fn take(rt: &impl Abort, engine: &mut Engine<MemDisk>, acts: &[Act]) -> Option<()> {
+/// Makes the acts. None: allocation failed, also to a device; nothing else refuses one.
+pub fn take<R: Wait + Abort>(rt: &R, engine: &mut Engine<MemDisk>, acts: &[Act]) -> Option<()> {
     for act in acts {
-        match act.over(engine) {
+        match act.over(rt, engine) {
             Reply::Refused(fault) => {
                 assert!(rt;
                     fault == Fault::Memory || fault == Fault::Device,
@@ -69,10 +70,14 @@ pub fn take(rt: &impl Abort, engine: &mut Engine<MemDisk>, acts: &[Act]) -> Opti
     Some(())
 }
 
-/// A standby over what devices hold. None: memory was refused; nothing else refuses it.
-pub fn opened(rt: &impl Abort, alloc: Global, disks: Disks<MemDisk>) -> Option<Engine<MemDisk>> {
-    match Engine::open(alloc, disks, CONFIG) {
-        Ok(engine) => Some(engine),
+/// A standby over what devices hold. None: allocation failed; nothing else refuses it.
+pub fn opened<R: Wait + Abort>(
+    rt: &R,
+    alloc: Global,
+    disks: Disks<MemDisk>,
+) -> Option<Engine<MemDisk>> {
+    match Engine::open(alloc, rt, disks, CONFIG) {
+        Ok((engine, _)) => Some(engine),
         Err(refused) => {
             assert!(rt; refused.fault == Fault::Memory);
             None
@@ -105,7 +110,7 @@ fn holds_records(
     Some(())
 }
 
-/// Redoes all that waits for page 0. None: memory was refused.
+/// Redoes all that waits for page 0. None: allocation failed.
 fn drain(rt: &impl Abort, engine: &mut Engine<MemDisk>) -> Option<()> {
     match redo(engine, 0) {
         Ok(_) | Err(Fault::NothingToDo) => {}
@@ -136,7 +141,7 @@ pub fn holds_page(rt: &impl Abort, engine: &mut Engine<MemDisk>, end: Lsn) -> Op
 }
 
 /// A standby that began again holds the log up to its end, all of it acknowledged, and the page
-/// that this log makes. The log reaches what was acknowledged before. None: memory was refused.
+/// that this log makes. The log reaches what was acknowledged before. None: allocation failed.
 pub fn stands(
     rt: &impl Abort,
     alloc: Global,

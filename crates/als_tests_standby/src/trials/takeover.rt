@@ -3,6 +3,7 @@ use als_disk::MemDisk;
 use als_engine::{Engine, Fault, Reply, State, Step};
 use als_record::Lsn;
 use std::process::Abort;
+use std::sync::Wait;
 
 /// What a takeover takes, of this log at most four records of the tail, which stand in one block.
 const REST: [Act; 11] = [
@@ -19,11 +20,11 @@ const REST: [Act; 11] = [
     Act::Step(Step::ControlSync),
 ];
 
-/// Makes those of the acts that have something to do. None: memory was refused, also to a device;
+/// Makes those of the acts that have something to do. None: allocation failed, also to a device;
 /// nothing else refuses one.
-fn take_due(rt: &impl Abort, engine: &mut Engine<MemDisk>, acts: &[Act]) -> Option<()> {
+fn take_due<R: Wait + Abort>(rt: &R, engine: &mut Engine<MemDisk>, acts: &[Act]) -> Option<()> {
     for act in acts {
-        if let Reply::Refused(fault) = act.over(engine) {
+        if let Reply::Refused(fault) = act.over(rt, engine) {
             if fault == Fault::Memory || fault == Fault::Device {
                 return None;
             }
@@ -33,10 +34,10 @@ fn take_due(rt: &impl Abort, engine: &mut Engine<MemDisk>, acts: &[Act]) -> Opti
     Some(())
 }
 
-/// Ends a recovery. A log that was not sealed before is sealed then. None: memory was refused.
-fn seal(rt: &impl Abort, engine: &mut Engine<MemDisk>) -> Option<()> {
+/// Ends a recovery. A log that was not sealed before is sealed then. None: allocation failed.
+fn seal<R: Wait + Abort>(rt: &R, engine: &mut Engine<MemDisk>) -> Option<()> {
     assert!(rt; engine.status().state == State::Recovering);
-    assert!(rt; engine.step(&Step::UndoOne) == Reply::Refused(Fault::Recovering));
+    assert!(rt; engine.step(rt, &Step::UndoOne) == Reply::Refused(Fault::Recovering));
     take(rt, engine, &[Act::Step(Step::Ready)])?;
     if engine.status().state == State::Following {
         let seal = [Act::Step(Step::Seal), Act::Step(Step::ControlSync)];
@@ -58,8 +59,8 @@ fn taken_over(end: Lsn) -> Lsn {
 }
 
 /// A standby that has begun again and has redone its log takes over, and then holds the tail and
-/// the page that it makes. None: memory was refused.
-pub fn takes_over(rt: &impl Abort, engine: &mut Engine<MemDisk>) -> Option<()> {
+/// the page that it makes. None: allocation failed.
+pub fn takes_over<R: Wait + Abort>(rt: &R, engine: &mut Engine<MemDisk>) -> Option<()> {
     let end = taken_over(engine.status().end);
     seal(rt, engine)?;
     take_due(rt, engine, &REST)?;

@@ -12,6 +12,7 @@ use als_engine::{Config, Disks, Fault, Fed, FeedFault, Reply, Step};
 use als_record::Lsn;
 use als_world::{World, WorldReply, WorldStep, run};
 use std::alloc::{AllocError, Global};
+use std::sync::Wait;
 
 type Disk = FailingDisk<MemDisk>;
 
@@ -28,13 +29,13 @@ fn devices(alloc: Global) -> Result<(Disks<Disk>, Fuse), AllocError> {
 
 /// A world with a new standby, of which a call of the control device fails. None: memory was
 /// refused.
-fn world(alloc: Global, failing: u64) -> Option<World<Disk>>
+fn world<R: Wait>(alloc: Global, rt: &R, failing: u64) -> Option<World<Disk>>
     requires { 0 < failing }
 {
     let Ok((disks, fuse)) = devices(alloc) else {
         return None;
     };
-    match World::format(alloc, disks, CONFIG, 2) {
+    match World::format(alloc, rt, disks, CONFIG, 2) {
         Ok(world) => {
             fuse.fail_at(failing);
             Some(world)
@@ -44,9 +45,10 @@ fn world(alloc: Global, failing: u64) -> Option<World<Disk>>
 }
 
 /// The theorem, from its beginning: a new database over these devices, and a run of it. None:
-/// memory was refused, or a device failed while it was formatted.
-fn run_anew<D: Restart + Drop>(
+/// allocation failed, or a device failed while it was formatted.
+fn run_anew<R: Wait, D: Restart + Drop>(
     alloc: Global,
+    rt: &R,
     disks: Disks<D>,
     config: Config,
     workers: usize,
@@ -62,8 +64,8 @@ fn run_anew<D: Restart + Drop>(
         × Run config (Up first (no_leases workers)) steps.now x.1.items last
         × Keeps (Up first (no_leases workers)) last × IsTrue last)) }
 {
-    match World::format(alloc, disks, config, workers) {
-        Ok(world) => match run(alloc, world, steps) {
+    match World::format(alloc, rt, disks, config, workers) {
+        Ok(world) => match run(alloc, rt, world, steps) {
             Ok(after) => Some(after),
             Err(_) => None,
         },
@@ -99,13 +101,19 @@ fn are_same(replies: &[WorldReply], wanted: &[WorldReply]) -> bool {
             .all(|(reply, wanted)| is_same(reply, wanted))
 }
 
-/// Whether these replies to the steps are wanted. None: memory was refused.
-fn replies(alloc: Global, failing: u64, steps: &[WorldStep], wanted: &[WorldReply]) -> Option<()>
+/// Whether these replies to the steps are wanted. None: allocation failed.
+fn replies<R: Wait>(
+    alloc: Global,
+    rt: &R,
+    failing: u64,
+    steps: &[WorldStep],
+    wanted: &[WorldReply],
+) -> Option<()>
     requires { 0 < failing }
 {
-    match run(alloc, world(alloc, failing)?, steps) {
+    match run(alloc, rt, world(alloc, rt, failing)?, steps) {
         Ok((world, replies)) => {
-            drop(world);
+            drop(world.into_disks(rt));
             if are_same(replies.as_slice(), wanted) {
                 Some(())
             } else {
@@ -113,7 +121,7 @@ fn replies(alloc: Global, failing: u64, steps: &[WorldStep], wanted: &[WorldRepl
             }
         }
         Err(world) => {
-            drop(world);
+            drop(world.into_disks(rt));
             None
         }
     }
@@ -128,7 +136,7 @@ fn lent(number: u64, batch: usize) -> WorldReply {
 /// older page; while its page is lent; and with the newer page. Then a sync of the control device
 /// fails in the restart, and the world is down until the next crash. Once it is ready it takes the
 /// rest of the log.
-fn restarts(alloc: Global) -> Option<()> {
+fn restarts<R: Wait>(alloc: Global, rt: &R) -> Option<()> {
     let steps = [
         WorldStep::Event(Step::Feed(&TEXT[..100])),
         WorldStep::Event(Step::LogWrite),
@@ -222,11 +230,11 @@ fn restarts(alloc: Global) -> Option<()> {
     ];
     // The steps make two calls of the control device, and each restart two: the ninth is the fourth
     // restart's sync.
-    replies(alloc, 9, &steps, &wanted)
+    replies(alloc, rt, 9, &steps, &wanted)
 }
 
 /// A new database is fed, forced and crashed, and its log is there again.
-fn begins_anew(alloc: Global) -> Option<()> {
+fn begins_anew<R: Wait>(alloc: Global, rt: &R) -> Option<()> {
     let disks = Disks {
         log: MemDisk::new(alloc, 8),
         control: MemDisk::new(alloc, 321),
@@ -240,8 +248,8 @@ fn begins_anew(alloc: Global) -> Option<()> {
         WorldStep::Event(Step::ControlSync),
         WorldStep::Crash(&[]),
     ];
-    let (world, replies) = run_anew(alloc, disks, CONFIG, 2, &steps)?;
-    drop(world);
+    let (world, replies) = run_anew(alloc, rt, disks, CONFIG, 2, &steps)?;
+    drop(world.into_disks(rt));
     match replies.as_slice().last() {
         Some(WorldReply::Restarted(Lsn(116))) => Some(()),
         _ => None,
@@ -250,10 +258,10 @@ fn begins_anew(alloc: Global) -> Option<()> {
 
 #[test]
 fn a_new_database_is_run(rt: HostRuntime) {
-    assert!(rt; begins_anew(rt.alloc()).is_some() || begins_anew(rt.alloc()).is_some());
+    assert!(rt; begins_anew(rt.alloc(), &rt).is_some() || begins_anew(rt.alloc(), &rt).is_some());
 }
 
 #[test]
 fn a_world_is_crashed_and_begins_again(rt: HostRuntime) {
-    assert!(rt; restarts(rt.alloc()).is_some() || restarts(rt.alloc()).is_some());
+    assert!(rt; restarts(rt.alloc(), &rt).is_some() || restarts(rt.alloc(), &rt).is_some());
 }

@@ -41,7 +41,7 @@ fn failing(alloc: Global, fuse: &Fuse) -> Result<Disks<FailingDisk<MemDisk>>, Al
     })
 }
 
-/// Admits an update of a page, and tells where it stands. None: memory was refused.
+/// Admits an update of a page, and tells where it stands. None: allocation failed.
 fn update(
     rt: &impl Abort,
     alloc: Global,
@@ -63,7 +63,7 @@ fn update(
 }
 
 /// A store over failing devices that holds an update of page 0 and one of page 1. Its first lease
-/// gets this number. None: memory was refused.
+/// gets this number. None: allocation failed.
 fn updated(
     rt: &impl Abort,
     alloc: Global,
@@ -94,7 +94,7 @@ fn expect_no_lease<D: BlockDisk + Drop>(
     }
 }
 
-/// Lends a page. None: memory was refused.
+/// Lends a page. None: allocation failed.
 fn lent<D: BlockDisk + Drop>(
     rt: &impl Abort,
     store: &mut Store<D>,
@@ -168,7 +168,7 @@ fn refuses_writes<D: BlockDisk + Drop>(rt: &impl Abort, store: &mut Store<D>) {
 }
 
 /// Lends, a write and a sync are refused in the order of their causes, though the device would fail.
-/// None: memory was refused.
+/// None: allocation failed.
 fn refuses(rt: &impl Abort, alloc: Global) -> Option<()> {
     let Ok(fuse) = Fuse::new(alloc) else {
         return None;
@@ -199,7 +199,7 @@ fn spends_the_numbers<D: BlockDisk + Drop>(rt: &impl Abort, store: &mut Store<D>
     Some(())
 }
 
-/// The same of a store that has one lease number. None: memory was refused.
+/// The same of a store that has one lease number. None: allocation failed.
 fn has_one_number(rt: &impl Abort, alloc: Global) -> Option<()> {
     let Ok(fuse) = Fuse::new(alloc) else {
         return None;

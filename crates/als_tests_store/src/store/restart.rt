@@ -56,7 +56,7 @@ fn recovers(rt: &impl Abort, store: &mut Store<MemDisk>) {
     assert!(rt; !store.is_recovering());
 }
 
-/// What was acknowledged stands after a crash. False: memory was refused.
+/// What was acknowledged stands after a crash. False: allocation failed.
 fn restarts(rt: &impl Abort, alloc: Global) -> bool {
     let Some(disks) = stopped(rt, alloc) else {
         return false;
@@ -73,7 +73,7 @@ fn restarts(rt: &impl Abort, alloc: Global) -> bool {
     }
 }
 
-// A growth is refused once at most: the second try meets none.
+// An allocation fails once at most: the second try meets none.
 #[test]
 fn an_acknowledged_record_stands_after_a_crash(rt: HostRuntime) {
     assert!(rt; restarts(&rt, rt.alloc()) || restarts(&rt, rt.alloc()));
