@@ -5,6 +5,7 @@ use als_disk::{BlockDisk, MemDisk};
 use als_engine::{Engine, Fault};
 use std::io;
 use std::rt::Clock;
+use std::sync::Wait;
 use std::time::{Duration, Instant};
 
 /// The bytes of a frame.
@@ -22,8 +23,12 @@ struct Cost {
 }
 
 /// Feeds a log, redoes and forces all of it, and then takes a checkpoint, over devices in memory.
-pub fn checkpoint_all<R: Print + Clock + AllocGlobal>(rt: &R, text: &[u8]) -> io::Result<()> {
+pub fn checkpoint_all<R: Print + Clock + AllocGlobal + Wait>(
+    rt: &R,
+    text: &[u8],
+) -> io::Result<()> {
     match standby(
+        rt,
         rt.alloc(),
         in_memory(rt.alloc(), text, Size::LARGEST),
         Size::LARGEST,
@@ -33,7 +38,7 @@ pub fn checkpoint_all<R: Print + Clock + AllocGlobal>(rt: &R, text: &[u8]) -> io
     }
 }
 
-fn checkpoint_engine<R: Print + Clock>(
+fn checkpoint_engine<R: Print + Clock + Wait>(
     rt: &R,
     engine: Engine<MemDisk>,
     text: &[u8],
@@ -43,7 +48,7 @@ fn checkpoint_engine<R: Print + Clock>(
         Ok(()) => take_checkpoint(rt, &mut engine),
         Err(fault) => Ok(Err(fault)),
     };
-    drop(engine);
+    drop(engine.into_disks(rt));
     report(rt, answer?)
 }
 

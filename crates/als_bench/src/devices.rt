@@ -5,6 +5,7 @@ use std::alloc::Global;
 use std::fs::{self, File};
 use std::io;
 use std::rt::Files;
+use std::sync::Wait;
 
 /// The blocks of a control device.
 const CONTROL: u64 = 321;
@@ -84,13 +85,14 @@ pub fn config(size: Size) -> Config {
 }
 
 /// A standby over new devices.
-pub fn standby<D: BlockDisk + Drop>(
+pub fn standby<R: Wait, D: BlockDisk + Drop>(
+    rt: &R,
     alloc: Global,
     disks: Disks<D>,
     size: Size,
 ) -> Result<Engine<D>, Fault> {
-    match Engine::format(alloc, disks, config(size)) {
-        Ok(engine) => Ok(engine),
+    match Engine::format(alloc, rt, disks, config(size)) {
+        Ok((engine, _)) => Ok(engine),
         Err(refused) => Err(refused.fault),
     }
 }

@@ -5,6 +5,7 @@ use als_disk::{BlockDisk, MemDisk};
 use als_engine::{Engine, Fault};
 use std::io;
 use std::rt::Clock;
+use std::sync::Wait;
 use std::time::{Duration, Instant};
 
 /// How many bytes wait in memory before they are written and synced, and what waits for redo is
@@ -20,12 +21,13 @@ struct Took {
 
 /// Feeds a log in pieces of so many bytes. The log's writing and redo have their turns in between,
 /// and their time is not counted.
-pub fn feed_all<R: Print + Clock + AllocGlobal>(
+pub fn feed_all<R: Print + Clock + AllocGlobal + Wait>(
     rt: &R,
     text: &[u8],
     piece: usize,
 ) -> io::Result<()> {
     match standby(
+        rt,
         rt.alloc(),
         in_memory(rt.alloc(), text, Size::LARGEST),
         Size::LARGEST,
@@ -36,7 +38,7 @@ pub fn feed_all<R: Print + Clock + AllocGlobal>(
 }
 
 /// The same, with an engine that is there.
-fn feed_one<R: Print + Clock>(
+fn feed_one<R: Print + Clock + Wait>(
     rt: &R,
     engine: Engine<MemDisk>,
     text: &[u8],
@@ -44,7 +46,7 @@ fn feed_one<R: Print + Clock>(
 ) -> io::Result<()> {
     let mut engine = engine;
     let answer = feed_parts(rt, &mut engine, text, piece);
-    drop(engine);
+    drop(engine.into_disks(rt));
     match answer? {
         Ok(took) => tell(rt, "feed", Some(piece), text.len(), took.records, took.time),
         Err(fault) => println!(rt; "{fault}"),

@@ -7,6 +7,7 @@ use als_engine::{Engine, Fault};
 use std::fs::File;
 use std::io;
 use std::rt::{Clock, Files};
+use std::sync::Wait;
 
 /// The bytes of a frame.
 const FRAME: usize = 65_536;
@@ -14,7 +15,7 @@ const FRAME: usize = 65_536;
 /// Follows a log in frames: each is fed and forced, its commits are published, and it is redone.
 /// Now and then the pages are stored and a checkpoint is taken. Over devices in memory, and over
 /// files where a folder is given.
-pub fn follow_all<R: Print + Clock + AllocGlobal + Files<File = File>>(
+pub fn follow_all<R: Print + Clock + AllocGlobal + Files<File = File> + Wait>(
     rt: &R,
     text: &[u8],
     folder: Option<&str>,
@@ -26,50 +27,50 @@ pub fn follow_all<R: Print + Clock + AllocGlobal + Files<File = File>>(
     }
 }
 
-fn follow_in_memory<R: Print + Clock + AllocGlobal>(rt: &R, text: &[u8]) -> io::Result<()> {
+fn follow_in_memory<R: Print + Clock + AllocGlobal + Wait>(rt: &R, text: &[u8]) -> io::Result<()> {
     let disks = in_memory(rt.alloc(), text, Size::LARGEST);
-    match standby(rt.alloc(), disks, Size::LARGEST) {
+    match standby(rt, rt.alloc(), disks, Size::LARGEST) {
         Ok(engine) => follow_memory_engine(rt, engine, text),
         Err(fault) => println!(rt; "{fault}"),
     }
 }
 
-fn follow_memory_engine<R: Print + Clock>(
+fn follow_memory_engine<R: Print + Clock + Wait>(
     rt: &R,
     engine: Engine<MemDisk>,
     text: &[u8],
 ) -> io::Result<()> {
     let mut engine = engine;
     let answer = follow_frames(rt, &mut engine, text);
-    drop(engine);
+    drop(engine.into_disks(rt));
     report(rt, "follow in memory", text, answer?)
 }
 
-fn follow_on_files<R: Print + Clock + AllocGlobal + Files<File = File>>(
+fn follow_on_files<R: Print + Clock + AllocGlobal + Files<File = File> + Wait>(
     rt: &R,
     text: &[u8],
     folder: &str,
 ) -> io::Result<()> {
     let disks = in_folder(rt, folder, text, Size::LARGEST)?;
-    match standby(rt.alloc(), disks, Size::LARGEST) {
+    match standby(rt, rt.alloc(), disks, Size::LARGEST) {
         Ok(engine) => follow_file_engine(rt, engine, text),
         Err(fault) => println!(rt; "{fault}"),
     }
 }
 
-fn follow_file_engine<R: Print + Clock>(
+fn follow_file_engine<R: Print + Clock + Wait>(
     rt: &R,
     engine: Engine<FileDisk>,
     text: &[u8],
 ) -> io::Result<()> {
     let mut engine = engine;
     let answer = follow_frames(rt, &mut engine, text);
-    drop(engine);
+    drop(engine.into_disks(rt));
     report(rt, "follow on files", text, answer?)
 }
 
 /// Follows each frame.
-fn follow_frames<R: Clock, D: BlockDisk + Drop>(
+fn follow_frames<R: Clock + Wait, D: BlockDisk + Drop>(
     rt: &R,
     engine: &mut Engine<D>,
     text: &[u8],
@@ -86,7 +87,7 @@ fn follow_frames<R: Clock, D: BlockDisk + Drop>(
     }
 }
 
-fn follow_frame<R: Clock, D: BlockDisk + Drop>(
+fn follow_frame<R: Clock + Wait, D: BlockDisk + Drop>(
     rt: &R,
     engine: &mut Engine<D>,
     split: &mut Split,

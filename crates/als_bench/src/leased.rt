@@ -7,6 +7,7 @@ use als_lease::PageLease;
 use std::alloc::Global;
 use std::io;
 use std::rt::Clock;
+use std::sync::Wait;
 use std::time::{Duration, Instant};
 
 /// The bytes of a frame.
@@ -46,7 +47,7 @@ impl Parts {
 
 /// Measures redo by leases in one thread: of 64 pages with 64 changes and more each, and of 4,096
 /// pages with one or two.
-pub fn lease_all<R: Print + Clock + AllocGlobal>(rt: &R, bytes: usize) -> io::Result<()> {
+pub fn lease_all<R: Print + Clock + AllocGlobal + Wait>(rt: &R, bytes: usize) -> io::Result<()> {
     for depth in [
         Depth {
             pages: 64,
@@ -68,19 +69,23 @@ pub fn lease_all<R: Print + Clock + AllocGlobal>(rt: &R, bytes: usize) -> io::Re
     Ok(())
 }
 
-fn lease_log<R: Print + Clock + AllocGlobal>(rt: &R, text: &[u8], depth: Depth) -> io::Result<()> {
+fn lease_log<R: Print + Clock + AllocGlobal + Wait>(
+    rt: &R,
+    text: &[u8],
+    depth: Depth,
+) -> io::Result<()> {
     let size = Size {
         pages: depth.pages,
         frames: depth.pages,
         name: depth.name,
     };
-    match standby(rt.alloc(), in_memory(rt.alloc(), text, size), size) {
+    match standby(rt, rt.alloc(), in_memory(rt.alloc(), text, size), size) {
         Ok(engine) => lease_engine(rt, engine, text, depth),
         Err(fault) => println!(rt; "{fault}"),
     }
 }
 
-fn lease_engine<R: Print + Clock + AllocGlobal>(
+fn lease_engine<R: Print + Clock + AllocGlobal + Wait>(
     rt: &R,
     engine: Engine<MemDisk>,
     text: &[u8],
@@ -88,7 +93,7 @@ fn lease_engine<R: Print + Clock + AllocGlobal>(
 ) -> io::Result<()> {
     let mut engine = engine;
     let answer = lease_frames(rt, &mut engine, text, depth);
-    drop(engine);
+    drop(engine.into_disks(rt));
     match answer? {
         Ok(parts) => report(rt, depth, parts),
         Err(fault) => println!(rt; "{fault}"),

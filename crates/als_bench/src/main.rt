@@ -15,17 +15,25 @@ mod followed;
 mod timed;
 // A log that is followed over the network.
 mod shipped;
+// When the answers of a session were written.
+mod answers;
+// A whole session.
+mod session;
+// Whole sessions with workers beside the follower.
+mod beside;
 // Feeds that are redone, and whose pages are stored.
 mod redone;
 // Redo by leases.
 mod leased;
+// Redo by workers.
+mod worked;
 // Checkpoints.
 mod checkpointed;
 // Takeovers.
 mod taken_over;
 // Restarts.
 mod restarted;
-// What is measured, and how it is told.
+// Jobs, and how their figures are printed.
 mod measure;
 
 use measure::measure_all;

@@ -1,3 +1,4 @@
+use crate::beside::beside_all;
 use crate::checkpointed::checkpoint_all;
 use crate::devices::Size;
 use crate::fed::feed_all;
@@ -7,11 +8,13 @@ use crate::redone::redo_all;
 use crate::restarted::restart_all;
 use crate::shipped::ship_all;
 use crate::taken_over::take_over_all;
+use crate::worked::work_all;
 use als_bench_logs::{PAGES, Primary};
 use std::fs::File;
 use std::io;
 use std::net::{Net, TcpListener, TcpStream};
 use std::rt::{Clock, Files};
+use std::sync::Wait;
 use std::thread::Threads;
 
 /// Measures each job over a log of so many MB with 16 open transactions, and with 1 and with 256.
@@ -19,7 +22,7 @@ use std::thread::Threads;
 pub fn measure_all<R>(rt: &R, megabytes: usize, folder: Option<&str>) -> io::Result<()>
 where
     R: Print + Clock + AllocGlobal + Files<File = File>,
-    R: Net<Listener = TcpListener, Stream = TcpStream> + Threads + Sync,
+    R: Net<Listener = TcpListener, Stream = TcpStream> + Threads + Wait + Sync,
 {
     let bytes = megabytes.saturating_mul(1 << 20);
     for open in [16, 1, 256] {
@@ -41,16 +44,18 @@ where
     }
     take_over_all(rt)?;
     lease_all(rt, bytes)?;
+    work_all(rt, bytes)?;
     redo_sizes(rt, bytes, folder)
 }
 
-/// Measures following, over the network too where a folder is given.
+/// Measures following, with workers too, and over the network where a folder is given.
 fn follow_log<R>(rt: &R, text: &[u8], folder: Option<&str>) -> io::Result<()>
 where
     R: Print + Clock + AllocGlobal + Files<File = File>,
-    R: Net<Listener = TcpListener, Stream = TcpStream> + Threads + Sync,
+    R: Net<Listener = TcpListener, Stream = TcpStream> + Threads + Wait + Sync,
 {
     follow_all(rt, text, folder)?;
+    beside_all(rt, text, folder)?;
     match folder {
         Some(folder) => ship_all(rt, text, folder),
         None => Ok(()),
@@ -58,7 +63,7 @@ where
 }
 
 /// Measures redo for few pages and for many, and with fewer frames than pages.
-fn redo_sizes<R: Print + Clock + AllocGlobal + Files<File = File>>(
+fn redo_sizes<R: Print + Clock + AllocGlobal + Files<File = File> + Wait>(
     rt: &R,
     bytes: usize,
     folder: Option<&str>,
@@ -84,7 +89,7 @@ fn redo_sizes<R: Print + Clock + AllocGlobal + Files<File = File>>(
 }
 
 /// Measures whole feeds of a log.
-fn feed_log<R: Print + Clock + AllocGlobal>(rt: &R, text: &[u8]) -> io::Result<()> {
+fn feed_log<R: Print + Clock + AllocGlobal + Wait>(rt: &R, text: &[u8]) -> io::Result<()> {
     for piece in [65_536, 100] {
         feed_all(rt, text, piece)?;
     }

@@ -5,6 +5,7 @@ use als_engine::{Engine, Fault};
 use std::fs::File;
 use std::io;
 use std::rt::{Clock, Files};
+use std::sync::Wait;
 use std::time::{Duration, Instant};
 
 /// The bytes of a frame.
@@ -35,7 +36,7 @@ impl Split {
 
 /// Feeds a log in frames, redoes what waits after each, and writes and syncs the pages every so
 /// many frames: over devices in memory, and over files where a folder is given.
-pub fn redo_all<R: Print + Clock + AllocGlobal + Files<File = File>>(
+pub fn redo_all<R: Print + Clock + AllocGlobal + Files<File = File> + Wait>(
     rt: &R,
     text: &[u8],
     size: Size,
@@ -48,18 +49,18 @@ pub fn redo_all<R: Print + Clock + AllocGlobal + Files<File = File>>(
     }
 }
 
-fn redo_in_memory<R: Print + Clock + AllocGlobal>(
+fn redo_in_memory<R: Print + Clock + AllocGlobal + Wait>(
     rt: &R,
     text: &[u8],
     size: Size,
 ) -> io::Result<()> {
-    match standby(rt.alloc(), in_memory(rt.alloc(), text, size), size) {
+    match standby(rt, rt.alloc(), in_memory(rt.alloc(), text, size), size) {
         Ok(engine) => redo_memory_engine(rt, engine, text, size),
         Err(fault) => println!(rt; "{fault}"),
     }
 }
 
-fn redo_memory_engine<R: Print + Clock>(
+fn redo_memory_engine<R: Print + Clock + Wait>(
     rt: &R,
     engine: Engine<MemDisk>,
     text: &[u8],
@@ -67,24 +68,24 @@ fn redo_memory_engine<R: Print + Clock>(
 ) -> io::Result<()> {
     let mut engine = engine;
     let answer = redo_frames(rt, &mut engine, text);
-    drop(engine);
+    drop(engine.into_disks(rt));
     report(rt, "in memory", size, answer?)
 }
 
-fn redo_on_files<R: Print + Clock + AllocGlobal + Files<File = File>>(
+fn redo_on_files<R: Print + Clock + AllocGlobal + Files<File = File> + Wait>(
     rt: &R,
     text: &[u8],
     size: Size,
     folder: &str,
 ) -> io::Result<()> {
     let disks = in_folder(rt, folder, text, size)?;
-    match standby(rt.alloc(), disks, size) {
+    match standby(rt, rt.alloc(), disks, size) {
         Ok(engine) => redo_file_engine(rt, engine, text, size),
         Err(fault) => println!(rt; "{fault}"),
     }
 }
 
-fn redo_file_engine<R: Print + Clock>(
+fn redo_file_engine<R: Print + Clock + Wait>(
     rt: &R,
     engine: Engine<FileDisk>,
     text: &[u8],
@@ -92,7 +93,7 @@ fn redo_file_engine<R: Print + Clock>(
 ) -> io::Result<()> {
     let mut engine = engine;
     let answer = redo_frames(rt, &mut engine, text);
-    drop(engine);
+    drop(engine.into_disks(rt));
     report(rt, "on files", size, answer?)
 }
 

@@ -6,6 +6,7 @@ use als_disk::{BlockDisk, MemDisk};
 use als_engine::{Engine, Fault};
 use std::io;
 use std::rt::Clock;
+use std::sync::Wait;
 use std::time::{Duration, Instant};
 
 /// A checkpoint near the end has so many bytes of the log behind it.
@@ -22,14 +23,19 @@ struct Cost {
 
 /// Stops a standby that holds a log, and begins it again over devices in memory: without a
 /// checkpoint, so that all is redone, and with one near the end.
-pub fn restart_all<R: Print + Clock + AllocGlobal>(rt: &R, text: &[u8]) -> io::Result<()> {
+pub fn restart_all<R: Print + Clock + AllocGlobal + Wait>(rt: &R, text: &[u8]) -> io::Result<()> {
     restart_from(rt, text, text.len())?;
     restart_from(rt, text, text.len().saturating_sub(BEHIND))
 }
 
 /// The same with a checkpoint at about this offset, and none at the log's end.
-fn restart_from<R: Print + Clock + AllocGlobal>(rt: &R, text: &[u8], at: usize) -> io::Result<()> {
+fn restart_from<R: Print + Clock + AllocGlobal + Wait>(
+    rt: &R,
+    text: &[u8],
+    at: usize,
+) -> io::Result<()> {
     match standby(
+        rt,
         rt.alloc(),
         in_memory(rt.alloc(), text, Size::LARGEST),
         Size::LARGEST,
@@ -39,7 +45,7 @@ fn restart_from<R: Print + Clock + AllocGlobal>(rt: &R, text: &[u8], at: usize) 
     }
 }
 
-fn restart_engine<R: Print + Clock + AllocGlobal>(
+fn restart_engine<R: Print + Clock + AllocGlobal + Wait>(
     rt: &R,
     engine: Engine<MemDisk>,
     text: &[u8],
@@ -47,13 +53,13 @@ fn restart_engine<R: Print + Clock + AllocGlobal>(
 ) -> io::Result<()> {
     let mut engine = engine;
     let held = hold_with_checkpoint(&mut engine, text, at);
-    let disks = engine.into_disks();
+    let disks = engine.into_disks(rt);
     if let Err(fault) = held {
         return println!(rt; "{fault}");
     }
     let start = Instant::now(rt)?;
-    match Engine::open(rt.alloc(), disks, config(Size::LARGEST)) {
-        Ok(engine) => {
+    match Engine::open(rt.alloc(), rt, disks, config(Size::LARGEST)) {
+        Ok((engine, _)) => {
             let opened = start.elapsed(rt)?;
             redo_engine(rt, engine, opened, text.len(), at)
         }
@@ -82,7 +88,7 @@ fn hold_with_checkpoint<D: BlockDisk + Drop>(
 }
 
 /// Redoes all that waits after a restart.
-fn redo_engine<R: Print + Clock>(
+fn redo_engine<R: Print + Clock + Wait>(
     rt: &R,
     engine: Engine<MemDisk>,
     opened: Duration,
@@ -94,7 +100,7 @@ fn redo_engine<R: Print + Clock>(
     let start = Instant::now(rt)?;
     let answer = redo_some(&mut engine);
     let redone = start.elapsed(rt);
-    drop(engine);
+    drop(engine.into_disks(rt));
     if let Err(fault) = answer {
         return println!(rt; "{fault}");
     }

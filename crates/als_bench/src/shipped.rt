@@ -10,6 +10,7 @@ use std::alloc::Global;
 use std::fs::File;
 use std::net::{Ipv4Addr, Net, SocketAddr, TcpListener, TcpStream};
 use std::rt::{Clock, Files};
+use std::sync::Wait;
 use std::thread::Threads;
 use std::time::Instant;
 use std::{io, thread};
@@ -25,10 +26,10 @@ const SHIPPED: Size = Size {
 pub fn ship_all<R>(rt: &R, text: &[u8], folder: &str) -> io::Result<()>
 where
     R: Print + Clock + AllocGlobal + Files<File = File>,
-    R: Net<Listener = TcpListener, Stream = TcpStream> + Threads + Sync,
+    R: Net<Listener = TcpListener, Stream = TcpStream> + Threads + Wait + Sync,
 {
     let disks = in_folder(rt, folder, text, SHIPPED)?;
-    match standby(rt.alloc(), disks, SHIPPED) {
+    match standby(rt, rt.alloc(), disks, SHIPPED) {
         Ok(engine) => ship_engine(rt, engine, text),
         Err(fault) => println!(rt; "{fault}"),
     }
@@ -37,13 +38,13 @@ where
 fn ship_engine<R>(rt: &R, engine: Engine<FileDisk>, text: &[u8]) -> io::Result<()>
 where
     R: Print + Clock + AllocGlobal,
-    R: Net<Listener = TcpListener, Stream = TcpStream> + Threads + Sync,
+    R: Net<Listener = TcpListener, Stream = TcpStream> + Threads + Wait + Sync,
 {
     let start = Instant::now(rt)?;
     let mut timed = Timed::new(rt, engine);
     let answer = session(rt, &mut timed, text);
     let (engine, split) = timed.into_parts();
-    drop(engine);
+    drop(engine.into_disks(rt));
     let moved = start.elapsed(rt)?.saturating_sub(split.whole());
     let split = Split { moved, ..split };
     match answer {
@@ -55,7 +56,7 @@ where
 /// A session of both ends, as `als ship` and `als standby` run it.
 fn session<R, E>(rt: &R, events: &mut E, text: &[u8]) -> Result<(), Fault>
 where
-    R: AllocGlobal + Net<Listener = TcpListener, Stream = TcpStream> + Threads + Sync,
+    R: AllocGlobal + Net<Listener = TcpListener, Stream = TcpStream> + Threads + Wait + Sync,
     E: Events + Send,
 {
     let alloc = rt.alloc();
@@ -81,7 +82,7 @@ fn serve(alloc: Global, listener: &TcpListener, source: &mut LogBytes) -> Result
 }
 
 /// Follows the log that is served at an address, with a checkpoint each 4 MB.
-fn follow_at<R: Net<Stream = TcpStream>, E: Events>(
+fn follow_at<R: Net<Stream = TcpStream> + Wait, E: Events>(
     rt: &R,
     alloc: Global,
     addr: SocketAddr,
@@ -89,5 +90,5 @@ fn follow_at<R: Net<Stream = TcpStream>, E: Events>(
 ) -> Result<(), Fault> {
     let stream = TcpStream::connect(rt, addr)?;
     stream.set_nodelay(true)?;
-    follow(alloc, events, 4 << 20, &mut &stream, &mut &stream)
+    follow(rt, alloc, events, 4 << 20, &mut &stream, &mut &stream)
 }

@@ -5,6 +5,7 @@ use als_disk::{BlockDisk, MemDisk};
 use als_engine::{Engine, Fault};
 use std::io;
 use std::rt::Clock;
+use std::sync::Wait;
 use std::time::{Duration, Instant};
 
 /// What an undo took: its records and its time.
@@ -15,7 +16,7 @@ struct Took {
 }
 
 /// Takes over logs of so many losers, which have so many surviving updates together.
-pub fn take_over_all<R: Print + Clock + AllocGlobal>(rt: &R) -> io::Result<()> {
+pub fn take_over_all<R: Print + Clock + AllocGlobal + Wait>(rt: &R) -> io::Result<()> {
     for (losers, updates) in [(1, 10_000), (16, 10_000), (256, 10_000), (1, 100_000)] {
         match write_losers(rt.alloc(), losers, updates) {
             Ok(text) => take_over(rt, text.as_slice(), losers, updates)?,
@@ -25,13 +26,14 @@ pub fn take_over_all<R: Print + Clock + AllocGlobal>(rt: &R) -> io::Result<()> {
     Ok(())
 }
 
-fn take_over<R: Print + Clock + AllocGlobal>(
+fn take_over<R: Print + Clock + AllocGlobal + Wait>(
     rt: &R,
     text: &[u8],
     losers: u32,
     updates: u32,
 ) -> io::Result<()> {
     match standby(
+        rt,
         rt.alloc(),
         in_memory(rt.alloc(), text, Size::LARGEST),
         Size::LARGEST,
@@ -41,7 +43,7 @@ fn take_over<R: Print + Clock + AllocGlobal>(
     }
 }
 
-fn take_over_engine<R: Print + Clock>(
+fn take_over_engine<R: Print + Clock + Wait>(
     rt: &R,
     engine: Engine<MemDisk>,
     text: &[u8],
@@ -53,7 +55,7 @@ fn take_over_engine<R: Print + Clock>(
         Ok(()) => undo_all(rt, &mut engine),
         Err(fault) => Ok(Err(fault)),
     };
-    drop(engine);
+    drop(engine.into_disks(rt));
     report(rt, losers, updates, answer?)
 }
 

@@ -1,10 +1,12 @@
 use crate::split::{Split, add};
-use als_engine::{Answer, Events, Fault, Fed, FeedFault, NotGiven, Status};
+use als_engine::{Events, Fault, Fed, FeedFault, NotGiven, Status};
 use als_lease::PageLease;
 use als_page::Page;
-use als_record::{Key, LoggedPage, Lsn, Record, TransactionRow};
+use als_record::{LoggedPage, Lsn, Record, TransactionRow};
+use als_view::Told;
 use std::alloc::Global;
 use std::rt::Clock;
+use std::sync::Wait;
 use std::time::{Duration, Instant};
 
 /// A standby of which each event is timed by itself. A clock that fails counts as no time.
@@ -61,6 +63,8 @@ impl<R: Clock, E: Events> Events for Timed<'_, R, E> {
     ghost machine = { λ timed. E.machine timed.events };
 
     ghost tally = { λ timed. E.tally timed.events };
+
+    ghost book = { λ timed. E.book timed.events };
 
     fn feed(&mut self, piece: &[u8]) -> Result<Fed, FeedFault> {
         let start = self.now();
@@ -151,9 +155,9 @@ impl<R: Clock, E: Events> Events for Timed<'_, R, E> {
         answer
     }
 
-    fn publish_view(&mut self) -> Result<(), Fault> {
+    fn publish_view<W: Wait>(&mut self, rt: &W) -> Result<(), Fault> {
         let start = self.now();
-        let answer = self.events.publish_view();
+        let answer = self.events.publish_view(rt);
         took(self.rt, &mut self.split.published, start);
         answer
     }
@@ -170,8 +174,8 @@ impl<R: Clock, E: Events> Events for Timed<'_, R, E> {
         answer
     }
 
-    fn ready(&mut self) -> Result<(), Fault> {
-        self.events.ready()
+    fn ready<W: Wait>(&mut self, rt: &W) -> Result<(), Fault> {
+        self.events.ready(rt)
     }
 
     fn seal(&mut self) -> Result<(), Fault> {
@@ -210,8 +214,8 @@ impl<R: Clock, E: Events> Events for Timed<'_, R, E> {
         self.events.page_now(page)
     }
 
-    fn read(&self, key: Key) -> Result<Answer, Fault> {
-        self.events.read(key)
+    fn tell(&self) -> Told {
+        self.events.tell()
     }
 
     fn record_at(&mut self, lsn: Lsn) -> Result<Option<Record>, Fault> {

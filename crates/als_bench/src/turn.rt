@@ -7,6 +7,7 @@ use als_engine::{Engine, Fault};
 use als_record::Lsn;
 use std::io;
 use std::rt::Clock;
+use std::sync::Wait;
 use std::time::Instant;
 
 /// The pages are written, and a checkpoint is taken, after so many frames.
@@ -69,13 +70,13 @@ pub fn force<R: Clock, D: BlockDisk + Drop>(
 
 /// What follows the acknowledging of a frame: its commits are published, and it is redone. Now and
 /// then the pages are stored and a checkpoint is taken.
-pub fn settle<R: Clock, D: BlockDisk + Drop>(
+pub fn settle<R: Clock + Wait, D: BlockDisk + Drop>(
     rt: &R,
     engine: &mut Engine<D>,
     split: &mut Split,
 ) -> io::Result<Result<(), Fault>> {
     let start = Instant::now(rt)?;
-    let published = passed_over(engine.publish_view());
+    let published = passed_over(engine.publish_view(rt));
     add(rt, &mut split.published, start)?;
     if let Err(fault) = published {
         return Ok(Err(fault));

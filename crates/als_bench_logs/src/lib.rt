@@ -11,10 +11,13 @@ mod writer;
 mod primary;
 // Logs of transactions that do not end.
 mod losers;
-// How a figure is told.
+// A log as it is sent.
+mod shipped;
+// How a figure is printed.
 mod told;
 
 pub use dice::Dice;
 pub use losers::write_losers;
 pub use primary::{FIRST, PAGES, Primary, SLOTS};
+pub use shipped::frames;
 pub use told::tell;

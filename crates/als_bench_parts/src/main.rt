@@ -1,6 +1,6 @@
 //! Measures parts of the standby by themselves: what is done with a log's bytes before they are held
-//! (decoding, judging, receiving), and what readers see (committed reads, and the publishing of
-//! commits).
+//! (decoding, judging, receiving), and what readers see (committed reads, the publishing of
+//! commits, and the memory that the published list takes).
 #![tactic(auto)]
 
 // The jobs over a log.
@@ -9,20 +9,27 @@ mod reading;
 mod measure;
 // Keys and values that come again in each run.
 mod drawn;
-// A view in which each key has a value, and commits that wait.
+// The transactions of a primary.
+mod written;
+// A published log in which each key has a value.
 mod filled;
+// Threads that read beside a publisher.
+mod beside;
 // Reads.
 mod reads;
-// Publishings.
+// Publishes.
 mod publishes;
+// The memory of a long session.
+mod sessions;
 
 use measure::measure_all;
 use publishes::publish_all;
 use reads::read_all;
+use sessions::follow_all;
 use std::{env, io};
 
-/// Tells the figures of the part that the first word names, over as much as the second one says. With
-/// other words, how to ask.
+/// Prints the figures of the part that the first word names, over as much as the second one says.
+/// With other words, how to ask.
 fn main(rt: HostRuntime) -> io::Result<()> {
     let mut words = env::args(&rt)?;
     let part = words.nth(1);
@@ -31,20 +38,24 @@ fn main(rt: HostRuntime) -> io::Result<()> {
         (Some("log"), Some(megabytes)) if megabytes <= 1024 => {
             measure_all(&rt, megabytes as usize)
         }
-        (Some("view"), Some(millions)) if millions <= 1000 => {
-            read_all(&rt, millions * 1_000_000)?;
+        (Some("view"), Some(seconds)) if seconds <= 60 => {
+            read_all(&rt, seconds)?;
             publish_all(&rt)
         }
+        (Some("memory"), None) => follow_all(&rt),
         _ => tell_how(&rt),
     }
 }
 
-/// Tells how to ask.
+/// Prints how to ask.
 fn tell_how<R: Print>(rt: &R) -> io::Result<()> {
     println!(rt;
         "als_bench_parts log MB: records and MB a second for decoding and judging logs of so many MB, at most 1024"
     )?;
     println!(rt;
-        "als_bench_parts view MILLIONS: committed reads and publishings a second, of so many million reads, at most 1000"
+        "als_bench_parts view SECONDS: committed reads by 1, 2 and 4 threads, each figure taking so many seconds, at most 60, and how long a publish takes"
+    )?;
+    println!(rt;
+        "als_bench_parts memory: what the published list takes behind 16, 32 and 64 MB of log"
     )
 }

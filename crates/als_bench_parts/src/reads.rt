@@ -1,50 +1,113 @@
-use crate::drawn::drawn_key;
-use crate::filled::filled;
-use als_view::{Answer, View};
-use std::io;
+use crate::beside::Beside;
+use crate::filled::{LoggedDatabase, filled, queue_drawn};
+use als_published_log::Fault;
+use std::alloc::Global;
 use std::rt::Clock;
-use std::time::Instant;
+use std::sync::Wait;
+use std::thread::Threads;
+use std::time::{Duration, Instant};
+use std::{io, thread};
 
-/// Tells how many committed reads a second one thread makes, of so many at random keys. Each key
-/// has a value.
-pub fn read_all<R: Print + Clock + AllocGlobal>(rt: &R, count: u32) -> io::Result<()> {
-    match filled(rt.alloc()) {
-        Ok(view) => read_view(rt, &view, count),
+/// How the publisher goes on while there are reads.
+#[derive(Clone, Copy)]
+enum Pace {
+    Idle,
+    EachMillisecond,
+    WithoutPause,
+}
+
+impl Pace {
+    /// How a figure names it.
+    fn name(self) -> &'static str {
+        match self {
+            Pace::Idle => "no publish",
+            Pace::EachMillisecond => "a publish each millisecond",
+            Pace::WithoutPause => "publishes without pause",
+        }
+    }
+
+    /// How long the publisher waits between two publishes.
+    fn pause(self) -> Duration {
+        match self {
+            Pace::Idle => Duration::from_millis(20),
+            Pace::EachMillisecond => Duration::from_millis(1),
+            Pace::WithoutPause => Duration::ZERO,
+        }
+    }
+}
+
+/// Prints how many committed reads a second 1, 2 and 4 threads make at random keys, each of which
+/// has a value: while nothing is published, while a commit of eight writes is published each
+/// millisecond, and while one is published after the other. Each figure takes so many seconds.
+pub fn read_all<R: Print + Clock + AllocGlobal + Threads + Wait>(
+    rt: &R,
+    seconds: u32,
+) -> io::Result<()> {
+    for readers in [1usize, 2, 4] {
+        for pace in [Pace::Idle, Pace::EachMillisecond, Pace::WithoutPause] {
+            match filled(rt, rt.alloc(), readers) {
+                Ok((mut log, all)) => {
+                    let beside = Beside::start(rt, rt.alloc(), all)?;
+                    read_beside(rt, &mut log, beside, readers, pace, seconds)?;
+                    log.close(rt);
+                }
+                Err(fault) => println!(rt; "{fault}")?,
+            }
+        }
+    }
+    Ok(())
+}
+
+fn read_beside<R: Print + Clock + AllocGlobal + Threads + Wait>(
+    rt: &R,
+    log: &mut LoggedDatabase,
+    beside: Beside,
+    readers: usize,
+    pace: Pace,
+    seconds: u32,
+) -> io::Result<()> {
+    let start = Instant::now(rt)?;
+    let length = Duration::from_secs(u64::from(seconds));
+    let published = publish_for(rt, rt.alloc(), log, pace, start, length);
+    let reads = beside.stop(rt);
+    let took = start.elapsed(rt)?;
+    let micros = u64::try_from(took.as_micros()).unwrap_or(u64::MAX).max(1);
+    let each = micros.saturating_mul(1000).saturating_mul(readers as u64) / reads.max(1);
+    match published {
+        Ok(published) => println!(rt;
+            "committed reads by {readers} threads, {}: {} reads/s, {each} ns each; {} publishes/s",
+            pace.name(),
+            reads.saturating_mul(1_000_000) / micros,
+            published.saturating_mul(1_000_000) / micros
+        ),
         Err(fault) => println!(rt; "{fault}"),
     }
 }
 
-fn read_view<R: Print + Clock>(rt: &R, view: &View, count: u32) -> io::Result<()> {
-    let start = Instant::now(rt)?;
-    let reads = read_keys(view, count);
-    let took = start.elapsed(rt)?;
-    let nanos = u64::try_from(took.as_nanos()).unwrap_or(u64::MAX);
-    let micros = (nanos / 1000).max(1);
-    println!(rt;
-        "committed reads by one thread: {reads} reads, {} reads/s, {} ns each",
-        reads.saturating_mul(1_000_000) / micros,
-        nanos / reads.max(1)
-    )
-}
-
-/// Reads random keys, and answers how many had a value.
-fn read_keys(view: &View, count: u32) -> u64 {
-    let mut reads = 0u64;
-    for number in 0..count {
-        match view.get(drawn_key(u64::from(number))) {
-            Ok(answer) if last_byte(&answer) < 256 => reads = reads.saturating_add(1),
-            _ => {}
+/// Publishes commits of eight writes at a pace for this long, and answers how many.
+fn publish_for<R: Clock + Wait>(
+    rt: &R,
+    alloc: Global,
+    log: &mut LoggedDatabase,
+    pace: Pace,
+    start: Instant,
+    length: Duration,
+) -> Result<u64, Fault> {
+    let mut published = 0u64;
+    for number in 0..u32::MAX {
+        match start.elapsed(rt) {
+            Ok(took) if took < length => {}
+            _ => break,
+        }
+        let pause = pace.pause();
+        if pause > Duration::ZERO {
+            thread::sleep(rt, pause);
+        }
+        if !matches!(pace, Pace::Idle) {
+            queue_drawn(alloc, log, number, 8)?;
+            log.log.publish(rt)?;
+            published = published.saturating_add(1);
         }
     }
-    reads
-}
-
-/// The last byte of the answer's value, 256 for none. It is asked for, since an answer that nobody
-/// looks at is not even made.
-#[inline(never)]
-fn last_byte(answer: &Answer) -> usize {
-    match &answer.value {
-        Some(value) => value.as_slice().last().map_or(256, |byte| *byte as usize),
-        None => 256,
-    }
+    Ok(published)
 }
