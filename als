@@ -100,6 +100,7 @@ help_page() {
             option_row standby 17 pages N
             option_row standby 17 log-blocks B
             option_row standby 17 checkpoint-mb M
+            option_row standby 17 workers W
             option_row standby 17 timeout SECONDS
             explain_row 17
             help_row 17
