@@ -1,5 +1,5 @@
 -- What a log keeps, call by call.
-use Rattle.std.proofs.Common.{◌≡◌, ℕ, ◌+◌, ◌-◌, ◌*◌, ◌/◌, ◌<◌, ◌≤◌, true, eqb, List, [], ◌∷◌, ◌++◌, length, drop, refl, sym, ap, subst, ◌∙◌, append_assoc, arith}
+use Rattle.std.proofs.Common.{◌≡◌, ℕ, ◌+◌, ◌-◌, ◌*◌, ◌/◌, ◌<◌, ◌≤◌, true, eqb, None, List, [], ◌∷◌, ◌++◌, length, drop, refl, sym, ap, subst, ◌∙◌, append_assoc, arith}
 use Rattle.std.specs.Prelude.{Contains, slice_index, IsTrue}
 use Rattle.std.specs.List.{AllByRecursion}
 use Rattle.std.proofs.lemmas.Bool.{and_from, eq-eqb}
@@ -11,9 +11,12 @@ use Rattle.als_record.proofs.HeaderLaws.{length-header_bytes}
 use Rattle.als_record.proofs.LogLaws.{spellings-nil, spellings_push, end_of_is, end_of_push, follow-append}
 use Rattle.als_disk.specs.Slot.{Slot, SameBlocks, SameBlocksBut, IsSettled}
 use Rattle.als_log.specs.Local.{IsFrontEnd, IsLocal}
+use Rattle.als_log.specs.Near.{IsNear}
+use Rattle.als_log.specs.declared.near.Near.{Near}
 use Rattle.als_log.specs.Texts.{HasText, AllHaveText}
 use Rattle.als_log.specs.Held.{IsStored, IsSettledBut, IsHeld, IsText}
 use Rattle.als_log.specs.Reading.{IsReadable}
+use Rattle.als_log.proofs.Nearness.{near-none, near-push, near-rise}
 
 -- ---- settled blocks
 
@@ -39,7 +42,7 @@ settled-but old new written synced next others low more s = record {
 pub length-text : (pages : ℕ) (log : List Record) → length (log_text pages log) ≡ end_of log
 length-text pages log = omega (arith, length-append (header_bytes pages) (spellings log), length-header_bytes pages, end_of_is log)
 
-module _ {pages : ℕ} {log : List Record} {base written synced cursor blocks : ℕ} {bytes : List ℕ} {slots : ℕ → Slot} (h : IsHeld pages log base written synced cursor blocks bytes slots) where
+module _ {pages : ℕ} {log : List Record} {base written synced cursor blocks : ℕ} {bytes : List ℕ} {near : Near} {slots : ℕ → Slot} (h : IsHeld pages log base written synced cursor blocks bytes near slots) where
   -- the bytes in memory reach to the end
   pub reach : base + length bytes ≡ end_of log
   reach =
@@ -75,18 +78,19 @@ module _ {pages : ℕ} {log : List Record} {base written synced cursor blocks : 
   low_block = omega (arith, h.tail.low, h.tail.block, h.order.order)
 
   -- after a write
-  pub held-write : (next : ℕ) (now : ℕ → Slot) → synced ≤ next → next ≤ end_of log → IsStored now (log_text pages log) next synced → IsSettledBut now next synced → IsHeld pages log base next synced cursor blocks bytes now
+  pub held-write : (next : ℕ) (now : ℕ → Slot) → synced ≤ next → next ≤ end_of log → IsStored now (log_text pages log) next synced → IsSettledBut now next synced → IsHeld pages log base next synced cursor blocks bytes near now
   held-write next now low within stored settled = record {
     order = record { is_log = h.order.is_log; fits = h.order.fits; within = within; order = low; front = h.order.front; few = h.order.few; some = h.order.some };
     tail = h.tail;
     stored = stored;
     settled = settled;
     walked = h.walked;
+    near = h.near;
   }
 
   -- after a sync
   pub held-sync : (whole : ℕ) (left : List ℕ) (now : ℕ → Slot) → IsFrontEnd log whole → synced ≤ whole → whole ≤ written → left ≡ drop (512 * (whole / 512) - base) bytes
-      → IsStored now (log_text pages log) written whole → ((k : ℕ) → IsSettled (now k)) → IsHeld pages log (512 * (whole / 512)) written whole cursor blocks left now
+      → IsStored now (log_text pages log) written whole → ((k : ℕ) → IsSettled (now k)) → IsHeld pages log (512 * (whole / 512)) written whole cursor blocks left near now
   held-sync whole left now front low within is stored settled =
       let below : base ≤ 512 * (whole / 512) = omega (arith, h.tail.low, h.tail.block, low) in
       let place : base + (512 * (whole / 512) - base) ≡ 512 * (whole / 512) = omega (arith, below) in
@@ -100,6 +104,7 @@ module _ {pages : ℕ} {log : List Record} {base written synced cursor blocks : 
         stored = stored;
         settled = all-settled now written whole settled;
         walked = h.walked;
+        near = near-rise near (log_text pages log) base (512 * (whole / 512)) below h.near;
       }
 
 -- ---- one more record
@@ -136,10 +141,10 @@ front-push log r at f = record {
   ends = f.ends;
 }
 
-pub held-push : {pages : ℕ} {log : List Record} {base written synced cursor blocks : ℕ} {bytes : List ℕ} {slots : ℕ → Slot} → IsHeld pages log base written synced cursor blocks bytes slots
+pub held-push : {pages : ℕ} {log : List Record} {base written synced cursor blocks : ℕ} {bytes : List ℕ} {near : Near} {slots : ℕ → Slot} → IsHeld pages log base written synced cursor blocks bytes near slots
     → (r : Record) → IsRecord pages r → r.lsn.0 ≡ end_of log → end_of log + record_len r ≤ 512 * blocks
-    → IsHeld pages (log ++ r ∷ []) base written synced cursor blocks (bytes ++ spelling r) slots
-held-push {pages} {log} {base} {written} {synced} {cursor} {blocks} {bytes} {slots} h r logged placed fits =
+    → IsHeld pages (log ++ r ∷ []) base written synced cursor blocks (bytes ++ spelling r) near slots
+held-push {pages} {log} {base} {written} {synced} {cursor} {blocks} {bytes} {near} {slots} h r logged placed fits =
     let longer = text-push pages log r in
     let len = length-text pages log in
     let within : base ≤ length (log_text pages log) = omega (arith, len, h.tail.low, h.order.order, h.order.within) in
@@ -165,6 +170,7 @@ held-push {pages} {log} {base} {written} {synced} {cursor} {blocks} {bytes} {slo
       stored = subst (λ (xs : List ℕ). IsStored slots xs written synced) (sym longer) stored;
       settled = h.settled;
       walked = front-push log r cursor h.walked;
+      near = subst (λ (xs : List ℕ). IsNear near xs base) (sym longer) (near-push near (log_text pages log) (spelling r) base within h.near);
     }
 
 -- ---- the empty log
@@ -180,9 +186,9 @@ is_log-nil : (pages : ℕ) → IsLog pages []
 unfolding follow_from
 is_log-nil pages = record { laid_out = refl; records = tt }
 
-pub held-new : (pages blocks : ℕ) (bytes : List ℕ) (slots : ℕ → Slot) → 1 ≤ blocks → blocks ≤ 4194304 → bytes ≡ header_bytes pages → IsStored slots (header_bytes pages) 16 16 → ((k : ℕ) → IsSettled (slots k))
-    → IsHeld pages [] 0 16 16 16 blocks bytes slots
-held-new pages blocks bytes slots some few is stored settled = record {
+pub held-new : (pages blocks : ℕ) (bytes : List ℕ) (near : Near) (slots : ℕ → Slot) → near.even.index ≡ None → near.odd.index ≡ None → 1 ≤ blocks → blocks ≤ 4194304 → bytes ≡ header_bytes pages → IsStored slots (header_bytes pages) 16 16 → ((k : ℕ) → IsSettled (slots k))
+    → IsHeld pages [] 0 16 16 16 blocks bytes near slots
+held-new pages blocks bytes near slots even odd some few is stored settled = record {
   order = record {
     is_log = is_log-nil pages;
     fits = omega (arith, end-nil, some);
@@ -196,6 +202,7 @@ held-new pages blocks bytes slots some few is stored settled = record {
   stored = subst (λ (xs : List ℕ). IsStored slots xs 16 16) (sym (text-nil pages)) stored;
   settled = all-settled slots 16 16 settled;
   walked = record { front = []; rest = []; parts = refl; ends = end-nil };
+  near = near-none near (log_text pages []) 0 even odd;
 }
 
 -- ---- reading
@@ -206,9 +213,9 @@ same-readable old new same text written synced s = record {
   stored = λ b x has. s.stored b x (subst (λ (slot : Slot). Contains slot.readable x) (same b) has);
 }
 
-module _ {pages : ℕ} {log : List Record} {base written synced cursor blocks : ℕ} {bytes : List ℕ} {slots : ℕ → Slot} (h : IsHeld pages log base written synced cursor blocks bytes slots) where
+module _ {pages : ℕ} {log : List Record} {base written synced cursor blocks : ℕ} {bytes : List ℕ} {near : Near} {slots : ℕ → Slot} (h : IsHeld pages log base written synced cursor blocks bytes near slots) where
   -- the log's text can be read
-  pub readable : IsReadable pages log slots blocks bytes base
+  pub readable : IsReadable pages log slots blocks bytes base near
   readable = record {
     is_log = h.order.is_log;
     source = record {
@@ -219,23 +226,25 @@ module _ {pages : ℕ} {log : List Record} {base written synced cursor blocks : 
     whole = h.tail.block;
     fits = h.order.fits;
     few = h.order.few;
+    near = h.near;
   }
 
   -- after a reading
-  pub held-read : (next : ℕ) (now : ℕ → Slot) → IsFrontEnd log next → SameBlocks slots now → IsHeld pages log base written synced next blocks bytes now
-  held-read next now front same = record {
+  pub held-read : (next : ℕ) (read : Near) (now : ℕ → Slot) → IsFrontEnd log next → IsNear read (log_text pages log) base → SameBlocks slots now → IsHeld pages log base written synced next blocks bytes read now
+  held-read next read now front kept same = record {
     order = h.order;
     tail = h.tail;
     stored = same-readable slots now same (log_text pages log) written synced h.stored;
     settled = settled-same slots now written synced same h.settled;
     walked = front;
+    near = kept;
   }
 
 -- ---- a log that stands on a device
 
-pub held-reopened : (pages blocks end : ℕ) (log : List Record) (bytes : List ℕ) (slots now : ℕ → Slot) → IsLog pages log → end ≡ end_of log → end ≤ 512 * blocks → blocks ≤ 4194304 → bytes ≡ drop (512 * (end / 512)) (log_text pages log)
-    → SameBlocks slots now → IsStored slots (log_text pages log) end end → ((k : ℕ) → IsSettled (slots k)) → IsHeld pages log (512 * (end / 512)) end end 16 blocks bytes now
-held-reopened pages blocks end log bytes slots now is at fits few held same stored settled = record {
+pub held-reopened : (pages blocks end : ℕ) (log : List Record) (bytes : List ℕ) (near : Near) (slots now : ℕ → Slot) → near.even.index ≡ None → near.odd.index ≡ None → IsLog pages log → end ≡ end_of log → end ≤ 512 * blocks → blocks ≤ 4194304 → bytes ≡ drop (512 * (end / 512)) (log_text pages log)
+    → SameBlocks slots now → IsStored slots (log_text pages log) end end → ((k : ℕ) → IsSettled (slots k)) → IsHeld pages log (512 * (end / 512)) end end 16 blocks bytes near now
+held-reopened pages blocks end log bytes near slots now even odd is at fits few held same stored settled = record {
   order = record {
     is_log = is;
     fits = omega (arith, at, fits);
@@ -249,4 +258,5 @@ held-reopened pages blocks end log bytes slots now is at fits few held same stor
   stored = same-readable slots now same (log_text pages log) end end stored;
   settled = settled-same slots now end end same (all-settled slots end end settled);
   walked = record { front = []; rest = log; parts = refl; ends = end-nil };
+  near = near-none near (log_text pages log) (512 * (end / 512)) even odd;
 }

@@ -1,5 +1,6 @@
 mod Keeping
 mod Lookups
+mod Nearness
 mod Padding
 mod Pieces
 mod Rows

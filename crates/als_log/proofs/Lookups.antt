@@ -1,7 +1,7 @@
 -- Which record stands at an offset, and the bytes of it in the text.
 use Rattle.std.proofs.Common.{◌≡◌, ℕ, ◌+◌, ◌<◌, ◌≤◌, eqb, List, [], ◌∷◌, ◌++◌, length, drop, take, Option, Some, None, Result, Ok, Err, refl, sym, ap, subst, inl, inr, ◌∙◌, append_assoc, arith}
 use Rattle.std.specs.List.{AllByRecursion}
-use Rattle.std.specs.Prelude.{IsTrue, IsSomeAnd, is_some}
+use Rattle.std.specs.Prelude.{IsTrue, IsSomeAnd, is_some, IfOk, IfErr}
 use Rattle.std.specs.Int.{w32, from_be_bytes}
 use Rattle.std.proofs.lemmas.Bool.{cond-true, cond-false, cases_Bool, eqb-true, ne_eqb, eq-eqb, false≢true, and_parts}
 use Rattle.std.proofs.lemmas.List.{append-nil, length-append, take-take, take_at}
@@ -15,7 +15,9 @@ use Rattle.als_record.proofs.LogLaws.{spellings-nil, spellings-cons, end_of_is, 
 use Rattle.als_record.proofs.ReadingLaws.{record_again}
 use Rattle.als_record.proofs.RecordLaws.{length-spelling, record_len-low, record_len-high}
 use Rattle.als_log.specs.Local.{IsFrontEnd}
-use Rattle.als_log.specs.Reading.{record_at, HasRecord, HasRowsAt}
+use Rattle.als_log.specs.declared.fault.Fault.{Fault as LogFault}
+use Rattle.als_log.specs.declared.fault.Fault.TheVariants as log
+use Rattle.als_log.specs.Reading.{record_at, HasRecord, HasRowsAt, FailsToLook, without_record}
 use Rattle.als_log.proofs.Walks.{all-behind, text-behind, len_field, end_of-parts}
 
 -- ---- lookups
@@ -112,8 +114,26 @@ module _ {pages : ℕ} {log : List Record} {at : ℕ} (p : Placed pages log at) 
       ∙ ap (from_be_bytes w32) (take-take 4 4 (spelling p.r ++ spellings p.rest) (omega arith))
       ∙ len_field pages p.r (spellings p.rest) p.fits
 
+  field-front : (bytes : List ℕ) (m : ℕ) → 4 ≤ m → bytes ≡ take m (drop at (log_text pages log)) → word_at 0 bytes ≡ record_len p.r
+  field-front bytes m enough is =
+      ap (word_at 0) is
+      ∙ ap (λ (xs : List ℕ). word_at 0 (take m xs)) p.there
+      ∙ ap (from_be_bytes w32) (take-take 4 m (spelling p.r ++ spellings p.rest) enough)
+      ∙ len_field pages p.r (spellings p.rest) p.fits
+
   pub spelled : take (record_len p.r) (drop at (log_text pages log)) ≡ spelling p.r
   spelled = ap (take (record_len p.r)) p.there ∙ take_at (spelling p.r) (spellings p.rest) (record_len p.r) (length-spelling p.r)
+
+  -- where it begins bytes that have all of it, their front of its length is it
+  pub front-spelled : (bytes front : List ℕ) (m : ℕ) → 4 ≤ m → bytes ≡ take m (drop at (log_text pages log)) → word_at 0 bytes ≤ m → front ≡ take (word_at 0 bytes) bytes → front ≡ spelling p.r
+  front-spelled bytes front m enough is whole are =
+      let size : word_at 0 bytes ≡ record_len p.r = field-front bytes m enough is in
+      let within : record_len p.r ≤ m = omega (arith, size, whole) in
+      are
+      ∙ ap (λ (n : ℕ). take n bytes) size
+      ∙ ap (take (record_len p.r)) is
+      ∙ take-take (record_len p.r) m (drop at (log_text pages log)) within
+      ∙ spelled
 
   -- behind it another one may stand
   pub placed-end : IsFrontEnd log (at + record_len p.r)
@@ -182,6 +202,36 @@ wants_rows {pages} {log} {at} p e bytes is fails takes =
     = ap (λ (n : ℕ). read_record pages n bytes) (sym p.lsn) ∙ ap (read_record pages p.r.lsn.0) is ∙ record_again pages p.r [] p.fits in
     subst (λ (o : Option Record). IsSomeAnd o (λ r. HasRows r.body)) (sym (record_at-placed p)) (no_memory (p.r, record_len p.r) e (read_record pages at bytes) fails read takes)
 
+-- a record that is spelled is found
+pub found-where_spelled : (x : Record × ℕ) (e : RecordFault) → Fails e (found x) → IfOk (without_record e) (λ o. o ≡ Some x.0)
+found-where_spelled x Memory fails = tt
+found-where_spelled x BadHeader fails = absurd (found-refused x BadHeader fails)
+found-where_spelled x BadLength fails = absurd (found-refused x BadLength fails)
+found-where_spelled x BadType fails = absurd (found-refused x BadType fails)
+found-where_spelled x BadReserved fails = absurd (found-refused x BadReserved fails)
+found-where_spelled x WrongLsn fails = absurd (found-refused x WrongLsn fails)
+found-where_spelled x BadKey fails = absurd (found-refused x BadKey fails)
+found-where_spelled x BadValue fails = absurd (found-refused x BadValue fails)
+
+-- what is not found wants memory for its rows
+pub rows-where_spelled : (pages at : ℕ) (e : RecordFault) (bytes : List ℕ) → ((r : Record) → IsRecord pages r → r.lsn.0 ≡ at → bytes ≡ spelling r → Fails e (found (r, record_len r)))
+    → (refused e ≡ refused Memory → TakesMemory (read_record pages at bytes))
+    → IfErr (without_record e) (λ f. (f ≡ log.Memory) × ((r : Record) → IsRecord pages r → r.lsn.0 ≡ at → bytes ≡ spelling r → HasRows r.body))
+rows-where_spelled pages at Memory bytes fails takes = (
+  refl,
+  λ r fits lsn is.
+      let read : read_record pages at bytes ≡ found (r, record_len r)
+      = ap (λ (n : ℕ). read_record pages n bytes) (sym lsn) ∙ ap (read_record pages r.lsn.0) (is ∙ sym (append-nil (spelling r))) ∙ record_again pages r [] fits in
+      no_memory (r, record_len r) Memory (read_record pages at bytes) (fails r fits lsn is) read takes,
+)
+rows-where_spelled pages at BadHeader bytes fails takes = tt
+rows-where_spelled pages at BadLength bytes fails takes = tt
+rows-where_spelled pages at BadType bytes fails takes = tt
+rows-where_spelled pages at BadReserved bytes fails takes = tt
+rows-where_spelled pages at WrongLsn bytes fails takes = tt
+rows-where_spelled pages at BadKey bytes fails takes = tt
+rows-where_spelled pages at BadValue bytes fails takes = tt
+
 -- ---- a record that is found stands behind a front
 
 pub record Stands (log : List Record) (from at : ℕ) : Type 0 where
@@ -221,3 +271,11 @@ pub has-front : (log : List Record) (at : ℕ) → IsTrue (follow_from 16 log) �
 has-front log at follow has =
     let s = stands log 16 at follow has in
     (record { front = s.front; rest = s.rest; parts = s.parts; ends = end_of_is s.front ∙ s.place }, omega (arith, s.within, end_of_is log))
+
+pub placed-record : (pages : ℕ) (log : List Record) (at : ℕ) → IsLog pages log → HasRecord log at → Placed pages log at
+placed-record pages log at is has = let f = has-front log at is.laid_out has in placed pages log at is f.0 f.1
+
+-- only want of memory for its rows is in the way of a record that was read
+pub fails_to_look : {X : Type 0} (us : List Record) (at before now : ℕ) (answer : Result X LogFault) → now ≡ before → IfErr answer (λ e. (e ≡ log.Memory) × (HasRecord us at → HasRowsAt us at)) → IfErr answer (λ e. FailsToLook us at e before now)
+fails_to_look us at before now (Ok x) same h = tt
+fails_to_look us at before now (Err e) same h = subst (λ e. FailsToLook us at e before now) (sym h.0) (h.1, same)

@@ -1,5 +1,5 @@
 -- Bytes of a text, read piece by piece.
-use Rattle.std.proofs.Common.{◌≡◌, ℕ, ◌+◌, ◌-◌, ◌*◌, ◌/◌, ◌%◌, ◌<◌, ◌≤◌, List, length, drop, take, sym, ap, subst, ◌∙◌, arith, inl, inr}
+use Rattle.std.proofs.Common.{◌≡◌, ℕ, ◌+◌, ◌-◌, ◌*◌, ◌<◌, ◌≤◌, List, length, drop, take, sym, ap, subst, ◌∙◌, arith, inl, inr}
 use Rattle.std.specs.Prelude.{Contains, slice_index}
 use Rattle.std.proofs.lemmas.Bool.{cases_lt}
 use Rattle.std.proofs.lemmas.List.{ext_get_or, get_or-take, get_or-drop, length-take, length-drop}
@@ -7,6 +7,7 @@ use Rattle.als_disk.specs.Slot.{Slot, SameBlocks}
 use Rattle.als_record.specs.declared.record.Record.{Record}
 use Rattle.als_record.specs.LogText.{log_text, end_of}
 use Rattle.als_log.specs.Reading.{IsSource, IsReadable}
+use Rattle.als_log.specs.declared.near.Near.{Near}
 use Rattle.als_log.proofs.Keeping.{length-text}
 
 -- the same blocks give the same text
@@ -17,20 +18,19 @@ source-same old new bytes text base same s = record {
   reach = s.reach;
 }
 
--- one more piece, from a block's bytes on
-pub read_more : (text old new block : List ℕ) (at from len more : ℕ) → from ≡ at + len
-    → ((k : ℕ) → k < len → slice_index new k ≡ slice_index old k) → ((k : ℕ) → k < more - len → slice_index new (len + k) ≡ slice_index block (from % 512 + k)) → from % 512 + (more - len) ≤ 512
-    → ((o : ℕ) → o < 512 → slice_index block o ≡ slice_index text (512 * (from / 512) + o)) → ((k : ℕ) → k < len → slice_index old k ≡ slice_index text (at + k))
+-- one more piece
+pub read_more : (text old new : List ℕ) (at from len more : ℕ) → from ≡ at + len
+    → ((k : ℕ) → k < len → slice_index new k ≡ slice_index old k) → ((k : ℕ) → k < more - len → slice_index new (len + k) ≡ slice_index text (from + k))
+    → ((k : ℕ) → k < len → slice_index old k ≡ slice_index text (at + k))
     → (k : ℕ) → k < more → slice_index new k ≡ slice_index text (at + k)
-read_more text old new block at from len more is kept part within has was k lt =
+read_more text old new at from len more is kept part was k lt =
     elim (cases_lt k len) [
       | inl below ↦ kept k below ∙ was k below
       | inr le ↦
           let back : len + (k - len) ≡ k = omega (arith, le) in
           let behind : k - len < more - len = omega (arith, le, lt) in
-          let inside : from % 512 + (k - len) < 512 = omega (arith, behind, within) in
-          let place : 512 * (from / 512) + (from % 512 + (k - len)) ≡ at + k = omega (arith, is, le) in
-          ap (slice_index new) (sym back) ∙ part (k - len) behind ∙ has (from % 512 + (k - len)) inside ∙ ap (slice_index text) place
+          let place : from + (k - len) ≡ at + k = omega (arith, is, le) in
+          ap (slice_index new) (sym back) ∙ part (k - len) behind ∙ ap (slice_index text) place
     ]
 
 -- what has the bytes of a part, and its length, is it
@@ -42,8 +42,8 @@ part_is text out at count len within has =
     has k below ∙ sym (get_or-take count (drop at text) k 0 below ∙ get_or-drop at text k 0))
 
 -- a readable text reaches to its log's end
-pub readable-reach : (pages : ℕ) (log : List Record) (slots : ℕ → Slot) (blocks : ℕ) (bytes : List ℕ) (base : ℕ) → IsReadable pages log slots blocks bytes base → base + length bytes ≡ end_of log
-readable-reach pages log slots blocks bytes base r =
+pub readable-reach : (pages : ℕ) (log : List Record) (slots : ℕ → Slot) (blocks : ℕ) (bytes : List ℕ) (base : ℕ) (near : Near) → IsReadable pages log slots blocks bytes base near → base + length bytes ≡ end_of log
+readable-reach pages log slots blocks bytes base near r =
     let len : length bytes ≡ length (log_text pages log) - base = ap length r.source.held ∙ length-drop base (log_text pages log) in
     omega (arith, len, r.source.reach, length-text pages log)
 

@@ -4,6 +4,8 @@ use Rattle.als_record.specs.declared.record.Record.{Record}
 use Rattle.als_record.specs.LogText.{log_text, end_of, IsLog}
 use Rattle.als_disk.specs.Slot.{Slot, IsSettled}
 use Rattle.als_log.specs.Local.{IsFrontEnd}
+use Rattle.als_log.specs.Near.{IsNear}
+use Rattle.als_log.specs.declared.near.Near.{Near}
 use Rattle.als_log.specs.Texts.{AllHaveText}
 
 -- A device has the text: below the synced end in whatever a crash may leave, and below the written end in whatever a
@@ -34,12 +36,13 @@ pub record InOrder (pages : ℕ) (log : List Record) (written synced blocks : �
   pub some : 1 ≤ blocks
 
 -- all of it
-pub record IsHeld (pages : ℕ) (log : List Record) (base written synced cursor blocks : ℕ) (bytes : List ℕ) (slots : ℕ → Slot) : Type 0 where
+pub record IsHeld (pages : ℕ) (log : List Record) (base written synced cursor blocks : ℕ) (bytes : List ℕ) (last : Near) (slots : ℕ → Slot) : Type 0 where
   pub order : InOrder pages log written synced blocks
   pub tail : IsTail (log_text pages log) bytes base synced
   pub stored : IsStored slots (log_text pages log) written synced
   pub settled : IsSettledBut slots written synced
   pub walked : IsFrontEnd log cursor
+  pub near : IsNear last (log_text pages log) base
 
 -- the bytes of these records' text from an offset on, for a database of some size
 pub record IsText (log : List Record) (bytes : List ℕ) (base : ℕ) : Type 0 where

@@ -4,7 +4,7 @@ use Rattle.als_record.specs.LogText.{end_of}
 use Rattle.als_log.specs.declared.fault.Fault.{Fault}
 use Rattle.als_log.specs.declared.fault.Fault.TheVariants.{NothingToDo, LogFull, Device, Memory}
 use Rattle.als_log.specs.Local.{Local, HasRoomFor}
-use Rattle.als_log.specs.Reading.{HasRowsAt}
+use Rattle.als_log.specs.Reading.{HasRecord, HasRowsAt}
 
 -- a read of the device has failed, and nothing else has changed
 pub record ReadFails (old new : Local) : Type 0 where
@@ -43,6 +43,13 @@ RefusesReading at Device old new = ReadFails old new
 RefusesReading at Memory old new = HasRowsAt old.log at × (new ≡ old)
 RefusesReading at NothingToDo old new = ⊥
 RefusesReading at LogFull old new = ⊥
+
+-- the record at an offset could not be looked for: the device failed, or there was no memory, which is not so of a record but an end_chkpt
+abbrev pub RefusesLook : ℕ → Fault → Local → Local → Type 0
+RefusesLook at Device old new = ReadFails old new
+RefusesLook at Memory old new = (HasRecord old.log at → HasRowsAt old.log at) × (new ≡ old)
+RefusesLook at NothingToDo old new = ⊥
+RefusesLook at LogFull old new = ⊥
 
 -- a log was not taken up again from a device: the device has failed, or there was no memory
 abbrev pub FailsToOpen : Fault → ℕ → ℕ → Type 0

@@ -18,6 +18,10 @@ mod blocks;
 mod source;
 // The bytes that it reads.
 mod part;
+// A block that was read.
+mod kept_block;
+// The blocks that were read last.
+mod near;
 // The text read back.
 mod reading;
 // What a new log has in memory.

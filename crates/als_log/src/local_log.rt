@@ -19,7 +19,7 @@
 //! Memory holds the bytes from the block of the synced end on. Contracts speak of all records: they
 //! are in a history that takes no bytes (`History`).
 
-ghost use Rattle.std.specs.Prelude.{◌≡◌, ◌<◌, ◌≤◌, ◌+◌, ◌*◌, ℕ, [], ◌∷◌, ◌++◌, IsTrue, ◌↔◌, Some};
+ghost use Rattle.std.specs.Prelude.{◌≡◌, ◌<◌, ◌≤◌, ◌+◌, ◌*◌, ℕ, [], ◌∷◌, ◌++◌, IsTrue, ◌↔◌};
 ghost use Rattle.std.specs.Prelude.{IsOk, IfOk, IfErr, OnOk, OnErr, vec_len, vec_capacity};
 ghost use Rattle.std.specs.Result.{IsErrOf};
 ghost use Rattle.als_record.specs.Spelling.{spelling, record_len, IsRecord};
@@ -31,12 +31,13 @@ ghost use Rattle.als_log.specs.Held.{IsStored};
 ghost use Rattle.als_log.specs.declared.fault.Fault.TheVariants.{LogFull, Memory as OutOfMemory};
 ghost use Rattle.als_log.specs.Local.{Local, IsLocal, HasRoomFor, next_written, whole_end};
 ghost use Rattle.als_log.specs.Outcomes.{RefusesRecord, RefusesBlock, RefusesSync, RefusesReading};
-ghost use Rattle.als_log.specs.Outcomes.{FailsToOpen};
+ghost use Rattle.als_log.specs.Outcomes.{RefusesLook, FailsToOpen};
 ghost use Rattle.als_log.specs.Reading.{record_at, HasRecord};
 ghost use Rattle.als_log.specs.Texts.{AllHaveText};
 
 use crate::fault::Fault;
 use crate::history::History;
+use crate::near::Near;
 use crate::new_log::NewLog;
 use crate::part::Part;
 use crate::source::Source;
@@ -66,6 +67,8 @@ pub struct LocalLog<D: BlockDisk> {
     synced: u64,
     // The end of some records, where the next reading may begin.
     cursor: u64,
+    // The blocks that were read last.
+    near: Near,
     // The bytes that were read last.
     part: Part,
     history: History,
@@ -83,11 +86,13 @@ impl<D: BlockDisk + Drop> Drop for LocalLog<D> {
             written: _,
             synced: _,
             cursor: _,
+            near,
             part,
             history,
         } = self;
         drop(disk);
         drop(tail);
+        drop(near);
         drop(part);
         drop(history);
     }
@@ -114,7 +119,7 @@ impl<D: BlockDisk> Model for LocalLog<D> {
 
     ghost invariant = { λ l. IsHeld l.pages
         (records_in l.history) l.base l.written l.synced l.cursor
-        (D.block_count l.disk) l.tail.items (D.slot l.disk) };
+        (D.block_count l.disk) l.tail.items l.near (D.slot l.disk) };
 }
 
 /// The length of a record, of which these are the bytes. The record is there for the prover alone:
@@ -184,6 +189,7 @@ impl<D: BlockDisk> LocalLog<D> {
             written: 16,
             synced: 16,
             cursor: 16,
+            near: Near::new(),
             part,
             history: History::new(),
         })
@@ -244,6 +250,7 @@ impl<D: BlockDisk> LocalLog<D> {
                 written: end,
                 synced: end,
                 cursor: 16,
+                near: Near::new(),
                 part,
                 history,
             }),
@@ -455,6 +462,7 @@ impl<D: BlockDisk> LocalLog<D> {
             &mut self.disk,
             self.cursor,
             lsn.0,
+            &mut self.near,
             &mut self.part,
         )?;
         self.cursor = cursor;
@@ -462,15 +470,16 @@ impl<D: BlockDisk> LocalLog<D> {
     }
 
     /// The record that stands at an LSN, where its caller knows that one does: it is read with no
-    /// walk.
+    /// walk. Of any other LSN it is only said that nothing breaks.
     ///
     /// `Device`: the device failed. `Memory`: there was none for the rows of the end_chkpt that
     /// stands there; no other record takes any.
-    pub fn record(&mut self, lsn: Lsn) -> Result<Record, Fault>
-        requires { HasRecord self.old.log lsn.0 }
-        ensures ok { IfOk result (λ found. record_at self.old.log lsn.0 ≡ Some found) }
+    #[inline(always)]
+    pub fn record(&mut self, lsn: Lsn) -> Result<Option<Record>, Fault>
+        ensures ok { HasRecord self.old.log lsn.0
+            → IfOk result (λ found. found ≡ record_at self.old.log lsn.0) }
         ensures same { OnOk result (self.new ≡ self.old) }
-        ensures err { IfErr result (λ e. RefusesReading lsn.0 e self.old self.new) }
+        ensures err { IfErr result (λ e. RefusesLook lsn.0 e self.old self.new) }
     {
         let source = Source {
             history: &self.history,
@@ -478,7 +487,14 @@ impl<D: BlockDisk> LocalLog<D> {
             bytes: self.tail.as_slice(),
             base: self.base,
         };
-        reading::read_record(source, self.alloc, &mut self.disk, lsn.0, &mut self.part)
+        reading::look(
+            source,
+            self.alloc,
+            &mut self.disk,
+            lsn.0,
+            &mut self.near,
+            &mut self.part,
+        )
     }
 
     /// The device. Whatever a crash leaves of it has the log's text below the synced end, and
@@ -506,10 +522,12 @@ impl<D: BlockDisk> LocalLog<D> {
             written: _,
             synced: _,
             cursor: _,
+            near,
             part,
             history,
         } = self;
         drop(tail);
+        drop(near);
         drop(part);
         drop(history);
         disk

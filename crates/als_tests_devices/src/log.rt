@@ -326,7 +326,7 @@ fn records_are_read_back(rt: HostRuntime) {
 // The record at an offset where one stands, read with no walk.
 fn read_again<D: BlockDisk + Drop>(log: &mut LocalLog<D>, at: u64) -> Option<Record> {
     match log.read_at(Lsn(at)) {
-        Ok(Some(_)) => log.record(Lsn(at)).ok(),
+        Ok(Some(_)) => log.record(Lsn(at)).ok()?,
         _ => None,
     }
 }
@@ -379,6 +379,40 @@ fn a_reading_fails_with_the_device(rt: HostRuntime) -> Result<(), Fail> {
     fuse.fail_at(1);
     assert!(rt; log.read_at(Lsn(16)).err() == Some(Fault::Device));
     expect_commits(&rt, rt.alloc(), &mut log);
+    Ok(())
+}
+
+// Whether a record is read at an offset, by one try with no walk.
+fn is_read<D: BlockDisk + Drop>(log: &mut LocalLog<D>, at: u64) -> bool {
+    match log.record(Lsn(at)) {
+        Ok(found) => found.is_some(),
+        Err(_) => false,
+    }
+}
+
+// The record at 492 lies in the first two blocks, the one at 996 in the second and the third, which
+// memory has.
+#[test]
+fn a_block_that_was_read_serves_all_its_records(rt: HostRuntime) -> Result<(), Fail> {
+    let fuse = fuse_of(rt.alloc())?;
+    let disk = FailingDisk::new(MemDisk::new(rt.alloc(), 3), fuse.clone()?);
+    let mut log = formatted(&rt, rt.alloc(), disk);
+    fill(&rt, rt.alloc(), &mut log, 40);
+    for _ in 0..3 {
+        write(&rt, &mut log);
+    }
+    sync(&rt, &mut log);
+    assert!(rt; is_read(&mut log, 16));
+    fuse.fail_at(1);
+    for at in [16, 464, 44, 1024, 1108] {
+        assert!(rt; is_read(&mut log, at), "{at}");
+    }
+    assert!(rt; !is_read(&mut log, 492));
+    assert!(rt; is_read(&mut log, 492));
+    fuse.fail_at(1);
+    for at in [996, 520, 492, 16, 968] {
+        assert!(rt; is_read(&mut log, at), "{at}");
+    }
     Ok(())
 }
 

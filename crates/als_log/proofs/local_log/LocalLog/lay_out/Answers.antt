@@ -13,4 +13,4 @@ pub invariant_of-result : goal.invariant_of-result
 invariant_of-result g c =
     let bytes : c.new.inside.text.items ≡ header_bytes c.new.inside.pages = c.new.invariant.2 in
     let stored = subst (λ (xs : List ℕ). IsStored (g.D.BlockDisk.slot c.lay_out.new.device) xs 16 16) (c.as_slice.ensures.value ∙ bytes) c.in-Ok.ensures.ok in
-    rw (c.new-2.ensures, c.lay_out.ensures.count) (held-new c.new.inside.pages (g.D.BlockDisk.block_count c.args.disk) c.new.inside.text.items (g.D.BlockDisk.slot c.lay_out.new.device) c.requires.blocks.0 c.requires.blocks.1 bytes stored c.in-Ok.ensures.settled)
+    rw (c.new-3.ensures, c.lay_out.ensures.count) (held-new c.new.inside.pages (g.D.BlockDisk.block_count c.args.disk) c.new.inside.text.items c.new-2.result (g.D.BlockDisk.slot c.lay_out.new.device) c.new-2.ensures.even c.new-2.ensures.odd c.requires.blocks.0 c.requires.blocks.1 bytes stored c.in-Ok.ensures.settled)

@@ -12,4 +12,4 @@ invariant_of-result g c =
     let place : c.args.end ≡ 512 * (c.args.end / 512) + c.args.end % 512 = omega arith in
     let stored = subst (λ n. AllHaveText (λ b. (slots b).readable) (log_text c.args.pages log) n) place c.requires.stored.stored in
     let bytes = c.in-Ok-read_front.ensures.ok (log_text c.args.pages log) stored (length-text c.args.pages log ∙ sym c.requires.end ∙ place) in
-    rw c.read_front.ensures.count (held-reopened c.args.pages (g.D.BlockDisk.block_count c.args.disk) c.args.end log c.in-Ok-read_front.tail.items slots (g.D.BlockDisk.slot c.read_front.new.disk) c.requires.log c.requires.end c.requires.fits c.requires.few bytes c.read_front.ensures.same c.requires.stored c.requires.settled)
+    rw c.read_front.ensures.count (held-reopened c.args.pages (g.D.BlockDisk.block_count c.args.disk) c.args.end log c.in-Ok-read_front.tail.items c.new-in-Ok-read_front.result slots (g.D.BlockDisk.slot c.read_front.new.disk) c.new-in-Ok-read_front.ensures.even c.new-in-Ok-read_front.ensures.odd c.requires.log c.requires.end c.requires.fits c.requires.few bytes c.read_front.ensures.same c.requires.stored c.requires.settled)
