@@ -1,26 +1,24 @@
 -- The table of a log, through one more record.
-use Rattle.std.proofs.Common.{◌≡◌, ℕ, ◌==◌, ◌+◌, ◌%◌, ◌^◌, ◌≤◌, ◌<◌, nat_le, Bool, true, false, not, ◌&&◌, ◌||◌, List, [], ◌∷◌, ◌++◌, length, get_or, set, map, reverse, inl, inr, refl, sym, ap, ◌∙◌, subst, arith, zero, suc, le_of_suc-le-suc, not-suc-le-zero}
-use Rattle.std.specs.List.{All, remove, sum_by}
+use Rattle.std.proofs.Common.{◌≡◌, ℕ, ◌==◌, ◌+◌, ◌%◌, ◌^◌, ◌≤◌, ◌<◌, nat_le, Bool, true, false, not, ◌&&◌, ◌||◌, List, [], ◌∷◌, ◌++◌, length, get_or, set, map, inl, inr, refl, sym, ap, ◌∙◌, subst, arith, zero, suc, le_of_suc-le-suc, not-suc-le-zero}
+use Rattle.std.specs.List.{All, remove}
 use Rattle.std.proofs.lemmas.Bool.{cases_Bool, cases_lt, eqb-true, eq-eqb, false≢true, and_parts, le-leb, or_parts, lt-ltb}
 use Rattle.std.proofs.lemmas.List.{get_or-map, length-map, map_push, length_push}
-use Rattle.als_record.specs.declared.record.Body.{Body}
-use Rattle.als_record.specs.declared.record.Body.TheVariants.{Update, Compensation, Commit, Rollback, End, BeginCheckpoint, EndCheckpoint}
 use Rattle.als_record.specs.declared.record.Record.{Record}
 use Rattle.als_record.specs.declared.transaction_row.TransactionRow.{TransactionRow}
-use Rattle.als_record.specs.Transactions.{is_transactional, is_end, is_update, is_compensation, is_of, to_undo_after, to_undo, surviving, has_begun, records_of, is_unended, unended, is_among, greatest_trans, undo_next_of}
+use Rattle.als_record.specs.Transactions.{is_transactional, is_end, is_of, to_undo, has_begun, records_of, is_unended, unended, is_among, greatest_trans, undo_next_of}
 use Rattle.als_record.specs.Table.{row_of, table_of, row_after, fresh_row}
 use Rattle.als_record.specs.Validity.{old_transaction, too_many, may_follow}
-use Rattle.als_record.proofs.Records.{to_undo-own, surviving-other, surviving-own_update, surviving-own_compensation, to_undo-none, has_begun-other, has_begun-unended}
+use Rattle.als_record.proofs.Records.{to_undo-none, has_begun-other, has_begun-unended}
 use Rattle.als_record.proofs.Numbers.{Apart, without, eqb-refl, eqb-sym, is_among-filter}
 use Rattle.als_record.proofs.Survivors.{log_induction}
 use Rattle.als_record.proofs.Unended.{unended-checkpoint, unended-more, unended-end, unended-new, unended-new_end, Apart-unended, is_among-unended, greatest_trans-push}
 use Rattle.als_record.proofs.TableSteps.{table_of-checkpoint, table_of-new, table_of-new_end}
 use Rattle.als_record.proofs.TableRows.{numbers, numbers-table_of, is_among-table_of, get_or-table_of, is_unended-row, table_of-set, table_of-remove}
 use Rattle.als_record.proofs.Validity.{Admitted, Admitted-may_follow}
-use Rattle.als_analysis.specs.Open.{left_after, bytes_after, undo_len}
-use Rattle.als_analysis.specs.Noted.{Table, IsTableOf, undo_bytes}
+use Rattle.als_analysis.specs.Open.{count_after, bytes_after}
+use Rattle.als_analysis.specs.Noted.{Table, IsTableOf, StandsAt, survivor_count, undo_bytes}
 use Rattle.als_analysis.proofs.KeptSteps.{remove-map}
-use Rattle.als_analysis.proofs.UndoBytes.{undo_bytes-other, undo_bytes-own}
+use Rattle.als_analysis.proofs.UndoBytes.{undo_bytes-other, undo_bytes-own, undo_bytes-none, survivor_count-other, survivor_count-own}
 
 -- ---- maps of numbers that are apart
 
@@ -71,29 +69,6 @@ module _ (t : ℕ) where
   without-remove (x ∷ rest) zero a lt q = rw (eq-eqb x t q) (without-all rest (ap (is_among rest) (sym q) ∙ a.0))
   without-remove (x ∷ rest) (suc i) a lt q = rw (differs (λ n. n) (λ n. n) t (λ n e. refl) x rest i a.0 (le_of_suc-le-suc lt) q) (ap (λ ys. x ∷ ys) (without-remove rest i a.1 (le_of_suc-le-suc lt) q))
 
--- ---- the survivors of one transaction
-
-module _ (log : List Record) (r : Record) (t : ℕ) (own : is_of t r ≡ true) where
-  pub surviving-own : surviving (log ++ r ∷ []) t ≡ left_after (surviving log t) r r.body
-  unfolding surviving
-  surviving-own = go r.body refl
-    where
-      same : (b : Body) → r.body ≡ b → to_undo_after (to_undo log t) r b ≡ to_undo log t → surviving (log ++ r ∷ []) t ≡ surviving log t
-      same b e s = ap reverse (to_undo-own log r t own ∙ ap (to_undo_after (to_undo log t) r) e ∙ s)
-
-      go : (b : Body) → r.body ≡ b → surviving (log ++ r ∷ []) t ≡ left_after (surviving log t) r b
-      go (Update key before after) e = surviving-own_update log r t own (ap is_update e)
-      go (Compensation undo_next key after) e = surviving-own_compensation log r t own (ap is_compensation e)
-      go Commit e = same Commit e refl
-      go Rollback e = same Rollback e refl
-      go End e = same End e refl
-      go BeginCheckpoint e = same BeginCheckpoint e refl
-      go (EndCheckpoint transactions pages) e = same (EndCheckpoint transactions pages) e refl
-
-surviving-none : (log : List Record) (t : ℕ) → has_begun log t ≡ false → surviving log t ≡ []
-unfolding surviving
-surviving-none log t n = ap reverse (to_undo-none log t n)
-
 -- ---- a transaction that has begun is not above the greatest
 
 has_begun-nil : (t : ℕ) → has_begun [] t ≡ false
@@ -140,11 +115,15 @@ length-table_of log = sym (length-map (table_of log) (λ row. row.trans.0)) ∙ 
 pub unended-at : (log : List Record) (i t : ℕ) (d : TransactionRow) → i < length (table_of log) → (get_or (table_of log) i d).trans.0 ≡ t → is_unended log t ≡ true
 unended-at log i t d lt e = sym (is_among-unended log t) ∙ among-at (λ n. n) (λ n. n) t (λ n q. refl) (unended log) i (subst (λ n. i < n) (length-table_of log) lt) (get_or-unended log i d lt ∙ e)
 
+-- the number that is kept of the surviving updates of a transaction
+abbrev kept_count : List Record → ℕ → ℕ
+kept_count log t = survivor_count log t % 2 ^ 64
+
 -- what stands at a row's place
 pub record Found (log : List Record) (table : Table) (i t : ℕ) : Type 0 where
   pub is_open : is_unended log t ≡ true
   pub row : (d : TransactionRow) → get_or table.rows i d ≡ row_of log t
-  pub left : get_or table.left i [] ≡ surviving log t
+  pub left : get_or table.left i 0 ≡ survivor_count log t % 2 ^ 64
 
 pub row-found : (log : List Record) (table : Table) (i t : ℕ) → IsTableOf table log → i < length table.rows → ((d : TransactionRow) → (get_or table.rows i d).trans.0 ≡ t) → Found log table i t
 row-found log table i t h within here =
@@ -153,11 +132,22 @@ row-found log table i t h within here =
     record {
       is_open = unended-at log i t (fresh_row 0) lt at;
       row = λ d. ap (λ rows. get_or rows i d) h.rows ∙ get_or-table_of log i d lt ∙ ap (row_of log) (sym (ap (λ (rows : List TransactionRow). (get_or rows i d).trans.0) h.rows) ∙ here d);
-      left = ap (λ left. get_or left i []) h.left ∙ get_or-map (surviving log) (unended log) i 0 [] (subst (λ n. i < n) (length-table_of log) lt) ∙ ap (surviving log) (get_or-unended log i (fresh_row 0) lt ∙ at);
+      left = ap (λ left. get_or left i 0) h.left ∙ get_or-map (kept_count log) (unended log) i 0 0 (subst (λ n. i < n) (length-table_of log) lt) ∙ ap (kept_count log) (get_or-unended log i (fresh_row 0) lt ∙ at);
     }
 
 pub row-absent : (log : List Record) (table : Table) (t : ℕ) → IsTableOf table log → is_among (numbers table.rows) t ≡ false → is_unended log t ≡ false
 row-absent log table t h absent = sym (is_among-table_of log t) ∙ subst (λ (rows : List TransactionRow). is_among (numbers rows) t ≡ false) h.rows absent
+
+-- a transaction that has a row stands at its place, and the row is its own
+pub stands-found : (log : List Record) (table : Table) (i t : ℕ) → IsTableOf table log → i < length table.rows → ((d : TransactionRow) → (get_or table.rows i d).trans.0 ≡ t) → StandsAt log t i
+stands-found log table i t h within here =
+    let lt : i < length (table_of log) = subst (λ (rows : List TransactionRow). i < length rows) h.rows within in
+    let at : (get_or (table_of log) i (fresh_row 0)).trans.0 ≡ t = subst (λ (rows : List TransactionRow). (get_or rows i (fresh_row 0)).trans.0 ≡ t) h.rows (here (fresh_row 0)) in
+    record { is_open = unended-at log i t (fresh_row 0) lt at; within = subst (λ n. i < n) (length-table_of log) lt; here = get_or-unended log i (fresh_row 0) lt ∙ at }
+
+pub row-standing : (log : List Record) (i t : ℕ) (d : TransactionRow) → StandsAt log t i → get_or (table_of log) i d ≡ row_of log t
+unfolding table_of
+row-standing log i t d s = get_or-map (row_of log) (unended log) i 0 d s.within ∙ ap (row_of log) s.here
 
 pub undo_next_of-row : (log : List Record) (t : ℕ) → (row_of log t).undo_next ≡ record { 0 = undo_next_of log t }
 unfolding row_of
@@ -174,7 +164,7 @@ module _ {X : Type 0} (f g : ℕ → X) (log : List Record) (r : Record) (agree 
       off true e = e
       off false e = refl
 
-  each-checkpoint : is_transactional r.body ≡ false → new ≡ old → new ≡ map f (unended (log ++ r ∷ []))
+  pub each-checkpoint : is_transactional r.body ≡ false → new ≡ old → new ≡ map f (unended (log ++ r ∷ []))
   each-checkpoint w p = p ∙ kept ∙ sym (ap (map f) (unended-checkpoint log r w) ∙ all (unended log))
     where
       all : (xs : List ℕ) → map f xs ≡ map g xs
@@ -185,14 +175,14 @@ module _ {X : Type 0} (f g : ℕ → X) (log : List Record) (r : Record) (agree 
           cc
 
   module _ (w : is_transactional r.body ≡ true) (i : ℕ) (inside : i < length (unended log)) (place : get_or (unended log) i 0 ≡ r.trans.0) (open_ : is_unended log r.trans.0 ≡ true) where
-    each-more : (step : X → X) (d : X) → is_end r.body ≡ false → f r.trans.0 ≡ step (g r.trans.0) → new ≡ set old i (step (get_or old i d)) → new ≡ map f (unended (log ++ r ∷ []))
+    pub each-more : (step : X → X) (d : X) → is_end r.body ≡ false → f r.trans.0 ≡ step (g r.trans.0) → new ≡ set old i (step (get_or old i d)) → new ≡ map f (unended (log ++ r ∷ []))
     each-more step d e own p =
         p ∙ ap (λ xs. set xs i (step (get_or xs i d))) kept
         ∙ ap (λ x. set (map g (unended log)) i (step x)) (get_or-map g (unended log) i 0 d inside ∙ ap g place)
         ∙ ap (λ x. set (map g (unended log)) i x) (sym own)
         ∙ sym (ap (map f) (unended-more log r w e open_) ∙ map-at f g r.trans.0 others (unended log) i (Apart-unended log) inside place)
 
-    each-end : is_end r.body ≡ true → new ≡ remove old i → new ≡ map f (unended (log ++ r ∷ []))
+    pub each-end : is_end r.body ≡ true → new ≡ remove old i → new ≡ map f (unended (log ++ r ∷ []))
     each-end e p =
         p ∙ ap (λ xs. remove xs i) kept ∙ remove-map g (unended log) i inside
         ∙ ap (map g) (sym (without-remove r.trans.0 (unended log) i (Apart-unended log) inside place))
@@ -202,10 +192,10 @@ module _ {X : Type 0} (f g : ℕ → X) (log : List Record) (r : Record) (agree 
         gone = is_among-filter (λ x. not (x == r.trans.0)) r.trans.0 (unended log) ∙ rw (eqb-refl r.trans.0) refl
 
   module _ (w : is_transactional r.body ≡ true) (begins : has_begun log r.trans.0 ≡ false) (not_among : is_among (unended log) r.trans.0 ≡ false) where
-    each-new_end : is_end r.body ≡ true → new ≡ old → new ≡ map f (unended (log ++ r ∷ []))
+    pub each-new_end : is_end r.body ≡ true → new ≡ old → new ≡ map f (unended (log ++ r ∷ []))
     each-new_end e p = p ∙ kept ∙ sym (ap (map f) (unended-new_end log r w e begins) ∙ map-absent f g r.trans.0 others (unended log) not_among)
 
-    each-new : (x : X) → is_end r.body ≡ false → f r.trans.0 ≡ x → new ≡ old ++ x ∷ [] → new ≡ map f (unended (log ++ r ∷ []))
+    pub each-new : (x : X) → is_end r.body ≡ false → f r.trans.0 ≡ x → new ≡ old ++ x ∷ [] → new ≡ map f (unended (log ++ r ∷ []))
     each-new x e own p =
         p ∙ ap (λ xs. xs ++ x ∷ []) kept ∙ ap (λ x. map g (unended log) ++ x ∷ []) (sym own)
         ∙ ap (λ xs. xs ++ f r.trans.0 ∷ []) (sym (map-absent f g r.trans.0 others (unended log) not_among))
@@ -216,8 +206,8 @@ abbrev counted : List Record → ℕ → ℕ
 counted log t = undo_bytes log t % 2 ^ 64
 
 module _ (log : List Record) (r : Record) where
-  left_agree : (x : ℕ) → is_of x r ≡ false → surviving (log ++ r ∷ []) x ≡ surviving log x
-  left_agree x e = surviving-other log r x e
+  left_agree : (x : ℕ) → is_of x r ≡ false → kept_count (log ++ r ∷ []) x ≡ kept_count log x
+  left_agree x e = ap (λ n. n % 2 ^ 64) (survivor_count-other log r x e)
 
   bytes_agree : (x : ℕ) → is_of x r ≡ false → counted (log ++ r ∷ []) x ≡ counted log x
   bytes_agree x e = ap (λ n. n % 2 ^ 64) (undo_bytes-other log r x e)
@@ -229,13 +219,13 @@ module _ (log : List Record) (r : Record) where
     pub step-checkpoint : is_transactional r.body ≡ false → new.rows ≡ old.rows → new.left ≡ old.left → new.bytes ≡ old.bytes → IsTableOf new (log ++ r ∷ [])
     step-checkpoint w p q s = record {
       rows = p ∙ h.rows ∙ sym (table_of-checkpoint log r w);
-      left = each-checkpoint (surviving (log ++ r ∷ [])) (surviving log) log r left_agree old.left new.left h.left w q;
+      left = each-checkpoint (kept_count (log ++ r ∷ [])) (kept_count log) log r left_agree old.left new.left h.left w q;
       bytes = each-checkpoint (counted (log ++ r ∷ [])) (counted log) log r bytes_agree old.bytes new.bytes h.bytes w s;
     }
 
     module _ (w : is_transactional r.body ≡ true) (m : may_follow log r ≡ true) where
-      own_left : surviving (log ++ r ∷ []) r.trans.0 ≡ left_after (surviving log r.trans.0) r r.body
-      own_left = surviving-own log r r.trans.0 (own w)
+      own_left : kept_count (log ++ r ∷ []) r.trans.0 ≡ count_after (kept_count log r.trans.0) r.body
+      own_left = let a : Admitted log r = Admitted-may_follow log r m in survivor_count-own log r (own w) a.compensation
 
       own_bytes : counted (log ++ r ∷ []) r.trans.0 ≡ bytes_after (counted log r.trans.0) r.body
       own_bytes = let a : Admitted log r = Admitted-may_follow log r m in undo_bytes-own log r (own w) a.compensation
@@ -256,17 +246,17 @@ module _ (log : List Record) (r : Record) where
         open_ : is_unended log r.trans.0 ≡ true
         open_ = is_unended-row log r i d lt here
 
-        pub step-more : is_end r.body ≡ false → new.rows ≡ set old.rows i (row_after (get_or old.rows i d) r) → new.left ≡ set old.left i (left_after (get_or old.left i []) r r.body) → new.bytes ≡ set old.bytes i (bytes_after (get_or old.bytes i 0) r.body) → IsTableOf new (log ++ r ∷ [])
+        pub step-more : is_end r.body ≡ false → new.rows ≡ set old.rows i (row_after (get_or old.rows i d) r) → new.left ≡ set old.left i (count_after (get_or old.left i 0) r.body) → new.bytes ≡ set old.bytes i (bytes_after (get_or old.bytes i 0) r.body) → IsTableOf new (log ++ r ∷ [])
         step-more e p q s = record {
           rows = p ∙ ap (λ rows. set rows i (row_after (get_or rows i d) r)) h.rows ∙ sym (table_of-set log r i d lt here w e);
-          left = each-more (surviving (log ++ r ∷ [])) (surviving log) log r left_agree old.left new.left h.left w i inside place open_ (λ us. left_after us r r.body) [] e own_left q;
+          left = each-more (kept_count (log ++ r ∷ [])) (kept_count log) log r left_agree old.left new.left h.left w i inside place open_ (λ n. count_after n r.body) 0 e own_left q;
           bytes = each-more (counted (log ++ r ∷ [])) (counted log) log r bytes_agree old.bytes new.bytes h.bytes w i inside place open_ (λ n. bytes_after n r.body) 0 e own_bytes s;
         }
 
         pub step-end : is_end r.body ≡ true → new.rows ≡ remove old.rows i → new.left ≡ remove old.left i → new.bytes ≡ remove old.bytes i → IsTableOf new (log ++ r ∷ [])
         step-end e p q s = record {
           rows = p ∙ ap (λ rows. remove rows i) h.rows ∙ sym (table_of-remove log r i d lt here w e);
-          left = each-end (surviving (log ++ r ∷ [])) (surviving log) log r left_agree old.left new.left h.left w i inside place open_ e q;
+          left = each-end (kept_count (log ++ r ∷ [])) (kept_count log) log r left_agree old.left new.left h.left w i inside place open_ e q;
           bytes = each-end (counted (log ++ r ∷ [])) (counted log) log r bytes_agree old.bytes new.bytes h.bytes w i inside place open_ e s;
         }
 
@@ -280,21 +270,21 @@ module _ (log : List Record) (r : Record) where
         not_among : is_among (unended log) r.trans.0 ≡ false
         not_among = is_among-unended log r.trans.0 ∙ closed
 
-        none : surviving log r.trans.0 ≡ []
-        none = surviving-none log r.trans.0 begins
+        none : to_undo log r.trans.0 ≡ []
+        none = to_undo-none log r.trans.0 begins
 
         pub step-new_end : is_end r.body ≡ true → new.rows ≡ old.rows → new.left ≡ old.left → new.bytes ≡ old.bytes → IsTableOf new (log ++ r ∷ [])
         step-new_end e p q s = record {
           rows = p ∙ h.rows ∙ sym (table_of-new_end log r w e begins);
-          left = each-new_end (surviving (log ++ r ∷ [])) (surviving log) log r left_agree old.left new.left h.left w begins not_among e q;
+          left = each-new_end (kept_count (log ++ r ∷ [])) (kept_count log) log r left_agree old.left new.left h.left w begins not_among e q;
           bytes = each-new_end (counted (log ++ r ∷ [])) (counted log) log r bytes_agree old.bytes new.bytes h.bytes w begins not_among e s;
         }
 
-        pub step-new : is_end r.body ≡ false → new.rows ≡ old.rows ++ row_after (fresh_row r.trans.0) r ∷ [] → new.left ≡ old.left ++ left_after [] r r.body ∷ [] → new.bytes ≡ old.bytes ++ bytes_after 0 r.body ∷ [] → IsTableOf new (log ++ r ∷ [])
+        pub step-new : is_end r.body ≡ false → new.rows ≡ old.rows ++ row_after (fresh_row r.trans.0) r ∷ [] → new.left ≡ old.left ++ count_after 0 r.body ∷ [] → new.bytes ≡ old.bytes ++ bytes_after 0 r.body ∷ [] → IsTableOf new (log ++ r ∷ [])
         step-new e p q s = record {
           rows = p ∙ ap (λ rows. rows ++ row_after (fresh_row r.trans.0) r ∷ []) h.rows ∙ sym (table_of-new log r w e begins);
-          left = each-new (surviving (log ++ r ∷ [])) (surviving log) log r left_agree old.left new.left h.left w begins not_among (left_after [] r r.body) e (own_left ∙ ap (λ us. left_after us r r.body) none) q;
-          bytes = each-new (counted (log ++ r ∷ [])) (counted log) log r bytes_agree old.bytes new.bytes h.bytes w begins not_among (bytes_after 0 r.body) e (own_bytes ∙ ap (λ us. bytes_after (sum_by undo_len us % 2 ^ 64) r.body) none) s;
+          left = each-new (kept_count (log ++ r ∷ [])) (kept_count log) log r left_agree old.left new.left h.left w begins not_among (count_after 0 r.body) e (own_left ∙ ap (λ (us : List Record). count_after (length us % 2 ^ 64) r.body) none) q;
+          bytes = each-new (counted (log ++ r ∷ [])) (counted log) log r bytes_agree old.bytes new.bytes h.bytes w begins not_among (bytes_after 0 r.body) e (own_bytes ∙ ap (λ n. bytes_after (n % 2 ^ 64) r.body) (undo_bytes-none log r.trans.0 none)) s;
         }
 
         -- there is place for it, above all rows

@@ -22,7 +22,8 @@ use Rattle.als_record.proofs.Survivors.{is_by, all_surviving-by, All-is_update}
 use Rattle.als_record.proofs.Unended.{Apart-unended, is_among-unended}
 use Rattle.als_record.proofs.TailSteps.{filter-none, is_some_left-filter, filter-by}
 use Rattle.als_record.proofs.Reserve.{reserve_of-tail_len}
-use Rattle.als_analysis.specs.Open.{Open, undo_len, undo_owed, owed, rows_of, bytes_of}
+use Rattle.als_analysis.specs.declared.open_row.OpenRow.{OpenRow}
+use Rattle.als_analysis.specs.Open.{undo_len, undo_owed, owed, rows_of, bytes_of}
 use Rattle.als_analysis.specs.Noted.{undo_bytes}
 use Rattle.als_analysis.proofs.Counting.{wrapped-add}
 
@@ -217,18 +218,18 @@ owed-mod Active bytes = add-mod-mod 28 bytes (2 ^ 64)
 owed-mod Committed bytes = refl
 owed-mod RollingBack bytes = add-mod-mod 28 bytes (2 ^ 64)
 
-owed-sum : (F : ℕ → TransactionRow) (G : ℕ → ℕ) (entries : List Open) (ts : List ℕ) → rows_of entries ≡ map F ts → bytes_of entries ≡ map (λ t. G t % 2 ^ 64) ts → sum_by owed entries % 2 ^ 64 ≡ sum_by (λ t. 28 + undo_owed (F t).state (G t)) ts % 2 ^ 64
+owed-sum : (F : ℕ → TransactionRow) (G : ℕ → ℕ) (entries : List OpenRow) (ts : List ℕ) → rows_of entries ≡ map F ts → bytes_of entries ≡ map (λ t. G t % 2 ^ 64) ts → sum_by owed entries % 2 ^ 64 ≡ sum_by (λ t. 28 + undo_owed (F t).state (G t)) ts % 2 ^ 64
 owed-sum F G [] [] p q = refl
 owed-sum F G [] (t ∷ ts) p q = absurd (cc p)
 owed-sum F G (o ∷ entries) [] p q = absurd (cc p)
 owed-sum F G (o ∷ entries) (t ∷ ts) p q =
     let row : o.row ≡ F t = cc p in
-    let bytes : o.bytes ≡ G t % 2 ^ 64 = cc q in
+    let bytes : o.undo_bytes ≡ G t % 2 ^ 64 = cc q in
     let rows : rows_of entries ≡ map F ts = cc p in
     let counts : bytes_of entries ≡ map (λ t. G t % 2 ^ 64) ts = cc q in
     let a : sum_by owed (o ∷ entries) ≡ owed o + sum_by owed entries = sum_by-cons owed o entries in
     let b : sum_by (λ t. 28 + undo_owed (F t).state (G t)) (t ∷ ts) ≡ 28 + undo_owed (F t).state (G t) + sum_by (λ t. 28 + undo_owed (F t).state (G t)) ts = sum_by-cons (λ (t : ℕ). 28 + undo_owed (F t).state (G t)) t ts in
-    let c : owed o % 2 ^ 64 ≡ (28 + undo_owed (F t).state (G t)) % 2 ^ 64 = ap (λ (r : TransactionRow). (28 + undo_owed r.state o.bytes) % 2 ^ 64) row ∙ ap (λ n. (28 + undo_owed (F t).state n) % 2 ^ 64) bytes ∙ owed-mod (F t).state (G t) in
+    let c : owed o % 2 ^ 64 ≡ (28 + undo_owed (F t).state (G t)) % 2 ^ 64 = ap (λ (r : TransactionRow). (28 + undo_owed r.state o.undo_bytes) % 2 ^ 64) row ∙ ap (λ n. (28 + undo_owed (F t).state n) % 2 ^ 64) bytes ∙ owed-mod (F t).state (G t) in
     let r : sum_by owed entries % 2 ^ 64 ≡ sum_by (λ t. 28 + undo_owed (F t).state (G t)) ts % 2 ^ 64 = owed-sum F G entries ts rows counts in
     ap (λ n. n % 2 ^ 64) a
     ∙ sym (wrapped-add (owed o) (sum_by owed entries))
@@ -238,6 +239,6 @@ owed-sum F G (o ∷ entries) (t ∷ ts) p q =
     ∙ ap (λ n. n % 2 ^ 64) (sym b)
 
 -- what the entries of the table of a log owe is the log's reserve
-pub owed-reserve : (log : List Record) (entries : List Open) → rows_of entries ≡ table_of log → bytes_of entries ≡ map (λ t. undo_bytes log t % 2 ^ 64) (unended log) → sum_by owed entries % 2 ^ 64 ≡ reserve_of log % 2 ^ 64
+pub owed-reserve : (log : List Record) (entries : List OpenRow) → rows_of entries ≡ table_of log → bytes_of entries ≡ map (λ t. undo_bytes log t % 2 ^ 64) (unended log) → sum_by owed entries % 2 ^ 64 ≡ reserve_of log % 2 ^ 64
 unfolding table_of row_of
 owed-reserve log entries p q = owed-sum (row_of log) (undo_bytes log) entries (unended log) p q ∙ ap (λ n. n % 2 ^ 64) (sym (reserve_of-sum log))

@@ -7,7 +7,7 @@ use als_fault::FaultKind;
 use std::alloc::{AllocError, AllocFailed};
 use std::fmt;
 
-/// Why a record could not be noted. The numbers are common to all crates.
+/// Why no table is made. The numbers are common to all crates.
 #[derive(Clone, Copy, Debug, PartialEq, Eq)]
 pub enum Fault {
     /// An allocation failed.

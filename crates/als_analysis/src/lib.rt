@@ -1,14 +1,15 @@
 //! The analysis pass of ARIES as a kept table: which transactions of a log are unended, what they
-//! are doing, what of them survives to be undone, and how many bytes a takeover would append.
+//! are doing, how many of their updates survive to be undone, and how many bytes a takeover would
+//! append.
 #![tactic(auto)]
 
-// Why a record could not be noted.
+// Why there is no table.
 mod fault;
 // One transaction that has not ended.
-mod open_transaction;
+mod open_row;
 // All of them.
 mod trans_table;
 
 pub use fault::Fault;
-pub use open_transaction::OpenTransaction;
+pub use open_row::OpenRow;
 pub use trans_table::TransTable;

@@ -1,7 +1,6 @@
-ghost use Rattle.std.specs.Prelude.{◌≡◌, ℕ, ◌<◌, ◌+◌, ◌%◌, ◌^◌, true, false, IsTrue, List, [], ◌∷◌};
-ghost use Rattle.std.specs.Prelude.{◌++◌, length, vec_len, vec_capacity};
-ghost use Rattle.std.specs.Prelude.{slice_index_or, slice_set, IfSome, IfNone, OnOk, OnErr, IsOk};
-ghost use Rattle.std.specs.Prelude.{◌↔◌, MatchOption};
+ghost use Rattle.std.specs.Prelude.{◌≡◌, ℕ, ◌<◌, ◌≤◌, ◌+◌, ◌%◌, ◌^◌, true, false, IsTrue, List, [], ◌∷◌};
+ghost use Rattle.std.specs.Prelude.{◌++◌, length, slice_index_or, slice_set, IfSome, IfNone, IfOk};
+ghost use Rattle.std.specs.Prelude.{IsOk, ◌↔◌, MatchOption};
 ghost use Rattle.std.specs.List.{remove, All};
 ghost use Rattle.als_record.specs.declared.record.Record.{Record};
 ghost use Rattle.als_record.specs.declared.transaction_row.TransactionRow.{TransactionRow};
@@ -10,14 +9,14 @@ ghost use Rattle.als_record.specs.Shown.{shown, shown_body};
 ghost use Rattle.als_record.specs.Table.{table_of, row_after, fresh_row};
 ghost use Rattle.als_record.specs.LogText.{end_of};
 ghost use Rattle.als_record.specs.Tail.{reserve_of};
-ghost use Rattle.als_analysis.specs.Open.{left_with, bytes_after, rows_of, left_of};
-ghost use Rattle.als_analysis.specs.Kept.{IsRising, IsPlace, MakesRoom, numbers};
-ghost use Rattle.als_analysis.specs.Noted.{IsTableOf, IsOpenOf, WithRecord, GoesOn, undo_next_in};
-ghost use Rattle.als_analysis.specs.Noted.{survivors_in};
+ghost use Rattle.als_analysis.specs.Open.{count_after, bytes_after, rows_of, left_of};
+ghost use Rattle.als_analysis.specs.Kept.{IsRising, IsPlace, numbers};
+ghost use Rattle.als_analysis.specs.Noted.{IsTableOf, IsOpenOf, StandsAt, WithRecord, GoesOn};
+ghost use Rattle.als_analysis.specs.Noted.{undo_next_in};
 
 use crate::fault::Fault;
-use crate::open_transaction::{OpenTransaction, owed_anew};
-use als_record::{BodyView, KeptUpdate, Lsn, RecordView, TRANSACTION_LIMIT, TransId};
+use crate::open_row::{OpenRow, owed_anew};
+use als_record::{BodyView, Lsn, RecordView, TRANSACTION_LIMIT, TransId};
 use std::alloc::Global;
 use std::marker::Model;
 
@@ -29,16 +28,13 @@ const PLACE_COUNT: usize = 1024;
 const FEW: usize = 64;
 
 /// The transaction table of ARIES, kept as its log grows: the unended transactions in rising
-/// TransID, with the updates that survive of each, and the length of what a takeover would append.
+/// TransID, with the number of the updates that survive of each, and the length of what a takeover
+/// would append. It keeps no update, and has room for as many rows as a log can have: its size does
+/// not depend on the log.
 pub struct TransTable {
-    alloc: Global,
-    entries: Vec<OpenTransaction>,
-    spares: Vec<OpenTransaction>,
+    entries: Vec<OpenRow>,
     // Modulo 2^64, which is exact for the log of a device.
     reserve: u64,
-    // The one transaction that may be without room.
-    tight: usize,
-    has_room: bool,
     // Where a transaction stands, by the low bits of its TransID: asked first and not relied on,
     // since two may share a place.
     places: [u8; PLACE_COUNT],
@@ -48,16 +44,11 @@ pub struct TransTable {
 impl Drop for TransTable {
     fn drop(self) {
         let TransTable {
-            alloc: _,
             entries,
-            spares,
             reserve: _,
-            tight: _,
-            has_room: _,
             places: _,
         } = self;
         drop(entries);
-        drop(spares);
     }
 }
 
@@ -73,11 +64,9 @@ impl Model for TransTable {
       rows = rows_of t.entries.items;
       left = left_of t.entries.items;
       bytes = bytes_of t.entries.items;
-      has_room = t.has_room;
     } };
 
-    ghost invariant = { λ t. IsKept t.entries.items t.spares.items t.reserve t.tight t.has_room
-        (vec_capacity t.entries) };
+    ghost invariant = { λ t. IsKept t.entries.items t.reserve (vec_capacity t.entries) };
 }
 
 /// Whether a record ends its transaction.
@@ -98,7 +87,7 @@ fn is_transaction_record(body: &BodyView<'_>) -> bool
 }
 
 /// Whether there are transactions, none of them below this one.
-fn is_below_all(entries: &[OpenTransaction], trans: TransId) -> bool
+fn is_below_all(entries: &[OpenRow], trans: TransId) -> bool
     requires { IsRising entries.now }
     ensures { IsTrue result → IsPlace entries.now trans.0 0 }
 {
@@ -109,7 +98,7 @@ fn is_below_all(entries: &[OpenTransaction], trans: TransId) -> bool
 }
 
 /// Whether there are transactions, all of them below this one.
-fn is_above_all(entries: &[OpenTransaction], trans: TransId) -> bool
+fn is_above_all(entries: &[OpenRow], trans: TransId) -> bool
     requires { IsRising entries.now }
     ensures { IsTrue result → IsPlace entries.now trans.0 (length entries.now) }
 {
@@ -121,7 +110,7 @@ fn is_above_all(entries: &[OpenTransaction], trans: TransId) -> bool
 }
 
 /// The first place whose transaction is not below this one, searched for.
-fn search(entries: &[OpenTransaction], trans: TransId) -> usize
+fn search(entries: &[OpenRow], trans: TransId) -> usize
     requires { IsRising entries.now }
     ensures { IsPlace entries.now trans.0 result }
 {
@@ -130,7 +119,7 @@ fn search(entries: &[OpenTransaction], trans: TransId) -> usize
 
 /// The first place whose transaction is not below this one. Most often that of an old or a new
 /// transaction is asked for.
-fn place_of(entries: &[OpenTransaction], trans: TransId) -> usize
+fn place_of(entries: &[OpenRow], trans: TransId) -> usize
     requires { IsRising entries.now }
     ensures { IsPlace entries.now trans.0 result }
 {
@@ -164,110 +153,41 @@ fn move_down(places: &mut [u8; PLACE_COUNT], at: usize) {
 }
 
 /// Remembers where the transactions from this place on stand.
-fn remember_from(places: &mut [u8; PLACE_COUNT], entries: &[OpenTransaction], from: usize) {
+fn remember_from(places: &mut [u8; PLACE_COUNT], entries: &[OpenRow], from: usize) {
     for at in from..entries.len() {
         remember(places, entries[at].row().trans, at);
     }
 }
 
 /// One transaction is gone from this place, and those behind it stand one lower.
-fn close_up(places: &mut [u8; PLACE_COUNT], entries: &[OpenTransaction], at: usize) {
+fn close_up(places: &mut [u8; PLACE_COUNT], entries: &[OpenRow], at: usize) {
     if entries.len().saturating_sub(at) <= FEW {
         return remember_from(places, entries, at);
     }
     move_down(places, at)
 }
 
-/// Keeps what an ended transaction had allocated for another one, where there is a place.
-fn keep_spare(spares: &mut Vec<OpenTransaction>, ended: OpenTransaction)
-    requires { All (λ o. 0 < o.room) spares.old.items }
-    ensures { All (λ o. 0 < o.room) spares.new.items }
-{
-    if spares.len() < spares.capacity() && ended.has_room() {
-        spares.push_reserved(ended);
-    }
-}
-
-/// A spare for a new transaction.
-fn make_spare(spares: &mut Vec<OpenTransaction>, alloc: Global) -> Result<(), Fault>
-    requires { All (λ o. 0 < o.room) spares.old.items }
-    ensures all { All (λ o. 0 < o.room) spares.new.items }
-    ensures ok { OnOk result (0 < vec_len spares.new) }
-{
-    if spares.is_empty() {
-        spares.push(OpenTransaction::spare(alloc)?)?;
-    }
-    Ok(())
-}
-
-/// Room for one more update of the transaction at this place, if there is one.
-fn make_room(entries: &mut Vec<OpenTransaction>, at: usize) -> Result<(), Fault>
-    ensures capacity { vec_capacity entries.new ≡ vec_capacity entries.old }
-    ensures ok { OnOk result (MakesRoom entries.old.items entries.new.items at) }
-    ensures err { OnErr result (entries.new.items ≡ entries.old.items) }
-{
-    if at >= entries.len() {
-        return Ok(());
-    }
-    let entry = &mut entries[at];
-    entry.reserve()?;
-    Ok(())
-}
-
 impl TransTable {
-    /// The table of the empty log.
-    pub fn new(alloc: Global) -> Self
-        ensures { IsTableOf result [] }
+    /// The table of the empty log. It takes the room for all rows.
+    pub fn new(alloc: Global) -> Result<TransTable, Fault>
+        ensures { IfOk result (λ table. IsTableOf table []) }
     {
-        TransTable {
-            alloc,
-            entries: Vec::new(alloc),
-            spares: Vec::new(alloc),
+        Ok(TransTable {
+            entries: Vec::with_capacity(alloc, TRANSACTION_LIMIT)?,
             reserve: 0,
-            tight: 0,
-            has_room: false,
             places: [0; PLACE_COUNT],
-        }
-    }
-
-    /// Makes room for one more record, whatever it is: after an `Ok` the next `note` takes no
-    /// memory. An `Err` changes nothing.
-    #[inline(always)]
-    pub fn reserve(&mut self) -> Result<(), Fault>
-        ensures ok { OnOk result (self.new ≡ record self.old { has_room = true }) }
-        ensures err { OnErr result (self.new ≡ self.old) }
-        ensures reserved { self.old.has_room ≡ true → IsOk result }
-    {
-        if self.has_room {
-            return Ok(());
-        }
-        self.grow()
-    }
-
-    // The same where there may be no room. It is not inlined where a record is fed.
-    #[inline(never)]
-    fn grow(&mut self) -> Result<(), Fault>
-        requires { self.old.has_room ≡ false }
-        ensures ok { OnOk result (self.new ≡ record self.old { has_room = true }) }
-        ensures err { OnErr result (self.new ≡ self.old) }
-    {
-        self.entries.reserve(1)?;
-        make_spare(&mut self.spares, self.alloc)?;
-        make_room(&mut self.entries, self.tight)?;
-        self.has_room = true;
-        Ok(())
+        })
     }
 
     /// Another record of the transaction at this place.
     fn extend(&mut self, at: usize, logged: &RecordView<'_>)
-        requires room { self.old.has_room ≡ true }
         requires within { at < length self.old.rows }
         ensures rows { (d : TransactionRow)
             → self.new.rows ≡ slice_set self.old.rows at
             (row_after (slice_index_or self.old.rows at d) (shown logged.now)) }
-        ensures left { (d : List Record)
-            → self.new.left ≡ slice_set self.old.left at
-            (left_with (slice_index_or self.old.left at d) (shown logged.now)) }
+        ensures left { (d : ℕ) → self.new.left
+            ≡ slice_set self.old.left at
+            (count_after (slice_index_or self.old.left at d) (shown_body logged.now.body)) }
         ensures bytes { (d : ℕ) → self.new.bytes
             ≡ slice_set self.old.bytes at
             (bytes_after (slice_index_or self.old.bytes at d) (shown_body logged.now.body)) }
@@ -276,15 +196,11 @@ impl TransTable {
         let before = entry.owed();
         entry.extend(logged);
         let after = entry.owed();
-        // The one thing that the record may have used up is the room of its transaction.
-        self.has_room = entry.has_room();
         self.reserve = self.reserve.wrapping_sub(before).wrapping_add(after);
-        self.tight = at;
     }
 
     /// The end of the transaction at this place.
     fn close(&mut self, at: usize)
-        requires room { self.old.has_room ≡ true }
         requires within { at < length self.old.rows }
         ensures rows { self.new.rows ≡ remove self.old.rows at }
         ensures left { self.new.left ≡ remove self.old.left at }
@@ -292,35 +208,26 @@ impl TransTable {
     {
         let ended = self.entries.remove(at);
         self.reserve = self.reserve.wrapping_sub(ended.owed());
-        self.has_room = false;
         close_up(&mut self.places, self.entries.as_slice(), at);
-        keep_spare(&mut self.spares, ended);
     }
 
     /// The first record of a transaction.
     fn begin(&mut self, logged: &RecordView<'_>)
-        requires room { self.old.has_room ≡ true }
         requires few { length self.old.rows < 256 }
         requires rising { All (λ row. row.trans.0 < logged.now.trans.0) self.old.rows }
         ensures rows { self.new.rows ≡ self.old.rows
             ++ row_after (fresh_row logged.now.trans.0) (shown logged.now) ∷ [] }
-        ensures left { self.new.left ≡ self.old.left ++ left_with [] (shown logged.now) ∷ [] }
+        ensures left { self.new.left ≡ self.old.left
+            ++ count_after 0 (shown_body logged.now.body) ∷ [] }
         ensures bytes { self.new.bytes ≡ self.old.bytes
             ++ bytes_after 0 (shown_body logged.now.body) ∷ [] }
     {
-        match self.spares.pop() {
-            Some(mut fresh) => {
-                fresh.renew(logged.trans);
-                fresh.extend(logged);
-                self.reserve = self.reserve.wrapping_add(fresh.owed());
-                self.tight = self.entries.len();
-                self.entries.push_reserved(fresh);
-                self.has_room = false;
-                remember(&mut self.places, logged.trans, self.tight);
-            }
-            // Room for a record is a spare too.
-            None => unreachable!(),
-        }
+        let at = self.entries.len();
+        let mut opened = OpenRow::fresh(logged.trans);
+        opened.extend(logged);
+        self.reserve = self.reserve.wrapping_add(opened.owed());
+        self.entries.push_reserved(opened);
+        remember(&mut self.places, logged.trans, at);
     }
 
     /// The place of a transaction's row, searched for.
@@ -356,8 +263,21 @@ impl TransTable {
         self.find_by_search(trans)
     }
 
+    /// The place of a transaction's row among `rows`. `None`: it has no row.
+    pub fn place(&self, trans: TransId) -> Option<usize>
+        ensures within { IfSome result (λ at. at < length self.now.rows) }
+        ensures stands { (log : List Record) → IsTableOf self.now log
+            → MatchOption result (is_unended log trans.0
+            ≡ false) (λ at. StandsAt log trans.0 at) }
+    {
+        match self.find(trans) {
+            Some(at) => Some(at),
+            None => None,
+        }
+    }
+
     /// What is kept of an unended transaction. `None`: it has no row.
-    pub fn open_of(&self, trans: TransId) -> Option<&OpenTransaction>
+    pub fn open_of(&self, trans: TransId) -> Option<&OpenRow>
         ensures { (log : List Record) → IsTableOf self.now log
             → MatchOption result (is_unended log trans.0
             ≡ false) (λ kept. IsOpenOf kept.now log trans.0) }
@@ -379,7 +299,6 @@ impl TransTable {
 
     /// A record of a transaction with a row.
     fn note_known(&mut self, at: usize, logged: &RecordView<'_>)
-        requires room { self.old.has_room ≡ true }
         requires within { at < length self.old.rows }
         requires here { (d : TransactionRow)
             → (slice_index_or self.old.rows at d).trans.0 ≡ logged.now.trans.0 }
@@ -396,7 +315,6 @@ impl TransTable {
     /// A record of a transaction without a row. One that can't follow a valid log may be passed
     /// over.
     fn note_new(&mut self, logged: &RecordView<'_>)
-        requires room { self.old.has_room ≡ true }
         requires absent { is_among (numbers self.old.rows) logged.now.trans.0 ≡ false }
         requires kind { is_transactional (shown_body logged.now.body) ≡ true }
         ensures { GoesOn self.old (shown logged.now) self.new }
@@ -410,9 +328,8 @@ impl TransTable {
         self.begin(logged);
     }
 
-    /// A record for which there is room.
+    /// Any record.
     fn put(&mut self, logged: &RecordView<'_>)
-        requires room { self.old.has_room ≡ true }
         ensures { GoesOn self.old (shown logged.now) self.new }
     {
         if !is_transaction_record(&logged.body) {
@@ -425,27 +342,26 @@ impl TransTable {
     }
 
     /// Notes a record: of the table of a log it makes the table of the log with that record, where
-    /// the record may follow. Of any other record it is only said that nothing breaks. An `Err`
-    /// (Memory) changes nothing, and does not come right after `reserve`. The cost does not depend
-    /// on how long the log is, nor on how many updates of a transaction survive.
+    /// the record may follow. Of any other record it is only said that nothing breaks. It takes no
+    /// memory, whatever the record is. The cost does not depend on how long the log is, nor on how
+    /// many updates of a transaction survive.
     pub fn note(&mut self, logged: &RecordView<'_>) -> Result<(), Fault>
-        ensures ok { OnOk result (GoesOn self.old (shown logged.now) self.new) }
-        ensures err { OnErr result (self.new ≡ self.old) }
-        ensures reserved { self.old.has_room ≡ true → IsOk result }
+        ensures ok { IsOk result }
+        ensures noted { GoesOn self.old (shown logged.now) self.new }
     {
-        self.reserve()?;
         self.put(logged);
         Ok(())
     }
 
-    /// The rows of the transaction table in rising TransID, each with the updates that survive of
-    /// its transaction.
-    pub fn rows(&self) -> &[OpenTransaction]
+    /// The rows of the transaction table in rising TransID, each with the number of the updates that
+    /// survive of its transaction.
+    pub fn rows(&self) -> &[OpenRow]
         ensures table { (log : List Record) → IsTableOf self.now log
             → rows_of result.now ≡ table_of log }
         ensures rows { rows_of result.now ≡ self.now.rows }
         ensures left { left_of result.now ≡ self.now.left }
         ensures rising { IsRising result.now }
+        ensures few { length result.now ≤ 256 }
     {
         self.entries.as_slice()
     }
@@ -458,18 +374,6 @@ impl TransTable {
         match self.find(trans) {
             Some(at) => Some(self.entries[at].row().undo_next),
             None => None,
-        }
-    }
-
-    /// The updates of an unended transaction that no compensation has undone, in order; none for
-    /// any other.
-    pub fn survivors_of(&self, trans: TransId) -> &[KeptUpdate]
-        ensures { (log : List Record) → IsTableOf self.now log
-            → result.now ≡ survivors_in log trans.0 }
-    {
-        match self.find(trans) {
-            Some(at) => self.entries[at].survivors(),
-            None => &[],
         }
     }
 

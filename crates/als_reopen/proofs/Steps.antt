@@ -11,7 +11,8 @@ use Rattle.als_record.specs.Spelling.{IsRecord}
 use Rattle.als_record.specs.LogText.{end_of, IsLog, log_text}
 use Rattle.als_record.proofs.LogLaws.{follow-cons}
 use Rattle.als_record.proofs.PageLaws.{follow_from-parts, end_of-push, record_len-least}
-use Rattle.als_analysis.specs.Open.{Open, rows_of as transaction_rows}
+use Rattle.als_analysis.specs.declared.open_row.OpenRow.{OpenRow}
+use Rattle.als_analysis.specs.Open.{rows_of as transaction_rows}
 use Rattle.als_ckpt_codec.specs.declared.checkpoint.Checkpoint.{Checkpoint}
 use Rattle.als_ckpt_codec.specs.declared.numbers.Numbers.{Numbers}
 use Rattle.als_scan.specs.Scanned.{Scanned, IsScanned, HandsOut, GivesNext, first_of}
@@ -162,7 +163,7 @@ steps_down false before old new whole ended step mark facts is = rw is (omega (a
 
 -- ---- rows
 
-pub length_rows : (os : List Open) → length (transaction_rows os) ≡ length os
+pub length_rows : (os : List OpenRow) → length (transaction_rows os) ≡ length os
 length_rows [] = refl
 length_rows (o ∷ os) = ap (λ (n : ℕ). suc n) (length_rows os)
 

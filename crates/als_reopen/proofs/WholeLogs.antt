@@ -8,7 +8,7 @@ use Rattle.als_record.specs.Tail.{reserve_of}
 use Rattle.als_record.specs.Validity.{IsValidLog}
 use Rattle.als_record.proofs.LogLaws.{logs_once}
 use Rattle.als_validator.specs.declared.validator.Validator.{Validator}
-use Rattle.als_validator.specs.Validated.{IsValidatorOf}
+use Rattle.als_validator.specs.Validated.{IsValidatorOf, judges}
 use Rattle.als_log.specs.Local.{Local}
 use Rattle.als_scan.specs.Scanned.{Scanned, IsScanned, IsWhole, taken_up}
 use Rattle.als_ckpt_codec.specs.declared.checkpoint.Checkpoint.{Checkpoint}
@@ -17,6 +17,7 @@ use Rattle.als_tables.specs.declared.commit_count.CommitCount.{CommitCount}
 use Rattle.als_tables.specs.Fronts.{IsOfFront}
 use Rattle.als_pool.specs.Pooled.{Held}
 use Rattle.als_reopen.specs.Outcomes.{IsReopened}
+use Rattle.als_reopen.specs.Taken.{follows}
 use Rattle.als_reopen.specs.Reading.{IsReading, ScansOn, IsLogOn}
 
 -- a text is that of one valid log
@@ -39,9 +40,9 @@ not_full blocks old new checkpoint on facts is whole h full =
 
 pub reopened : (blocks : ℕ) (old new : Scanned) (state : ControlState) (checkpoint : Option Checkpoint) (pool : Held) (count : CommitCount) (log : Local) (validator : Validator) (counted : CommitCount) (pooled : Held)
     → ScansOn old new → IsReading checkpoint new pool.pool count → IsWhole new → IfSome checkpoint (IsOfFront new.log) → old.mark ≡ state.mark.0 → end_of new.log + reserve_of new.log ≤ 512 * blocks
-    → log ≡ taken_up new log.room → IsValidatorOf new.pages validator new.log → pooled ≡ pool → counted ≡ count
+    → log ≡ taken_up new log.room → IsValidatorOf new.pages validator new.log → judges validator ≡ follows state.phase → pooled ≡ pool → counted ≡ count
     → IsReopened old.pages blocks (record { state = state; checkpoint = checkpoint }) log.log validator counted pooled.pool
-reopened blocks old new state checkpoint pool count log validator counted pooled on reading is front mark fits up judged same_pool same_count =
+reopened blocks old new state checkpoint pool count log validator counted pooled on reading is front mark fits up judged judging same_pool same_count =
     let pages : new.pages ≡ old.pages = ap (λ (s : Scanned). s.pages) on in
     let same : log.log ≡ new.log = ap (λ (l : Local). l.log) up in
     let made : IsReopened old.pages blocks (record { state = state; checkpoint = checkpoint }) new.log validator count pool.pool
@@ -51,6 +52,7 @@ reopened blocks old new state checkpoint pool count log validator counted pooled
       fits = fits;
       front = front;
       judged = subst (λ n. IsValidatorOf n validator new.log) pages judged;
+      judging = judging;
       counted = reading.counted;
       pages_are = sym reading.rows.paged ∙ reading.paged ∙ pages;
       queues = reading.queues;

@@ -6,7 +6,8 @@ use Rattle.als_record.specs.Tail.{reserve_of}
 use Rattle.als_record.specs.Validity.{IsValidLog}
 use Rattle.als_disk.specs.Slot.{Slot, IsSettled, KeepsReadable}
 use Rattle.als_validator.specs.declared.validator.Validator.{Validator}
-use Rattle.als_validator.specs.Validated.{IsValidatorOf}
+use Rattle.als_validator.specs.Validated.{IsValidatorOf, judges}
+use Rattle.als_reopen.specs.Taken.{follows}
 use Rattle.als_log.specs.Local.{Local}
 use Rattle.als_ckpt.specs.Regions.{Said, IsPublished}
 use Rattle.als_ckpt.specs.Control.{Controlled, IsControlState, said_of}
@@ -88,13 +89,14 @@ pub record AreUnread (pages most : ℕ) (old : ℕ → Slot) (blocks failures at
 
 -- The log is valid and ends at the mark; it fits the device with the tail that a takeover would append; and the checkpoint is that of a
 -- front of it. The validator and the counts are those of the log, and what waits for each page are its changes from where a restart looks.
--- No lease number is used.
+-- The validator judges while the log follows its source. No lease number is used.
 pub record IsReopened (pages blocks : ℕ) (said : Said) (log : List Record) (validator : Validator) (count : CommitCount) (pool : Pooled) : Type 0 where
   pub valid : IsValidLog pages log
   pub ends : end_of log ≡ said.state.mark.0
   pub fits : end_of log + reserve_of log ≤ 512 * blocks
   pub front : IfSome said.checkpoint (IsOfFront log)
   pub judged : IsValidatorOf pages validator log
+  pub judging : judges validator ≡ follows said.state.phase
   pub counted : IsCountOf count log
   pub pages_are : length pool.waits ≡ pages
   pub queues : QueuesOf log pool

@@ -1,11 +1,17 @@
 -- What a control state says of the log: past Following it is the one that was sealed, and what of its tail stands behind it.
-use Rattle.std.specs.Prelude.{◌≡◌, ℕ, List, ◌++◌}
+use Rattle.std.specs.Prelude.{◌≡◌, ℕ, Bool, true, false, List, ◌++◌}
 use Rattle.als_record.specs.declared.record.Record.{Record}
 use Rattle.als_record.specs.LogText.{end_of}
 use Rattle.als_record.specs.Tail.{tail_of}
 use Rattle.als_ckpt.specs.declared.phase.Phase.{Phase}
 use Rattle.als_ckpt.specs.declared.phase.Phase.TheVariants.{Following, Sealed, Primary}
 use Rattle.als_ckpt.specs.declared.control_state.ControlState.{ControlState}
+
+-- whether the log follows its source: it was not sealed
+abbrev pub follows : Phase → Bool
+follows Following = true
+follows Sealed = false
+follows Primary = false
 
 -- the log is the one that was sealed at an offset and a front of its tail; the rest of the tail is still to come
 pub record IsSealed (log : List Record) (seal : ℕ) : Type 0 where

@@ -1,9 +1,9 @@
 // The commits of a log's records, on their way to the readers.
-ghost use Rattle.std.specs.Prelude.{◌≡◌, ℕ, List, [], ◌∷◌, ◌++◌, IfErr, OnOk};
+ghost use Rattle.std.specs.Prelude.{◌≡◌, ℕ, true, List, [], ◌∷◌, ◌++◌, IfErr, OnOk};
 ghost use Rattle.als_record.specs.declared.record.Record.{Record as AnyRecord};
 ghost use Rattle.als_record.specs.Commits.{commits_of};
 ghost use Rattle.als_record.specs.Validity.{IsValidLog};
-ghost use Rattle.als_validator.specs.Validated.{IsValidatorOf};
+ghost use Rattle.als_validator.specs.Validated.{IsValidatorOf, judges};
 
 use crate::fault::Fault;
 use als_commits::Waiting;
@@ -20,6 +20,7 @@ pub(crate) fn take_commit(
     validator: &Validator,
     logged: &Record,
 ) -> Result<(), Fault>
+    requires { judges validator.now ≡ true }
     ensures waits { OnOk result ((pages : ℕ) (front : List AnyRecord)
         → IsValidatorOf pages validator.now (front ++ logged.now ∷ [])
         → IsValidLog pages (front ++ logged.now ∷ [])

@@ -111,7 +111,7 @@ fn finish<D: BlockDisk>(
     if !has_room(&reading.scan, blocks) {
         return Err(reading.into_disks(Fault::LogFull));
     }
-    match reading.take_up() {
+    match reading.take_up(state.phase) {
         Ok(read) => Ok(read),
         Err(unread) => Err(unread),
     }

@@ -24,6 +24,8 @@ mod read_log;
 mod unread_log;
 // The log and the pages together.
 mod joining;
+// Whether records are judged on.
+mod judging;
 // Devices that are synced.
 mod syncing;
 // Devices that are read.

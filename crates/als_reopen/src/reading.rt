@@ -5,7 +5,8 @@ ghost use Rattle.als_record.specs.declared.record.Record.{Record as AnyRecord};
 ghost use Rattle.als_record.specs.LogText.{log_text, end_of};
 ghost use Rattle.als_record.specs.Commits.{commits_of};
 ghost use Rattle.als_record.specs.Validity.{IsValidLog};
-ghost use Rattle.als_validator.specs.Validated.{IsValidatorOf};
+ghost use Rattle.als_validator.specs.Validated.{IsValidatorOf, judges};
+ghost use Rattle.als_reopen.specs.Taken.{follows};
 ghost use Rattle.als_scan.specs.Scanned.{IsWhole, taken_up};
 ghost use Rattle.als_tables.specs.Fronts.{IsOfFront};
 ghost use Rattle.als_reopen.specs.Outcomes.{IsBare};
@@ -17,9 +18,11 @@ ghost use Rattle.als_reopen.specs.Refusing.{IsChecked, IsUnmet, RefusesScan};
 use crate::committing::take_commit;
 use crate::comparing::is_checkpoint_of;
 use crate::fault::Fault;
+use crate::judging::kept_for;
 use crate::read_log::ReadLog;
 use crate::taking_in::take_change;
 use crate::unread_log::UnreadLog;
+use als_ckpt::Phase;
 use als_ckpt_codec::Checkpoint;
 use als_commits::Waiting;
 use als_disk::BlockDisk;
@@ -247,12 +250,13 @@ impl<D: BlockDisk> Reading<D> {
         }
     }
 
-    /// Takes up a log that was read whole.
-    pub(crate) fn take_up(self) -> Result<ReadLog<D>, UnreadLog<D>>
+    /// Takes up a log that was read whole, with what this phase needs of its validator.
+    pub(crate) fn take_up(self, phase: Phase) -> Result<ReadLog<D>, UnreadLog<D>>
         requires { IsWhole self.scan }
         ensures log { IfOk result (λ x. x.log ≡ taken_up self.scan x.log.room) }
         ensures judged { IfOk result (λ x. IsValidatorOf self.scan.pages x.validator
             self.scan.log) }
+        ensures judging { IfOk result (λ x. judges x.validator ≡ follows phase) }
         ensures pool { IfOk result (λ x. (x.pool ≡ self.pool) × (x.count ≡ self.count)
             × (x.waiting ≡ self.waiting)) }
         ensures fault { IfErr result (λ u. IsBare u.fault
@@ -275,7 +279,7 @@ impl<D: BlockDisk> Reading<D> {
             Ok((log, validator)) => Ok(ReadLog {
                 log,
                 pool,
-                validator,
+                validator: kept_for(validator, phase),
                 count,
                 waiting,
             }),

@@ -1,6 +1,6 @@
 -- A judge, record by record.
 use Rattle.std.proofs.Common.{◌≡◌, ◌≢◌, ℕ, ◌+◌, List, [], ◌∷◌, ◌++◌, drop, Option, Some, None, Result, Ok, Err, refl, sym, ap, subst, ◌∙◌}
-use Rattle.std.specs.Prelude.{MatchOption}
+use Rattle.std.specs.Prelude.{MatchOption, true}
 use Rattle.als_record.specs.declared.fault.Fault.{Fault as ShapeFault}
 use Rattle.als_record.specs.declared.fault.Fault.TheVariants as shape
 use Rattle.als_record.specs.declared.record.Record.{Record}
@@ -13,7 +13,7 @@ use Rattle.als_record.proofs.Validity.{first_bad-none, may_follow-admitted}
 use Rattle.als_record.proofs.TailFirst.{IsValidLog-push}
 use Rattle.als_receiver.specs.declared.refusal.Refusal.{Refusal}
 use Rattle.als_receiver.specs.Reception.{Reception, fresh, behind, CanHandOut, IsRefusal}
-use Rattle.als_validator.specs.Validated.{IsValidatorOf}
+use Rattle.als_validator.specs.Validated.{IsValidatorOf, judges}
 use Rattle.als_validator.specs.declared.validator.Validator.{Validator}
 use Rattle.als_scan.specs.declared.fault.Fault.{Fault}
 use Rattle.als_scan.specs.declared.fault.Fault.TheVariants.{Shape, Invalid, BadControl, Device, Memory}
@@ -30,12 +30,13 @@ pub end-nil : end_of [] ≡ 16
 unfolding end_of
 end-nil = refl
 
-pub judge_new : (pages : ℕ) (r : Reception) (v : Validator) (log : List Record) → r ≡ fresh 16 pages → log ≡ [] → IsValidatorOf pages v [] → IsJudge r v log
-judge_new pages r v log is none known =
+pub judge_new : (pages : ℕ) (r : Reception) (v : Validator) (log : List Record) → r ≡ fresh 16 pages → log ≡ [] → IsValidatorOf pages v [] → judges v ≡ true → IsJudge r v log
+judge_new pages r v log is none known judging =
     let count : pages ≡ r.pages = sym (ap (λ (x : Reception). x.pages) is) in
     record {
       valid = subst (IsValidLog r.pages) (sym none) (valid-nil r.pages);
       known = subst (IsValidatorOf r.pages v) (sym none) (subst (λ n. IsValidatorOf n v []) count known);
+      judging = judging;
       wanted = ap (λ (x : Reception). x.wanted) is ∙ sym end-nil ∙ ap end_of (sym none);
       unrefused = ap (λ (x : Reception). x.refusal) is;
     }
@@ -62,13 +63,14 @@ module _ (r : Reception) (v : Validator) (log : List Record) (is : IsJudge r v l
   valid_there s len can good = IsValidLog-push r.pages log s is.valid (may_follow-admitted log s (first_bad-none log s (can.out.place ∙ is.wanted) good)) can.out.fits
 
   pub took_judge : (new : Reception) (w : Validator) (longer : List Record) (found s : Record) (len : ℕ) → CanHandOut r s len → found ≡ s → new ≡ behind r len → longer ≡ log ++ found ∷ []
-      → first_bad log s ≡ None → IsValidatorOf r.pages w (log ++ s ∷ []) → IsJudge new w longer
-  took_judge new w longer found s len can copy e h good known =
+      → first_bad log s ≡ None → IsValidatorOf r.pages w (log ++ s ∷ []) → judges w ≡ true → IsJudge new w longer
+  took_judge new w longer found s len can copy e h good known judging =
       let same : log ++ s ∷ [] ≡ longer = ap (λ (x : Record). log ++ x ∷ []) (sym copy) ∙ sym h in
       let count : r.pages ≡ new.pages = sym (ap (λ (x : Reception). x.pages) e) in
       record {
         valid = subst (IsValidLog new.pages) same (subst (λ n. IsValidLog n (log ++ s ∷ [])) count (valid_there s len can good));
         known = subst (IsValidatorOf new.pages w) same (subst (λ n. IsValidatorOf n w (log ++ s ∷ [])) count known);
+        judging = judging;
         wanted = ap (λ (x : Reception). x.wanted) e ∙ ap (λ n. n + len) is.wanted ∙ ap (λ n. end_of log + n) can.size ∙ sym (end_of_push log s) ∙ ap end_of same;
         unrefused = ap (λ (x : Reception). x.refusal) e;
       }

@@ -1,5 +1,5 @@
 -- The valid log in front of bytes that come in pieces, and the bytes behind it that are not judged yet.
-use Rattle.std.specs.Prelude.{◌≡◌, ℕ, ◌<◌, ◌+◌, List, [], ◌∷◌, ◌++◌, length, take, Contains, Option, Some, None, Result, Ok, Err, ◌≢◌}
+use Rattle.std.specs.Prelude.{◌≡◌, ℕ, ◌<◌, ◌+◌, true, List, [], ◌∷◌, ◌++◌, length, take, Contains, Option, Some, None, Result, Ok, Err, ◌≢◌}
 use Rattle.als_record.specs.declared.fault.Fault.{Fault as ShapeFault}
 use Rattle.als_record.specs.declared.fault.Fault.TheVariants as shape
 use Rattle.als_record.specs.declared.cause.Cause.{Cause}
@@ -12,7 +12,7 @@ use Rattle.als_record.specs.Validity.{IsValidLog, first_bad}
 use Rattle.als_disk.specs.Slot.{Slot}
 use Rattle.als_receiver.specs.Reception.{Reception}
 use Rattle.als_validator.specs.declared.validator.Validator.{Validator}
-use Rattle.als_validator.specs.Validated.{IsValidatorOf}
+use Rattle.als_validator.specs.Validated.{IsValidatorOf, judges}
 use Rattle.als_scan.specs.declared.fault.Fault.{Fault}
 use Rattle.als_scan.specs.declared.fault.Fault.TheVariants.{Shape, Invalid, BadControl, Device, Memory}
 
@@ -38,6 +38,7 @@ reading_of j = read_record j.pages (end_of j.log) j.kept
 pub record IsJudge (received : Reception) (v : Validator) (log : List Record) : Type 0 where
   pub valid : IsValidLog received.pages log
   pub known : IsValidatorOf received.pages v log
+  pub judging : judges v ≡ true
   pub wanted : received.wanted ≡ end_of log
   pub unrefused : received.refusal ≡ None
 

@@ -1,11 +1,11 @@
-ghost use Rattle.std.specs.Prelude.{◌≡◌, ◌≢◌, ℕ, ◌<◌, ◌+◌, ◌^◌, false, List, [], ◌∷◌, ◌++◌, length};
+ghost use Rattle.std.specs.Prelude.{◌≡◌, ◌≢◌, ℕ, ◌<◌, ◌+◌, ◌^◌, true, false, List, [], ◌∷◌, ◌++◌, length};
 ghost use Rattle.std.specs.Prelude.{None, Ok, OnOk, OnErr, IfOk, IfErr};
 ghost use Rattle.als_record.specs.declared.record.Record.{Record as AnyRecord};
 ghost use Rattle.als_record.specs.Spelling.{IsRecord};
 ghost use Rattle.als_record.specs.LogText.{end_of};
 ghost use Rattle.als_record.specs.Shown.{shown};
 ghost use Rattle.als_record.specs.Validity.{IsValidLog, first_bad};
-ghost use Rattle.als_validator.specs.Validated.{IsValidatorOf};
+ghost use Rattle.als_validator.specs.Validated.{IsValidatorOf, judges};
 ghost use Rattle.als_log.specs.History.{records_in};
 ghost use Rattle.als_scan.specs.declared.fault.Fault.TheVariants.{Memory as OutOfMemory};
 ghost use Rattle.als_scan.specs.Judged.{Judged, begun, position_of, reading_of, TakesNext, Refuses};
@@ -60,6 +60,7 @@ impl Drop for Judge {
 // Inlined with all below `Scan::next`, so that a record is not moved from answer to answer.
 #[inline(always)]
 fn admit(validator: &mut Validator, seen: &RecordView<'_>, alloc: Global) -> Result<Record, Fault>
+    requires { judges validator.old ≡ true }
     ensures copy { IfOk result (λ r. r ≡ shown seen.now) }
     ensures good { OnOk result ((pages : ℕ) (log : List AnyRecord)
         → IsValidatorOf pages validator.old log
@@ -76,6 +77,7 @@ fn admit(validator: &mut Validator, seen: &RecordView<'_>, alloc: Global) -> Res
     ensures same { OnErr result ((pages : ℕ) (log : List AnyRecord)
         → IsValidatorOf pages validator.old log
         → IsValidatorOf pages validator.new log) }
+    ensures judging { judges validator.new ≡ judges validator.old }
 {
     validator.check(seen)?;
     validator.reserve()?;
@@ -165,6 +167,7 @@ impl Judge {
     #[inline]
     pub(crate) fn validator(&self) -> &Validator
         ensures known { IsValidatorOf self.now.pages result.now self.now.log }
+        ensures judging { judges result.now ≡ true }
     {
         &self.validator
     }
@@ -172,6 +175,7 @@ impl Judge {
     /// The validator and the records judged.
     pub(crate) fn into_parts(self) -> (Validator, History)
         ensures known { IsValidatorOf self.pages result.0 self.log }
+        ensures judging { judges result.0 ≡ true }
         ensures history { records_in result.1 ≡ self.log }
         ensures valid { IsValidLog self.pages self.log }
     {

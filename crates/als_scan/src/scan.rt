@@ -1,10 +1,10 @@
-ghost use Rattle.std.specs.Prelude.{◌≡◌, ℕ, ◌<◌, ◌≤◌, ◌*◌, List, [], IfOk, IfErr};
+ghost use Rattle.std.specs.Prelude.{◌≡◌, ℕ, ◌<◌, ◌≤◌, ◌*◌, true, List, [], IfOk, IfErr};
 ghost use Rattle.als_record.specs.declared.record.Record.{Record as AnyRecord};
 ghost use Rattle.als_record.specs.LogText.{log_text, end_of};
 ghost use Rattle.als_record.specs.Validity.{IsValidLog};
 ghost use Rattle.als_analysis.specs.Noted.{IsTableOf};
 ghost use Rattle.als_disk.specs.Slot.{IsSettled, SameBlocks};
-ghost use Rattle.als_validator.specs.Validated.{IsValidatorOf};
+ghost use Rattle.als_validator.specs.Validated.{IsValidatorOf, judges};
 ghost use Rattle.als_scan.specs.Scanned.{IsScanned, IsWhole, HandsNext, RefusesNext, GivesNextOf};
 ghost use Rattle.als_scan.specs.Scanned.{RefusesHeader, RefusesLog, scanned, taken_up};
 ghost use Rattle.als_scan.specs.Texts.{text_of, slot_in};
@@ -126,9 +126,10 @@ impl<D: BlockDisk> Scan<D> {
         self.judge.end()
     }
 
-    /// What a validator keeps of the records handed out.
+    /// What a validator keeps of the records handed out. It judges.
     pub fn validator(&self) -> &Validator
         ensures known { IsValidatorOf self.now.pages result.now self.now.log }
+        ensures judging { judges result.now ≡ true }
     {
         self.judge.validator()
     }
@@ -149,6 +150,7 @@ impl<D: BlockDisk> Scan<D> {
         requires { IsWhole self }
         ensures log { IfOk result (λ parts. parts.0 ≡ taken_up self parts.0.room) }
         ensures known { IfOk result (λ parts. IsValidatorOf self.pages parts.1 self.log) }
+        ensures judging { IfOk result (λ parts. judges parts.1 ≡ true) }
         ensures err { IfErr result (λ u. RefusesLog u.fault self.failures (D.failures u.disk)) }
         ensures same { IfErr result (λ u. (k : ℕ) → k < self.blocks
             → D.slot u.disk k ≡ slot_in self.slots k) }

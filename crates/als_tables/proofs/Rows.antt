@@ -14,26 +14,27 @@ use Rattle.als_record.specs.Transactions.{unended}
 use Rattle.als_record.specs.Validity.{is_valid}
 use Rattle.als_record.proofs.Places.{Rising-unended}
 use Rattle.als_record.proofs.Takeover.{length-unended}
-use Rattle.als_analysis.specs.Open.{Open, rows_of}
+use Rattle.als_analysis.specs.declared.open_row.OpenRow.{OpenRow}
+use Rattle.als_analysis.specs.Open.{rows_of}
 use Rattle.als_ckpt_codec.specs.Checkpoint.{are_transactions}
 use Rattle.als_tables.specs.Copies.{state_number, logged_row, logged_rows}
 
 -- these are the first rows
-pub record AreFirst (rows : List Open) (count : ℕ) (copies : List LoggedTransaction) : Type 0 where
+pub record AreFirst (rows : List OpenRow) (count : ℕ) (copies : List LoggedTransaction) : Type 0 where
   pub copies_are : copies ≡ logged_rows (rows_of (take count rows))
   pub count_is : length copies ≡ count
   pub fit : AllByRecursion IsLoggedTransaction copies
 
-take_more : (rows : List Open) (count : ℕ) (o d : Open) → count < length rows → get_or rows count d ≡ o → logged_rows (rows_of (take (suc count) rows)) ≡ logged_rows (rows_of (take count rows)) ++ logged_row o.row ∷ []
+take_more : (rows : List OpenRow) (count : ℕ) (o d : OpenRow) → count < length rows → get_or rows count d ≡ o → logged_rows (rows_of (take (suc count) rows)) ≡ logged_rows (rows_of (take count rows)) ++ logged_row o.row ∷ []
 take_more [] count o d lt is = absurd (omega arith)
-take_more (x ∷ rows) zero o d lt is = ap (λ (y : Open). logged_row y.row ∷ []) is
+take_more (x ∷ rows) zero o d lt is = ap (λ (y : OpenRow). logged_row y.row ∷ []) is
 take_more (x ∷ rows) (suc count) o d lt is = let below : count < length rows = omega arith in ap (λ (ts : List LoggedTransaction). logged_row x.row ∷ ts) (take_more rows count o d below is)
 
 all_push : (ts : List LoggedTransaction) (t : LoggedTransaction) → AllByRecursion IsLoggedTransaction ts → IsLoggedTransaction t → AllByRecursion IsLoggedTransaction (ts ++ t ∷ [])
 all_push [] t h p = (p, tt)
 all_push (x ∷ ts) t h p = (h.0, all_push ts t h.1 p)
 
-pub first_more : (rows : List Open) (count : ℕ) (o d : Open) (t : LoggedTransaction) (copies more : List LoggedTransaction) → count < length rows → get_or rows count d ≡ o → t ≡ logged_row o.row → IsLoggedTransaction t
+pub first_more : (rows : List OpenRow) (count : ℕ) (o d : OpenRow) (t : LoggedTransaction) (copies more : List LoggedTransaction) → count < length rows → get_or rows count d ≡ o → t ≡ logged_row o.row → IsLoggedTransaction t
     → more ≡ copies ++ t ∷ [] → AreFirst rows count copies → AreFirst rows (count + 1) more
 first_more rows count o d t copies more lt is same fits more-is h = let one : suc count ≡ count + 1 = omega arith in record {
   copies_are = more-is ∙ ap (λ (ts : List LoggedTransaction). ts ++ t ∷ []) h.copies_are ∙ ap (λ (u : LoggedTransaction). logged_rows (rows_of (take count rows)) ++ u ∷ []) same ∙ sym (take_more rows count o d lt is) ∙ ap (λ (k : ℕ). logged_rows (rows_of (take k rows))) one;

@@ -8,7 +8,7 @@ ghost use Rattle.als_analysis.specs.Open.{rows_of};
 ghost use Rattle.als_ckpt_codec.specs.Checkpoint.{are_transactions};
 ghost use Rattle.als_tables.specs.Copies.{state_number, logged_row, logged_rows};
 
-use als_analysis::OpenTransaction;
+use als_analysis::OpenRow;
 use als_record::{LoggedTransaction, TransactionRow, TransactionRows, TransactionState};
 use std::alloc::{AllocError, Global};
 
@@ -37,7 +37,7 @@ fn logged(row: TransactionRow) -> LoggedTransaction
 }
 
 /// The rows of at most 256 transactions, as a checkpoint has them. An `Err`: an allocation failed.
-pub fn logged_rows(alloc: Global, rows: &[OpenTransaction]) -> Result<TransactionRows, AllocError>
+pub fn logged_rows(alloc: Global, rows: &[OpenRow]) -> Result<TransactionRows, AllocError>
     requires few { length rows.now ≤ 256 }
     ensures value { IfOk result (λ copies. copies ≡ logged_rows (rows_of rows.now)) }
     ensures fits { IfOk result (AllByRecursion IsLoggedTransaction) }

@@ -1,2 +1,4 @@
+mod Turns
+pub mod Looks
 pub mod Next
-pub mod OnePass
+pub mod Walks

@@ -1,7 +1,18 @@
 use crate::made::{Said, record, undo, update};
-use als_analysis::{Fault, TransTable};
+use als_analysis::TransTable;
 use als_record::{Lsn, Record, TransId, TransactionRow, TransactionState};
+use std::alloc::Global;
 use std::process::Abort;
+
+// The table of the empty log, made again where allocation fails once.
+fn empty(rt: &impl Abort, alloc: Global) -> TransTable {
+    for _ in 0..2 {
+        if let Ok(table) = TransTable::new(alloc) {
+            return table;
+        }
+    }
+    panic!(rt; "memory is refused twice")
+}
 
 fn row(trans: u32, state: TransactionState, last: u64, undo_next: u64) -> TransactionRow {
     TransactionRow {
@@ -17,20 +28,10 @@ fn note(rt: &impl Abort, table: &mut TransTable, lsn: u64, prev: u64, trans: u32
     note_record(rt, table, &record(lsn, prev, trans, said));
 }
 
-// Notes a record. A refused growth changes nothing, and is met once at most: the record is noted at
-// the next try. What a takeover would append then was told before.
+// Notes a record, which takes no memory. What a takeover would append then was told before.
 fn note_record(rt: &impl Abort, table: &mut TransTable, logged: &Record) {
-    let open = table.rows().len();
-    let reserve = table.reserve_bytes();
     let after = table.reserve_after(&logged.view());
-    if let Err(fault) = table.note(&logged.view()) {
-        assert!(rt; fault == Fault::Memory);
-        assert!(rt; fault.number() == 32);
-        assert!(rt; fault.name() == "Memory");
-        assert!(rt; table.rows().len() == open);
-        assert!(rt; table.reserve_bytes() == reserve);
-        assert!(rt; table.note(&logged.view()).is_ok());
-    }
+    assert!(rt; table.note(&logged.view()).is_ok());
     assert!(rt; table.reserve_bytes() == after);
 }
 
@@ -46,22 +47,22 @@ fn expect_row(rt: &impl Abort, table: &TransTable, place: usize, row: Transactio
         Some(open) => {
             assert!(rt; open.row() == row);
             assert!(rt; table.undo_next_of(row.trans) == Some(row.undo_next));
-            assert!(rt; table.survivors_of(row.trans).len() == open.survivors().len());
+            assert!(rt; table.place(row.trans) == Some(place));
         }
     }
 }
 
-fn expect_survivors(rt: &impl Abort, table: &TransTable, trans: u32, lsns: &[u64]) {
-    let left = table.survivors_of(TransId(trans));
-    assert!(rt; left.len() == lsns.len(), "of {trans}");
-    for (update, lsn) in left.iter().zip(lsns) {
-        assert!(rt; update.lsn().0 == *lsn, "of {trans}");
+// So many updates of a transaction survive; `None`: it has no row.
+fn expect_left(rt: &impl Abort, table: &TransTable, trans: u32, left: Option<u64>) {
+    match table.open_of(TransId(trans)) {
+        None => assert!(rt; left.is_none(), "of {trans}"),
+        Some(open) => assert!(rt; left == Some(open.left()), "of {trans}"),
     }
 }
 
 #[test]
 fn a_committed_and_an_active_transaction(rt: HostRuntime) {
-    let mut table = TransTable::new(rt.alloc());
+    let mut table = empty(&rt, rt.alloc());
     note(&rt, &mut table, 16, 0, 1, update(0, None, 1));
     assert!(rt; table.reserve_bytes() == 70);
     assert!(rt; reserve_after(&table, 52, 16, 1, Said::Commit) == 28);
@@ -72,32 +73,32 @@ fn a_committed_and_an_active_transaction(rt: HostRuntime) {
     assert!(rt; table.rows().len() == 2);
     expect_row(&rt, &table, 0, row(1, TransactionState::Committed, 52, 16));
     expect_row(&rt, &table, 1, row(2, TransactionState::Active, 116, 116));
-    expect_survivors(&rt, &table, 1, &[16]);
-    expect_survivors(&rt, &table, 2, &[80, 116]);
+    expect_left(&rt, &table, 1, Some(1));
+    expect_left(&rt, &table, 2, Some(2));
     assert!(rt; table.reserve_bytes() == 294 - 153);
     note(&rt, &mut table, 153, 52, 1, Said::End);
     assert!(rt; table.rows().len() == 1);
     assert!(rt; table.undo_next_of(TransId(1)) == None);
-    expect_survivors(&rt, &table, 1, &[]);
+    expect_left(&rt, &table, 1, None);
     assert!(rt; table.reserve_bytes() == 294 - 181);
 }
 
 #[test]
 fn a_transaction_rolled_back_to_its_start(rt: HostRuntime) {
-    let mut table = TransTable::new(rt.alloc());
+    let mut table = empty(&rt, rt.alloc());
     note(&rt, &mut table, 16, 0, 1, update(0, None, 1));
     note(&rt, &mut table, 52, 16, 1, undo(0, None, 0));
     note(&rt, &mut table, 94, 0, 2, update(0, None, 1));
     note(&rt, &mut table, 130, 94, 2, Said::Commit);
     expect_row(&rt, &table, 0, row(1, TransactionState::Active, 52, 0));
     expect_row(&rt, &table, 1, row(2, TransactionState::Committed, 130, 94));
-    expect_survivors(&rt, &table, 1, &[]);
+    expect_left(&rt, &table, 1, Some(0));
     assert!(rt; table.reserve_bytes() == 214 - 158);
 }
 
 #[test]
 fn a_compensation_takes_its_own_bytes(rt: HostRuntime) {
-    let mut table = TransTable::new(rt.alloc());
+    let mut table = empty(&rt, rt.alloc());
     note(&rt, &mut table, 16, 0, 1, update(0, None, 1));
     note(&rt, &mut table, 52, 16, 1, Said::Commit);
     note(&rt, &mut table, 80, 52, 1, Said::End);
@@ -108,18 +109,18 @@ fn a_compensation_takes_its_own_bytes(rt: HostRuntime) {
     assert!(rt; table.reserve_bytes() == 28 + 43);
     note(&rt, &mut table, 223, 181, 2, undo(0, Some(1), 0));
     assert!(rt; table.reserve_bytes() == 28);
-    expect_survivors(&rt, &table, 2, &[]);
+    expect_left(&rt, &table, 2, Some(0));
 }
 
 #[test]
 fn a_partial_rollback(rt: HostRuntime) {
-    let mut table = TransTable::new(rt.alloc());
+    let mut table = empty(&rt, rt.alloc());
     note(&rt, &mut table, 16, 0, 1, update(0, None, 1));
     note(&rt, &mut table, 52, 16, 1, update(1, None, 1));
     note(&rt, &mut table, 88, 52, 1, undo(1, None, 16));
     note(&rt, &mut table, 130, 88, 1, update(2, None, 1));
     expect_row(&rt, &table, 0, row(1, TransactionState::Active, 130, 130));
-    expect_survivors(&rt, &table, 1, &[16, 130]);
+    expect_left(&rt, &table, 1, Some(2));
     assert!(rt; table.reserve_bytes() == 278 - 166);
     note(&rt, &mut table, 166, 130, 1, Said::Rollback);
     expect_row(
@@ -133,15 +134,13 @@ fn a_partial_rollback(rt: HostRuntime) {
 }
 
 #[test]
-fn room_once_made_is_enough(rt: HostRuntime) {
-    let mut table = TransTable::new(rt.alloc());
+fn many_updates_take_no_memory(rt: HostRuntime) {
+    let mut table = empty(&rt, rt.alloc());
     for k in 0..40u32 {
-        if table.reserve().is_err() {
-            assert!(rt; table.reserve().is_ok());
-        }
         let logged = record(16, 0, 1 + k % 4, update(0, None, 1));
         assert!(rt; table.note(&logged.view()).is_ok());
     }
     assert!(rt; table.rows().len() == 4);
+    expect_left(&rt, &table, 4, Some(10));
     assert!(rt; table.reserve_bytes() == 4 * 28 + 40 * 42);
 }

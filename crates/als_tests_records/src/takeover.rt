@@ -3,8 +3,8 @@ use als_analysis::TransTable;
 use als_disk::MemDisk;
 use als_log::{LocalLog, NewLog};
 use als_record::{Body, Key, Lsn, Record, TransId, decode, encode};
-use als_takeover::next_undo;
-use std::alloc::Global;
+use als_takeover::{next_undo, survivors};
+use std::alloc::{AllocError, Global};
 use std::process::Abort;
 
 // A log on a device, and its transaction table.
@@ -24,12 +24,22 @@ fn new_log(rt: &impl Abort, alloc: Global) -> NewLog {
     panic!(rt; "memory is refused twice")
 }
 
+// The table of the empty log, made again where allocation fails once.
+fn new_table(rt: &impl Abort, alloc: Global) -> TransTable {
+    for _ in 0..2 {
+        if let Ok(table) = TransTable::new(alloc) {
+            return table;
+        }
+    }
+    panic!(rt; "memory is refused twice")
+}
+
 // An empty log on a device of eight blocks. A device in memory fails where an allocation fails,
 // once at most.
 fn empty(rt: &impl Abort, alloc: Global) -> Held {
     for _ in 0..2 {
         if let Ok(log) = LocalLog::lay_out(MemDisk::new(alloc, 8), new_log(rt, alloc)) {
-            let table = TransTable::new(alloc);
+            let table = new_table(rt, alloc);
             return Held { table, log };
         }
     }
@@ -57,9 +67,7 @@ fn put(rt: &impl Abort, alloc: Global, held: &mut Held, made: &Record) {
             if held.log.append(&logged, 0).is_err() {
                 assert!(rt; held.log.append(&logged, 0).is_ok());
             }
-            if held.table.note(&logged.view()).is_err() {
-                assert!(rt; held.table.note(&logged.view()).is_ok());
-            }
+            assert!(rt; held.table.note(&logged.view()).is_ok());
         }
         _ => panic!(rt; "not a record"),
     }
@@ -119,6 +127,27 @@ fn gives_back(rt: &impl Abort, held: &mut Held, slot: u8, value: Option<u8>) {
         },
         _ => panic!(rt; "no record"),
     }
+}
+
+// The LSNs of a transaction's surviving updates, read again where allocation fails once.
+fn surviving(rt: &impl Abort, alloc: Global, held: &mut Held, trans: u32) -> Vec<u64> {
+    for _ in 0..2 {
+        if let Ok(updates) = survivors(alloc, &held.table, &mut held.log, TransId(trans)) {
+            return lsns(rt, alloc, updates.as_slice());
+        }
+    }
+    panic!(rt; "memory is refused twice")
+}
+
+// The LSNs of records.
+fn lsns(rt: &impl Abort, alloc: Global, records: &[Record]) -> Vec<u64> {
+    for _ in 0..2 {
+        let listed: Result<Vec<u64>, AllocError> = records.iter().map(|r| r.lsn.0).collect(alloc);
+        if let Ok(listed) = listed {
+            return listed;
+        }
+    }
+    panic!(rt; "memory is refused twice")
 }
 
 #[test]
@@ -195,4 +224,55 @@ fn what_a_compensation_has_undone_is_passed_over(rt: HostRuntime) {
     next(&rt, a, &mut held, 208, 1, 166, Some(0));
     next(&rt, a, &mut held, 250, 1, 208, None);
     is_over(&rt, &mut held, 278);
+}
+
+#[test]
+fn survivors_are_read_along_the_chain(rt: HostRuntime) {
+    let a = rt.alloc();
+    let mut held = empty(&rt, a);
+    log(&rt, a, &mut held, 0, 1, update(0, None, 0x11));
+    log(&rt, a, &mut held, 16, 1, update(1, None, 0x22));
+    log(&rt, a, &mut held, 52, 1, undo(1, None, 16));
+    log(&rt, a, &mut held, 88, 1, update(2, None, 0x33));
+    log(&rt, a, &mut held, 130, 1, Said::Commit);
+    assert!(rt; surviving(&rt, a, &mut held, 1).as_slice() == [16, 130].as_slice());
+    assert!(rt; surviving(&rt, a, &mut held, 2).is_empty());
+}
+
+// Ten times an update and its compensation: undo passes over all of them.
+#[test]
+fn many_compensations_are_passed_over(rt: HostRuntime) {
+    let a = rt.alloc();
+    let mut held = empty(&rt, a);
+    log(&rt, a, &mut held, 0, 1, update(0, None, 0x11));
+    let mut last = 16;
+    for _ in 0..10 {
+        let made = held.log.end().0;
+        log(&rt, a, &mut held, last, 1, update(1, None, 0x22));
+        let undone = held.log.end().0;
+        log(&rt, a, &mut held, made, 1, undo(1, None, last));
+        last = undone;
+    }
+    next(&rt, a, &mut held, 832, 1, 790, Some(0));
+    next(&rt, a, &mut held, 874, 1, 832, None);
+    is_over(&rt, &mut held, 902);
+}
+
+// Behind its newest update the first goes on at a compensation, which leads below the update of the
+// second: all are compared again.
+#[test]
+fn all_chains_are_compared_again_behind_a_compensation(rt: HostRuntime) {
+    let a = rt.alloc();
+    let mut held = empty(&rt, a);
+    log(&rt, a, &mut held, 0, 1, update(0, None, 0x11));
+    log(&rt, a, &mut held, 16, 1, update(2, None, 0x22));
+    log(&rt, a, &mut held, 0, 2, update(1, None, 0x33));
+    log(&rt, a, &mut held, 52, 1, undo(2, None, 16));
+    log(&rt, a, &mut held, 124, 1, update(3, None, 0x44));
+    next(&rt, a, &mut held, 202, 1, 166, Some(124));
+    next(&rt, a, &mut held, 244, 2, 88, Some(0));
+    next(&rt, a, &mut held, 286, 2, 244, None);
+    next(&rt, a, &mut held, 314, 1, 202, Some(0));
+    next(&rt, a, &mut held, 356, 1, 314, None);
+    is_over(&rt, &mut held, 384);
 }

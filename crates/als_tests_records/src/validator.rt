@@ -1,4 +1,5 @@
-ghost use Rattle.als_validator.specs.Validated.{HasRoom};
+ghost use Rattle.std.specs.Prelude.{◌≡◌, true};
+ghost use Rattle.als_validator.specs.Validated.{HasRoom, judges};
 
 use crate::made::{Said, record, undo, update};
 use als_commits::Commit;
@@ -22,7 +23,9 @@ fn end_of_checkpoint(alloc: Global, lsn: u64, prev: u64, trans: u32) -> Record {
 }
 
 // A validator of no record. A refused growth is met once at most: it is made at the next try.
-fn fresh(rt: &impl Abort, alloc: Global) -> Validator {
+fn fresh(rt: &impl Abort, alloc: Global) -> Validator
+    ensures { judges result ≡ true }
+{
     match Validator::new(alloc, 4) {
         Ok(validator) => validator,
         Err(fault) => {
@@ -39,7 +42,8 @@ fn fresh(rt: &impl Abort, alloc: Global) -> Validator {
 
 // Makes room for one more record. A refused growth changes nothing, and is met once at most.
 fn make_room(rt: &impl Abort, validator: &mut Validator)
-    ensures { HasRoom validator.new }
+    ensures room { HasRoom validator.new }
+    ensures judging { judges validator.new ≡ judges validator.old }
 {
     let rows = validator.rows().len();
     match validator.reserve() {
@@ -56,12 +60,18 @@ fn make_room(rt: &impl Abort, validator: &mut Validator)
 }
 
 // Takes a record that says this and may follow.
-fn admit(rt: &impl Abort, one: &mut Validator, lsn: u64, prev: u64, trans: u32, said: Said) {
+fn admit(rt: &impl Abort, one: &mut Validator, lsn: u64, prev: u64, trans: u32, said: Said)
+    requires { judges one.old ≡ true }
+    ensures { judges one.new ≡ true }
+{
     admit_record(rt, one, &record(lsn, prev, trans, said));
 }
 
 // Takes a record that may follow. What a takeover would append then was told before.
-fn admit_record(rt: &impl Abort, validator: &mut Validator, logged: &Record) {
+fn admit_record(rt: &impl Abort, validator: &mut Validator, logged: &Record)
+    requires { judges validator.old ≡ true }
+    ensures { judges validator.new ≡ true }
+{
     assert!(rt; validator.check(&logged.view()) == Ok(()));
     make_room(rt, validator);
     assert!(rt; validator.check(&logged.view()) == Ok(()));
@@ -74,14 +84,18 @@ fn admit_record(rt: &impl Abort, validator: &mut Validator, logged: &Record) {
 type Refused = (u64, u64, u32, Said, Cause);
 
 // Refuses each record.
-fn refuse(rt: &impl Abort, one: &mut Validator, records: &[Refused]) {
+fn refuse(rt: &impl Abort, one: &Validator, records: &[Refused])
+    requires { judges one.now ≡ true }
+{
     for (lsn, prev, trans, said, cause) in records {
         refuse_record(rt, one, &record(*lsn, *prev, *trans, *said), *cause);
     }
 }
 
 // Refuses a record, and again.
-fn refuse_record(rt: &impl Abort, validator: &mut Validator, logged: &Record, cause: Cause) {
+fn refuse_record(rt: &impl Abort, validator: &Validator, logged: &Record, cause: Cause)
+    requires { judges validator.now ≡ true }
+{
     assert!(rt; validator.check(&logged.view()) == Err(Fault::Invalid(cause)));
     assert!(rt; validator.check(&logged.view()) == Err(Fault::Invalid(cause)));
 }
@@ -92,7 +106,7 @@ fn records_that_may_not_follow(rt: HostRuntime) {
     admit(&rt, &mut one, 16, 0, 1, update(0, None, 0xaa));
     refuse(
         &rt,
-        &mut one,
+        &one,
         &[
             (52, 0, 1, Said::Commit, Cause::BadPrev),
             (52, 16, 1, Said::End, Cause::WrongState),
@@ -110,7 +124,7 @@ fn records_that_may_not_follow(rt: HostRuntime) {
     admit(&rt, &mut one, 52, 16, 1, Said::Commit);
     refuse(
         &rt,
-        &mut one,
+        &one,
         &[
             (80, 0, 2, update(0, Some(0xab), 0xcc), Cause::BeforeImage),
             (80, 0, 0, update(0, Some(0xaa), 0xcc), Cause::OldTransaction),
@@ -125,7 +139,7 @@ fn transactions_rise(rt: HostRuntime) {
     admit(&rt, &mut one, 16, 0, 2, update(0, None, 0xaa));
     refuse(
         &rt,
-        &mut one,
+        &one,
         &[(52, 0, 1, update(1, None, 0xbb), Cause::OldTransaction)],
     );
     assert!(rt; Fault::Invalid(Cause::OldTransaction).number() == 9);
@@ -140,7 +154,7 @@ fn a_transaction_too_many(rt: HostRuntime) {
     }
     refuse(
         &rt,
-        &mut one,
+        &one,
         &[(7184, 0, 257, Said::Rollback, Cause::TooManyTransactions)],
     );
     assert!(rt; one.rows().len() == 256);
@@ -152,7 +166,7 @@ fn checkpoints_come_in_pairs(rt: HostRuntime) {
     let mut one = fresh(&rt, rt.alloc());
     refuse_record(
         &rt,
-        &mut one,
+        &one,
         &end_of_checkpoint(rt.alloc(), 16, 0, 0),
         Cause::BadCheckpoint,
     );
@@ -160,7 +174,7 @@ fn checkpoints_come_in_pairs(rt: HostRuntime) {
     admit_record(&rt, &mut one, &end_of_checkpoint(rt.alloc(), 44, 16, 0));
     refuse_record(
         &rt,
-        &mut one,
+        &one,
         &end_of_checkpoint(rt.alloc(), 76, 16, 0),
         Cause::BadCheckpoint,
     );
@@ -168,7 +182,7 @@ fn checkpoints_come_in_pairs(rt: HostRuntime) {
     admit(&rt, &mut one, 104, 76, 1, Said::End);
     refuse(
         &rt,
-        &mut one,
+        &one,
         &[
             (132, 0, 1, Said::BeginCheckpoint, Cause::WrongState),
             (132, 0, 2, Said::BeginCheckpoint, Cause::BadCheckpoint),
@@ -184,7 +198,7 @@ fn a_partial_rollback_goes_on(rt: HostRuntime) {
     admit(&rt, &mut one, 89, 52, 1, undo(0, Some(0x11), 16));
     refuse(
         &rt,
-        &mut one,
+        &one,
         &[(
             132,
             0,
@@ -198,7 +212,7 @@ fn a_partial_rollback_goes_on(rt: HostRuntime) {
     admit(&rt, &mut one, 210, 0, 2, update(0, None, 0x33));
     refuse(
         &rt,
-        &mut one,
+        &one,
         &[(
             246,
             174,
@@ -207,7 +221,7 @@ fn a_partial_rollback_goes_on(rt: HostRuntime) {
             Cause::RecordHeld { by: TransId(2) },
         )],
     );
-    assert!(rt; one.table().survivors_of(TransId(1)).len() == 1);
+    assert!(rt; one.survivors_of(TransId(1)).len() == 1);
     let commit = record(246, 174, 1, Said::Commit);
     assert!(rt; one.check(&commit.view()) == Ok(()));
     assert!(rt; one.reserve_after(&commit.view()) == 28 + 28 + 42);
@@ -238,7 +252,9 @@ fn makes_a_commit(
     alloc: Global,
     validator: &mut Validator,
     commit: &Record,
-) -> Option<()> {
+) -> Option<()>
+    requires { judges validator.old ≡ true }
+{
     has_two_writes(rt, &validator.commit_of(alloc, &commit.view()).ok()??);
     admit_record(rt, validator, commit);
     has_two_writes(rt, &validator.commit_made(alloc, commit).ok()??);
@@ -249,4 +265,34 @@ fn makes_a_commit(
 fn a_commit_has_what_survives(rt: HostRuntime) {
     let alloc = rt.alloc();
     assert!(rt; commits(&rt, alloc).is_some() || commits(&rt, alloc).is_some());
+}
+
+// Takes a record of the tail of a log that was sealed.
+fn admit_sealed(rt: &impl Abort, one: &mut Validator, lsn: u64, prev: u64, trans: u32, said: Said) {
+    make_room(rt, one);
+    one.admit(&record(lsn, prev, trans, said).view());
+}
+
+// A sealed log takes its tail, with no record judged any more: the table goes on, and what a
+// checkpoint names.
+#[test]
+fn a_sealed_log_is_judged_no_more(rt: HostRuntime) {
+    let mut one = fresh(&rt, rt.alloc());
+    admit(&rt, &mut one, 16, 0, 1, update(0, None, 0x11));
+    admit(&rt, &mut one, 52, 0, 0, Said::BeginCheckpoint);
+    assert!(rt; one.is_judging());
+    one.seal();
+    assert!(rt; !one.is_judging());
+    assert!(rt; one.reserve_bytes() == 42 + 28);
+    assert!(rt; one.reserve().is_ok());
+    assert!(rt; one.look_ahead(&[0; 64]) == 0);
+    admit_sealed(&rt, &mut one, 80, 16, 1, undo(0, None, 0));
+    assert!(rt; one.rows().iter().all(|open| open.row().undo_next.0 == 0));
+    assert!(rt; one.rows().len() == 1);
+    assert!(rt; one.reserve_bytes() == 28);
+    admit_sealed(&rt, &mut one, 122, 80, 1, Said::End);
+    assert!(rt; one.rows().is_empty());
+    assert!(rt; (one.greatest().0, one.open_checkpoint().0) == (1, 52));
+    one.seal();
+    assert!(rt; !one.is_judging());
 }

@@ -1,6 +1,8 @@
-pub mod CommitLaws
 pub mod Bounds
-pub mod KeySteps
-pub mod StateSteps
+pub mod CommitLaws
 pub mod HolderSteps
+pub mod Judged
+pub mod KeySteps
+pub mod ListSteps
+pub mod StateSteps
 pub mod Views

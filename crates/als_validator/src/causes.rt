@@ -27,7 +27,7 @@ use als_record::{
 };
 
 /// Whether a record belongs to a transaction: all but those of checkpoints.
-fn is_transaction_record(body: &BodyView<'_>) -> bool
+pub(crate) fn is_transaction_record(body: &BodyView<'_>) -> bool
     ensures { result ≡ is_transactional (shown_body body.now) }
 {
     !matches!(
@@ -37,7 +37,7 @@ fn is_transaction_record(body: &BodyView<'_>) -> bool
 }
 
 /// Whether a record ends its transaction.
-fn is_end_record(body: &BodyView<'_>) -> bool
+pub(crate) fn is_end_record(body: &BodyView<'_>) -> bool
     ensures { result ≡ is_end (shown_body body.now) }
 {
     matches!(body, BodyView::End)

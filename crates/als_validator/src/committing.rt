@@ -1,5 +1,5 @@
-ghost use Rattle.std.specs.Prelude.{◌≡◌, ℕ, List, [], ◌∷◌, ◌++◌, None, option_to_list, false, IsOk};
-ghost use Rattle.std.specs.Prelude.{IfOk, IfErr};
+ghost use Rattle.std.specs.Prelude.{◌≡◌, ℕ, List, [], ◌∷◌, ◌++◌, None, option_to_list, true, false};
+ghost use Rattle.std.specs.Prelude.{IsOk, IfOk, IfErr};
 ghost use Rattle.als_record.specs.declared.record.Record.{Record};
 ghost use Rattle.als_record.specs.Spelling.{IsRecord};
 ghost use Rattle.als_record.specs.Shown.{shown, shown_body};
@@ -8,7 +8,7 @@ ghost use Rattle.als_record.specs.Transactions.{is_commit};
 ghost use Rattle.als_record.specs.Commits.{commits_of};
 ghost use Rattle.als_record.specs.Validity.{first_bad, IsValidLog};
 ghost use Rattle.als_validator.specs.declared.fault.Fault.TheVariants.{Memory};
-ghost use Rattle.als_validator.specs.Validated.{IsValidatorOf};
+ghost use Rattle.als_validator.specs.Validated.{IsValidatorOf, judges};
 
 use crate::fault::Fault;
 use crate::validator::Validator;
@@ -35,6 +35,7 @@ impl Validator {
     /// record is admitted. `None`: it is no commit record, or may not follow the log. Memory: a
     /// growth was refused, for what a commit writes alone.
     pub fn commit_of(&self, alloc: Global, logged: &RecordView<'_>) -> Result<Option<Commit>, Fault>
+        requires { judges self.now ≡ true }
         // Of a record that may follow: the commits of the log with it are those of the log and this
         // one, if there is one.
         ensures ok { IfOk result (λ found. (pages : ℕ) (log : List Record)
@@ -55,7 +56,7 @@ impl Validator {
         if self.check(logged).is_err() {
             return Ok(None);
         }
-        let survivors = self.table().survivors_of(logged.trans);
+        let survivors = self.survivors_of(logged.trans);
         match Commit::of(alloc, logged.trans, logged.lsn, survivors) {
             Ok(commit) => Ok(Some(commit)),
             Err(_) => Err(Fault::Memory),
@@ -66,6 +67,7 @@ impl Validator {
     /// asked after the record was admitted. `None`: it is no commit record. Memory: a growth was
     /// refused, for what a commit writes alone.
     pub fn commit_made(&self, alloc: Global, last: &AnyRecord) -> Result<Option<Commit>, Fault>
+        requires { judges self.now ≡ true }
         ensures ok { IfOk result (λ found. (pages : ℕ) (log : List Record)
             → IsValidatorOf pages self.now (log ++ last.now ∷ [])
             → IsValidLog pages (log ++ last.now ∷ [])
@@ -76,7 +78,7 @@ impl Validator {
         if !is_commit_body(&last.body) {
             return Ok(None);
         }
-        let survivors = self.table().survivors_of(last.trans);
+        let survivors = self.survivors_of(last.trans);
         match Commit::of(alloc, last.trans, last.lsn, survivors) {
             Ok(commit) => Ok(Some(commit)),
             Err(_) => Err(Fault::Memory),

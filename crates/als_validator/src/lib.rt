@@ -10,12 +10,18 @@ mod causes;
 mod committing;
 // Why a record is not admitted.
 mod fault;
+// What only judging needs.
+mod judging;
 // What is kept of a key.
 mod key_state;
 // What is kept of all keys.
 mod keys;
 // What the causes ask of a transaction.
 mod past;
+// The surviving updates of each transaction.
+mod survivors;
+// Those of one transaction.
+mod updates;
 // What is kept of a log, and asked of a record.
 mod validator;
 

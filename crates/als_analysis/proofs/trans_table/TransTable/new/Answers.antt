@@ -6,4 +6,4 @@ use Rattle.als_analysis.proofs.trans_table.TransTable.new.Goals as goal
 
 pub returns : goal.returns
 unfolding table_of unended transactions
-returns c = record { rows = ap rows_of c.new.ensures.items; left = ap left_of c.new.ensures.items; bytes = ap bytes_of c.new.ensures.items }
+returns c = record { rows = ap rows_of c.in_ok-with_capacity.ensures.items; left = ap left_of c.in_ok-with_capacity.ensures.items; bytes = ap bytes_of c.in_ok-with_capacity.ensures.items }

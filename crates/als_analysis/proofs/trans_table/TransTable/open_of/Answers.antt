@@ -1,6 +1,7 @@
-use Rattle.std.proofs.Common.{◌≡◌, ◌<◌, [], length, get_or, sym, ap, ◌∙◌, arith}
+use Rattle.std.proofs.Common.{◌≡◌, ◌<◌, length, get_or, sym, ap, ◌∙◌, arith}
 use Rattle.std.proofs.lemmas.List.{get_or-map, length-map}
-use Rattle.als_analysis.specs.Open.{Open, rows_of}
+use Rattle.als_analysis.specs.declared.open_row.OpenRow.{OpenRow}
+use Rattle.als_analysis.specs.Open.{rows_of}
 use Rattle.als_analysis.specs.Noted.{Table}
 use Rattle.als_analysis.proofs.LogSteps.{Found, row-found, row-absent}
 use Rattle.als_analysis.proofs.trans_table.TransTable.open_of.Goals as goal
@@ -17,8 +18,8 @@ returns-in-Some c log h =
     let f : Found log c.args.self.now i c.args.trans.0 = row-found log c.args.self.now i c.args.trans.0 h w c.in-Some.ensures.here in
     record {
       unended = f.is_open;
-      row = ap (λ (o : Open). o.row) c.index.ensures ∙ sym (get_or-map (λ (o : Open). o.row) xs i e e.row lt) ∙ ap (λ (t : Table). get_or t.rows i e.row) c.self.view_is ∙ f.row e.row;
-      left = ap (λ (o : Open). o.left) c.index.ensures ∙ sym (get_or-map (λ (o : Open). o.left) xs i e [] lt) ∙ ap (λ (t : Table). get_or t.left i []) c.self.view_is ∙ f.left;
+      row = ap (λ (o : OpenRow). o.row) c.index.ensures ∙ sym (get_or-map (λ (o : OpenRow). o.row) xs i e e.row lt) ∙ ap (λ (t : Table). get_or t.rows i e.row) c.self.view_is ∙ f.row e.row;
+      left = ap (λ (o : OpenRow). o.left) c.index.ensures ∙ sym (get_or-map (λ (o : OpenRow). o.left) xs i e 0 lt) ∙ ap (λ (t : Table). get_or t.left i 0) c.self.view_is ∙ f.left;
     }
 
 pub returns-in-None : goal.returns-in-None

@@ -26,10 +26,10 @@ returns c log h m =
     let e = c.index-entry.result.now in
     let r = shown c.args.logged.now in
     let was : c.owed.result ≡ owed (get_or xs c.args.at e) % 2 ^ 64 = c.owed.ensures ∙ ap (λ o. owed o % 2 ^ 64) c.index-entry.ensures in
-    let next : c.owed_after.result ≡ owed_after (get_or xs c.args.at e).row.state (get_or xs c.args.at e).bytes r.body % 2 ^ 64 = c.owed_after.ensures ∙ ap (λ o. owed_after o.row.state o.bytes r.body % 2 ^ 64) c.index-entry.ensures in
-    let o : Owes (log ++ r ∷ []) (sum_by owed xs) (owed (get_or xs c.args.at e)) (owed_after (get_or xs c.args.at e).row.state (get_or xs c.args.at e).bytes r.body) =
+    let next : c.owed_after.result ≡ owed_after (get_or xs c.args.at e).row.state (get_or xs c.args.at e).undo_bytes r.body % 2 ^ 64 = c.owed_after.ensures ∙ ap (λ o. owed_after o.row.state o.undo_bytes r.body % 2 ^ 64) c.index-entry.ensures in
+    let o : Owes (log ++ r ∷ []) (sum_by owed xs) (owed (get_or xs c.args.at e)) (owed_after (get_or xs c.args.at e).row.state (get_or xs c.args.at e).undo_bytes r.body) =
     after-more log r c.args.self.now xs h (ap (λ (t : Table). t.rows) c.self.view_is) (ap (λ (t : Table). t.bytes) c.self.view_is) c.requires.kind m c.args.at (fresh_row 0) e c.requires.within (c.requires.here (fresh_row 0)) (sym c.if-is_end_record.ensures) in
     let less : owed (get_or xs c.args.at e) ≤ sum_by owed xs = get_or-le-sum_by owed xs c.args.at e (place xs c.args.self.now c.args.at (ap (λ (t : Table). t.rows) c.self.view_is) c.requires.within) in
     rw (was, next)
-    (replaced (sum_by owed xs - owed (get_or xs c.args.at e)) (sum_by owed xs) o.new (owed (get_or xs c.args.at e)) (owed_after (get_or xs c.args.at e).row.state (get_or xs c.args.at e).bytes r.body)
+    (replaced (sum_by owed xs - owed (get_or xs c.args.at e)) (sum_by owed xs) o.new (owed (get_or xs c.args.at e)) (owed_after (get_or xs c.args.at e).row.state (get_or xs c.args.at e).undo_bytes r.body)
     c.self.inside.reserve (omega arith) (omega (arith, o.is)) c.self.invariant.counted ∙ o.reserve)

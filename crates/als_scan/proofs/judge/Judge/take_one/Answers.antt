@@ -1,3 +1,4 @@
+use Rattle.std.proofs.Common.{◌∙◌}
 use Rattle.std.proofs.lemmas.Result.{err_from_is_err_and}
 use Rattle.als_log.specs.History.{records_in}
 use Rattle.als_record.specs.Shown.{shown}
@@ -7,7 +8,7 @@ use Rattle.als_scan.proofs.judge.Judge.take_one.Goals as goal
 pub invariant_of-self : goal.invariant_of-self
 invariant_of-self c =
     let i = c.self.invariant in
-    record { valid = i.valid; known = c.in_err-found-in-Ok-Some.ensures.same c.self.inside.receiver.pages (records_in c.self.inside.history) i.known; wanted = i.wanted; unrefused = i.unrefused }
+    record { valid = i.valid; known = c.in_err-found-in-Ok-Some.ensures.same c.self.inside.receiver.pages (records_in c.self.inside.history) i.known; judging = c.admit.ensures.judging ∙ i.judging; wanted = i.wanted; unrefused = i.unrefused }
 
 pub returns-in_err-found-in-Ok-Some-clause-err : goal.returns-in_err-found-in-Ok-Some-clause-err
 returns-in_err-found-in-Ok-Some-clause-err c =
@@ -29,6 +30,7 @@ invariant_of-self-in-Ok-Some c =
     let good = ok.good r.pages log i.known i.valid can.out.fits in
     took_judge r c.self.inside.validator log i c.advance.new.self c.admit.new.validator (records_in c.push.new.self) c.in_ok-found-in-Ok-Some.found (shown c.in-Ok-Some.seen) c.in-Ok-Some.len can ok.copy c.advance.ensures c.push.ensures good
     (ok.ok r.pages log i.known (valid_there r c.self.inside.validator log i (shown c.in-Ok-Some.seen) c.in-Ok-Some.len can good))
+    (c.admit.ensures.judging ∙ i.judging)
 
 pub returns-in_ok-found-in-Ok-Some-clause-ok : goal.returns-in_ok-found-in-Ok-Some-clause-ok
 returns-in_ok-found-in-Ok-Some-clause-ok c =

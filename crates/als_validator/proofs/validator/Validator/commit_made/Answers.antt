@@ -9,5 +9,5 @@ returns-then-not-is_commit_body-clause-ok c pages log v l =
 
 pub returns-in-Ok-clause-ok : goal.returns-in-Ok-clause-ok
 returns-in-Ok-clause-ok c pages log v l =
-    made-own log c.args.last.now l.valid (sym c.if-not-is_commit_body.ensures) c.survivors_of-survivors.result.now (c.survivors_of-survivors.ensures (log ++ c.args.last.now ∷ []) (c.table.ensures.table pages (log ++ c.args.last.now ∷ []) v))
+    made-own log c.args.last.now l.valid (sym c.if-not-is_commit_body.ensures) c.survivors_of-survivors.result.now (c.survivors_of-survivors.ensures pages (log ++ c.args.last.now ∷ []) v)
     ∙ ap (λ x. commits_of log ++ x ∷ []) (sym c.in-Ok.ensures.ok)

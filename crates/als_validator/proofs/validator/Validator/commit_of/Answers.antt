@@ -10,5 +10,5 @@ returns-then-not-is_commit_record-clause-ok c pages log v l fits at good =
 
 pub returns-in-Ok-clause-ok : goal.returns-in-Ok-clause-ok
 returns-in-Ok-clause-ok c pages log v l fits at good =
-    commits_of-own log (shown c.args.logged.now) l.valid at good (sym c.if-not-is_commit_record.ensures) c.survivors_of-survivors.result.now (c.survivors_of-survivors.ensures log (c.table.ensures.table pages log v))
+    commits_of-own log (shown c.args.logged.now) l.valid at good (sym c.if-not-is_commit_record.ensures) c.survivors_of-survivors.result.now (c.survivors_of-survivors.ensures pages log v)
     ∙ ap (λ x. commits_of log ++ x ∷ []) (sym c.in-Ok.ensures.ok)
