@@ -10,3 +10,4 @@ pub mod StepLaws
 pub mod CheckpointLaws
 pub mod RestartLaws
 pub mod ReaderLaws
+pub mod UndoLaws

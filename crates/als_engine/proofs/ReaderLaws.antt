@@ -365,7 +365,8 @@ serving_not_undone old new receiver refused view store_fault.PoolFull s n = absu
 serving_not_undone old new receiver refused view store_fault.PageLent s n = absurd n
 serving_not_undone old new receiver refused view store_fault.NumbersSpent s n = absurd n
 serving_not_undone old new receiver refused view store_fault.LogFull s n = absurd n
-serving_not_undone old new receiver refused view store_fault.Device s n = absurd n
+serving_not_undone old new receiver refused view store_fault.Device s n =
+    serving_still old new receiver refused view s _ n.after refl refl refl refl refl
 serving_not_undone old new receiver refused view (store_fault.BadPage p) s n = absurd n
 
 pub serving_not_shown : (old new : Stored) (receiver : Reception) (refused : Option Fault)

@@ -198,7 +198,7 @@ undo_wants old new store_fault.PoolFull n e = absurd n
 undo_wants old new store_fault.PageLent n e = absurd n
 undo_wants old new store_fault.NumbersSpent n e = absurd n
 undo_wants old new store_fault.LogFull n e = absurd n
-undo_wants old new store_fault.Device n e = absurd n
+undo_wants old new store_fault.Device n e = absurd cc
 undo_wants old new (store_fault.BadPage page) n e = absurd n
 
 -- a failed device keeps its name

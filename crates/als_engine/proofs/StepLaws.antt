@@ -1,6 +1,6 @@
 -- What each event keeps.
 use Rattle.std.proofs.Common.{◌≡◌, ℕ, ◌+◌, ◌≤◌, true, false, List, [], Option, Some, None, Result}
-use Rattle.std.proofs.Common.{Ok, Err, refl, sym, ap, subst, ◌∙◌, arith, append-nil}
+use Rattle.std.proofs.Common.{Ok, Err, inl, inr, refl, sym, ap, subst, ◌∙◌, arith, append-nil}
 use Rattle.std.specs.Prelude.{MatchOption, IsSomeAnd}
 use Rattle.als_ckpt.specs.declared.control_state.ControlState.{ControlState}
 use Rattle.als_record.specs.declared.lsn.Lsn.{Lsn}
@@ -327,8 +327,14 @@ keeps_not_acknowledged old new fault does =
 pub keeps_not_undone : (old new : Machine) (fault : Fault) → UndoesOneOf old (Err fault) new
     → Keeps old new
 keeps_not_undone old new fault does =
-    keeps_does old new step.UndoOne (Undoes old) (Err fault) does
-    (λ same. keeps_equal old new same.1)
+    keeps_does old new step.UndoOne (Undoes old) (Err fault) does go
+  where
+    go : Undoes old (Err fault) new → Keeps old new
+    go (inl same) = keeps_equal old new same.1
+    go (inr c) = keeps_changes old new _ c.1
+        (λ held e. set_stays old.held held (as_made old.held held _ e.after refl (λ w. w) (λ r. r))
+        (ap (λ (h : Stored). h.log) e.after) (ap (λ (h : Stored). h.control) e.after)
+        (λ b. ap (λ (h : Stored). h.broken) e.after ∙ b))
 
 pub keeps_finish : (old new : Machine) (result : Result (Unit {0}) Fault) → Finishes old result new
     → Keeps old new
@@ -485,5 +491,6 @@ attempts_not_undone old new fault does = go (refusal old step.UndoOne) does
         → MatchOption r (Undoes old (Err fault) new)
         (λ cause. (◌≡◌ {A = Result Lsn Fault} (Err fault) (Err cause)) × (new ≡ old))
         → new.held.attempts ≤ old.held.attempts + 1
-    go None h = omega (arith, ap (λ (m : Machine). m.held.attempts) h.1)
+    go None (inl h) = omega (arith, ap (λ (m : Machine). m.held.attempts) h.1)
+    go None (inr c) = omega (arith, ap (λ (m : Machine). m.held.attempts) c.1.after, ap (λ (h : Stored). h.attempts) c.1.becomes.after)
     go (Some cause) h = omega (arith, ap (λ (m : Machine). m.held.attempts) h.1)

@@ -1,9 +1,10 @@
 -- What the events of a takeover make of the small machine.
-use Rattle.std.specs.Prelude.{◌≡◌, [], None, Result, Ok, Err}
+use Rattle.std.specs.Prelude.{◌≡◌, ◌⊎◌, [], None, Result, Ok, Err}
 use Rattle.als_record.specs.declared.lsn.Lsn.{Lsn}
 use Rattle.als_store.specs.Stored.{Stored}
 use Rattle.als_store.specs.Takeover.{WritesState, BreaksState, sealed_state, finished_state}
 use Rattle.als_store.specs.Takeover.{UndoesOne}
+use Rattle.als_store.specs.Events.{FailsToRead}
 use Rattle.als_engine.specs.declared.fault.Fault.{Fault}
 use Rattle.als_engine.specs.declared.fault.Fault.TheVariants.{Memory}
 use Rattle.als_engine.specs.declared.step.Step.TheVariants as step
@@ -23,7 +24,8 @@ SealsLog old (Ok done) new = SealsHeld old new
 SealsLog old (Err fault) new =
     FailsIn old fault (λ held after. BreaksState (sealed_state held) held after) new
 
--- the next record of the sealed log's tail is held; there is no partial record
+-- The next record of the sealed log's tail is held; there is no partial record. Or memory was
+-- wanted, or the log device failed in a read, which is counted.
 pub record UndoesNext (old : Machine) (lsn : Lsn) (new : Machine) : Type 0 where
   pub held : Stored
   pub undoes : UndoesOne old.held lsn held
@@ -31,7 +33,7 @@ pub record UndoesNext (old : Machine) (lsn : Lsn) (new : Machine) : Type 0 where
 
 abbrev pub Undoes : Machine → Result Lsn Fault → Machine → Type 0
 Undoes old (Ok lsn) new = UndoesNext old lsn new
-Undoes old (Err fault) new = (fault ≡ Memory) × (new ≡ old)
+Undoes old (Err fault) new = ((fault ≡ Memory) × (new ≡ old)) ⊎ FailsIn old fault FailsToRead new
 
 -- the control block is written with phase Primary
 abbrev pub FinishesTakeover : Machine → Result (Unit {0}) Fault → Machine → Type 0

@@ -8,7 +8,7 @@ use crate::fault::Fault;
 use crate::fed::{Fed, FeedFault};
 use crate::not_given::NotGiven;
 use crate::status::Status;
-use als_analysis::OpenTransaction;
+use als_analysis::OpenRow;
 use als_disk::BlockDisk;
 use als_lease::PageLease;
 use als_page::Page;
@@ -18,7 +18,7 @@ use std::alloc::Global;
 use std::sync::Wait;
 
 /// The rows of a table, copied.
-fn rows(alloc: Global, table: &[OpenTransaction]) -> Result<Vec<TransactionRow>, Fault>
+fn rows(alloc: Global, table: &[OpenRow]) -> Result<Vec<TransactionRow>, Fault>
     ensures rows { IfOk result (λ rows. rows.items ≡ rows_of table.now) }
     ensures fails { IfErr result (λ f. f ≡ fault.Memory) }
 {

@@ -347,8 +347,11 @@ undo_one : (old new : Machine) (answer : Reply) → Steps old step.UndoOne answe
     → HoldsBy old answer new
 undo_one old new (reply.Undone lsn) s = held_next old new lsn (refusal old step.UndoOne) s
 undo_one old new (reply.Refused fault) s =
-    none old new (does old new step.UndoOne (Undoes old) (Err fault) s
-    (λ c. unchanged old new c.1))
+    none old new (does old new step.UndoOne (Undoes old) (Err fault) s go)
+  where
+    go : Undoes old (Err fault) new → IsSameLog old new
+    go (inl c) = unchanged old new c.1
+    go (inr c) = changes old new _ c.1 (λ held e. after old.held held _ e.after refl)
 undo_one old new (reply.Fed fed) s = absurd s
 undo_one old new (reply.FeedRefused refusal) s = absurd s
 undo_one old new reply.Done s = absurd s

@@ -16,7 +16,8 @@ use Rattle.als_record.specs.declared.transaction_row.TransactionRow.{Transaction
 use Rattle.als_record.specs.LogText.{end_of}
 use Rattle.als_record.specs.Spelling.{IsLoggedTransaction, IsLoggedPage}
 use Rattle.als_record.specs.Table.{table_of}
-use Rattle.als_analysis.specs.Open.{Open, rows_of as transaction_rows}
+use Rattle.als_analysis.specs.declared.open_row.OpenRow.{OpenRow}
+use Rattle.als_analysis.specs.Open.{rows_of as transaction_rows}
 use Rattle.als_ckpt_codec.specs.declared.numbers.Numbers.{Numbers}
 use Rattle.als_ckpt_codec.specs.Checkpoint.{AreNumbers, are_transactions, are_pages}
 use Rattle.als_ckpt.specs.Control.{IsBeginning}
@@ -78,7 +79,7 @@ pub end_low : (log : List Record) → 16 ≤ end_of log
 unfolding end_of
 end_low log = omega arith
 
-pub length_rows : (os : List Open) → length (transaction_rows os) ≡ length os
+pub length_rows : (os : List OpenRow) → length (transaction_rows os) ≡ length os
 length_rows [] = refl
 length_rows (o ∷ os) = ap (λ (n : ℕ). suc n) (length_rows os)
 
@@ -96,7 +97,7 @@ module _ (pages : ℕ) (held : CommitCount) (l : Local) (c : Controlled) (pool :
       subst (λ (x : Controlled). IsStored pages l held x pool validator broken origin recovering)
       (sym e)
       (with_control pages held l c pool validator broken origin recovering h (with_begun c chk)
-      broken (omega arith) (record {
+      broken validator h.judged h.judging (omega arith) (record {
         pages = h.marks.pages;
         bytes = h.marks.bytes;
         newest_synced =
@@ -116,7 +117,7 @@ module _ (pages : ℕ) (held : CommitCount) (l : Local) (c : Controlled) (pool :
   stored-next c' e = subst (λ (x : Controlled). IsStored pages l held x pool validator broken origin
       recovering) (sym e)
       (with_control pages held l c pool validator broken origin recovering h (with_next c) broken
-      (omega arith) (record {
+      validator h.judged h.judging (omega arith) (record {
         pages = h.marks.pages;
         bytes = h.marks.bytes;
         newest_synced =
@@ -137,7 +138,8 @@ module _ (pages : ℕ) (held : CommitCount) (l : Local) (c : Controlled) (pool :
       subst (λ (x : Controlled). IsStored pages l held x pool validator true origin recovering)
       (sym e)
       (with_control pages held l c pool validator broken origin recovering h
-      (record c { failures = c'.failures; attempts = c.attempts + 1 }) true (omega arith)
+      (record c { failures = c'.failures; attempts = c.attempts + 1 }) true validator h.judged
+      h.judging (omega arith)
       (record {
         pages = h.marks.pages;
         bytes = h.marks.bytes;
@@ -153,7 +155,7 @@ module _ (pages : ℕ) (held : CommitCount) (l : Local) (c : Controlled) (pool :
       → IsStored pages l held (with_whole c b) pool validator broken origin recovering
   stored-whole b is =
       with_control pages held l c pool validator broken origin recovering h (with_whole c b) broken
-      (omega arith) (record {
+      validator h.judged h.judging (omega arith) (record {
         pages = h.marks.pages;
         bytes = h.marks.bytes;
         newest_synced =
@@ -185,7 +187,7 @@ module _ (pages : ℕ) (held : CommitCount) (l : Local) (c : Controlled) (pool :
       → c' ≡ published c b → IsStored pages l held c' pool validator broken origin recovering
   stored-published c' b facts is e =
       stored-written pages held l (with_whole c b) pool validator broken origin recovering
-      (stored-whole b is) c' (publishing (newest c) b) facts
+      (stored-whole b is) c' (publishing (newest c) b) validator h.judged h.judging facts
       (h.marks.fronts (newest c) (last_state-among c.synced c.since)) h.marks.newest_synced
       (published_on b) (published_taken b facts) e
 
@@ -194,7 +196,7 @@ module _ (pages : ℕ) (held : CommitCount) (l : Local) (c : Controlled) (pool :
       → IsStored pages l held c' pool validator true origin recovering
   stored-publish_torn c' b facts is e =
       stored-torn pages held l (with_whole c b) pool validator broken origin recovering
-      (stored-whole b is) c' (publishing (newest c) b) facts
+      (stored-whole b is) c' (publishing (newest c) b) validator h.judged h.judging facts
       (h.marks.fronts (newest c) (last_state-among c.synced c.since)) h.marks.newest_synced
       (published_on b) (published_taken b facts) e
 

@@ -41,7 +41,7 @@ use Rattle.als_reopen.specs.Outcomes.{all_synced, said_now, IsControlRead, AreUn
 use Rattle.als_store.specs.Origin.{origin_of}
 use Rattle.als_store.specs.Stored.{Stored, FrontsFit}
 use Rattle.als_store.specs.Checkpoints.{IsCovering, AreCovering}
-use Rattle.als_store.specs.Takeover.{PhasesRise}
+use Rattle.als_store.specs.Takeover.{PhasesRise, follows}
 use Rattle.als_store.specs.Warm.{IsWarm}
 use Rattle.als_store.specs.Parts.{IsStored, stored_of}
 use Rattle.als_store.specs.Opening.{opened, IsOpened, TakesUp}
@@ -155,6 +155,8 @@ module _ (pages blocks most log_failures log_attempts control_blocks control_fai
     is_log = r.valid;
     fit = fits;
     judged = r.judged;
+    judging = r.judging ∙ sym
+        (ap (λ (since : List ControlState). follows (last_state c.synced since).phase) none_since);
     paged = record {
       count = r.pages_are;
       ends = ends;

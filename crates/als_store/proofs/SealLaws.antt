@@ -14,10 +14,15 @@ use Rattle.als_record.proofs.Validity.{first_bad-admitted}
 use Rattle.als_record.proofs.TailFirst.{tail_of-undone, is_undone-tail_of, tail_of-admitted, tail_of-IsRecord}
 use Rattle.als_record.proofs.Reserve.{room-next}
 use Rattle.als_record.proofs.Unended.{is_closed-table_of}
-use Rattle.als_takeover.specs.Next.{first_of}
-use Rattle.als_analysis.specs.Open.{Open, rows_of}
+use Rattle.als_takeover.specs.Next.{first_of, CannotRead}
+use Rattle.als_log.specs.declared.fault.Fault.{Fault as LogFault}
+use Rattle.als_log.specs.declared.fault.Fault.TheVariants as log_fault
+use Rattle.als_log.specs.Outcomes.{ReadFails}
+use Rattle.als_analysis.specs.declared.open_row.OpenRow.{OpenRow}
+use Rattle.als_analysis.specs.Open.{rows_of}
 use Rattle.als_record.proofs.PageLaws.{end_of-push}
 use Rattle.als_validator.specs.declared.validator.Validator.{Validator}
+use Rattle.als_validator.specs.Validated.{IsValidatorOf, judges}
 use Rattle.als_log.specs.Local.{Local, IsLocal, IsFrontEnd}
 use Rattle.als_ckpt.specs.declared.phase.Phase.{Phase}
 use Rattle.als_ckpt.specs.declared.phase.Phase.TheVariants.{Following, Sealed, Primary}
@@ -108,11 +113,11 @@ module _ (pages : ℕ) (held : CommitCount) (l : Local) (c : Controlled) (pool :
       (record { sealed = l.log; undone = []; rest = tail_of l.log; parts = sym (append-nil l.log); ends = sym is; tail = refl })
       (λ ready done. absurd cc)
 
-  pub stored-sealed : (c' : Controlled) (end : Lsn) → end.0 ≡ end_of l.log → end_of l.log ≤ l.synced → follows (newest c).phase ≡ true → c' ≡ with_state c (record (newest c) { phase = Sealed; mark = end; seal = end }) → IsStored pages l held c' pool validator broken origin recovering
-  stored-sealed c' end is low on e = stored-written pages held l c pool validator broken origin recovering h c' (record (newest c) { phase = Sealed; mark = end; seal = end }) local (end_front end is) (omega (arith, is, low)) (seal_on end on) (seal_taken end is on) e
+  pub stored-sealed : (c' : Controlled) (end : Lsn) (validator' : Validator) → IsValidatorOf pages validator' l.log → judges validator' ≡ false → end.0 ≡ end_of l.log → end_of l.log ≤ l.synced → follows (newest c).phase ≡ true → c' ≡ with_state c (record (newest c) { phase = Sealed; mark = end; seal = end }) → IsStored pages l held c' pool validator' broken origin recovering
+  stored-sealed c' end validator' judged judging is low on e = stored-written pages held l c pool validator broken origin recovering h c' (record (newest c) { phase = Sealed; mark = end; seal = end }) validator' judged judging local (end_front end is) (omega (arith, is, low)) (seal_on end on) (seal_taken end is on) e
 
-  pub stored-seal_torn : (c' : Controlled) (end : Lsn) → end.0 ≡ end_of l.log → end_of l.log ≤ l.synced → follows (newest c).phase ≡ true → c' ≡ record (with_state c (record (newest c) { phase = Sealed; mark = end; seal = end })) { sure = false; failures = c'.failures } → IsStored pages l held c' pool validator true origin recovering
-  stored-seal_torn c' end is low on e = stored-torn pages held l c pool validator broken origin recovering h c' (record (newest c) { phase = Sealed; mark = end; seal = end }) local (end_front end is) (omega (arith, is, low)) (seal_on end on) (seal_taken end is on) e
+  pub stored-seal_torn : (c' : Controlled) (end : Lsn) (validator' : Validator) → IsValidatorOf pages validator' l.log → judges validator' ≡ false → end.0 ≡ end_of l.log → end_of l.log ≤ l.synced → follows (newest c).phase ≡ true → c' ≡ record (with_state c (record (newest c) { phase = Sealed; mark = end; seal = end })) { sure = false; failures = c'.failures } → IsStored pages l held c' pool validator' true origin recovering
+  stored-seal_torn c' end validator' judged judging is low on e = stored-torn pages held l c pool validator broken origin recovering h c' (record (newest c) { phase = Sealed; mark = end; seal = end }) validator' judged judging local (end_front end is) (omega (arith, is, low)) (seal_on end on) (seal_taken end is on) e
 
   -- ---- the end of a takeover
 
@@ -141,10 +146,10 @@ module _ (pages : ℕ) (held : CommitCount) (l : Local) (c : Controlled) (pool :
         (λ ready done. parts_of.waits)
 
     pub stored-finished : (c' : Controlled) → c' ≡ with_state c (record (newest c) { phase = Primary }) → IsStored pages l held c' pool validator broken origin recovering
-    stored-finished c' e = stored-written pages held l c pool validator broken origin recovering h c' (record (newest c) { phase = Primary }) local (end_front (newest c).mark mark_is) h.marks.newest_synced finish_on finish_taken e
+    stored-finished c' e = stored-written pages held l c pool validator broken origin recovering h c' (record (newest c) { phase = Primary }) validator h.judged (h.judging ∙ past) local (end_front (newest c).mark mark_is) h.marks.newest_synced finish_on finish_taken e
 
     pub stored-finish_torn : (c' : Controlled) → c' ≡ record (with_state c (record (newest c) { phase = Primary })) { sure = false; failures = c'.failures } → IsStored pages l held c' pool validator true origin recovering
-    stored-finish_torn c' e = stored-torn pages held l c pool validator broken origin recovering h c' (record (newest c) { phase = Primary }) local (end_front (newest c).mark mark_is) h.marks.newest_synced finish_on finish_taken e
+    stored-finish_torn c' e = stored-torn pages held l c pool validator broken origin recovering h c' (record (newest c) { phase = Primary }) validator h.judged (h.judging ∙ past) local (end_front (newest c).mark mark_is) h.marks.newest_synced finish_on finish_taken e
 
   -- ---- the next record of the tail
 
@@ -191,13 +196,20 @@ some_left log r rest e = go (is_undone log) (λ u. let wrong : r ∷ rest ≡ []
     go true n = absurd (n refl)
     go false n = refl
 
-pub rows_undone : (log : List Record) (entries : List Open) → rows_of entries ≡ table_of log → (length entries == 0) ≡ is_undone log
+pub rows_undone : (log : List Record) (entries : List OpenRow) → rows_of entries ≡ table_of log → (length entries == 0) ≡ is_undone log
 unfolding is_closed
 rows_undone log entries e = closed entries ∙ ap is_closed e ∙ is_closed-table_of log
   where
-    closed : (os : List Open) → (length os == 0) ≡ is_closed (rows_of os)
+    closed : (os : List OpenRow) → (length os == 0) ≡ is_closed (rows_of os)
     closed [] = refl
     closed (o ∷ os) = ne_eqb (length (o ∷ os)) 0 (λ none. omega (arith, none))
+
+-- a record that could not be read: the device failed
+pub read_fails : (e : LogFault) (old new : Local) → CannotRead e old new → ReadFails old new
+read_fails log_fault.Device old new h = h
+read_fails log_fault.Memory old new h = absurd h
+read_fails log_fault.NothingToDo old new h = absurd h
+read_fails log_fault.LogFull old new h = absurd h
 
 -- ---- whether a takeover can end
 

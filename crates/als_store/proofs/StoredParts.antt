@@ -22,7 +22,7 @@ use Rattle.als_record.specs.Pages.{change_of}
 use Rattle.als_record.proofs.RecordLaws.{record_len-high}
 use Rattle.als_record.proofs.PageLaws.{end_of-push, follow_from-push, record_len-least}
 use Rattle.als_validator.specs.declared.validator.Validator.{Validator}
-use Rattle.als_validator.specs.Validated.{IsValidatorOf, HasRoom}
+use Rattle.als_validator.specs.Validated.{IsValidatorOf, HasRoom, judges}
 use Rattle.als_log.specs.Local.{Local, IsLocal, IsFrontEnd, whole_end, whole_from}
 use Rattle.als_ckpt.specs.declared.control_state.ControlState.{ControlState}
 use Rattle.als_ckpt.specs.Control.{Controlled, newest, last_state, with_state, settled, first_state}
@@ -41,7 +41,7 @@ use Rattle.als_record.proofs.Reserve.{reserve_of-nil}
 use Rattle.als_store.specs.Stored.{Stored, formatted, new_origin, routed, with_records, IsTooLong}
 use Rattle.als_store.specs.Stored.{FrontsFit}
 use Rattle.als_store.specs.Origin.{Origin, origin_of}
-use Rattle.als_store.specs.Takeover.{GoesOn, PhasesRise, AreTaken}
+use Rattle.als_store.specs.Takeover.{GoesOn, PhasesRise, AreTaken, follows}
 use Rattle.als_store.specs.Warm.{IsWarm}
 use Rattle.als_store.specs.Parts.{IsStored, IsHeldPool, AreMarks, stored_of, spare_of}
 use Rattle.als_store.specs.Spare.{HasSpare}
@@ -235,8 +235,7 @@ pub spare_made : (l : Local) (validator : Validator) (room : Room) (r : Record) 
     → IfSome (change_of r) (λ c. HasPlace room c.key.page) → HasSpare (spare_of l validator room) r
 spare_made l validator room r len is bytes judged places = record {
   bytes = omega (arith, is, bytes);
-  table = judged.table;
-  commits = omega (arith, judged.committed);
+  judge = judged;
   place = places;
 }
 
@@ -307,15 +306,42 @@ module _ (pages : ℕ) (held : CommitCount) (l : Local) (c : Controlled) (pool :
 
   -- another validator of the same log, and another room
   pub stored-again : (l' : Local) (validator' : Validator) → l' ≡ record l { room = l'.room }
-      → IsValidatorOf pages validator' l.log
+      → IsValidatorOf pages validator' l.log → judges validator' ≡ judges validator
       → IsStored pages l' held c pool validator' broken origin recovering
-  stored-again l' validator' e judged =
+  stored-again l' validator' e judged judging =
       subst (λ (x : Local). IsStored pages x held c pool validator' broken origin recovering)
       (sym e) (record {
         log_pages = h.log_pages;
         is_log = h.is_log;
         fit = h.fit;
         judged = judged;
+        judging = judging ∙ h.judging;
+        paged = h.paged;
+        held_is = h.held_is;
+        few_pages = h.few_pages;
+        marks = record {
+          pages = h.marks.pages;
+          bytes = h.marks.bytes;
+          newest_synced =
+              h.marks.newest_synced;
+          fronts = h.marks.fronts;
+        };
+        rise = h.rise;
+        warm = h.warm;
+        sure = h.sure;
+      })
+
+  -- a read of the log's device has failed
+  pub stored-unread : (l' : Local) → l' ≡ record l { failures = l'.failures }
+      → IsStored pages l' held c pool validator broken origin recovering
+  stored-unread l' e =
+      subst (λ (x : Local). IsStored pages x held c pool validator broken origin recovering) (sym e)
+      (record {
+        log_pages = h.log_pages;
+        is_log = h.is_log;
+        fit = h.fit;
+        judged = h.judged;
+        judging = h.judging;
         paged = h.paged;
         held_is = h.held_is;
         few_pages = h.few_pages;
@@ -342,6 +368,7 @@ module _ (pages : ℕ) (held : CommitCount) (l : Local) (c : Controlled) (pool :
     is_log = h.is_log;
     fit = h.fit;
     judged = h.judged;
+    judging = h.judging;
     paged = paged;
     held_is = h.held_is;
     few_pages = h.few_pages;
@@ -391,7 +418,7 @@ module _ (pages : ℕ) (held : CommitCount) (l : Local) (c : Controlled) (pool :
       → r.lsn.0 ≡ end_of l.log → first_bad l.log r ≡ None
       → end_of l.log + record_len r + reserve_of (l.log ++ r ∷ []) ≤ 512 * l.blocks
       → l' ≡ record l { log = l.log ++ r ∷ []; room = l'.room }
-      → IsValidatorOf pages validator' (l.log ++ r ∷ [])
+      → IsValidatorOf pages validator' (l.log ++ r ∷ []) → judges validator' ≡ judges validator
       → IfSome (change_of r) (CanRoute pool) → pool' ≡ routed pool (change_of r)
       → ((log : List Record) (below : ℕ) → IsPoolOf log below pool
       → IsLog pool.frames.pages (log ++ r ∷ []) → r.lsn.0 ≡ end_of log
@@ -400,8 +427,8 @@ module _ (pages : ℕ) (held : CommitCount) (l : Local) (c : Controlled) (pool :
       → (AreTaken l.log c.synced c.since recovering (total_waiting pool.waits)
       → AreTaken (l.log ++ r ∷ []) c.synced c.since recovering (total_waiting pool'.waits))
       → IsStored pages l' held' c pool' validator' broken origin recovering
-  stored-push l' r pool' validator' held' counted fits at good left e judged can same keeps ends
-      taken =
+  stored-push l' r pool' validator' held' counted fits at good left e judged judging can same keeps
+      ends taken =
       let k = routed_count pool (change_of r) can in
       subst (λ (x : Local). IsStored pages x held' c pool' validator' broken origin recovering)
       (sym e) (record {
@@ -409,6 +436,7 @@ module _ (pages : ℕ) (held : CommitCount) (l : Local) (c : Controlled) (pool :
         is_log = valid_push pages l.log r h.is_log fits at good;
         fit = fit-push l.blocks c.synced.mark.0 l.log r h.fit left;
         judged = judged;
+        judging = judging ∙ h.judging;
         paged = record {
           count = ap (λ (v : Pooled). length v.waits) same ∙ k.0 ∙ h.paged.count;
           ends = ends;
@@ -544,6 +572,7 @@ module _ (pages : ℕ) (held : CommitCount) (l : Local) (c : Controlled) (pool :
         is_log = h.is_log;
         fit = h.fit;
         judged = h.judged;
+        judging = h.judging;
         paged = h.paged;
         held_is = h.held_is;
         few_pages = h.few_pages;
@@ -563,16 +592,19 @@ module _ (pages : ℕ) (held : CommitCount) (l : Local) (c : Controlled) (pool :
         sure = h.sure;
       })
 
-  pub with_control : (c' : Controlled) (broken' : Bool) → c.synced.mark.0 ≤ c'.synced.mark.0
+  pub with_control : (c' : Controlled) (broken' : Bool) (validator' : Validator)
+      → IsValidatorOf pages validator' l.log → judges validator' ≡ follows (newest c').phase
+      → c.synced.mark.0 ≤ c'.synced.mark.0
       → AreMarks l c' → (broken' ≡ false → c'.sure ≡ true) → PhasesRise c'.synced c'.since
       → (IsWarm recovering (origin_of l c pool) → IsWarm recovering (origin_of l c' pool))
       → (broken' ≡ false → broken ≡ false)
-      → IsStored pages l held c' pool validator broken' origin recovering
-  with_control c' broken' rises marks sure rise warm whole = record {
+      → IsStored pages l held c' pool validator' broken' origin recovering
+  with_control c' broken' validator' judged judging rises marks sure rise warm whole = record {
     log_pages = h.log_pages;
     is_log = h.is_log;
     fit = fit-raised l.blocks c.synced.mark.0 c'.synced.mark.0 l.log rises h.fit;
-    judged = h.judged;
+    judged = judged;
+    judging = judging;
     paged = record {
       count = h.paged.count;
       ends = h.paged.ends;
@@ -613,29 +645,39 @@ module _ (pages : ℕ) (held : CommitCount) (l : Local) (c : Controlled) (pool :
       → IsWarm recovering (origin_of l (with_state c t) pool)
   warm_written t taken w = record { is_pool = w.is_pool; taken = taken w.taken; told = w.told }
 
+  written_newest : (t : ControlState) (validator' : Validator) → judges validator' ≡ follows t.phase
+      → judges validator' ≡ follows (newest (with_state c t)).phase
+  written_newest t validator' judging =
+      judging ∙ ap (λ (s : ControlState). follows s.phase) (sym (last_state-push c.synced c.since t))
+
   -- a state written, which goes on from the newest
-  pub stored-written : (c' : Controlled) (t : ControlState) → IsLocal l → IsFrontEnd l.log t.mark.0
+  pub stored-written : (c' : Controlled) (t : ControlState) (validator' : Validator)
+      → IsValidatorOf pages validator' l.log → judges validator' ≡ follows t.phase
+      → IsLocal l → IsFrontEnd l.log t.mark.0
       → t.mark.0 ≤ l.synced → GoesOn (newest c) t
       → (AreTaken l.log c.synced c.since recovering (total_waiting pool.waits)
       → AreTaken l.log c.synced (c.since ++ t ∷ []) recovering (total_waiting pool.waits))
-      → c' ≡ with_state c t → IsStored pages l held c' pool validator broken origin recovering
-  stored-written c' t facts front low on taken e =
-      subst (λ (x : Controlled). IsStored pages l held x pool validator broken origin recovering)
-      (sym e) (with_control (with_state c t) broken (omega arith) (marks-written t facts front low)
+      → c' ≡ with_state c t → IsStored pages l held c' pool validator' broken origin recovering
+  stored-written c' t validator' judged judging facts front low on taken e =
+      subst (λ (x : Controlled). IsStored pages l held x pool validator' broken origin recovering)
+      (sym e) (with_control (with_state c t) broken validator' judged
+      (written_newest t validator' judging) (omega arith) (marks-written t facts front low)
       h.sure (phases_push c.synced c.since t h.rise on) (warm_written t taken) (λ e. e))
 
-  pub stored-torn : (c' : Controlled) (t : ControlState) → IsLocal l → IsFrontEnd l.log t.mark.0
+  pub stored-torn : (c' : Controlled) (t : ControlState) (validator' : Validator)
+      → IsValidatorOf pages validator' l.log → judges validator' ≡ follows t.phase
+      → IsLocal l → IsFrontEnd l.log t.mark.0
       → t.mark.0 ≤ l.synced → GoesOn (newest c) t
       → (AreTaken l.log c.synced c.since recovering (total_waiting pool.waits)
       → AreTaken l.log c.synced (c.since ++ t ∷ []) recovering (total_waiting pool.waits))
       → c' ≡ record (with_state c t) { sure = false; failures = c'.failures }
-      → IsStored pages l held c' pool validator true origin recovering
-  stored-torn c' t facts front low on taken e =
+      → IsStored pages l held c' pool validator' true origin recovering
+  stored-torn c' t validator' judged judging facts front low on taken e =
       let m = marks-written t facts front low in
-      subst (λ (x : Controlled). IsStored pages l held x pool validator true origin recovering)
+      subst (λ (x : Controlled). IsStored pages l held x pool validator' true origin recovering)
       (sym e)
       (with_control (record (with_state c t) { sure = false; failures = c'.failures }) true
-      (omega arith) (record {
+      validator' judged (written_newest t validator' judging) (omega arith) (record {
         pages = m.pages;
         bytes = m.bytes;
         newest_synced = m.newest_synced;
@@ -665,7 +707,8 @@ module _ (pages : ℕ) (held : CommitCount) (l : Local) (c : Controlled) (pool :
       → c' ≡ with_state c (record (newest c) { mark = mark })
       → IsStored pages l held c' pool validator broken origin recovering
   stored-marked c' mark facts is e =
-      stored-written c' (record (newest c) { mark = mark }) facts (synced_front mark facts is)
+      stored-written c' (record (newest c) { mark = mark }) validator h.judged h.judging facts
+      (synced_front mark facts is)
       (omega (arith, is)) (marked_on mark) (marked_taken mark facts is) e
 
   pub stored-mark_torn : (c' : Controlled) (mark : Lsn) → IsLocal l → mark.0 ≡ l.synced
@@ -673,7 +716,8 @@ module _ (pages : ℕ) (held : CommitCount) (l : Local) (c : Controlled) (pool :
       { sure = false; failures = c'.failures }
       → IsStored pages l held c' pool validator true origin recovering
   stored-mark_torn c' mark facts is e =
-      stored-torn c' (record (newest c) { mark = mark }) facts (synced_front mark facts is)
+      stored-torn c' (record (newest c) { mark = mark }) validator h.judged h.judging facts
+      (synced_front mark facts is)
       (omega (arith, is)) (marked_on mark) (marked_taken mark facts is) e
 
   -- the control device synced
@@ -682,7 +726,7 @@ module _ (pages : ℕ) (held : CommitCount) (l : Local) (c : Controlled) (pool :
       → IsStored pages l held c' pool validator broken origin recovering
   stored-settled c' e rises is =
       subst (λ (x : Controlled). IsStored pages l held x pool validator broken origin recovering)
-      (sym e) (with_control (settled c) broken rises (record {
+      (sym e) (with_control (settled c) broken validator h.judged h.judging rises (record {
         pages = h.marks.pages;
         bytes = h.marks.bytes;
         newest_synced = h.marks.newest_synced;
@@ -705,6 +749,7 @@ module _ (pages : ℕ) (held : CommitCount) (l : Local) (c : Controlled) (pool :
     is_log = s.is_log;
     fit = s.fit;
     judged = s.judged;
+    judging = s.judging;
     paged = record {
       count = s.paged.count;
       ends = s.paged.ends;
@@ -751,10 +796,10 @@ pub stored-new : (origin : Origin) (recovering : Bool)
     → c ≡ new_control pages (512 * blocks) first_state control_blocks control_failures
     control_attempts
     → pool ≡ new_pool frames pages first → frames.sure ≡ true → ((below : ℕ) → IsPoolOf [] below pool)
-    → EndsBelow (end_of []) pool → IsValidatorOf pages validator []
+    → EndsBelow (end_of []) pool → IsValidatorOf pages validator [] → judges validator ≡ true
     → IsStored pages l held c pool validator false origin recovering
 stored-new origin recovering pages first blocks log_failures log_attempts control_blocks
-    control_failures control_attempts l c pool frames validator held counted le some el ec ep sure is ends judged =
+    control_failures control_attempts l c pool frames validator held counted le some el ec ep sure is ends judged judging =
     let fresh_log : Local =
     record {
       pages = pages;
@@ -777,6 +822,7 @@ stored-new origin recovering pages first blocks log_failures log_attempts contro
       is_log = valid-nil pages;
       fit = fit-nil blocks 16 some;
       judged = judged;
+      judging = judging;
       paged = record {
         count = ap (λ (v : Pooled). length v.waits) ep ∙ length-replicate {A = List Change} pages
             [];

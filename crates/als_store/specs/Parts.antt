@@ -1,11 +1,10 @@
 -- The parts of a store, and what holds between them.
-use Rattle.std.specs.Prelude.{◌≡◌, ℕ, ◌≤◌, ◌+◌, ◌*◌, ◌-◌, Bool, true, false, IsTrue, List, length}
-use Rattle.std.specs.Prelude.{vec_capacity, vec_len}
+use Rattle.std.specs.Prelude.{◌≡◌, ℕ, ◌≤◌, ◌+◌, ◌*◌, Bool, true, false, IsTrue, List, length}
 use Rattle.als_record.specs.declared.record.Record.{Record}
 use Rattle.als_record.specs.LogText.{end_of}
 use Rattle.als_record.specs.Validity.{IsValidLog}
 use Rattle.als_validator.specs.declared.validator.Validator.{Validator}
-use Rattle.als_validator.specs.Validated.{IsValidatorOf}
+use Rattle.als_validator.specs.Validated.{IsValidatorOf, judges, has_room}
 use Rattle.als_log.specs.Local.{Local, IsFrontEnd}
 use Rattle.als_ckpt.specs.declared.control_state.ControlState.{ControlState}
 use Rattle.als_ckpt.specs.Control.{Controlled, newest, IsAmong}
@@ -16,7 +15,7 @@ use Rattle.als_store.specs.Stored.{Stored, FrontsFit}
 use Rattle.als_tables.specs.declared.commit_count.CommitCount.{CommitCount}
 use Rattle.als_tables.specs.Counting.{IsCountOf}
 use Rattle.als_store.specs.Spare.{Spare}
-use Rattle.als_store.specs.Takeover.{PhasesRise}
+use Rattle.als_store.specs.Takeover.{PhasesRise, follows}
 use Rattle.als_store.specs.Origin.{Origin, origin_of}
 use Rattle.als_store.specs.Warm.{IsWarm}
 
@@ -44,8 +43,7 @@ stored_of pages l c pool broken origin recovering = record {
 abbrev pub spare_of : Local → Validator → Room → Spare
 spare_of l validator room = record {
   bytes = l.room;
-  table = validator.table.has_room;
-  commits = vec_capacity validator.committed - vec_len validator.committed;
+  judge = has_room validator;
   pool = room;
 }
 
@@ -64,14 +62,15 @@ pub record IsHeldPool (pages : ℕ) (log : List Record) (pool : Pooled) (broken 
   pub few : total_waiting pool.waits ≤ length log
   pub sure : broken ≡ false → IsTrue pool.frames.sure
 
--- What holds of the parts: the validator is that of the log; and what was true of the log, the
--- control block and the pages when the store was made still is.
+-- What holds of the parts: the validator is that of the log, and judges until the log is sealed; and
+-- what was true of the log, the control block and the pages when the store was made still is.
 pub record IsStored (pages : ℕ) (l : Local) (held : CommitCount) (c : Controlled) (pool : Pooled)
     (validator : Validator) (broken : Bool) (origin : Origin) (recovering : Bool) : Type 0 where
   pub log_pages : l.pages ≡ pages
   pub is_log : IsValidLog pages l.log
   pub fit : FrontsFit l.blocks c.synced.mark.0 l.log
   pub judged : IsValidatorOf pages validator l.log
+  pub judging : judges validator ≡ follows (newest c).phase
   pub paged : IsHeldPool pages l.log pool broken
   pub held_is : IsCountOf held l.log
   pub few_pages : pages ≤ 4096

@@ -7,20 +7,18 @@ use Rattle.als_pool.specs.Pooled.{Held, Room}
 use Rattle.als_pool.specs.Outcomes.{HasPlace}
 use Rattle.als_store.specs.Stored.{Stored}
 
--- how many bytes of the log, whether the transaction table has room for one more record, how many
--- commits, and the pool's room: for how many frames, for which pages there is room for one more
--- change, and how many leases
+-- how many bytes of the log, whether there is room for what the validator keeps of one more record,
+-- and the pool's room: for how many frames, for which pages there is room for one more change, and
+-- how many leases
 pub record Spare : Type 0 where
   pub bytes : ℕ
-  pub table : Bool
-  pub commits : ℕ
+  pub judge : Bool
   pub pool : Room
 
 -- a record can be taken with no memory
 pub record HasSpare (spare : Spare) (r : Record) : Type 0 where
   pub bytes : record_len r ≤ spare.bytes
-  pub table : spare.table ≡ true
-  pub commits : 0 < spare.commits
+  pub judge : spare.judge ≡ true
   pub place : IfSome (change_of r) (λ c. HasPlace spare.pool c.key.page)
 
 -- what could be taken with no memory still can, and for the pool's leases perhaps more

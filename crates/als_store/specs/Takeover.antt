@@ -14,18 +14,15 @@ use Rattle.als_ckpt.specs.declared.phase.Phase.{Phase}
 use Rattle.als_ckpt.specs.declared.phase.Phase.TheVariants.{Following, Sealed, Primary}
 use Rattle.als_ckpt.specs.declared.control_state.ControlState.{ControlState}
 use Rattle.als_ckpt.specs.Control.{phase_byte, last_state, IsSeal}
+pub use Rattle.als_reopen.specs.Taken.{follows}
 use Rattle.als_reopen.specs.Taken.{IsTakenFrom}
 use Rattle.als_store.specs.declared.fault.Fault.{Fault}
 use Rattle.als_store.specs.declared.fault.Fault.TheVariants as fault
 use Rattle.als_store.specs.Spare.{Spare, HasSpare}
 use Rattle.als_store.specs.Stored.{Stored, newest, acknowledged, with_records, pending_of}
+use Rattle.als_store.specs.Events.{FailsToRead}
 
 -- ---- phases
-
-abbrev pub follows : Phase → Bool
-follows Following = true
-follows Sealed = false
-follows Primary = false
 
 abbrev pub is_done : Phase → Bool
 is_done Following = false
@@ -113,10 +110,11 @@ pub record UndoesOne (old : Stored) (lsn : Lsn) (new : Stored) : Type 0 where
   pub place : lsn ≡ made.lsn
   pub after : new ≡ with_records old (made ∷ [])
 
--- no record is held: nothing of the tail is left to append, or an allocation failed
+-- no record is held: nothing of the tail is left to append, an allocation failed, or the log device failed in a read
 abbrev pub NotUndone : Stored → Fault → Stored → Type 0
 NotUndone old fault.NothingToDo new = (is_undone old.log ≡ true) × (new ≡ old)
 NotUndone old fault.Memory new = (is_undone old.log ≡ false) × (new ≡ old)
+NotUndone old fault.Device new = FailsToRead old new
 NotUndone old fault new = ⊥
 
 -- there is room for the next record of the tail

@@ -1,5 +1,5 @@
-ghost use Rattle.std.specs.Prelude.{◌≡◌, ◌≤◌, [], IfOk, IfErr};
-ghost use Rattle.als_validator.specs.Validated.{IsValidatorOf};
+ghost use Rattle.std.specs.Prelude.{◌≡◌, ◌≤◌, true, [], IfOk, IfErr};
+ghost use Rattle.als_validator.specs.Validated.{IsValidatorOf, judges};
 ghost use Rattle.als_store.specs.declared.fault.Fault.TheVariants as fault;
 
 use crate::fault::Fault;
@@ -26,6 +26,7 @@ impl NewParts {
         ensures pool { IfOk result (λ parts. parts.pool
             ≡ record { pages = pages; first = first }) }
         ensures validator { IfOk result (λ parts. IsValidatorOf pages parts.validator []) }
+        ensures judging { IfOk result (λ parts. judges parts.validator ≡ true) }
         ensures err { IfErr result (λ f. f ≡ fault.Memory) }
     {
         let log = new_log(alloc, pages)?;
@@ -54,6 +55,7 @@ fn new_log(alloc: Global, pages: u32) -> Result<NewLog, Fault>
 /// A validator of an empty log.
 fn new_validator(alloc: Global, pages: u32) -> Result<Validator, Fault>
     ensures ok { IfOk result (λ v. IsValidatorOf pages v []) }
+    ensures judging { IfOk result (λ v. judges v ≡ true) }
     ensures err { IfErr result (λ f. f ≡ fault.Memory) }
 {
     match Validator::new(alloc, pages) {

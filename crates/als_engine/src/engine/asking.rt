@@ -17,7 +17,7 @@ ghost use Rattle.als_store.specs.Warm.{WasWarm};
 use super::Engine;
 use crate::fault::Fault;
 use crate::status::{State, Status};
-use als_analysis::OpenTransaction;
+use als_analysis::OpenRow;
 use als_disk::BlockDisk;
 use als_page::Page;
 use als_record::{LoggedPage, Lsn, Record};
@@ -80,7 +80,7 @@ impl<D: BlockDisk> Engine<D> {
     }
 
     /// The transaction table of the held log, in rising TransID.
-    pub fn table(&self) -> &[OpenTransaction]
+    pub fn table(&self) -> &[OpenRow]
         ensures { rows_of result.now ≡ table_of self.now.machine.held.log }
     {
         self.store.table()

@@ -61,8 +61,9 @@ impl<D: BlockDisk> Engine<D> {
     /// whole tail.
     ///
     /// Stopped. Recovering: it is not ready yet. NotSealed: the log was not sealed. NothingToDo:
-    /// nothing of the tail is left to append. Memory: an allocation failed; nothing has changed.
-    /// They come in this order.
+    /// nothing of the tail is left to append. Device: the log device failed in a read; nothing but
+    /// the count of failures has changed. Memory: an allocation failed; nothing has changed. They
+    /// come in this order.
     pub fn undo_one(&mut self) -> Result<Lsn, Fault>
         ensures undoes { UndoesOneOf self.old.machine result self.new.machine }
         ensures reserved { HasRoomToUndo self.old.machine.held self.old.spare

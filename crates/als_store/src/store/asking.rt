@@ -15,7 +15,7 @@ ghost use Rattle.als_store.specs.Warm.{WasWarm};
 
 use super::Store;
 use crate::fault::Fault;
-use als_analysis::OpenTransaction;
+use als_analysis::OpenRow;
 use als_disk::BlockDisk;
 use als_log::{Fault as LogFault, LocalLog};
 use als_record::{Lsn, Record};
@@ -94,7 +94,7 @@ impl<D: BlockDisk> Store<D> {
     }
 
     /// The transaction table: a row for each unended transaction, in rising TransID.
-    pub fn table(&self) -> &[OpenTransaction]
+    pub fn table(&self) -> &[OpenRow]
         ensures { rows_of result.now ≡ table_of self.now.stored.log }
     {
         self.validator.rows()

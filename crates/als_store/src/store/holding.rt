@@ -17,7 +17,7 @@ ghost use Rattle.als_store.specs.Parts.{spare_of};
 ghost use Rattle.als_store.specs.Spare.{HasSpare};
 ghost use Rattle.als_store.specs.Stored.{with_records, routed, IsRefused, IsTooLong, judgement_of};
 ghost use Rattle.als_store.specs.Takeover.{is_following};
-ghost use Rattle.als_validator.specs.Validated.{IsValidatorOf, HasRoom};
+ghost use Rattle.als_validator.specs.Validated.{IsValidatorOf, HasRoom, judges};
 
 use super::Store;
 use crate::fault::Fault;
@@ -76,6 +76,7 @@ pub(super) fn route_change<D: BlockDisk>(pool: &mut Pool<D>, logged: &RecordView
 
 /// The first cause why a record may not follow the log, if there is one.
 fn judge(validator: &Validator, logged: &RecordView<'_>) -> Result<(), Fault>
+    requires { judges validator.now ≡ true }
     ensures { (pages : ℕ) (log : List AnyRecord) → IsValidatorOf pages validator.now log
         → IsValidLog pages log → IsRecord pages (shown logged.now)
         → logged.now.lsn.0 ≡ end_of log
@@ -101,9 +102,10 @@ pub(super) fn reserve_after(validator: &Validator, logged: &RecordView<'_>) -> u
 /// Lets the validator take a record that may follow the log.
 pub(super) fn admit(validator: &mut Validator, logged: &RecordView<'_>)
     requires { HasRoom validator.old }
-    ensures { (pages : ℕ) (log : List AnyRecord) → IsValidatorOf pages validator.old log
+    ensures kept { (pages : ℕ) (log : List AnyRecord) → IsValidatorOf pages validator.old log
         → IsValidLog pages (log ++ shown logged.now ∷ [])
         → IsValidatorOf pages validator.new (log ++ shown logged.now ∷ []) }
+    ensures judging { judges validator.new ≡ judges validator.old }
 {
     validator.admit(logged)
 }
@@ -112,6 +114,7 @@ pub(super) fn admit(validator: &mut Validator, logged: &RecordView<'_>)
 fn reserve_judgement(validator: &mut Validator) -> Result<(), Fault>
     ensures same { (pages : ℕ) (log : List AnyRecord) → IsValidatorOf pages validator.old log
         → IsValidatorOf pages validator.new log }
+    ensures judging { judges validator.new ≡ judges validator.old }
     ensures ok { OnOk result (HasRoom validator.new) }
     ensures err { IfErr result (λ f. f ≡ fault.Memory) }
     ensures reserved { HasRoom validator.old → IsOk result }
@@ -150,6 +153,7 @@ pub(super) fn make_room<D: BlockDisk>(
     ensures log { log.new ≡ record log.old { room = log.new.room } }
     ensures validator { (pages : ℕ) (log : List AnyRecord) → IsValidatorOf pages validator.old log
         → IsValidatorOf pages validator.new log }
+    ensures judging { judges validator.new ≡ judges validator.old }
     ensures pages { pool.new.pool ≡ pool.old.pool }
     ensures ok { OnOk result
         (HasSpare (spare_of log.new validator.new pool.new.room) (shown logged.now)) }

@@ -12,6 +12,7 @@ ghost use Rattle.als_store.specs.Warm.{WasWarm};
 ghost use Rattle.als_record.specs.Validity.{is_valid};
 ghost use Rattle.als_validator.specs.Validated.{IsValidatorOf};
 ghost use Rattle.als_log.specs.Local.{HasRoomFor};
+ghost use Rattle.als_log.specs.Outcomes.{ReadFails};
 ghost use Rattle.als_takeover.specs.Next.{first_of};
 ghost use Rattle.als_store.specs.declared.fault.Fault.TheVariants as fault;
 ghost use Rattle.als_store.specs.Takeover.{is_following, is_primary, is_drained};
@@ -29,15 +30,22 @@ use als_record::{Lsn, Record, RecordView, encoded_len};
 use als_takeover::next_undo;
 use als_validator::Validator;
 
-/// The next record of the log's tail.
-fn next_of_tail<D: BlockDisk>(validator: &Validator, log: &mut LocalLog<D>) -> Option<Record>
+/// The next record of the log's tail, read from the log. Device: the device failed in a read.
+fn next_of_tail<D: BlockDisk>(
+    validator: &Validator,
+    log: &mut LocalLog<D>,
+) -> Result<Option<Record>, Fault>
     ensures next { (pages : ℕ) → IsTrue (is_valid log.old.log)
-        → IsValidatorOf pages validator.now log.old.log → result ≡ first_of (tail_of log.old.log) }
-    ensures same { log.new ≡ log.old }
+        → IsValidatorOf pages validator.now log.old.log
+        → IfOk result (λ next. next ≡ first_of (tail_of log.old.log)) }
+    ensures same { OnOk result (log.new ≡ log.old) }
+    ensures err { (pages : ℕ) → IsTrue (is_valid log.old.log)
+        → IsValidatorOf pages validator.now log.old.log
+        → IfErr result (λ f. (f ≡ fault.Device) × ReadFails log.old log.new) }
 {
     match next_undo(validator.table(), log) {
-        Ok(next) => next,
-        Err(_) => unreachable!(),
+        Ok(next) => Ok(next),
+        Err(_) => Err(Fault::Device),
     }
 }
 
@@ -149,7 +157,8 @@ impl<D: BlockDisk> Store<D> {
 
     /// Seals the log, which is synced up to its end: writes the control block with phase Sealed,
     /// and with the log's end as its mark and its seal, by one write of the control device. From
-    /// then on the log takes only its own tail. It takes no memory and no room of the log.
+    /// then on the log takes only its own tail, and what judging records needs is dropped. It takes
+    /// no memory and no room of the log.
     ///
     /// Device: the device failed, and the state may have been written or not.
     pub fn seal(&mut self) -> Result<(), Fault>
@@ -165,6 +174,7 @@ impl<D: BlockDisk> Store<D> {
         let end = self.log.end();
         // For the prover alone: what always holds of the control block.
         let _ = self.control.newest();
+        self.validator.seal();
         match self.control.write_phase(Phase::Sealed, end, end) {
             Ok(()) => Ok(()),
             Err(_) => {
@@ -176,7 +186,8 @@ impl<D: BlockDisk> Store<D> {
 
     /// Holds the next record of the sealed log's tail, and answers its LSN. NothingToDo: nothing of
     /// the tail is left to append. Memory: an allocation failed, in a part that had no room for the
-    /// record; nothing has changed. The log device has room for the whole tail.
+    /// record; nothing has changed. Device: the log device failed in a read; nothing but the count
+    /// of failures has changed. The log device has room for the whole tail.
     pub fn undo_one(&mut self) -> Result<Lsn, Fault>
         requires sealed { is_following self.old.stored ≡ false }
         ensures ok { IfOk result (λ lsn. UndoesOne self.old.stored lsn self.new.stored) }
@@ -188,7 +199,7 @@ impl<D: BlockDisk> Store<D> {
         let _ = self.log.end();
         let _ = self.control.newest();
         match next_of_tail(&self.validator, &mut self.log) {
-            Some(logged) => {
+            Ok(Some(logged)) => {
                 let lsn = logged.lsn;
                 let held = self.hold_next(&logged, &logged.view());
                 let_go(logged);
@@ -197,7 +208,8 @@ impl<D: BlockDisk> Store<D> {
                     Err(fault) => Err(fault),
                 }
             }
-            None => Err(Fault::NothingToDo),
+            Ok(None) => Err(Fault::NothingToDo),
+            Err(fault) => Err(fault),
         }
     }
 

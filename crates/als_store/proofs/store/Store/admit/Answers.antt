@@ -24,6 +24,12 @@ use Rattle.als_tables.proofs.Counts.{commit_count-few}
 use Rattle.als_record.specs.Shown.{shown}
 use Rattle.als_store.proofs.store.Store.admit.Goals as goal
 
+pub judge-requires : goal.judge-requires
+judge-requires g c =
+    let following = subst (λ (h : Holding). is_following h.stored ≡ true) (sym c.self.view_is)
+    c.requires.following in
+    c.self.invariant.judging ∙ following
+
 pub returns-then-not-fits-clause-cause : goal.returns-then-not-fits-clause-cause
 returns-then-not-fits-clause-cause g c =
     let s = c.self.inside in
@@ -53,7 +59,8 @@ invariant_of-self g c =
     (stored-again s.pages s.count s.log s.control s.pool.pool s.validator s.broken s.origin
     s.recovering c.self.invariant c.make_room.new.log c.make_room.new.validator
     c.in_err-make_room.ensures.log
-    (c.in_err-make_room.ensures.validator s.pages s.log.log c.self.invariant.judged))
+    (c.in_err-make_room.ensures.validator s.pages s.log.log c.self.invariant.judged)
+    c.in_err-make_room.ensures.judging)
 
 pub route_change-requires-clause-can : goal.route_change-requires-clause-can
 route_change-requires-clause-can g c =
@@ -116,7 +123,7 @@ invariant_of-self-2 g c =
     ) in
     let judged-room = c.in_ok-make_room.ensures.validator s.pages s.log.log
     c.self.invariant.judged in
-    let judged = c.admit.ensures s.pages s.log.log judged-room
+    let judged = c.admit.ensures.kept s.pages s.log.log judged-room
     (valid_push s.pages s.log.log r c.self.invariant.is_log fits at good) in
     let can = can_route_change s.pages s.count s.log s.control s.pool.pool s.validator s.broken
     s.origin s.recovering c.self.invariant r (change_of r) refl fits at
@@ -137,7 +144,8 @@ invariant_of-self-2 g c =
     c.admit.new.validator c.note.new.self (c.note.ensures s.log.log c.self.invariant.held_is)
     fits at good left
     (appended s.log c.make_room.new.log c.append.new.log r c.in_ok-make_room.ensures.log
-    c.append.ensures) judged can (c.route_change.ensures.value
+    c.append.ensures) judged
+    (c.admit.ensures.judging ∙ c.in_ok-make_room.ensures.judging) can (c.route_change.ensures.value
     ∙ ap (λ (v : Pooled). routed v (change_of r)) same) keeps ends
     (λ taken. taken_fed s.log.log s.control.synced s.control.since s.recovering
     (total_waiting s.pool.pool.waits) taken r (total_waiting c.route_change.new.pool.pool.waits)

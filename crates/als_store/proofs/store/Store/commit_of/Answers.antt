@@ -1,4 +1,4 @@
-use Rattle.std.proofs.Common.{◌≡◌, refl, sym, subst, ap, ◌∙◌}
+use Rattle.std.proofs.Common.{◌≡◌, true, refl, sym, subst, ap, ◌∙◌}
 use Rattle.std.proofs.lemmas.Bool.{true≢false}
 use Rattle.als_record.specs.declared.record.Record.{Record}
 use Rattle.als_record.specs.Shown.{shown}
@@ -6,7 +6,14 @@ use Rattle.als_record.specs.Spelling.{IsRecord}
 use Rattle.als_record.specs.LogText.{end_of}
 use Rattle.als_record.specs.Transactions.{is_commit}
 use Rattle.als_store.specs.Spare.{Holding}
+use Rattle.als_store.specs.Takeover.{is_following}
 use Rattle.als_store.proofs.store.Store.commit_of.Goals as goal
+
+pub commit_of-requires : goal.commit_of-requires
+commit_of-requires g c =
+    let following = subst (λ (h : Holding). is_following h.stored ≡ true) (sym c.self.view_is)
+    c.requires.following in
+    c.self.invariant.judging ∙ following
 
 pub returns-in-Ok-clause-ok : goal.returns-in-Ok-clause-ok
 returns-in-Ok-clause-ok g c =

@@ -24,7 +24,7 @@ invariant_of-result g c =
     c.requires.few_pages c.requires.some_blocks laid.ensures.log laid.ensures.control
     laid.ensures.pool refl laid.ensures.is_pool
     (c.pool_ends_below.ensures.of [] 16 laid.laid.pool.pool (laid.ensures.is_pool 16))
-    parts.ensures.validator
+    parts.ensures.validator parts.ensures.judging
 
 pub returns-in-Ok-lay_out-clause-ok : goal.returns-in-Ok-lay_out-clause-ok
 returns-in-Ok-lay_out-clause-ok g c =

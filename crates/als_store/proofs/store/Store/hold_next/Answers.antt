@@ -24,7 +24,8 @@ invariant_of-self g c =
     let s = c.self.inside in
     rw c.in_err-make_room.ensures.pages
     (stored-again s.pages s.count s.log s.control s.pool.pool s.validator s.broken s.origin s.recovering c.self.invariant c.make_room.new.log c.make_room.new.validator c.in_err-make_room.ensures.log
-    (c.in_err-make_room.ensures.validator s.pages s.log.log c.self.invariant.judged))
+    (c.in_err-make_room.ensures.validator s.pages s.log.log c.self.invariant.judged)
+    c.in_err-make_room.ensures.judging)
 
 pub route_change-requires-clause-can : goal.route_change-requires-clause-can
 route_change-requires-clause-can g c =
@@ -61,11 +62,12 @@ invariant_of-self-2 g c =
     let first = subst (λ (h : Holding). first_of (tail_of h.stored.log) ≡ Some r) (sym c.self.view_is) c.requires.first in
     let n = next_of s.pages s.count s.log s.control s.pool.pool s.validator s.broken s.origin s.recovering c.self.invariant c.end.ensures.facts c.newest.ensures.facts r first in
     let judged-room = c.in_ok-make_room.ensures.validator s.pages s.log.log c.self.invariant.judged in
-    let judged = c.admit.ensures s.pages s.log.log judged-room (valid_push s.pages s.log.log r c.self.invariant.is_log n.fits n.at n.good) in
+    let judged = c.admit.ensures.kept s.pages s.log.log judged-room (valid_push s.pages s.log.log r c.self.invariant.is_log n.fits n.at n.good) in
     let can = can_route_change s.pages s.count s.log s.control s.pool.pool s.validator s.broken s.origin s.recovering c.self.invariant r (change_of r) refl n.fits n.at (omega (arith, c.end.ensures.facts.fits, c.end.ensures.facts.few)) c.change_can_follow.ensures in
     let same = c.in_ok-make_room.ensures.pages in
     let keeps = subst (λ (v : Pooled). (log : List Record) (below : ℕ) → IsPoolOf log below v → IsLog v.frames.pages (log ++ r ∷ []) → r.lsn.0 ≡ end_of log → IsPoolOf (log ++ r ∷ []) below c.route_change.new.pool.pool) same c.route_change.ensures.keeps in
     let ends = c.route_change.ensures.ends s.log.log (subst (λ (v : Pooled). EndsBelow (end_of s.log.log) v) (sym same) c.self.invariant.paged.ends) n.at in
     stored-push s.pages s.count s.log s.control s.pool.pool s.validator s.broken s.origin s.recovering c.self.invariant c.append_made.new.log r c.route_change.new.pool.pool c.admit.new.validator c.note.new.self (c.note.ensures s.log.log c.self.invariant.held_is) n.fits n.at n.good n.left
-    (appended s.log c.make_room.new.log c.append_made.new.log r c.in_ok-make_room.ensures.log c.append_made.ensures) judged can (c.route_change.ensures.value ∙ ap (λ (v : Pooled). routed v (change_of r)) same) keeps ends
+    (appended s.log c.make_room.new.log c.append_made.new.log r c.in_ok-make_room.ensures.log c.append_made.ensures) judged
+    (c.admit.ensures.judging ∙ c.in_ok-make_room.ensures.judging) can (c.route_change.ensures.value ∙ ap (λ (v : Pooled). routed v (change_of r)) same) keeps ends
     (λ taken. taken_undone s.log.log s.control.synced s.control.since s.recovering (total_waiting s.pool.pool.waits) taken r n.rest (total_waiting c.route_change.new.pool.pool.waits) n.first)

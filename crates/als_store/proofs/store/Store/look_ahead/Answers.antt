@@ -8,3 +8,4 @@ invariant_of-self g c =
     stored-again s.pages s.count s.log s.control s.pool.pool s.validator s.broken s.origin
     s.recovering c.self.invariant s.log c.look_ahead.new.self refl
     (c.look_ahead.ensures.kept s.pages s.log.log c.self.invariant.judged)
+    c.look_ahead.ensures.judging

@@ -17,7 +17,8 @@ invariant_of-self g c =
     let low = subst (λ (h : Holding). end_of h.stored.log ≤ h.stored.synced) (sym c.self.view_is) c.requires.synced in
     let following = subst (λ (h : Holding). is_following h.stored ≡ true) (sym c.self.view_is) c.requires.following in
     stored-sealed s.pages s.count s.log s.control s.pool.pool s.validator s.broken s.origin s.recovering c.self.invariant c.end-end.ensures.facts c.newest.ensures.facts
-    c.write_phase.new.self c.end-end.result c.end-end.ensures.end low following c.in-Ok.ensures.ok
+    c.write_phase.new.self c.end-end.result c.seal.new.self (c.seal.ensures.kept s.pages s.log.log c.self.invariant.judged) c.seal.ensures.sealed
+    c.end-end.ensures.end low following c.in-Ok.ensures.ok
 
 pub invariant_of-self-in-Err : goal.invariant_of-self-in-Err
 invariant_of-self-in-Err g c =
@@ -25,4 +26,5 @@ invariant_of-self-in-Err g c =
     let low = subst (λ (h : Holding). end_of h.stored.log ≤ h.stored.synced) (sym c.self.view_is) c.requires.synced in
     let following = subst (λ (h : Holding). is_following h.stored ≡ true) (sym c.self.view_is) c.requires.following in
     stored-seal_torn s.pages s.count s.log s.control s.pool.pool s.validator s.broken s.origin s.recovering c.self.invariant c.end-end.ensures.facts c.newest.ensures.facts
-    c.write_phase.new.self c.end-end.result c.end-end.ensures.end low following c.in-Err.ensures.err
+    c.write_phase.new.self c.end-end.result c.seal.new.self (c.seal.ensures.kept s.pages s.log.log c.self.invariant.judged) c.seal.ensures.sealed
+    c.end-end.ensures.end low following c.in-Err.ensures.err
