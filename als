@@ -60,7 +60,7 @@ help_page() {
         als)
             text ABOUT
             printf '\nUsage: als <COMMAND>\n\nCommands:\n'
-            for command in make sim ship standby takeover dump verify; do
+            for command in make sim ship standby takeover dump verify status get; do
                 printf '  %-8s  %s\n' "$command" "$(text "${command^^}_ABOUT")"
             done
             printf '  help      Print this message or the help of the given subcommand(s)\n\nOptions:\n'
@@ -131,6 +131,20 @@ help_page() {
             help_row 7
             text VERIFY_HELP
             ;;
+        status)
+            text STATUS_ABOUT
+            printf '\nUsage: als status [OPTIONS] <DIR>\n\nArguments:\n  <DIR>  %s\n\nOptions:\n' "$(word_help folder)"
+            explain_row 7
+            help_row 7
+            text STATUS_HELP
+            ;;
+        get)
+            text GET_ABOUT
+            printf '\nUsage: als get [OPTIONS] <DIR> <P> <S>\n\nArguments:\n  <DIR>  %s\n  <P>    %s\n  <S>    %s\n\nOptions:\n' "$(word_help folder)" "$(word_help key-page)" "$(word_help key-slot)"
+            explain_row 7
+            help_row 7
+            text GET_HELP
+            ;;
     esac
 }
 
@@ -154,6 +168,8 @@ tell() {
         'takeover --help' | 'takeover -h' | 'help takeover') help_page takeover ;;
         'dump --help' | 'dump -h' | 'help dump') help_page dump ;;
         'verify --help' | 'verify -h' | 'help verify') help_page verify ;;
+        'status --help' | 'status -h' | 'help status') help_page status ;;
+        'get --help' | 'get -h' | 'help get') help_page get ;;
         *) return 1 ;;
     esac
     return 0 # Also where nobody reads the page to its end: that is no reason to build.

@@ -47,4 +47,16 @@ pub enum Command<'a> {
         path: &'a str,
         explain: bool,
     },
+    /// What a standby's folder holds.
+    Status {
+        dir: &'a str,
+        explain: bool,
+    },
+    /// What the committed transactions left at a key of a standby's folder.
+    Get {
+        dir: &'a str,
+        page: u32,
+        slot: u8,
+        explain: bool,
+    },
 }

@@ -13,7 +13,7 @@ pub(crate) struct Line {
 }
 
 /// The command lines that the program knows, in the order of its help.
-pub(crate) const LINES: [Line; 7] = [
+pub(crate) const LINES: [Line; 9] = [
     Line {
         name: "make",
         about: texts::MAKE_ABOUT,
@@ -121,6 +121,18 @@ pub(crate) const LINES: [Line; 7] = [
         help: texts::VERIFY_HELP,
         words: &[PATH, EXPLAIN],
     },
+    Line {
+        name: "status",
+        about: texts::STATUS_ABOUT,
+        help: texts::STATUS_HELP,
+        words: &[FOLDER, EXPLAIN],
+    },
+    Line {
+        name: "get",
+        about: texts::GET_ABOUT,
+        help: texts::GET_HELP,
+        words: &[FOLDER, KEY_PAGE, KEY_SLOT, EXPLAIN],
+    },
 ];
 
 /// Asks for digits.
@@ -147,6 +159,24 @@ const PATH: Word = Word::Place {
     name: "path",
     value: "PATH",
     help: "A log file, or the folder of a standby",
+};
+
+const FOLDER: Word = Word::Place {
+    name: "folder",
+    value: "DIR",
+    help: "The folder of a standby",
+};
+
+const KEY_PAGE: Word = Word::PagePlace {
+    name: "key-page",
+    value: "P",
+    help: "The key's page",
+};
+
+const KEY_SLOT: Word = Word::SlotPlace {
+    name: "key-slot",
+    value: "S",
+    help: "The key's slot",
 };
 
 const DIR: Word = Word::Text {

@@ -77,6 +77,8 @@ fn asked<'a>(name: &str, matches: &ArgMatches<'a>) -> Option<Command<'a>> {
         "takeover" => takeover(matches),
         "dump" => dump(matches),
         "verify" => verify(matches),
+        "status" => status(matches),
+        "get" => get(matches),
         _ => None,
     }
 }
@@ -123,6 +125,22 @@ fn dump<'a>(matches: &ArgMatches<'a>) -> Option<Command<'a>> {
 fn verify<'a>(matches: &ArgMatches<'a>) -> Option<Command<'a>> {
     Some(Command::Verify {
         path: matches.get_str("path")?,
+        explain: matches.get_flag("explain"),
+    })
+}
+
+fn status<'a>(matches: &ArgMatches<'a>) -> Option<Command<'a>> {
+    Some(Command::Status {
+        dir: matches.get_str("folder")?,
+        explain: matches.get_flag("explain"),
+    })
+}
+
+fn get<'a>(matches: &ArgMatches<'a>) -> Option<Command<'a>> {
+    Some(Command::Get {
+        dir: matches.get_str("folder")?,
+        page: matches.get_one("key-page")?,
+        slot: matches.get_one("key-slot")?,
         explain: matches.get_flag("explain"),
     })
 }

@@ -180,3 +180,38 @@ Example:
   als verify primary.log
 
 Exit statuses: 0 sound, 2 a fault of the command line, 3 unsound, or `als: refused N Name`.";
+
+pub const STATUS_ABOUT: &str = "Prints what the folder of a standby holds";
+
+pub const STATUS_HELP: &str =
+    "Reads DIR, the folder of a standby that does not run, and changes nothing.
+Writes standard output: a line
+  phase=F pages=N end=E ack=A checkpoint=Q behind=B transactions=T
+with F Following, Sealed or Primary; E, where the held log ends; A, up to where no crash can
+lose it; Q, where the log ended at the last checkpoint, 0 without one; and B, the bytes of log
+that a restart redoes. Then a line for each unended transaction, in rising TransID:
+  trans T STATE last=L undo=U      (STATE active, committed or rollback)
+The whole log and the checkpoint are read as a restart reads them, in a copy in memory.
+
+Example:
+  als status standby
+
+Exit statuses: 0 done, 2 a fault of the command line, 3 `als: refused N Name`:
+  30  DIR or a file of it failed, it has no database, or a standby runs there: ask that one
+  33, 34, 1 to 16 a file of it is damaged: `als verify` tells where";
+
+pub const GET_ABOUT: &str = "Prints what the committed transactions left at a key";
+
+pub const GET_HELP: &str =
+    "Reads DIR, the folder of a standby that does not run, and changes nothing: recovers the
+standby in a copy in memory, and reads slot S of page P there.
+Writes standard output: a line `VALUE commits=C lsn=L`: the value in lower case hexadecimal,
+`.` for the empty value, `-` where the key has none or lies outside the database; how many
+commits were counted, and the LSN of the last one.
+
+Example:
+  als get standby 0 3
+
+Exit statuses: 0 done, 2 a fault of the command line, 3 `als: refused N Name`:
+  30  DIR or a file of it failed, it has no database, or a standby runs there: ask that one
+  33, 34, 1 to 16 a file of it is damaged: `als verify` tells where";

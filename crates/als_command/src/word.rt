@@ -15,6 +15,18 @@ pub(crate) enum Word {
         value: &'static str,
         help: &'static str,
     },
+    /// `VALUE`, a page's number, which has to be given.
+    PagePlace {
+        name: &'static str,
+        value: &'static str,
+        help: &'static str,
+    },
+    /// `VALUE`, a slot's number, which has to be given.
+    SlotPlace {
+        name: &'static str,
+        value: &'static str,
+        help: &'static str,
+    },
     /// `--name VALUE`, a text that has to be given.
     Text {
         name: &'static str,
@@ -42,6 +54,12 @@ impl Word {
         match self {
             Word::Flag { name, help } => flag(alloc, name, help),
             Word::Place { name, value, help } => place(alloc, name, value, help),
+            Word::PagePlace { name, value, help } => {
+                place(alloc, name, value, help).value_parser(value_parser!(u32))
+            }
+            Word::SlotPlace { name, value, help } => {
+                place(alloc, name, value, help).value_parser(value_parser!(u8))
+            }
             Word::Text { name, value, help } => named(alloc, name, value, help).required(true),
             Word::Short { name, value, help } => {
                 named(alloc, name, value, help).value_parser(value_parser!(u32))

@@ -22,6 +22,14 @@ pub record IsOut (m : Machine) (lease : Leased) : Type 0 where
 abbrev pub OnlyRedoes : Machine → Machine → Type 0
 OnlyRedoes old new = new ≡ record old { held = record old.held { pool = new.held.pool; failures = new.held.failures } }
 
+-- pages were redone, and the recovery has ended: then all commits of the held log are published. All else is as it was
+abbrev pub OnlyRecovers : Machine → Machine → Type 0
+OnlyRecovers old new = new ≡ record old {
+  held = record old.held { pool = new.held.pool; failures = new.held.failures; recovering = new.held.recovering };
+  listed = new.listed;
+  published = new.published;
+}
+
 -- a page was not lent for redo; a database has no page for each of 2^64 rounds
 abbrev pub RedoRefused : Fault → Machine → Type 0
 RedoRefused cause new = (cause ≡ Backlog) ⊎ ((old : Machine) × (page : ℕ) × Lends old page (Err cause) new)

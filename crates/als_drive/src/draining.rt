@@ -14,9 +14,10 @@ const TOLD_EACH: u64 = 64;
 pub fn drain<E: Events>(events: &mut E) -> Result<(), Fault>
     // Then no page waits.
     ensures done { OnOk result (E.alone → IsDrained (E.machine events.new)) }
-    // Nothing but pages changes.
+    // Nothing but pages changes, and readers stay readers of it.
     ensures keeps { E.alone → OnlyRedoes (E.machine events.old) (E.machine events.new) }
     ensures fails { IfErr result (λ f. E.alone → RedoRefused f (E.machine events.new)) }
+    ensures book { E.book events.new ≡ E.book events.old }
 {
     drain_telling(events, &mut Silent)
 }
@@ -28,6 +29,7 @@ pub fn drain_telling<E: Events, P: Progress>(events: &mut E, progress: &mut P) -
     ensures done { OnOk result (E.alone → IsDrained (E.machine events.new)) }
     ensures keeps { E.alone → OnlyRedoes (E.machine events.old) (E.machine events.new) }
     ensures fails { IfErr result (λ f. E.alone → RedoRefused f (E.machine events.new)) }
+    ensures book { E.book events.new ≡ E.book events.old }
 {
     let mut from = 0;
     for redone in 0..u64::MAX {
@@ -57,6 +59,7 @@ pub fn drain_telling<E: Events, P: Progress>(events: &mut E, progress: &mut P) -
 fn redo<E: Events>(events: &mut E, page: u32) -> Result<(), Fault>
     ensures keeps { E.alone → OnlyRedoes (E.machine events.old) (E.machine events.new) }
     ensures fails { IfErr result (λ f. E.alone → RedoRefused f (E.machine events.new)) }
+    ensures book { E.book events.new ≡ E.book events.old }
 {
     match events.lend(page) {
         Ok(lease) => redo_lease(events, lease),
@@ -70,6 +73,7 @@ fn redo<E: Events>(events: &mut E, page: u32) -> Result<(), Fault>
 fn redo_lease<E: Events>(events: &mut E, lease: PageLease) -> Result<(), Fault>
     requires { E.alone → IsOut (E.machine events.old) lease }
     ensures keeps { E.alone → OnlyRedoes (E.machine events.old) (E.machine events.new) }
+    ensures book { E.book events.new ≡ E.book events.old }
     // It is always taken back.
     ensures taken { IfErr result (λ _. E.alone → ⊥) }
 {

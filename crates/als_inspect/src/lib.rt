@@ -1,5 +1,5 @@
-//! What an operator asks of files that nobody writes: the records of a log, and whether a log or a
-//! standby is sound. It changes nothing.
+//! What an operator asks of files that nobody writes: the records of a log, whether a log or a
+//! standby is sound, what a standby holds, and what a key has. It changes nothing.
 #![tactic(auto)]
 
 // Why there is no answer.
@@ -12,6 +12,12 @@ mod log_text;
 mod telling;
 // The records as lines.
 mod dumping;
+// A folder's standby, opened over a copy in memory.
+mod restarting;
+// What a folder's standby holds.
+mod standing;
+// What a key of it has.
+mod getting;
 // What is not sound.
 mod unsound;
 // Whether all is sound.
@@ -20,4 +26,6 @@ mod verifying;
 pub use als_scan::Wanted;
 pub use dumping::dump;
 pub use fault::Fault;
+pub use getting::get;
+pub use standing::status;
 pub use verifying::verify;

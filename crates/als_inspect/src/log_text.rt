@@ -4,10 +4,12 @@ ghost use Rattle.als_disk.specs.Slot.{IsSettled};
 
 use crate::copying::copy;
 use crate::fault::Fault;
-use als_ckpt::{Fault as ControlFault, read_state};
+use als_ckpt::{ControlState, Fault as ControlFault, read_state};
 use als_disk::MemDisk;
 use als_engine::CONTROL_BLOCKS;
-use als_folder::{Fault as FolderFault, Folder, LOG_LIMIT, Part, Sizes, Trouble, Wrong};
+use als_folder::{
+    DeviceFiles, Fault as FolderFault, Folder, LOG_LIMIT, Part, Sizes, Trouble, Wrong,
+};
 use als_record::LogHeader;
 use als_scan::Scan;
 use std::alloc::Global;
@@ -20,14 +22,12 @@ use std::{fs, io};
 pub struct LogText {
     /// Its records, to be read and judged one after another.
     pub records: Scan<MemDisk>,
-    /// The page count of its header.
-    pub pages: u32,
 }
 
 // Written out: a derived drop is proved wherever a text is dropped, this one only here.
 impl Drop for LogText {
     fn drop(self) {
-        let LogText { records, pages: _ } = self;
+        let LogText { records } = self;
         drop(records);
     }
 }
@@ -40,7 +40,7 @@ fn text_in(alloc: Global, disk: MemDisk, pages: u32, end: u64) -> Result<LogText
     requires high { end ≤ 512 * mem_blocks disk }
 {
     match Scan::new(alloc, disk, pages, end) {
-        Ok(records) => Ok(LogText { records, pages }),
+        Ok(records) => Ok(LogText { records }),
         Err(unread) => {
             let fault = unread.fault;
             drop(unread);
@@ -70,32 +70,54 @@ pub fn text_of_file<R: AllocGlobal + Files<File = File>>(
     text_in(rt.alloc(), disk, pages, end)
 }
 
-/// The text of a folder's log, as far as it is acknowledged.
-///
-/// BadHeader: it begins with none. BadControl: nothing says how far it is acknowledged. Folder: the
-/// folder or a file of it failed, the log or the control block's file is too short, or another
-/// program has it. Memory: there was none for the text.
+/// What the files of a folder say of its database before a record is read.
+#[derive(Clone, Copy)]
+pub struct Database {
+    /// The page count of the log's header.
+    pub pages: u32,
+    /// What the control block says: how far the log is acknowledged, for one.
+    pub state: ControlState,
+}
+
+/// The text of a folder's log, as far as it is acknowledged. The refusals are those of
+/// `database_of`, and Memory: there was none for the text.
 pub fn text_of_folder<R: AllocGlobal + Files<File = File>>(
     rt: &R,
     folder: &Folder,
 ) -> Result<LogText, Fault> {
     let files = folder.open_to_read(rt)?;
+    let database = database_of(rt.alloc(), &files)?;
+    let end = database.state.mark.0;
+    match copy(rt.alloc(), &files.log, end, end.div_ceil(512)) {
+        Ok(disk) => text_in(rt.alloc(), disk, database.pages, end),
+        Err(e) => Err(Fault::Folder(of_log(e))),
+    }
+}
+
+/// What the files of a folder say of its database.
+///
+/// BadHeader: the log begins with none. BadControl: nothing says how far it is acknowledged. Folder:
+/// the folder or a file of it failed, or the log or the control block's file is too short.
+pub fn database_of(alloc: Global, files: &DeviceFiles) -> Result<Database, Fault>
+    ensures { IfOk result (λ d. (16 ≤ d.state.mark.0) × (d.state.mark.0 ≤ 2147483648)) }
+{
     let found = files.sizes().map_err(of_folder)?;
     if found.log == 0 {
         return Err(damaged(Part::Log));
     }
     let pages = pages_of(first_bytes(&files.log).map_err(of_log)?)?;
-    let end = mark(rt.alloc(), &files.control, pages, found)?;
-    match copy(rt.alloc(), &files.log, end, end.div_ceil(512)) {
-        Ok(disk) => text_in(rt.alloc(), disk, pages, end),
-        Err(e) => Err(Fault::Folder(of_log(e))),
-    }
+    let state = control_state(alloc, &files.control, pages, found)?;
+    Ok(Database { pages, state })
 }
 
-/// How far the log is acknowledged, as the control block says. A log that ends in front of that is
-/// damaged.
-fn mark(alloc: Global, control: &File, pages: u32, found: Sizes) -> Result<u64, Fault>
-    ensures { IfOk result (λ end. (16 ≤ end) × (end ≤ 2147483648)) }
+/// What the control block says. A log that ends in front of the mark is damaged.
+fn control_state(
+    alloc: Global,
+    control: &File,
+    pages: u32,
+    found: Sizes,
+) -> Result<ControlState, Fault>
+    ensures { IfOk result (λ state. (16 ≤ state.mark.0) × (state.mark.0 ≤ 2147483648)) }
 {
     if found.control < CONTROL_BLOCKS {
         return Err(damaged(Part::Control));
@@ -109,7 +131,7 @@ fn mark(alloc: Global, control: &File, pages: u32, found: Sizes) -> Result<u64, 
             if state.mark.0.div_ceil(512) > found.log {
                 return Err(damaged(Part::Log));
             }
-            Ok(state.mark.0)
+            Ok(state)
         }
         Err(ControlFault::Device) => Err(Fault::Folder(FolderFault::Device(Trouble {
             part: Part::Control,

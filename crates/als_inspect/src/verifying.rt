@@ -1,17 +1,12 @@
-ghost use Rattle.std.specs.Prelude.{◌≤◌, ◌<◌, ◌*◌, ◌^◌, IfOk};
-
-use crate::copying::copy;
 use crate::fault::Fault;
-use crate::log_text::{LogText, damaged, text_of_file, text_of_folder};
+use crate::log_text::{LogText, database_of, text_of_file, text_of_folder};
+use crate::restarting::restarted;
 use crate::telling::told;
 use crate::unsound::Unsound;
-use als_disk::MemDisk;
 use als_drive::{listing, recover};
-use als_engine::{Config, Disks, Engine};
 use als_fault::FaultKind;
-use als_folder::{DeviceFiles, Fault as FolderFault, Folder, Part, Sizes};
+use als_folder::Folder;
 use als_scan::read_all;
-use std::alloc::Global;
 use std::fs;
 use std::fs::File;
 use std::io::Write;
@@ -25,8 +20,6 @@ struct Found {
     records: u64,
     /// Where it ends.
     end: u64,
-    /// The page count of its header.
-    pages: u32,
 }
 
 /// Tells whether a log file, or the folder of a standby, is sound. It prints `sound records=R
@@ -85,7 +78,7 @@ fn judge_folder<R: AllocGlobal + Files<File = File> + Wait>(
 ) -> Result<Found, Unsound> {
     let folder = hold(rt, path)?;
     let found = judge_text(text_of_folder(rt, &folder)?, false)?;
-    restart(rt, copies(rt, &folder, found)?, found.pages)?;
+    restart(rt, &folder)?;
     Ok(found)
 }
 
@@ -96,16 +89,11 @@ fn hold<R: AllocGlobal + Files<File = File>>(rt: &R, path: &str) -> Result<Folde
 
 /// Reads all records of a text.
 fn judge_text(text: LogText, is_file: bool) -> Result<Found, Unsound> {
-    let pages = text.pages;
     let mut text = text;
     let read = read_all(&mut text.records);
     let end = text.records.end().0;
     match read {
-        Ok(records) => Ok(Found {
-            records,
-            end,
-            pages,
-        }),
+        Ok(records) => Ok(Found { records, end }),
         Err(fault) => Err(Unsound {
             lsn: end,
             fault: told(fault, is_file),
@@ -113,81 +101,17 @@ fn judge_text(text: LogText, is_file: bool) -> Result<Found, Unsound> {
     }
 }
 
-/// The devices of a folder, copied into memory: of the log what is acknowledged, and zeros behind.
-fn copies<R: AllocGlobal + Files<File = File>>(
+/// Opens a copy of a folder's devices as a restart does, redoes what it would redo, and reads each
+/// page.
+fn restart<R: AllocGlobal + Files<File = File> + Wait>(
     rt: &R,
     folder: &Folder,
-    found: Found,
-) -> Result<Disks<MemDisk>, Fault> {
+) -> Result<(), Fault> {
     let files = folder.open_to_read(rt)?;
-    let sizes = sizes_of(&files)?;
-    if found.end.div_ceil(512) > sizes.log {
-        return Err(damaged(Part::Log));
-    }
-    if sizes.pages < u64::from(found.pages) {
-        return Err(damaged(Part::Pages));
-    }
-    let alloc = rt.alloc();
-    Ok(Disks {
-        log: copy_part(alloc, Part::Log, &files.log, found.end, sizes.log)?,
-        control: copy_whole(alloc, Part::Control, &files.control, sizes.control)?,
-        pages: copy_whole(alloc, Part::Pages, &files.pages, sizes.pages)?,
-    })
-}
-
-/// How many whole blocks the files have.
-fn sizes_of(files: &DeviceFiles) -> Result<Sizes, FolderFault>
-    ensures { IfOk result (λ s. (s.control * 512 < 2 ^ 64) × (s.pages * 512 < 2 ^ 64)) }
-{
-    match files.sizes() {
-        Ok(sizes) => Ok(sizes),
-        Err(e) => Err(FolderFault::of(Part::Itself, e)),
-    }
-}
-
-/// The whole blocks of a part of the folder.
-fn copy_whole(alloc: Global, part: Part, file: &File, blocks: u64) -> Result<MemDisk, FolderFault>
-    requires { blocks * 512 < 2 ^ 64 }
-{
-    copy_part(alloc, part, file, blocks * 512, blocks)
-}
-
-/// So many bytes of a part of the folder, in a device of so many blocks.
-fn copy_part(
-    alloc: Global,
-    part: Part,
-    file: &File,
-    len: u64,
-    blocks: u64,
-) -> Result<MemDisk, FolderFault>
-    requires { len ≤ 512 * blocks }
-{
-    match copy(alloc, file, len, blocks) {
-        Ok(disk) => Ok(disk),
-        Err(e) => Err(FolderFault::of(part, e)),
-    }
-}
-
-/// Opens devices as a restart does, redoes what it would redo, and reads each page.
-fn restart<R: AllocGlobal + Wait>(rt: &R, disks: Disks<MemDisk>, pages: u32) -> Result<(), Fault> {
-    let alloc = rt.alloc();
-    let config = Config {
-        pages: pages as u64,
-        frames: pages as u64,
-        pending: 1_000_000,
-        readers: 1,
-    };
-    match Engine::open(alloc, rt, disks, config) {
-        Ok((mut engine, readers)) => {
-            drop(readers);
-            recover(rt, &mut engine)?;
-            listing(alloc, &mut engine)?;
-            Ok(())
-        }
-        Err(refused) => {
-            let fault = refused.fault;
-            drop(refused);
-            Err(Fault::Standby(fault))
-        }
-    }
+    let database = database_of(rt.alloc(), &files)?;
+    let (mut engine, readers) = restarted(rt, &files, database)?;
+    drop(readers);
+    recover(rt, &mut engine)?;
+    listing(rt.alloc(), &mut engine)?;
+    Ok(())
 }

@@ -12,9 +12,9 @@ use als_drive::Progress;
 use als_fault::FaultKind;
 use als_folder::Trouble;
 use als_follow::standby as standby_with_workers;
-use als_inspect::{Wanted, dump, verify};
+use als_inspect::{Wanted, dump, get, status, verify};
 use als_operate::{Following, Shipping, ship, standby, takeover};
-use als_record::{Lsn, TransId};
+use als_record::{Key, Lsn, TransId};
 use std::fs;
 use std::fs::File;
 use std::io::Write;
@@ -118,6 +118,13 @@ fn attempt<R: AllocGlobal + Files<File = File> + Net + Threads + Wait + Sync, O:
             ..
         } => dump(rt, path, wanted(from, trans, page), output)?,
         Command::Verify { path, .. } => verify(rt, path, output)?,
+        Command::Status { dir, .. } => status(rt, dir, output)?,
+        Command::Get {
+            dir,
+            page,
+            slot,
+            ..
+        } => get(rt, dir, Key { page, slot }, output)?,
     }
     Ok(())
 }
@@ -167,6 +174,8 @@ fn told_of(command: Command<'_>, seen: bool) -> Option<&str> {
         Command::Takeover { dir, explain } => (dir, explain),
         Command::Dump { path, explain, .. } => (path, explain),
         Command::Verify { path, explain } => (path, explain),
+        Command::Status { dir, explain } => (dir, explain),
+        Command::Get { dir, explain, .. } => (dir, explain),
     };
     if explain || seen { Some(path) } else { None }
 }

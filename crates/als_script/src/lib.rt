@@ -37,6 +37,8 @@ mod explaining;
 mod shown_image;
 // A held record as text.
 mod shown_record;
+// A row of the transaction table as text.
+mod shown_row;
 
 pub use combined_line::CombinedLine;
 pub use commands::{is_command, line_number, number_past};
@@ -52,6 +54,7 @@ pub use record_line::parse_record;
 pub use show_line::ShowLine;
 pub use shown_image::ShownImage;
 pub use shown_record::ShownRecord;
+pub use shown_row::ShownRow;
 pub use step_line::StepLine;
 pub use wanted::Wanted;
 pub use words::Words;

@@ -33,3 +33,4 @@ pub use failure::Failure;
 pub use left::Left;
 pub use misplaced::Misplaced;
 pub use running::sim;
+pub use simulation::Simulation;

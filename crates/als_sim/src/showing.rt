@@ -1,11 +1,11 @@
 use crate::disk::Disk;
 use crate::stepping::end_of;
-use als_analysis::OpenTransaction;
+use als_analysis::OpenRow;
 use als_disk::BlockDisk;
 use als_engine::{Engine, Fault, State, Status};
 use als_page::Page;
-use als_record::{FIRST_LSN, Lsn, SLOT_COUNT, TransactionState, encoded_len};
-use als_script::{ShownImage, ShownRecord};
+use als_record::{FIRST_LSN, Lsn, SLOT_COUNT, encoded_len};
+use als_script::{ShownImage, ShownRecord, ShownRow};
 use als_world::World;
 use std::alloc::{AllocError, Global};
 use std::io;
@@ -41,19 +41,12 @@ fn state_name(state: State) -> &'static str {
 }
 
 /// `show table`.
-pub fn table<W: Write>(output: &mut W, table: &[OpenTransaction]) -> io::Result<()> {
+pub fn table<W: Write>(output: &mut W, table: &[OpenRow]) -> io::Result<()> {
     if table.is_empty() {
         writeln!(output, "none")?;
     }
     for open in table {
-        let row = open.row();
-        let state = match row.state {
-            TransactionState::Active => "active",
-            TransactionState::Committed => "committed",
-            TransactionState::RollingBack => "rollback",
-        };
-        let (trans, last, undo) = (row.trans.0, row.last.0, row.undo_next.0);
-        writeln!(output, "trans {trans} {state} last={last} undo={undo}")?;
+        writeln!(output, "{}", ShownRow(&open.row()))?;
     }
     Ok(())
 }

@@ -1,0 +1,68 @@
+use crate::fault::Fault;
+use crate::log_text::{Database, database_of};
+use crate::restarting::restarted;
+use als_ckpt::Phase;
+use als_engine::Events;
+use als_folder::Folder;
+use als_script::ShownRow;
+use std::alloc::Global;
+use std::fs::File;
+use std::io::Write;
+use std::rt::Files;
+use std::sync::Wait;
+
+/// Prints what the standby of a folder holds: its phase, its page count, where its log ends and up
+/// to where that is acknowledged, where its checkpoint stands and how many bytes of log lie behind
+/// it; and then each unended transaction, as `show table` does. The folder is only read.
+///
+/// Folder: the folder or a file of it failed, or another program has it. Stream: the output failed.
+/// Memory: there was none for a copy of it. BadHeader, BadControl, Log, Standby: a restart would
+/// refuse the database.
+pub fn status<R: AllocGlobal + Files<File = File> + Wait, O: Write>(
+    rt: &R,
+    dir: &str,
+    output: &mut O,
+) -> Result<(), Fault> {
+    let folder = Folder::hold_to_read(rt, dir)?;
+    let files = folder.open_to_read(rt)?;
+    let database = database_of(rt.alloc(), &files)?;
+    let (engine, readers) = restarted(rt, &files, database)?;
+    drop(readers);
+    tell(rt.alloc(), database, &engine, output)
+}
+
+/// Prints the state of a standby and its open transactions.
+fn tell<E: Events, O: Write>(
+    alloc: Global,
+    database: Database,
+    events: &E,
+    output: &mut O,
+) -> Result<(), Fault> {
+    let rows = events.table(alloc)?;
+    let status = events.status();
+    let Database { pages, state } = database;
+    let (end, acknowledged, position) = (status.end.0, status.acknowledged.0, state.position.0);
+    let behind = acknowledged.saturating_sub(position.max(FIRST));
+    writeln!(
+        output,
+        "phase={} pages={pages} end={end} ack={acknowledged} checkpoint={position} behind={behind} transactions={}",
+        name_of(state.phase),
+        rows.len()
+    )?;
+    for row in rows.iter() {
+        writeln!(output, "{}", ShownRow(row))?;
+    }
+    Ok(())
+}
+
+/// Where the first record of a log stands: a restart without a checkpoint redoes from there.
+const FIRST: u64 = 16;
+
+/// The phase's name.
+fn name_of(phase: Phase) -> &'static str {
+    match phase {
+        Phase::Following => "Following",
+        Phase::Sealed => "Sealed",
+        Phase::Primary => "Primary",
+    }
+}
