@@ -25,7 +25,9 @@ fn help_is_written(rt: HostRuntime) {
         &["als", "standby", "--help"],
         "0 follows in one thread [default: 4]",
     );
-    for command in ["make", "sim", "standby", "takeover", "dump", "verify"] {
+    for command in [
+        "make", "sim", "standby", "takeover", "dump", "verify", "status", "get",
+    ] {
         asks(&rt, &["als", command, "--help"], "      --explain");
     }
     asks(&rt, &["als", "--version"], "als 0.2, proved with");

@@ -105,6 +105,37 @@ fn lays_out<R: Files<File = File>>(rt: &R) -> bool {
     fs::write(rt, "followed.log", TEXT).is_ok() && fs::create_dir(rt, "followed").is_ok()
 }
 
+/// What the folder's phase is, and what committed transactions left at keys of it, outside the
+/// database too.
+fn holds<R: AllocGlobal + Files<File = File> + Net + Threads + Wait + Sync>(
+    rt: &R,
+    phase: &str,
+) -> bool {
+    prints(rt, &["als", "status", "followed"], phase)
+        && prints(
+            rt,
+            &["als", "get", "followed", "0", "0"],
+            "aa commits=1 lsn=52\n",
+        )
+        && prints(
+            rt,
+            &["als", "get", "followed", "3", "1"],
+            "- commits=1 lsn=52\n",
+        )
+        && prints(
+            rt,
+            &["als", "get", "followed", "4", "255"],
+            "- commits=1 lsn=52\n",
+        )
+}
+
+/// The folder's state before the takeover, and after it.
+const FOLLOWING: &str =
+    "phase=Following pages=4 end=108 ack=108 checkpoint=108 behind=0 transactions=0\n";
+
+const PRIMARY: &str =
+    "phase=Primary pages=4 end=108 ack=108 checkpoint=108 behind=0 transactions=0\n";
+
 /// What the folder then holds, and a takeover, twice.
 fn takes_over<R: AllocGlobal + Files<File = File> + Net + Threads + Wait + Sync>(rt: &R) -> bool {
     let verify = ["als", "verify", "followed"];
@@ -134,7 +165,8 @@ fn takes_over<R: AllocGlobal + Files<File = File> + Net + Threads + Wait + Sync>
         )
 }
 
-/// Two sessions of both ends over the network, what is then held, and a takeover. Threads are begun
+/// Two sessions of both ends over the network, what is then held, and a takeover; what the folder
+/// holds before and after it. Threads are begun
 /// here: a helper that is generic over its runtime may not send it to one.
 #[test]
 fn a_standby_follows_and_takes_over(rt: HostRuntime) {
@@ -151,7 +183,9 @@ fn a_standby_follows_and_takes_over(rt: HostRuntime) {
         );
         assert!(rt; shipped && stood);
     }
+    assert!(rt; holds(&rt, FOLLOWING) || holds(&rt, FOLLOWING));
     assert!(rt; takes_over(&rt) || takes_over(&rt));
+    assert!(rt; holds(&rt, PRIMARY) || holds(&rt, PRIMARY));
     assert!(rt; fs::remove_dir_all(&rt, "followed").is_ok());
     assert!(rt; fs::remove_file(&rt, "followed.log").is_ok());
 }

@@ -1,7 +1,7 @@
 use crate::row::{WORLD, run_scripts};
 
 /// Takeovers: scripts, and what they print.
-const TAKEOVERS: [(&str, &str); 8] = [
+const TAKEOVERS: [(&str, &str); 10] = [
     // All is committed and ended.
     (
         "u 1 0 0 - aa
@@ -102,6 +102,88 @@ ok end=278
 166 clr trans=1 0/2 - prev=130 next=88
 208 clr trans=1 0/0 - prev=166 next=0
 250 end trans=1 prev=208
+",
+    ),
+    // Ten updates of one key, each undone at once: the chain passes over all that was compensated.
+    (
+        "u 1 0 0 - 11
+u 1 0 1 - 22
+c 1 0 1 - 16
+u 1 0 1 - 22
+c 1 0 1 - 88
+u 1 0 1 - 22
+c 1 0 1 - 166
+u 1 0 1 - 22
+c 1 0 1 - 244
+u 1 0 1 - 22
+c 1 0 1 - 322
+u 1 0 1 - 22
+c 1 0 1 - 400
+u 1 0 1 - 22
+c 1 0 1 - 478
+u 1 0 1 - 22
+c 1 0 1 - 556
+u 1 0 1 - 22
+c 1 0 1 - 634
+u 1 0 1 - 22
+c 1 0 1 - 712
+feed 16 832
+show table
+takeover
+show log 832
+",
+        "ok taken=816 records=21 end=832
+trans 1 active last=790 undo=712
+ok end=902
+832 clr trans=1 0/0 - prev=790 next=0
+874 end trans=1 prev=832
+",
+    ),
+    // A chain is read from the log. A read that fails is refused alone, and the takeover goes on.
+    (
+        "u 1 0 0 - 11
+u 1 0 1 - 22
+c 1 0 1 - 16
+u 1 0 1 - 22
+c 1 0 1 - 88
+u 1 0 1 - 22
+c 1 0 1 - 166
+u 1 0 1 - 22
+c 1 0 1 - 244
+u 1 0 1 - 22
+c 1 0 1 - 322
+u 1 0 1 - 22
+c 1 0 1 - 400
+u 1 0 1 - 22
+c 1 0 1 - 478
+u 1 0 1 - 22
+c 1 0 1 - 556
+u 1 0 1 - 22
+c 1 0 1 - 634
+u 1 0 1 - 22
+c 1 0 1 - 712
+feed 16 832
+force
+seal
+fail log 1
+undo
+fail log 2
+takeover
+show status
+takeover
+show log 832
+",
+        "ok taken=816 records=21 end=832
+ok ack=832
+ok
+ok
+refused 30 Device
+ok
+refused 30 Device
+state=Sealed end=832 ack=832 pending=0 leases=0
+ok end=902
+832 clr trans=1 0/0 - prev=790 next=0
+874 end trans=1 prev=832
 ",
     ),
     // Two losers are undone in one falling sweep.
