@@ -1,6 +1,7 @@
 //! Measures parts of the standby by themselves: what is done with a log's bytes before they are held
-//! (decoding, judging, receiving), and what readers see (committed reads, the publishing of
-//! commits, and the memory that the published list takes).
+//! (decoding, judging, receiving), what readers see (committed reads, the publishing of commits, and
+//! the memory that the published list takes), undo along the chains of a log, and the memory of a
+//! transaction table.
 #![tactic(auto)]
 
 // The jobs over a log.
@@ -19,14 +20,22 @@ mod beside;
 mod reads;
 // Publishes.
 mod publishes;
+// The memory of this process.
+mod resident;
 // The memory of a long session.
 mod sessions;
+// Undo along the chains of a log.
+mod undone;
+// The memory of a transaction table.
+mod tables;
 
 use measure::measure_all;
 use publishes::publish_all;
 use reads::read_all;
 use sessions::follow_all;
 use std::{env, io};
+use tables::note_all;
+use undone::undo_all;
 
 /// Prints the figures of the part that the first word names, over as much as the second one says.
 /// With other words, how to ask.
@@ -43,6 +52,8 @@ fn main(rt: HostRuntime) -> io::Result<()> {
             publish_all(&rt)
         }
         (Some("memory"), None) => follow_all(&rt),
+        (Some("undo"), None) => undo_all(&rt),
+        (Some("table"), None) => note_all(&rt),
         _ => tell_how(&rt),
     }
 }
@@ -57,5 +68,9 @@ fn tell_how<R: Print>(rt: &R) -> io::Result<()> {
     )?;
     println!(rt;
         "als_bench_parts memory: what the published list takes behind 16, 32 and 64 MB of log"
+    )?;
+    println!(rt; "als_bench_parts undo: the records that undo 1, 16 and 256 losers, a second")?;
+    println!(rt;
+        "als_bench_parts table: what a transaction table takes behind 1, 1,000 and 1,000,000 updates of one open transaction"
     )
 }

@@ -1,3 +1,6 @@
+ghost use Rattle.std.specs.Prelude.{◌≡◌, true};
+ghost use Rattle.als_validator.specs.Validated.{judges};
+
 use als_bench_logs::{FIRST, PAGES};
 use als_receiver::Receiver;
 use als_record::{BodyView, Lsn, RecordView, decode, view_record};
@@ -109,7 +112,10 @@ pub fn receive_all(alloc: Global, text: &[u8], piece: usize) -> u64 {
 
 /// Lets the validator judge and take each record that is whole, and answers how many there were. It
 /// looks ahead.
-fn judge_whole(receiver: &mut Receiver, validator: &mut Validator) -> u64 {
+fn judge_whole(receiver: &mut Receiver, validator: &mut Validator) -> u64
+    requires { judges validator.old ≡ true }
+    ensures { judges validator.new ≡ true }
+{
     let mut records = 0u64;
     let mut ahead = 0usize;
     for _ in 0..u64::MAX {

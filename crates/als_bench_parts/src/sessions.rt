@@ -1,10 +1,11 @@
+use crate::resident::resident;
 use als_bench_logs::{FIRST, PAGES, Primary};
 use als_published_log::{Fault, PublishedLog};
 use als_record::Key;
 use als_view::Reader;
+use std::io;
 use std::rt::Files;
 use std::sync::Wait;
-use std::{fs, io};
 
 /// A frame of a session.
 const FRAME: usize = 65_536;
@@ -89,10 +90,4 @@ fn count(reader: &mut Reader) -> u64 {
         Ok(answer) => answer.commits,
         Err(_) => 0,
     }
-}
-
-/// The memory of this process, in the machine's pages. `None`: the machine does not say.
-fn resident<R: Files + AllocGlobal>(rt: &R) -> Option<u64> {
-    let text = fs::read_to_string(rt, "/proc/self/statm").ok()?;
-    text.as_str().split_whitespace().nth(1)?.parse::<u64>().ok()
 }

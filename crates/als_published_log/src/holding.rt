@@ -1,11 +1,11 @@
 // One record is judged, and the commit that it makes waits.
-ghost use Rattle.std.specs.Prelude.{◌≡◌, ℕ, List, ◌∷◌, ◌++◌, [], None, OnOk, OnErr};
+ghost use Rattle.std.specs.Prelude.{◌≡◌, ℕ, true, List, ◌∷◌, ◌++◌, [], None, OnOk, OnErr};
 ghost use Rattle.als_record.specs.declared.record.Record.{Record};
 ghost use Rattle.als_record.specs.Shown.{shown};
 ghost use Rattle.als_record.specs.Spelling.{IsRecord};
 ghost use Rattle.als_record.specs.LogText.{end_of};
 ghost use Rattle.als_record.specs.Validity.{first_bad, IsValidLog};
-ghost use Rattle.als_validator.specs.Validated.{IsValidatorOf, HasRoom};
+ghost use Rattle.als_validator.specs.Validated.{IsValidatorOf, HasRoom, judges};
 ghost use Rattle.als_published_log.specs.Keeping.{IsKept, IsSameView};
 
 use crate::fault::Fault;
@@ -22,7 +22,9 @@ pub(crate) fn hold(
     view: &mut View,
     logged: &RecordView<'_>,
 ) -> Result<(), Fault>
+    requires { judges validator.old ≡ true }
     ensures same { IsSameView view.old view.new }
+    ensures judging { judges validator.new ≡ true }
     ensures ok { OnOk result ((pages : ℕ) (log : List Record) → IsRecord pages (shown logged.now)
         → logged.now.lsn.0 ≡ end_of log → IsKept pages log validator.old view.old
         → IsKept pages (log ++ (shown logged.now) ∷ []) validator.new view.new) }
@@ -43,6 +45,7 @@ pub(crate) fn hold(
 
 /// Whether a record may follow the log.
 fn judge(validator: &Validator, logged: &RecordView<'_>) -> Result<(), Fault>
+    requires { judges validator.now ≡ true }
     ensures { OnOk result ((pages : ℕ) (log : List Record) → IsValidatorOf pages validator.now log
         → IsValidLog pages log → IsRecord pages (shown logged.now)
         → first_bad log (shown logged.now) ≡ None) }
@@ -58,6 +61,7 @@ fn reserve(validator: &mut Validator) -> Result<(), Fault>
     ensures ok { OnOk result (HasRoom validator.new) }
     ensures kept { (pages : ℕ) (log : List Record) → IsValidatorOf pages validator.old log
         → IsValidatorOf pages validator.new log }
+    ensures judging { judges validator.new ≡ judges validator.old }
 {
     match validator.reserve() {
         Ok(()) => Ok(()),

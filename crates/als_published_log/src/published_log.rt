@@ -1,5 +1,6 @@
-ghost use Rattle.std.specs.Prelude.{◌≡◌, ◌<◌, ◌≤◌, ◌^◌, All, length, IfOk, OnErr};
+ghost use Rattle.std.specs.Prelude.{◌≡◌, ◌<◌, ◌≤◌, ◌^◌, true, All, length, IfOk, OnErr};
 ghost use Rattle.als_view.specs.Showing.{View as AnyView};
+ghost use Rattle.als_validator.specs.Validated.{judges};
 ghost use Rattle.als_published_log.specs.Keeping.{HasLog, IsSameView, IsReaderOf};
 
 use crate::fault::Fault;
@@ -23,6 +24,7 @@ pub struct PublishedLog {
     validator: Validator,
     view: View,
     ghost kept: { HasLog pages end.0 validator view },
+    ghost judging: { judges validator ≡ true },
 }
 
 // Written out: a derived drop is proved wherever a log is dropped, this one only here.

@@ -20,7 +20,7 @@ returns-clause-ok c pages log fits at h =
     let found = c.in-Ok.ensures.ok pages log h.judged h.valid fits at good in
     record {
       valid = next;
-      judged = c.admit.ensures pages log (c.reserve.ensures.kept pages log h.judged) next;
+      judged = c.admit.ensures.kept pages log (c.reserve.ensures.kept pages log h.judged) next;
       shown = c.take.ensures.shows log r 18446744073709551615 found
           (shown_room log 18446744073709551615 c.args.view.now c.make_room.new.self c.make_room.ensures.same h.shown);
     }

@@ -8,4 +8,5 @@ invariant_of-log g c =
     let made = c.in_ok-view.ensures.view in record {
       kept = kept_nil c.args.pages c.in-Ok.validator c.in_ok-view.view c.in-Ok.ensures.ok made.0
           (ap listed_in made.3) made.1;
+      judging = c.in-Ok.ensures.judging;
     }

@@ -11,4 +11,5 @@ invariant_of-self g c =
     let s = c.args.self.now in record {
       kept = kept_shown s.pages s.end.0 s.validator s.view c.publish_ended.new.self
           (λ log h. c.publish_ended.ensures.shows log 18446744073709551615 (omega arith) h) s.kept;
+      judging = s.judging;
     }
