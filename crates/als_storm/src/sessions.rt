@@ -41,16 +41,44 @@ pub fn begin<R: Wait, D: BlockDisk + Drop>(
     disks: Disks<D>,
     anew: bool,
 ) -> Result<Result<Engine<D>, Disks<D>>, Trouble> {
-    let begun = if anew {
-        Engine::format(alloc, rt, disks, CONFIG)
+    if anew {
+        format(rt, alloc, disks)
     } else {
-        Engine::open(alloc, rt, disks, CONFIG)
-    };
-    match begun {
+        open(rt, alloc, disks)
+    }
+}
+
+fn format<R: Wait, D: BlockDisk + Drop>(
+    rt: &R,
+    alloc: Global,
+    disks: Disks<D>,
+) -> Result<Result<Engine<D>, Disks<D>>, Trouble> {
+    match Engine::format(alloc, rt, disks, CONFIG) {
         Ok((engine, _)) => Ok(Ok(engine)),
-        Err(refused) if refused.fault == Fault::Device => Ok(Err(refused.disks)),
-        Err(refused) if refused.fault == Fault::Memory => Err(Trouble::Memory),
-        Err(_) => Err(Trouble::Lost("a beginning is refused by another fault than 30")),
+        Err(refused) => back(refused.disks, refused.fault),
+    }
+}
+
+fn open<R: Wait, D: BlockDisk + Drop>(
+    rt: &R,
+    alloc: Global,
+    disks: Disks<D>,
+) -> Result<Result<Engine<D>, Disks<D>>, Trouble> {
+    match Engine::open(alloc, rt, disks, CONFIG) {
+        Ok((engine, _)) => Ok(Ok(engine)),
+        Err(refused) => back(refused.disks, refused.fault),
+    }
+}
+
+/// The devices over which no standby began, if one of them failed.
+fn back<D: BlockDisk + Drop>(
+    disks: Disks<D>,
+    fault: Fault,
+) -> Result<Result<Engine<D>, Disks<D>>, Trouble> {
+    match fault {
+        Fault::Device => Ok(Err(disks)),
+        Fault::Memory => Err(Trouble::Memory),
+        _ => Err(Trouble::Lost("a beginning is refused by another fault than 30")),
     }
 }
 
