@@ -2,21 +2,21 @@ ghost use Rattle.std.specs.Prelude.{◌≡◌, ◌↔◌, ℕ, ◌==◌, ◌+◌
 ghost use Rattle.std.specs.Prelude.{take, drop, IsTrue, if◌then◌else◌};
 ghost use Rattle.als_record.specs.declared.key.Key.{Key as AnyKey};
 ghost use Rattle.als_record.specs.declared.record.Record.{Record as AnyRecord};
-ghost use Rattle.als_record.specs.Transactions.{to_undo, is_loser, unended};
+ghost use Rattle.als_record.specs.Transactions.{to_undo, is_loser, unended, in_doubt};
 ghost use Rattle.als_record.specs.Images.{image_now, kept};
 ghost use Rattle.als_record.specs.Validity.{is_valid};
-ghost use Rattle.als_record.specs.Tail.{losing, tail_of, tail_len, is_undone, undo_len};
+ghost use Rattle.als_record.specs.Tail.{losing, ending, tail_of, tail_len, is_undone, undo_len};
 ghost use Rattle.als_record.specs.Sweep.{compensations, AreCompensationsOf};
 ghost use Rattle.als_record.specs.Orders.{Falling};
 
-/// What a takeover appends to a valid log keeps it valid, ends every transaction, and leaves at
-/// each key what a takeover keeps, which the surviving updates of the committed transactions wrote:
-/// winners stay, losers are undone (ARIES undo).
+/// What a takeover appends to a valid log keeps it valid, ends every transaction but those in
+/// doubt, and leaves at each key what a takeover keeps, which the surviving updates of the
+/// transactions that are committed or in doubt wrote: these stay, losers are undone (ARIES undo).
 pub fn tail_takes_over()
     ensures valid { (log : List AnyRecord) → IsTrue (is_valid log)
         → IsTrue (is_valid (log ++ tail_of log)) }
     ensures ended { (log : List AnyRecord) → IsTrue (is_valid log)
-        → unended (log ++ tail_of log) ≡ [] }
+        → unended (log ++ tail_of log) ≡ in_doubt log }
     ensures images { (log : List AnyRecord) → IsTrue (is_valid log) → (k : AnyKey)
         → image_now (log ++ tail_of log) k ≡ kept log k }
 {}
@@ -46,9 +46,9 @@ pub fn undone_has_no_tail()
     ensures { (log : List AnyRecord) → IsTrue (is_undone log) ↔ (tail_of log ≡ []) }
 {}
 
-/// A tail takes 28 bytes for each unended transaction, and for each surviving update of a loser 42
-/// and its before value's.
+/// A tail takes 28 bytes for each unended transaction that is not in doubt, and for each surviving
+/// update of a loser 42 and its before value's.
 pub fn tail_is_a_sum()
     ensures { (log : List AnyRecord) → tail_len log
-        ≡ 28 * length (unended log) + sum_by undo_len (losing log) }
+        ≡ 28 * length (ending log) + sum_by undo_len (losing log) }
 {}

@@ -2,22 +2,22 @@
 -- exactly its surviving updates, the newest first.
 use Rattle.std.proofs.Common.{◌≡◌, ℕ, ◌==◌, ◌+◌, ◌≤◌, ◌<◌, Bool, true, false, cond, not, ◌&&◌, ◌||◌, List, [], ◌∷◌, ◌++◌, drop, reverse, refl, sym, ap, ◌∙◌, inl, inr, subst, arith}
 use Rattle.std.specs.List.{AllByRecursion}
-use Rattle.std.proofs.lemmas.Bool.{cases_Bool, eqb-true, ne_eqb, false≢true, and_parts, or_parts, not-false}
+use Rattle.std.proofs.lemmas.Bool.{cases_Bool, eqb-true, ne_eqb, false≢true, and_parts, not-false}
 use Rattle.std.proofs.lemmas.List.{reverse-append}
 use Rattle.als_record.specs.declared.lsn.Lsn.{Lsn}
 use Rattle.als_record.specs.declared.key.Key.{Key}
 use Rattle.als_record.specs.declared.record.Body.{Body}
-use Rattle.als_record.specs.declared.record.Body.TheVariants.{Update, Compensation, Commit, Rollback, End, BeginCheckpoint, EndCheckpoint}
+use Rattle.als_record.specs.declared.record.Body.TheVariants.{Update, Compensation, Commit, Rollback, End, BeginCheckpoint, EndCheckpoint, Prepare}
 use Rattle.als_record.specs.declared.record.Record.{Record}
 use Rattle.als_record.specs.Spelling.{Image, record_len}
 use Rattle.als_record.specs.LogText.{end_of}
-use Rattle.als_record.specs.Transactions.{is_transactional, is_update, is_compensation, is_commit, is_rollback, is_end, is_of, records_of, to_undo_after, to_undo, is_some_left, has_begun, is_committed, has_rollback, has_ended, is_unended, last_lsn, undo_next_after, undo_next_of}
-use Rattle.als_record.specs.Validity.{prev_of, bad_prev, is_forward, wrong_state, goes_on_after, wrong_undo_next, undoes_newest, wrong_compensation, is_valid}
-use Rattle.als_record.proofs.Records.{records_of-own, records_of-other, records_of-none, to_undo-own, to_undo-other, last_lsn-own, last_lsn-other, undo_next_of-own, undo_next_of-other, is_committed-own, is_committed-other, has_rollback-own, has_rollback-other, has_ended-own, has_ended-other, has_ended-unended, has_begun-ended}
+use Rattle.als_record.specs.Transactions.{is_transactional, is_update, is_compensation, is_commit, is_rollback, is_end, is_prepare, is_decision, is_of, records_of, to_undo_after, to_undo, has_begun, is_committed, has_rollback, has_prepare, has_ended, is_unended, is_in_doubt, last_lsn, undo_next_after, undo_next_of}
+use Rattle.als_record.specs.Validity.{prev_of, bad_prev, goes_on_after, wrong_undo_next, undoes_newest, wrong_compensation, is_valid}
+use Rattle.als_record.proofs.Records.{records_of-own, records_of-other, records_of-none, to_undo-own, to_undo-other, last_lsn-own, last_lsn-other, undo_next_of-own, undo_next_of-other, is_committed-own, is_committed-other, has_rollback-own, has_rollback-other, has_prepare-own, has_prepare-other, has_ended-own, has_ended-other, has_ended-unended, has_begun-ended, has_prepare-none}
 use Rattle.als_record.proofs.Numbers.{eqb-refl}
 use Rattle.als_record.proofs.Survivors.{All-weaken}
 use Rattle.als_record.proofs.Validity.{Admitted, valid_induction}
-use Rattle.als_record.proofs.Sound.{Sound, Sound-valid, goes_on, only_ends}
+use Rattle.als_record.proofs.Sound.{Sound, Sound-valid, goes_on, states, only_ends, only_decides}
 use Rattle.als_record.proofs.Places.{end_of-push, record_len-head}
 use Rattle.als_record.specs.Orders.{Falling}
 use Rattle.als_record.specs.UndoChain.{undone_at, goes_to, undo_chain, backwards}
@@ -60,6 +60,7 @@ first_of_chain P n (r ∷ rest) u us a e = elim (cases_Bool (r.lsn.0 == n)) [
     go End f next = next r.prev.0 f
     go BeginCheckpoint f next = next r.prev.0 f
     go (EndCheckpoint transactions pages) f next = next r.prev.0 f
+    go Prepare f next = next r.prev.0 f
 
 -- behind its first update the chain goes on at that update's PrevLSN
 chain_rest : (n : ℕ) (rs : List Record) (u : Record) (us : List Record) → Falling rs → AllByRecursion follows rs → undo_chain n rs ≡ u ∷ us → undo_chain u.prev.0 rs ≡ us
@@ -92,16 +93,17 @@ chain_rest n (r ∷ rest) u us f a e = elim (cases_Bool (r.lsn.0 == n)) [
     go End g next = next r.prev.0 g
     go BeginCheckpoint g next = next r.prev.0 g
     go (EndCheckpoint transactions pages) g next = next r.prev.0 g
+    go Prepare g next = next r.prev.0 g
 
 -- ---- what each valid log keeps
 
--- neither committed nor rolling back nor ended
+-- neither committed nor rolling back nor ended nor prepared
 pub is_busy : List Record → ℕ → Bool
-is_busy log t = not (is_committed log t) && not (has_rollback log t) && not (has_ended log t)
+is_busy log t = not (is_committed log t) && not (has_rollback log t) && not (has_ended log t) && not (has_prepare log t)
 
 is_busy-other : (log : List Record) (r : Record) (t : ℕ) → is_of t r ≡ false → is_busy (log ++ r ∷ []) t ≡ is_busy log t
 unfolding is_busy
-is_busy-other log r t o = cc (is_committed-other log r t o, has_rollback-other log r t o, has_ended-other log r t o)
+is_busy-other log r t o = cc (is_committed-other log r t o, has_rollback-other log r t o, has_ended-other log r t o, has_prepare-other log r t o)
 
 pub record Threaded (log : List Record) (t : ℕ) : Type 0 where
   pub chain : undo_chain (undo_next_of log t) (backwards log t) ≡ to_undo log t
@@ -180,14 +182,27 @@ module _ (log : List Record) (r : Record) (s : Sound log) (a : Admitted log r) w
 
     module _ (key : Key) (before after : Image) (b : r.body ≡ Update key before after) where
       busy : is_busy log r.trans.0 ≡ true
-      unfolding is_busy wrong_state
+      unfolding is_busy is_in_doubt
       busy =
-          let p : ((is_committed log r.trans.0 && not (is_end r.body)) || (has_rollback log r.trans.0 && not (is_committed log r.trans.0) && is_forward r.body) ≡ false) × ((is_end r.body && not (is_committed log r.trans.0) && is_some_left (to_undo log r.trans.0)) ≡ false) = or_parts _ _ a.state in
-          let q : ((is_committed log r.trans.0 && not (is_end r.body)) ≡ false) × ((has_rollback log r.trans.0 && not (is_committed log r.trans.0) && is_forward r.body) ≡ false) = or_parts _ _ p.0 in
           let c : is_committed log r.trans.0 ≡ false = only_ends log r s a (ap is_end b) in
-          let f : (has_rollback log r.trans.0 && true && true) ≡ false = (rw (c, b) at q.1) in
-          rw (c, not_ended, forward (has_rollback log r.trans.0) f) refl
+          let f : (has_rollback log r.trans.0 && true && true) ≡ false = (rw (c, b) at (states log r s a).1) in
+          let k : has_rollback log r.trans.0 ≡ false = forward (has_rollback log r.trans.0) f in
+          rw (c, not_ended, k, not_prepared c k) refl
         where
+          -- not in doubt, so it has prepared only if it has not begun
+          not_prepared : is_committed log r.trans.0 ≡ false → has_rollback log r.trans.0 ≡ false → has_prepare log r.trans.0 ≡ false
+          not_prepared c k = elim (cases_Bool (has_begun log r.trans.0)) [
+            | inr n ↦ has_prepare-none log r.trans.0 n
+            | inl y ↦ doubtless (goes_on log r s a w y) c k (only_decides log r s a (ap is_decision b))
+          ]
+            where
+              doubtless : is_unended log r.trans.0 ≡ true → is_committed log r.trans.0 ≡ false → has_rollback log r.trans.0 ≡ false → is_in_doubt log r.trans.0 ≡ false → has_prepare log r.trans.0 ≡ false
+              doubtless u c k d = last (has_prepare log r.trans.0) (rw (u, c, k) at d)
+                where
+                  last : (p : Bool) → (true && p && true && true) ≡ false → p ≡ false
+                  last true e = e
+                  last false e = refl
+
           forward : (x : Bool) → (x && true && true) ≡ false → x ≡ false
           forward true e = e
           forward false e = e
@@ -271,6 +286,7 @@ module _ (log : List Record) (r : Record) (s : Sound log) (a : Admitted log r) w
       kept End u c = (refl, refl)
       kept BeginCheckpoint u c = (refl, refl)
       kept (EndCheckpoint transactions pages) u c = (refl, refl)
+      kept Prepare u c = (refl, refl)
 
       onto : (b : Body) → is_compensation b ≡ false → goes_to r b ≡ r.prev.0
       onto (Update key before after) c = refl
@@ -280,34 +296,43 @@ module _ (log : List Record) (r : Record) (s : Sound log) (a : Admitted log r) w
       onto End c = refl
       onto BeginCheckpoint c = refl
       onto (EndCheckpoint transactions pages) c = refl
+      onto Prepare c = refl
 
       idle : is_busy (log ++ r ∷ []) r.trans.0 ≡ true → ⊥
       unfolding is_busy
-      idle e = go r.body quiet quiet_too w (rw (is_committed-own log r r.trans.0 own, has_rollback-own log r r.trans.0 own, has_ended-own log r r.trans.0 own) at e)
+      idle e = go r.body quiet quiet_too w (rw (is_committed-own log r r.trans.0 own, has_rollback-own log r r.trans.0 own, has_ended-own log r r.trans.0 own, has_prepare-own log r r.trans.0 own) at e)
         where
-          over : (x y z : Bool) → (not (x || true) && y && z) ≡ true → ⊥
-          over true y z e = false≢true e
-          over false y z e = false≢true e
+          over : (x y z v : Bool) → (not (x || true) && y && z && v) ≡ true → ⊥
+          over true y z v e = false≢true e
+          over false y z v e = false≢true e
 
-          over2 : (x y z : Bool) → (x && not (y || true) && z) ≡ true → ⊥
-          over2 true true z e = false≢true e
-          over2 true false z e = false≢true e
-          over2 false y z e = false≢true e
+          over2 : (x y z v : Bool) → (x && not (y || true) && z && v) ≡ true → ⊥
+          over2 true true z v e = false≢true e
+          over2 true false z v e = false≢true e
+          over2 false y z v e = false≢true e
 
-          over3 : (x y z : Bool) → (x && y && not (z || true)) ≡ true → ⊥
-          over3 true true true e = false≢true e
-          over3 true true false e = false≢true e
-          over3 true false z e = false≢true e
-          over3 false y z e = false≢true e
+          over3 : (x y z v : Bool) → (x && y && not (z || true) && v) ≡ true → ⊥
+          over3 true true true v e = false≢true e
+          over3 true true false v e = false≢true e
+          over3 true false z v e = false≢true e
+          over3 false y z v e = false≢true e
 
-          go : (b : Body) → is_update b ≡ false → is_compensation b ≡ false → is_transactional b ≡ true → (not (is_committed log r.trans.0 || is_commit b) && not (has_rollback log r.trans.0 || is_rollback b) && not (has_ended log r.trans.0 || is_end b)) ≡ true → ⊥
+          over4 : (x y z v : Bool) → (x && y && z && not (v || true)) ≡ true → ⊥
+          over4 true true true true e = false≢true e
+          over4 true true true false e = false≢true e
+          over4 true true false v e = false≢true e
+          over4 true false z v e = false≢true e
+          over4 false y z v e = false≢true e
+
+          go : (b : Body) → is_update b ≡ false → is_compensation b ≡ false → is_transactional b ≡ true → (not (is_committed log r.trans.0 || is_commit b) && not (has_rollback log r.trans.0 || is_rollback b) && not (has_ended log r.trans.0 || is_end b) && not (has_prepare log r.trans.0 || is_prepare b)) ≡ true → ⊥
           go (Update key before after) u c t e = false≢true (sym u)
           go (Compensation undo_next key after) u c t e = false≢true (sym c)
-          go Commit u c t e = over (is_committed log r.trans.0) (not (has_rollback log r.trans.0 || false)) (not (has_ended log r.trans.0 || false)) e
-          go Rollback u c t e = over2 (not (is_committed log r.trans.0 || false)) (has_rollback log r.trans.0) (not (has_ended log r.trans.0 || false)) e
-          go End u c t e = over3 (not (is_committed log r.trans.0 || false)) (not (has_rollback log r.trans.0 || false)) (has_ended log r.trans.0) e
+          go Commit u c t e = over (is_committed log r.trans.0) (not (has_rollback log r.trans.0 || false)) (not (has_ended log r.trans.0 || false)) (not (has_prepare log r.trans.0 || false)) e
+          go Rollback u c t e = over2 (not (is_committed log r.trans.0 || false)) (has_rollback log r.trans.0) (not (has_ended log r.trans.0 || false)) (not (has_prepare log r.trans.0 || false)) e
+          go End u c t e = over3 (not (is_committed log r.trans.0 || false)) (not (has_rollback log r.trans.0 || false)) (has_ended log r.trans.0) (not (has_prepare log r.trans.0 || false)) e
           go BeginCheckpoint u c t e = false≢true t
           go (EndCheckpoint transactions pages) u c t e = false≢true t
+          go Prepare u c t e = over4 (not (is_committed log r.trans.0 || false)) (not (has_rollback log r.trans.0 || false)) (not (has_ended log r.trans.0 || false)) (has_prepare log r.trans.0) e
 
       Threaded-quiet : Threaded (log ++ r ∷ []) r.trans.0
       unfolding undo_chain
@@ -340,6 +365,7 @@ module _ (log : List Record) (r : Record) (s : Sound log) (a : Admitted log r) w
         go End e = Threaded-quiet (ap is_update e) (ap is_compensation e)
         go BeginCheckpoint e = Threaded-quiet (ap is_update e) (ap is_compensation e)
         go (EndCheckpoint transactions pages) e = Threaded-quiet (ap is_update e) (ap is_compensation e)
+        go Prepare e = Threaded-quiet (ap is_update e) (ap is_compensation e)
 
   Threaded-push : (t : ℕ) → Threaded log t → Threaded (log ++ r ∷ []) t
   Threaded-push t h = elim (cases_Bool (is_of t r)) [

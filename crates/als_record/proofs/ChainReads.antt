@@ -6,7 +6,7 @@ use Rattle.std.proofs.lemmas.Bool.{cases_Bool, eqb-true, ne_eqb, false≢true}
 use Rattle.std.proofs.lemmas.List.{reverse-append}
 use Rattle.std.proofs.lemmas.List.Folds.{find-append}
 use Rattle.als_record.specs.declared.record.Body.{Body}
-use Rattle.als_record.specs.declared.record.Body.TheVariants.{Update, Compensation, Commit, Rollback, End, BeginCheckpoint, EndCheckpoint}
+use Rattle.als_record.specs.declared.record.Body.TheVariants.{Update, Compensation, Commit, Rollback, End, BeginCheckpoint, EndCheckpoint, Prepare}
 use Rattle.als_record.specs.declared.record.Record.{Record}
 use Rattle.als_record.specs.Transactions.{is_update, is_of, records_of, to_undo, is_loser}
 use Rattle.als_record.specs.Tail.{losing}
@@ -130,6 +130,7 @@ undo_chain-update log t n r c e = c.chain ∙ go r.body e
     go End e = absurd (false≢true e)
     go BeginCheckpoint e = absurd (false≢true e)
     go (EndCheckpoint transactions pages) e = absurd (false≢true e)
+    go Prepare e = absurd (false≢true e)
 
 -- a chain from another record is the chain from where it goes to
 pub undo_chain-skip : (log : List Record) (t n : ℕ) (r : Record) → ChainStep log t n r → is_update r.body ≡ false → undo_chain n (backwards log t) ≡ undo_chain (goes_to r r.body) (backwards log t)
@@ -143,6 +144,7 @@ undo_chain-skip log t n r c e = c.chain ∙ go r.body e
     go End e = refl
     go BeginCheckpoint e = refl
     go (EndCheckpoint transactions pages) e = refl
+    go Prepare e = refl
 
 -- ---- one step of a takeover's sweep
 

@@ -5,7 +5,7 @@ use Rattle.std.proofs.lemmas.Bool.{cases_Bool, eqb-true, false≢true, and_parts
 use Rattle.std.proofs.lemmas.List.{map-append}
 use Rattle.std.proofs.lemmas.List.Elements.{filter-append}
 use Rattle.als_record.specs.declared.record.Body.{Body}
-use Rattle.als_record.specs.declared.record.Body.TheVariants.{Update, Compensation, Commit, Rollback, End, BeginCheckpoint, EndCheckpoint}
+use Rattle.als_record.specs.declared.record.Body.TheVariants.{Update, Compensation, Commit, Rollback, End, BeginCheckpoint, EndCheckpoint, Prepare}
 use Rattle.als_record.specs.declared.record.Record.{Record}
 use Rattle.als_record.specs.Transactions.{is_transactional, is_commit, is_end, is_of, records_of, to_undo_after, to_undo, surviving, is_committed}
 use Rattle.als_record.specs.Validity.{may_follow, is_valid}
@@ -36,6 +36,7 @@ committers log = log_induction (λ l. AllByRecursion (λ r. is_committed l r.tra
     transactional End e = refl
     transactional BeginCheckpoint e = absurd (false≢true e)
     transactional (EndCheckpoint transactions pages) e = absurd (false≢true e)
+    transactional Prepare e = refl
 
     more : (l : List Record) (r : Record) → AllByRecursion (λ u. is_committed l u.trans.0 ≡ true) (filter (λ u. is_commit u.body) l) → AllByRecursion (λ u. is_committed (l ++ r ∷ []) u.trans.0 ≡ true) (filter (λ u. is_commit u.body) (l ++ r ∷ []))
     more l r a = rw (filter-append (λ (u : Record). is_commit u.body) l (r ∷ [])) (go (is_commit r.body) refl)
@@ -70,6 +71,7 @@ module _ (log : List Record) (r : Record) (s : Sound log) (a : Admitted log r) w
       ended Rollback e = refl
       ended BeginCheckpoint e = refl
       ended (EndCheckpoint transactions pages) e = refl
+      ended Prepare e = refl
 
   -- and what a transaction has written when it commits
   writes_at_commit : is_commit r.body ≡ true → writes_of (log ++ r ∷ []) r.trans.0 ≡ writes_of log r.trans.0
@@ -84,6 +86,7 @@ module _ (log : List Record) (r : Record) (s : Sound log) (a : Admitted log r) w
       go End q e = absurd (false≢true e)
       go BeginCheckpoint q e = absurd (false≢true e)
       go (EndCheckpoint transactions pages) q e = absurd (false≢true e)
+      go Prepare q e = absurd (false≢true e)
 
   commits_push : commits_of (log ++ r ∷ []) ≡ commits_of log ++ cond (is_commit r.body) (commit_by log r ∷ []) []
   unfolding commits_of
@@ -123,6 +126,7 @@ is_committed-commits_of log t = go log
     kind End e = refl
     kind BeginCheckpoint e = absurd (false≢true e)
     kind (EndCheckpoint transactions pages) e = absurd (false≢true e)
+    kind Prepare e = refl
 
     step : (r : Record) (us cs : List Record) → list_any (λ u. is_commit u.body) us ≡ list_any (λ c. c.trans.0 == t) (map (commit_by log) cs) → list_any (λ u. is_commit u.body) (cond (is_of t r) (r ∷ us) us) ≡ list_any (λ c. c.trans.0 == t) (map (commit_by log) (cond (is_commit r.body) (r ∷ cs) cs))
     step r us cs ih = elim (cases_Bool (is_commit r.body)) [

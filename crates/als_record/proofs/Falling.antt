@@ -3,7 +3,7 @@ use Rattle.std.proofs.Common.{◌≡◌, ℕ, ◌==◌, ◌+◌, ◌≤◌, ◌<
 use Rattle.std.specs.List.{AllByRecursion}
 use Rattle.std.proofs.lemmas.Bool.{cases_Bool, eq-eqb}
 use Rattle.als_record.specs.declared.record.Body.{Body}
-use Rattle.als_record.specs.declared.record.Body.TheVariants.{Update, Compensation, Commit, Rollback, End, BeginCheckpoint, EndCheckpoint}
+use Rattle.als_record.specs.declared.record.Body.TheVariants.{Update, Compensation, Commit, Rollback, End, BeginCheckpoint, EndCheckpoint, Prepare}
 use Rattle.als_record.specs.declared.record.Record.{Record}
 use Rattle.als_record.specs.Spelling.{record_len}
 use Rattle.als_record.specs.LogText.{end_of}
@@ -77,6 +77,7 @@ placed log v = valid_induction Placed (record { falling = rw all_surviving-nil t
         go End b = same (all_surviving-push l r ∙ ap (survivors_after (all_surviving l) r) b)
         go BeginCheckpoint b = same (all_surviving-push l r ∙ ap (survivors_after (all_surviving l) r) b)
         go (EndCheckpoint transactions pages) b = same (all_surviving-push l r ∙ ap (survivors_after (all_surviving l) r) b)
+        go Prepare b = same (all_surviving-push l r ∙ ap (survivors_after (all_surviving l) r) b)
 
 pub Falling-all_surviving : (log : List Record) → is_valid log ≡ true → Falling (all_surviving log)
 Falling-all_surviving log v = (placed log v).falling

@@ -5,7 +5,7 @@ use Rattle.std.proofs.lemmas.Bool.{cases_Bool, eqb-true, ne_eqb, false≢true, a
 use Rattle.als_record.specs.declared.trans_id.TransId.{TransId}
 use Rattle.als_record.specs.declared.key.Key.{Key}
 use Rattle.als_record.specs.declared.record.Body.{Body}
-use Rattle.als_record.specs.declared.record.Body.TheVariants.{Update, Compensation, Commit, Rollback, End, BeginCheckpoint, EndCheckpoint}
+use Rattle.als_record.specs.declared.record.Body.TheVariants.{Update, Compensation, Commit, Rollback, End, BeginCheckpoint, EndCheckpoint, Prepare}
 use Rattle.als_record.specs.declared.record.Record.{Record}
 use Rattle.als_record.specs.Spelling.{Image}
 use Rattle.als_record.specs.Transactions.{is_update, to_undo, is_open, all_surviving}
@@ -120,6 +120,7 @@ held_by-other log r u = go r.body u
     go End e = refl
     go BeginCheckpoint e = refl
     go (EndCheckpoint transactions pages) e = refl
+    go Prepare e = refl
 
 -- two losers never hold the same key
 pub holds-one : (log : List Record) → is_valid log ≡ true → (k : Key) (s t : ℕ) → is_open log s ≡ true → is_open log t ≡ true → holds log s k ≡ true → holds log t k ≡ true → s ≡ t

@@ -5,7 +5,7 @@ use Rattle.std.proofs.lemmas.Bool.{false≢true, lt-ltb}
 use Rattle.std.proofs.lemmas.List.Sums.{sum_by-cons}
 use Rattle.als_record.specs.declared.key.Key.{Key}
 use Rattle.als_record.specs.declared.record.Body.{Body}
-use Rattle.als_record.specs.declared.record.Body.TheVariants.{Update, Compensation, Commit, Rollback, End, BeginCheckpoint, EndCheckpoint}
+use Rattle.als_record.specs.declared.record.Body.TheVariants.{Update, Compensation, Commit, Rollback, End, BeginCheckpoint, EndCheckpoint, Prepare}
 use Rattle.als_record.specs.declared.record.Record.{Record}
 use Rattle.als_record.specs.Spelling.{Image}
 use Rattle.als_record.specs.Transactions.{is_update, is_compensation, is_of, to_undo_after, to_undo, has_begun}
@@ -65,6 +65,7 @@ module _ (log : List Record) (r : Record) (t : ℕ) (k : Key) where
       popped End e = absurd (false≢true e)
       popped BeginCheckpoint e = absurd (false≢true e)
       popped (EndCheckpoint transactions pages) e = absurd (false≢true e)
+      popped Prepare e = absurd (false≢true e)
 
   -- a commit, a rollback, an end
   pub count_at-quiet : is_of t r ≡ true → is_update r.body ≡ false → is_compensation r.body ≡ false → count_at (log ++ r ∷ []) t k ≡ count_at log t k
@@ -79,6 +80,7 @@ module _ (log : List Record) (r : Record) (t : ℕ) (k : Key) where
       quiet End e f = refl
       quiet BeginCheckpoint e f = refl
       quiet (EndCheckpoint transactions pages) e f = refl
+      quiet Prepare e f = refl
 
 pub count_at-none : (log : List Record) (t : ℕ) (k : Key) → has_begun log t ≡ false → count_at log t k ≡ 0
 unfolding count_at

@@ -9,6 +9,7 @@ mod Worked
 mod WorkedLogs
 mod WorkedCauses
 mod WorkedTails
+mod WorkedDoubts
 pub mod Records
 pub mod Survivors
 pub mod Numbers
@@ -27,6 +28,7 @@ pub mod Takeover
 pub mod TailLength
 pub mod Reserve
 pub mod TailBound
+pub mod Decisions
 pub mod Places
 pub mod Held
 pub mod HeldCounts

@@ -7,7 +7,7 @@ use Rattle.std.proofs.lemmas.Grind.{fold-append}
 use Rattle.std.specs.List.{AllByRecursion, cons_option}
 use Rattle.als_record.specs.declared.change.Change.{Change}
 use Rattle.als_record.specs.declared.record.Body.{Body}
-use Rattle.als_record.specs.declared.record.Body.TheVariants.{Update, Compensation, Commit, Rollback, End, BeginCheckpoint, EndCheckpoint}
+use Rattle.als_record.specs.declared.record.Body.TheVariants.{Update, Compensation, Commit, Rollback, End, BeginCheckpoint, EndCheckpoint, Prepare}
 use Rattle.als_record.specs.declared.record.Record.{Record}
 use Rattle.als_record.specs.Spelling.{Image, IsImage, record_len, IsBody, IsRecord}
 use Rattle.als_record.specs.LogText.{end_of, follow_from, IsLog}
@@ -244,6 +244,7 @@ change_in-lsn r Rollback = tt
 change_in-lsn r End = tt
 change_in-lsn r BeginCheckpoint = tt
 change_in-lsn r (EndCheckpoint transactions pages) = tt
+change_in-lsn r Prepare = tt
 
 rising-cons : (low lsn high : ℕ) (o : Option Change) (cs : List Change) → IfSome o (λ c. c.lsn.0 ≡ lsn) → low ≤ lsn → lsn < high
     → IsRising (lsn + 1) high cs → IsRising low high (cons_option o cs)
@@ -472,6 +473,7 @@ change_in-fits pages r Rollback lsn h = tt
 change_in-fits pages r End lsn h = tt
 change_in-fits pages r BeginCheckpoint lsn h = tt
 change_in-fits pages r (EndCheckpoint transactions rows) lsn h = tt
+change_in-fits pages r Prepare lsn h = tt
 
 all-cons : (P : Change → Type 0) (o : Option Change) (cs : List Change) → IfSome o P → AllByRecursion P cs → AllByRecursion P (cons_option o cs)
 all-cons P None cs h all = all

@@ -5,7 +5,7 @@ use Rattle.std.specs.Int.{w32, w64}
 use Rattle.std.proofs.lemmas.Bool.{ltb-false, le-ltb, eqb-true, eq-eqb}
 use Rattle.std.proofs.lemmas.List.{take_at, drop_at, take-append-drop, take-take, take-append-le, length-append, length-take, length-drop, get_or_append_left, append_cancel_left, append-nil}
 use Rattle.als_record.specs.declared.record.Body.{Body}
-use Rattle.als_record.specs.declared.record.Body.TheVariants.{Update, Compensation, Commit, Rollback, End, BeginCheckpoint, EndCheckpoint}
+use Rattle.als_record.specs.declared.record.Body.TheVariants.{Update, Compensation, Commit, Rollback, End, BeginCheckpoint, EndCheckpoint, Prepare}
 use Rattle.als_record.specs.declared.record.Record.{Record}
 use Rattle.als_record.specs.declared.record_view.RecordView.{RecordView}
 use Rattle.als_record.specs.declared.fault.Fault.{Fault}
@@ -222,6 +222,7 @@ rows_type Rollback h = absurd h
 rows_type End h = absurd h
 rows_type BeginCheckpoint h = absurd h
 rows_type (EndCheckpoint transactions pages) h = refl
+rows_type Prepare h = absurd h
 
 -- where a record with rows is found, its type is 7
 takes_type : (pages at : ℕ) (bytes : List ℕ) (read : Result Found Fault) → IsBytes bytes → read_record pages at bytes ≡ read → TakesMemory read → type_at bytes ≡ 7

@@ -6,7 +6,7 @@ use Rattle.std.specs.Int.{w32, w64, to_be_bytes}
 use Rattle.std.proofs.lemmas.Bool.{and_parts, and_from, leb-true, le-leb, eqb-true}
 use Rattle.std.proofs.lemmas.List.{length-append, drop_more, nil_from_length}
 use Rattle.als_record.specs.declared.record.Body.{Body}
-use Rattle.als_record.specs.declared.record.Body.TheVariants.{Update, Compensation, Commit, Rollback, End, BeginCheckpoint, EndCheckpoint}
+use Rattle.als_record.specs.declared.record.Body.TheVariants.{Update, Compensation, Commit, Rollback, End, BeginCheckpoint, EndCheckpoint, Prepare}
 use Rattle.als_record.specs.declared.record.Record.{Record}
 use Rattle.als_record.specs.Spelling.{image_bytes, image_len, head, spelling, record_len, body_bytes, body_len, type_byte, transaction_row, page_row, IsBody, IsRecord}
 use Rattle.als_record.specs.Reading.{word_at, long_at, size_at, type_at, is_size, is_type, is_within, is_reserved_zero, read_body}
@@ -61,8 +61,9 @@ body_found pages (suc (suc (suc (suc (suc (suc zero)))))) bytes body fits typed 
 body_found pages (suc (suc (suc (suc (suc (suc (suc zero))))))) bytes body fits typed sized e =
     let range = within 32 54560 (28 + length bytes) sized in
     from_parts pages 7 bytes body (checkpoint_found pages bytes body fits (omega (arith, range.0)) e)
-body_found pages (suc (suc (suc (suc (suc (suc (suc (suc kind)))))))) bytes body fits typed sized e =
-    let range = within 1 7 (suc (suc (suc (suc (suc (suc (suc (suc kind)))))))) typed in
+body_found pages (suc (suc (suc (suc (suc (suc (suc (suc zero)))))))) bytes body fits typed sized e = none_found pages Prepare bytes body (refl, refl) tt sized e
+body_found pages (suc (suc (suc (suc (suc (suc (suc (suc (suc kind))))))))) bytes body fits typed sized e =
+    let range = within 1 8 (suc (suc (suc (suc (suc (suc (suc (suc (suc kind))))))))) typed in
     absurd (omega (arith, range.1))
 
 pub body_again : (pages : ℕ) (body : Body) → IsBody pages body → read_body pages (type_byte body) (body_bytes body) ≡ Ok body
@@ -74,6 +75,7 @@ body_again pages Rollback fits = refl
 body_again pages End fits = refl
 body_again pages BeginCheckpoint fits = refl
 body_again pages (EndCheckpoint transactions rows) fits = checkpoint_again transactions rows fits.0 fits.1 fits.2 fits.3
+body_again pages Prepare fits = refl
 
 -- each length that a type may have is one of a record
 pub size_range : (kind size : ℕ) → is_type kind ≡ true → is_size kind size ≡ true → (28 ≤ size) × (size ≤ 54560)
@@ -85,8 +87,9 @@ size_range (suc (suc (suc (suc zero)))) size typed sized = let r : size ≡ 28 =
 size_range (suc (suc (suc (suc (suc zero))))) size typed sized = let r : size ≡ 28 = eqb-true size 28 sized in (omega arith, omega arith)
 size_range (suc (suc (suc (suc (suc (suc zero)))))) size typed sized = let r : size ≡ 28 = eqb-true size 28 sized in (omega arith, omega arith)
 size_range (suc (suc (suc (suc (suc (suc (suc zero))))))) size typed sized = let r = within 32 54560 size sized in (omega (arith, r.0), omega (arith, r.1))
-size_range (suc (suc (suc (suc (suc (suc (suc (suc kind)))))))) size typed sized =
-    let range = within 1 7 (suc (suc (suc (suc (suc (suc (suc (suc kind)))))))) typed in
+size_range (suc (suc (suc (suc (suc (suc (suc (suc zero)))))))) size typed sized = let r : size ≡ 28 = eqb-true size 28 sized in (omega arith, omega arith)
+size_range (suc (suc (suc (suc (suc (suc (suc (suc (suc kind))))))))) size typed sized =
+    let range = within 1 8 (suc (suc (suc (suc (suc (suc (suc (suc (suc kind))))))))) typed in
     absurd (omega (arith, range.1))
 
 pub type_byte_is : (body : Body) → is_type (type_byte body) ≡ true
@@ -97,6 +100,7 @@ type_byte_is Rollback = refl
 type_byte_is End = refl
 type_byte_is BeginCheckpoint = refl
 type_byte_is (EndCheckpoint transactions pages) = refl
+type_byte_is Prepare = refl
 
 -- each body that fits has a length that its type may have
 pub body_size : (pages : ℕ) (body : Body) → IsBody pages body → is_size (type_byte body) (28 + body_len body) ≡ true
@@ -107,6 +111,7 @@ body_size pages Rollback fits = refl
 body_size pages End fits = refl
 body_size pages BeginCheckpoint fits = refl
 body_size pages (EndCheckpoint transactions rows) fits = is_within_of 32 54560 (28 + (4 + 21 * length transactions + 12 * length rows)) (omega arith) (omega (arith, fits.0, fits.1))
+body_size pages Prepare fits = refl
 
 -- ---- lengths
 
@@ -119,6 +124,7 @@ length-body_bytes Rollback = refl
 length-body_bytes End = refl
 length-body_bytes BeginCheckpoint = refl
 length-body_bytes (EndCheckpoint transactions pages) = omega (arith, length-append (flat_map transaction_row transactions) (flat_map page_row pages), length-transactions transactions, length-pages pages)
+length-body_bytes Prepare = refl
 
 pub length-head : (size kind lsn prev trans : ℕ) → length (head size kind lsn prev trans) ≡ 28
 unfolding head

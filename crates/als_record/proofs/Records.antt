@@ -7,14 +7,60 @@ use Rattle.std.proofs.lemmas.List.Sums.{fold_push}
 use Rattle.std.proofs.lemmas.List.{reverse-append, take_at}
 use Rattle.std.proofs.lemmas.Bool.{cases_Bool, false≢true, and_parts, not-true}
 use Rattle.als_record.specs.declared.record.Body.{Body}
-use Rattle.als_record.specs.declared.record.Body.TheVariants.{Update, Compensation, Commit, Rollback, End, BeginCheckpoint, EndCheckpoint}
+use Rattle.als_record.specs.declared.record.Body.TheVariants.{Update, Compensation, Commit, Rollback, End, BeginCheckpoint, EndCheckpoint, Prepare}
 use Rattle.als_record.specs.declared.record.Record.{Record}
-use Rattle.als_record.specs.Transactions.{is_update, is_compensation, is_commit, is_rollback, is_end, is_of, records_of, to_undo_after, to_undo, surviving, is_some_left, has_begun, is_committed, has_rollback, has_ended, is_unended, is_open, is_loser, last_lsn, undo_next_after, undo_next_of}
+use Rattle.als_record.specs.Transactions.{is_update, is_compensation, is_commit, is_rollback, is_end, is_prepare, is_of, records_of, to_undo_after, to_undo, surviving, is_some_left, has_begun, is_committed, has_rollback, has_prepare, has_ended, is_unended, is_open, is_in_doubt, is_loser, last_lsn, undo_next_after, undo_next_of}
 
--- the losers are the open transactions
-pub is_loser-is_open : (log : List Record) (t : ℕ) → is_loser log t ≡ is_open log t
-unfolding is_loser is_open
-is_loser-is_open log t = refl
+-- ---- who is open, in doubt, a loser
+
+-- an open transaction is a loser or in doubt
+pub is_open-is : (log : List Record) (t : ℕ) → is_open log t ≡ (is_loser log t || is_in_doubt log t)
+unfolding is_open is_loser is_in_doubt
+is_open-is log t = go (is_unended log t) (is_committed log t) (has_prepare log t) (has_rollback log t)
+  where
+    go : (u c p h : Bool) → (u && not c) ≡ ((u && not c && not (u && p && not c && not h)) || (u && p && not c && not h))
+    go true true true h = refl
+    go true true false h = refl
+    go true false true true = refl
+    go true false true false = refl
+    go true false false h = refl
+    go false c p h = refl
+
+pub loser_parts : (log : List Record) (t : ℕ) → is_loser log t ≡ true → (is_unended log t ≡ true) × (is_committed log t ≡ false) × (is_in_doubt log t ≡ false)
+unfolding is_loser
+loser_parts log t l =
+    let p : ((is_unended log t && not (is_committed log t)) ≡ true) × (not (is_in_doubt log t) ≡ true) = and_parts (is_unended log t && not (is_committed log t)) (not (is_in_doubt log t)) l in
+    let q : (is_unended log t ≡ true) × (not (is_committed log t) ≡ true) = and_parts (is_unended log t) (not (is_committed log t)) p.0 in
+    (q.0, not-true (is_committed log t) q.1, not-true (is_in_doubt log t) p.1)
+
+pub is_loser-from : (log : List Record) (t : ℕ) → is_unended log t ≡ true → is_committed log t ≡ false → is_in_doubt log t ≡ false → is_loser log t ≡ true
+unfolding is_loser
+is_loser-from log t u c d = rw (u, c, d) refl
+
+pub in_doubt_parts : (log : List Record) (t : ℕ) → is_in_doubt log t ≡ true → (is_unended log t ≡ true) × (has_prepare log t ≡ true) × (is_committed log t ≡ false) × (has_rollback log t ≡ false)
+unfolding is_in_doubt
+in_doubt_parts log t d =
+    let p : ((is_unended log t && has_prepare log t && not (is_committed log t)) ≡ true) × (not (has_rollback log t) ≡ true) = and_parts (is_unended log t && has_prepare log t && not (is_committed log t)) (not (has_rollback log t)) d in
+    let q : ((is_unended log t && has_prepare log t) ≡ true) × (not (is_committed log t) ≡ true) = and_parts (is_unended log t && has_prepare log t) (not (is_committed log t)) p.0 in
+    let s : (is_unended log t ≡ true) × (has_prepare log t ≡ true) = and_parts (is_unended log t) (has_prepare log t) q.0 in
+    (s.0, s.1, not-true (is_committed log t) q.1, not-true (has_rollback log t) p.1)
+
+-- one that has committed is not in doubt, nor is one that is not unended
+pub is_in_doubt-committed : (log : List Record) (t : ℕ) → is_committed log t ≡ true → is_in_doubt log t ≡ false
+unfolding is_in_doubt
+is_in_doubt-committed log t c = rw c (go (is_unended log t && has_prepare log t) (not (has_rollback log t)))
+  where
+    go : (a b : Bool) → (a && false && b) ≡ false
+    go true b = refl
+    go false b = refl
+
+pub is_open-over : (log : List Record) (t : ℕ) → is_unended log t ≡ false → is_open log t ≡ false
+unfolding is_open
+is_open-over log t u = rw u refl
+
+pub is_in_doubt-over : (log : List Record) (t : ℕ) → is_unended log t ≡ false → is_in_doubt log t ≡ false
+unfolding is_in_doubt
+is_in_doubt-over log t u = rw u refl
 
 module _ (log : List Record) (r : Record) (t : ℕ) where
   pub records_of-own : is_of t r ≡ true → records_of (log ++ r ∷ []) t ≡ records_of log t ++ r ∷ []
@@ -48,6 +94,10 @@ module _ (log : List Record) (r : Record) (t : ℕ) where
     unfolding has_rollback
     has_rollback-other = ap (list_any (λ u. is_rollback u.body)) (records_of-other other)
 
+    pub has_prepare-other : has_prepare (log ++ r ∷ []) t ≡ has_prepare log t
+    unfolding has_prepare
+    has_prepare-other = ap (list_any (λ u. is_prepare u.body)) (records_of-other other)
+
     pub has_ended-other : has_ended (log ++ r ∷ []) t ≡ has_ended log t
     unfolding has_ended
     has_ended-other = ap (list_any (λ u. is_end u.body)) (records_of-other other)
@@ -60,9 +110,13 @@ module _ (log : List Record) (r : Record) (t : ℕ) where
     unfolding is_open
     is_open-other = cc (is_unended-other, is_committed-other)
 
+    pub is_in_doubt-other : is_in_doubt (log ++ r ∷ []) t ≡ is_in_doubt log t
+    unfolding is_in_doubt
+    is_in_doubt-other = cc (is_unended-other, has_prepare-other, is_committed-other, has_rollback-other)
+
     pub is_loser-other : is_loser (log ++ r ∷ []) t ≡ is_loser log t
     unfolding is_loser
-    is_loser-other = cc (is_unended-other, is_committed-other)
+    is_loser-other = cc (is_unended-other, is_committed-other, is_in_doubt-other)
 
     pub last_lsn-other : last_lsn (log ++ r ∷ []) t ≡ last_lsn log t
     unfolding last_lsn
@@ -99,6 +153,10 @@ module _ (log : List Record) (r : Record) (t : ℕ) where
     unfolding has_rollback
     has_rollback-own = ap (list_any (λ u. is_rollback u.body)) (records_of-own own) ∙ list_any-append (λ (u : Record). is_rollback u.body) (records_of log t) (r ∷ []) ∙ ap (λ b. list_any (λ u. is_rollback u.body) (records_of log t) || b) (or-false (is_rollback r.body))
 
+    pub has_prepare-own : has_prepare (log ++ r ∷ []) t ≡ (has_prepare log t || is_prepare r.body)
+    unfolding has_prepare
+    has_prepare-own = ap (list_any (λ u. is_prepare u.body)) (records_of-own own) ∙ list_any-append (λ (u : Record). is_prepare u.body) (records_of log t) (r ∷ []) ∙ ap (λ b. list_any (λ u. is_prepare u.body) (records_of log t) || b) (or-false (is_prepare r.body))
+
     pub has_ended-own : has_ended (log ++ r ∷ []) t ≡ (has_ended log t || is_end r.body)
     unfolding has_ended
     has_ended-own = ap (list_any (λ u. is_end u.body)) (records_of-own own) ∙ list_any-append (λ (u : Record). is_end u.body) (records_of log t) (r ∷ []) ∙ ap (λ b. list_any (λ u. is_end u.body) (records_of log t) || b) (or-false (is_end r.body))
@@ -119,9 +177,15 @@ module _ (log : List Record) (r : Record) (t : ℕ) where
     unfolding is_open
     is_open-own = cc (is_unended-own, is_committed-own)
 
-    pub is_loser-own : is_loser (log ++ r ∷ []) t ≡ (not (has_ended log t || is_end r.body) && not (is_committed log t || is_commit r.body))
-    unfolding is_loser
-    is_loser-own = cc (is_unended-own, is_committed-own)
+    pub is_in_doubt-own : is_in_doubt (log ++ r ∷ []) t ≡ (not (has_ended log t || is_end r.body) && (has_prepare log t || is_prepare r.body) && not (is_committed log t || is_commit r.body) && not (has_rollback log t || is_rollback r.body))
+    unfolding is_in_doubt
+    is_in_doubt-own = cc (is_unended-own, has_prepare-own, is_committed-own, has_rollback-own)
+
+    -- a record that neither decides nor ends leaves it in doubt, or not
+    pub is_in_doubt-stays : has_ended log t ≡ false → has_begun log t ≡ true → is_end r.body ≡ false → is_prepare r.body ≡ false → is_commit r.body ≡ false → is_rollback r.body ≡ false → is_in_doubt (log ++ r ∷ []) t ≡ is_in_doubt log t
+    unfolding is_in_doubt is_unended
+    is_in_doubt-stays h b e p c k =
+        is_in_doubt-own ∙ rw (e, p, c, k, h, b, or-false (has_prepare log t), or-false (is_committed log t), or-false (has_rollback log t)) refl
 
     -- an update is put behind the surviving ones, a compensation takes the last one away
     pub surviving-own_update : is_update r.body ≡ true → surviving (log ++ r ∷ []) t ≡ surviving log t ++ r ∷ []
@@ -136,6 +200,7 @@ module _ (log : List Record) (r : Record) (t : ℕ) where
         pushed End e = absurd (false≢true e)
         pushed BeginCheckpoint e = absurd (false≢true e)
         pushed (EndCheckpoint transactions pages) e = absurd (false≢true e)
+        pushed Prepare e = absurd (false≢true e)
 
     pub surviving-own_compensation : is_compensation r.body ≡ true → surviving (log ++ r ∷ []) t ≡ take (length (surviving log t) - 1) (surviving log t)
     unfolding surviving
@@ -149,6 +214,7 @@ module _ (log : List Record) (r : Record) (t : ℕ) where
         popped End e = absurd (false≢true e)
         popped BeginCheckpoint e = absurd (false≢true e)
         popped (EndCheckpoint transactions pages) e = absurd (false≢true e)
+        popped Prepare e = absurd (false≢true e)
 
         shorter : (left : List Record) → reverse (drop 1 left) ≡ take (length (reverse left) - 1) (reverse left)
         shorter [] = refl
@@ -179,6 +245,10 @@ module _ (log : List Record) (t : ℕ) (n : has_begun log t ≡ false) where
   unfolding has_rollback
   has_rollback-none = ap (list_any (λ u. is_rollback u.body)) records_of-none
 
+  pub has_prepare-none : has_prepare log t ≡ false
+  unfolding has_prepare
+  has_prepare-none = ap (list_any (λ u. is_prepare u.body)) records_of-none
+
   pub has_ended-none : has_ended log t ≡ false
   unfolding has_ended
   has_ended-none = ap (list_any (λ u. is_end u.body)) records_of-none
@@ -190,6 +260,10 @@ module _ (log : List Record) (t : ℕ) (n : has_begun log t ≡ false) where
   pub is_open-none : is_open log t ≡ false
   unfolding is_open
   is_open-none = rw is_unended-none refl
+
+  pub is_in_doubt-none : is_in_doubt log t ≡ false
+  unfolding is_in_doubt
+  is_in_doubt-none = rw is_unended-none refl
 
   pub undo_next_of-none : undo_next_of log t ≡ 0
   unfolding undo_next_of

@@ -9,7 +9,7 @@ use Rattle.std.proofs.lemmas.List.Sums.{fold-append}
 use Rattle.als_record.specs.declared.lsn.Lsn.{Lsn}
 use Rattle.als_record.specs.declared.key.Key.{Key}
 use Rattle.als_record.specs.declared.record.Body.{Body}
-use Rattle.als_record.specs.declared.record.Body.TheVariants.{Update, Compensation, Commit, Rollback, End, BeginCheckpoint, EndCheckpoint}
+use Rattle.als_record.specs.declared.record.Body.TheVariants.{Update, Compensation, Commit, Rollback, End, BeginCheckpoint, EndCheckpoint, Prepare}
 use Rattle.als_record.specs.declared.record.Record.{Record}
 use Rattle.als_record.specs.Spelling.{Image}
 use Rattle.als_record.specs.Transactions.{is_transactional, is_commit, is_end, is_of, to_undo, surviving, is_committed, has_ended, without_newest, survivors_after, all_surviving}
@@ -52,6 +52,7 @@ fold-writes k image (u ∷ rest) =
     last End e = refl
     last BeginCheckpoint e = refl
     last (EndCheckpoint transactions pages) e = refl
+    last Prepare e = refl
 
 -- one more commit
 seen_after-push : (cs : List AnyCommit) (c : AnyCommit) (k : Key) → seen_after (cs ++ c ∷ []) k ≡ fold (after_write k) (seen_after cs k) c.writes
@@ -196,6 +197,7 @@ module _ (log : List Record) (r : Record) (s : Sound log) (a : Admitted log r) w
       go End e = same End e refl (won-quiet (ap is_commit e) (all_surviving-push log r ∙ ap (survivors_after (all_surviving log) r) e) k)
       go BeginCheckpoint e = same BeginCheckpoint e refl (won-quiet (ap is_commit e) (all_surviving-push log r ∙ ap (survivors_after (all_surviving log) r) e) k)
       go (EndCheckpoint transactions pages) e = same (EndCheckpoint transactions pages) e refl (won-quiet (ap is_commit e) (all_surviving-push log r ∙ ap (survivors_after (all_surviving log) r) e) k)
+      go Prepare e = same Prepare e refl (won-quiet (ap is_commit e) (all_surviving-push log r ∙ ap (survivors_after (all_surviving log) r) e) k)
 
 seen-nil : (k : Key) → seen_after (commits_of []) k ≡ won [] k
 unfolding seen_after commits_of won all_surviving

@@ -5,11 +5,11 @@ use Rattle.std.proofs.lemmas.Bool.{cases_Bool, eqb-true, false≢true, and_parts
 use Rattle.als_record.specs.declared.lsn.Lsn.{Lsn}
 use Rattle.als_record.specs.declared.key.Key.{Key}
 use Rattle.als_record.specs.declared.record.Body.{Body}
-use Rattle.als_record.specs.declared.record.Body.TheVariants.{Update, Compensation, Commit, Rollback, End, BeginCheckpoint, EndCheckpoint}
+use Rattle.als_record.specs.declared.record.Body.TheVariants.{Update, Compensation, Commit, Rollback, End, BeginCheckpoint, EndCheckpoint, Prepare}
 use Rattle.als_record.specs.declared.record.Record.{Record}
 use Rattle.als_record.specs.Spelling.{Image}
 use Rattle.als_record.specs.Pages.{change_in}
-use Rattle.als_record.specs.Transactions.{is_transactional, is_update, is_compensation, is_end, is_of, records_of, to_undo_after, to_undo, is_some_left, is_committed, has_rollback, has_begun, has_ended, is_unended, is_open, without_newest, survivors_after, all_surviving, greatest_trans}
+use Rattle.als_record.specs.Transactions.{is_transactional, is_update, is_compensation, is_end, is_decision, is_of, records_of, to_undo_after, to_undo, is_some_left, is_committed, has_rollback, has_begun, has_ended, is_unended, is_open, is_in_doubt, without_newest, survivors_after, all_surviving, greatest_trans}
 use Rattle.als_record.specs.Images.{same_key, same_image, image_now, is_update_at, image_before, image_written, image_of_found}
 use Rattle.als_record.specs.Validity.{old_transaction, wrong_state, is_forward, undoes_newest, wrong_compensation, holder, held_by, saw_now, before_image, is_valid}
 use Rattle.als_record.proofs.Records.{to_undo-own, to_undo-other, has_begun-other, has_ended-own, has_ended-other, is_committed-grows, has_ended-grows, has_ended-unended, has_begun-ended}
@@ -73,12 +73,14 @@ module _ (log : List Record) (r : Record) (s : Sound log) (a : Admitted log r) w
         absurd (false≢true (sym a.old ∙ f))
   ]
 
-  states : (is_committed log r.trans.0 && not (is_end r.body) ≡ false) × ((is_end r.body && not (is_committed log r.trans.0) && is_some_left (to_undo log r.trans.0)) ≡ false)
+  -- none of the four reasons of cause 10
+  pub states : (is_committed log r.trans.0 && not (is_end r.body) ≡ false) × ((has_rollback log r.trans.0 && not (is_committed log r.trans.0) && is_forward r.body) ≡ false) × ((is_in_doubt log r.trans.0 && not (is_decision r.body)) ≡ false) × ((is_end r.body && not (is_committed log r.trans.0) && is_some_left (to_undo log r.trans.0)) ≡ false)
   unfolding wrong_state
   states =
-      let p : ((is_committed log r.trans.0 && not (is_end r.body)) || (has_rollback log r.trans.0 && not (is_committed log r.trans.0) && is_forward r.body) ≡ false) × ((is_end r.body && not (is_committed log r.trans.0) && is_some_left (to_undo log r.trans.0)) ≡ false) = or_parts _ _ a.state in
-      let q : ((is_committed log r.trans.0 && not (is_end r.body)) ≡ false) × ((has_rollback log r.trans.0 && not (is_committed log r.trans.0) && is_forward r.body) ≡ false) = or_parts _ _ p.0 in
-      (q.0, p.1)
+      let p : ((is_committed log r.trans.0 && not (is_end r.body)) || (has_rollback log r.trans.0 && not (is_committed log r.trans.0) && is_forward r.body) || (is_in_doubt log r.trans.0 && not (is_decision r.body)) ≡ false) × ((is_end r.body && not (is_committed log r.trans.0) && is_some_left (to_undo log r.trans.0)) ≡ false) = or_parts _ _ a.state in
+      let q : ((is_committed log r.trans.0 && not (is_end r.body)) || (has_rollback log r.trans.0 && not (is_committed log r.trans.0) && is_forward r.body) ≡ false) × ((is_in_doubt log r.trans.0 && not (is_decision r.body)) ≡ false) = or_parts _ _ p.0 in
+      let t : ((is_committed log r.trans.0 && not (is_end r.body)) ≡ false) × ((has_rollback log r.trans.0 && not (is_committed log r.trans.0) && is_forward r.body) ≡ false) = or_parts _ _ q.0 in
+      (t.0, t.1, q.1, p.1)
 
   -- a committed transaction only ends
   pub only_ends : is_end r.body ≡ false → is_committed log r.trans.0 ≡ false
@@ -87,11 +89,18 @@ module _ (log : List Record) (r : Record) (s : Sound log) (a : Admitted log r) w
     | inl c ↦ absurd (false≢true (sym states.0 ∙ rw (c, e) refl))
   ]
 
+  -- one in doubt goes on by its decision alone
+  pub only_decides : is_decision r.body ≡ false → is_in_doubt log r.trans.0 ≡ false
+  only_decides e = elim (cases_Bool (is_in_doubt log r.trans.0)) [
+    | inr d ↦ d
+    | inl d ↦ absurd (false≢true (sym states.2 ∙ rw (d, e) refl))
+  ]
+
   -- what is not committed ends with nothing to undo
   pub ends_clean : is_end r.body ≡ true → is_committed log r.trans.0 ≡ false → is_some_left (to_undo log r.trans.0) ≡ false
   ends_clean e c = elim (cases_Bool (is_some_left (to_undo log r.trans.0))) [
     | inr l ↦ l
-    | inl l ↦ absurd (false≢true (sym states.1 ∙ rw (e, c, l) refl))
+    | inl l ↦ absurd (false≢true (sym states.3 ∙ rw (e, c, l) refl))
   ]
 
   -- ---- the transactions
@@ -111,6 +120,7 @@ module _ (log : List Record) (r : Record) (s : Sound log) (a : Admitted log r) w
   some_left-before End left u e = e
   some_left-before BeginCheckpoint left u e = e
   some_left-before (EndCheckpoint transactions pages) left u e = e
+  some_left-before Prepare left u e = e
 
   end-is_update : (b : Body) → is_end b ≡ true → is_update b ≡ false
   end-is_update (Update key before after) e = absurd (false≢true e)
@@ -120,6 +130,7 @@ module _ (log : List Record) (r : Record) (s : Sound log) (a : Admitted log r) w
   end-is_update End e = refl
   end-is_update BeginCheckpoint e = refl
   end-is_update (EndCheckpoint transactions pages) e = refl
+  end-is_update Prepare e = refl
 
   had : (h : Bool) → (h || false) ≡ true → h ≡ true
   had true e = refl
@@ -155,6 +166,7 @@ module _ (log : List Record) (r : Record) (s : Sound log) (a : Admitted log r) w
   quiet End u c = refl
   quiet BeginCheckpoint u c = refl
   quiet (EndCheckpoint transactions pages) u c = refl
+  quiet Prepare u c = refl
 
   -- ---- an update
 
@@ -265,6 +277,7 @@ module _ (log : List Record) (r : Record) (s : Sound log) (a : Admitted log r) w
   quiet-survivors End u c = refl
   quiet-survivors BeginCheckpoint u c = refl
   quiet-survivors (EndCheckpoint transactions pages) u c = refl
+  quiet-survivors Prepare u c = refl
 
   module _ (u : is_update r.body ≡ false) (c : is_compensation r.body ≡ false) where
     quiet-surviving : all_surviving (log ++ r ∷ []) ≡ all_surviving log
@@ -290,6 +303,7 @@ module _ (log : List Record) (r : Record) (s : Sound log) (a : Admitted log r) w
       go End e = quiet-sound (ap is_update e) (ap is_compensation e)
       go BeginCheckpoint e = quiet-sound (ap is_update e) (ap is_compensation e)
       go (EndCheckpoint transactions pages) e = quiet-sound (ap is_update e) (ap is_compensation e)
+      go Prepare e = quiet-sound (ap is_update e) (ap is_compensation e)
 
 Sound-nil : Sound []
 unfolding image_now all_surviving to_undo records_of has_begun has_ended

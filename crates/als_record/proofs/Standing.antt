@@ -5,7 +5,7 @@ use Rattle.std.proofs.lemmas.Bool.{cases_Bool, eqb-true, false≢true, and_parts
 use Rattle.std.proofs.lemmas.Slice.Eq.{bytes_eq-Decides}
 use Rattle.als_record.specs.declared.key.Key.{Key}
 use Rattle.als_record.specs.declared.record.Body.{Body}
-use Rattle.als_record.specs.declared.record.Body.TheVariants.{Update, Compensation, Commit, Rollback, End, BeginCheckpoint, EndCheckpoint}
+use Rattle.als_record.specs.declared.record.Body.TheVariants.{Update, Compensation, Commit, Rollback, End, BeginCheckpoint, EndCheckpoint, Prepare}
 use Rattle.als_record.specs.declared.record.Record.{Record}
 use Rattle.als_record.specs.Spelling.{Image}
 use Rattle.als_record.specs.Transactions.{without_newest}
@@ -44,6 +44,7 @@ is_update_at-same k l Rollback e = absurd (false≢true e)
 is_update_at-same k l End e = absurd (false≢true e)
 is_update_at-same k l BeginCheckpoint e = absurd (false≢true e)
 is_update_at-same k l (EndCheckpoint transactions pages) e = absurd (false≢true e)
+is_update_at-same k l Prepare e = absurd (false≢true e)
 
 -- ---- the image that stands at a key: what the newest of these updates wrote there
 

@@ -4,7 +4,7 @@ use Rattle.std.specs.List.{AllByRecursion}
 use Rattle.std.proofs.lemmas.Bool.{cases_Bool, eqb-true, false≢true}
 use Rattle.std.proofs.lemmas.List.Sums.{fold_push}
 use Rattle.als_record.specs.declared.record.Body.{Body}
-use Rattle.als_record.specs.declared.record.Body.TheVariants.{Update, Compensation, Commit, Rollback, End, BeginCheckpoint, EndCheckpoint}
+use Rattle.als_record.specs.declared.record.Body.TheVariants.{Update, Compensation, Commit, Rollback, End, BeginCheckpoint, EndCheckpoint, Prepare}
 use Rattle.als_record.specs.declared.record.Record.{Record}
 use Rattle.als_record.specs.Transactions.{is_transactional, is_update, is_of, is_some_left, has_begun, records_of, to_undo_after, to_undo, without_newest, survivors_after, all_surviving}
 use Rattle.als_record.proofs.Records.{to_undo-none, has_begun-own, has_begun-grows}
@@ -50,6 +50,7 @@ module _ (t : ℕ) where
   step left r End = same_both (r.trans.0 == t) (filter (is_by t) left)
   step left r BeginCheckpoint = refl
   step left r (EndCheckpoint transactions pages) = refl
+  step left r Prepare = same_both (r.trans.0 == t) (filter (is_by t) left)
 
   along : (left log : List Record) → filter (is_by t) (fold (λ us u. survivors_after us u u.body) left log) ≡ fold (λ us u. to_undo_after us u u.body) (filter (is_by t) left) (filter (is_of t) log)
   along left [] = refl
@@ -108,6 +109,7 @@ All-is_update log = log_induction (λ l. AllByRecursion (λ u. is_update u.body 
         go End e = a
         go BeginCheckpoint e = a
         go (EndCheckpoint transactions pages) e = a
+        go Prepare e = a
 
 -- a surviving update's transaction has begun
 pub has_begun-survivor : (log : List Record) (t : ℕ) → is_some_left (to_undo log t) ≡ true → has_begun log t ≡ true
@@ -133,3 +135,4 @@ All-has_begun log = log_induction (λ l. AllByRecursion (λ u. has_begun l u.tra
         go End e = kept
         go BeginCheckpoint e = kept
         go (EndCheckpoint transactions pages) e = kept
+        go Prepare e = kept

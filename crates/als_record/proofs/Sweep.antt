@@ -3,7 +3,7 @@ use Rattle.std.proofs.Common.{◌≡◌, ℕ, ◌==◌, Bool, true, false, cond,
 use Rattle.std.specs.List.{list_any, AllByRecursion}
 use Rattle.std.proofs.lemmas.Bool.{cases_Bool, false≢true}
 use Rattle.als_record.specs.declared.record.Body.{Body}
-use Rattle.als_record.specs.declared.record.Body.TheVariants.{Update, Compensation, Commit, Rollback, End, BeginCheckpoint, EndCheckpoint}
+use Rattle.als_record.specs.declared.record.Body.TheVariants.{Update, Compensation, Commit, Rollback, End, BeginCheckpoint, EndCheckpoint, Prepare}
 use Rattle.als_record.specs.declared.record.Record.{Record}
 use Rattle.als_record.specs.Transactions.{is_update, to_undo, is_loser, unended, all_surviving}
 use Rattle.als_record.specs.Tail.{TailStep, Ends, Undoes, is_finished, ends, undoes, losing, tail_steps, undone, record_for, numbered, tail_of}
@@ -40,6 +40,7 @@ undone-IsUndone u Rollback e = absurd (false≢true e)
 undone-IsUndone u End e = absurd (false≢true e)
 undone-IsUndone u BeginCheckpoint e = absurd (false≢true e)
 undone-IsUndone u (EndCheckpoint transactions pages) e = absurd (false≢true e)
+undone-IsUndone u Prepare e = absurd (false≢true e)
 
 -- the records of steps, wherever the log ends
 compensations-numbered : (log : List Record) (steps : List TailStep) → AllByRecursion (λ u. is_update u.body ≡ true) (undone_in steps) → AreCompensationsOf (undone_in steps) (compensations (numbered log steps))

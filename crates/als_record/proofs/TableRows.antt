@@ -4,8 +4,8 @@ use Rattle.std.proofs.lemmas.Bool.{cases_Bool, eqb-true, eq-eqb, false≢true, o
 use Rattle.als_record.specs.declared.record.Record.{Record}
 use Rattle.als_record.specs.declared.transaction_row.TransactionRow.{TransactionRow}
 use Rattle.als_record.specs.declared.transaction_state.TransactionState.{TransactionState}
-use Rattle.als_record.specs.declared.transaction_state.TransactionState.TheVariants.{Active, Committed, RollingBack}
-use Rattle.als_record.specs.Transactions.{is_transactional, is_end, is_committed, has_rollback, is_unended, unended, is_among}
+use Rattle.als_record.specs.declared.transaction_state.TransactionState.TheVariants.{Active, Committed, RollingBack, Prepared}
+use Rattle.als_record.specs.Transactions.{is_transactional, is_end, is_committed, has_rollback, has_prepare, is_unended, unended, is_among}
 use Rattle.als_record.specs.Table.{state_of, row_of, table_of, row_after}
 use Rattle.als_record.proofs.Numbers.{eqb-refl}
 use Rattle.als_record.specs.Orders.{Apart}
@@ -116,19 +116,21 @@ is_rolling_state _ = false
 
 pub is_committed-state : (log : List Record) (t : ℕ) → is_committed log t ≡ is_committed_state (state_of log t)
 unfolding state_of
-is_committed-state log t = go (is_committed log t) (has_rollback log t)
+is_committed-state log t = go (is_committed log t) (has_rollback log t) (has_prepare log t)
   where
-    go : (c h : Bool) → c ≡ is_committed_state (cond c Committed (cond h RollingBack Active))
-    go true h = refl
-    go false true = refl
-    go false false = refl
+    go : (c h p : Bool) → c ≡ is_committed_state (cond c Committed (cond h RollingBack (cond p Prepared Active)))
+    go true h p = refl
+    go false true p = refl
+    go false false true = refl
+    go false false false = refl
 
 pub has_rollback-state : (log : List Record) (t : ℕ) → (has_rollback log t && not (is_committed log t)) ≡ is_rolling_state (state_of log t)
 unfolding state_of
-has_rollback-state log t = go (is_committed log t) (has_rollback log t)
+has_rollback-state log t = go (is_committed log t) (has_rollback log t) (has_prepare log t)
   where
-    go : (c h : Bool) → (h && not c) ≡ is_rolling_state (cond c Committed (cond h RollingBack Active))
-    go true true = refl
-    go true false = refl
-    go false true = refl
-    go false false = refl
+    go : (c h p : Bool) → (h && not c) ≡ is_rolling_state (cond c Committed (cond h RollingBack (cond p Prepared Active)))
+    go true true p = refl
+    go true false p = refl
+    go false true p = refl
+    go false false true = refl
+    go false false false = refl

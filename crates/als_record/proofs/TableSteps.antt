@@ -3,47 +3,58 @@ use Rattle.std.proofs.Common.{◌≡◌, ℕ, ◌==◌, Bool, true, false, cond,
 use Rattle.std.proofs.lemmas.Bool.{cases_Bool, or_parts}
 use Rattle.std.proofs.lemmas.List.{map_push}
 use Rattle.als_record.specs.declared.record.Body.{Body}
-use Rattle.als_record.specs.declared.record.Body.TheVariants.{Update, Compensation, Commit, Rollback, End, BeginCheckpoint, EndCheckpoint}
+use Rattle.als_record.specs.declared.record.Body.TheVariants.{Update, Compensation, Commit, Rollback, End, BeginCheckpoint, EndCheckpoint, Prepare}
 use Rattle.als_record.specs.declared.record.Record.{Record}
-use Rattle.als_record.specs.declared.transaction_state.TransactionState.TheVariants.{Active, Committed, RollingBack}
+use Rattle.als_record.specs.declared.transaction_state.TransactionState.TheVariants.{Active, Committed, RollingBack, Prepared}
 use Rattle.als_record.specs.declared.transaction_row.TransactionRow.{TransactionRow}
-use Rattle.als_record.specs.Transactions.{is_transactional, is_commit, is_rollback, is_end, is_of, has_begun, is_committed, has_rollback, is_unended, last_lsn, unended, is_among}
+use Rattle.als_record.specs.Transactions.{is_transactional, is_commit, is_rollback, is_end, is_prepare, is_of, has_begun, is_committed, has_rollback, has_prepare, is_unended, last_lsn, unended, is_among}
 use Rattle.als_record.specs.Table.{state_of, row_of, table_of, state_after, fresh_row, row_after}
-use Rattle.als_record.proofs.Records.{is_committed-own, is_committed-other, has_rollback-own, has_rollback-other, last_lsn-own, last_lsn-other, undo_next_of-own, undo_next_of-other, is_committed-none, has_rollback-none, records_of-none, undo_next_of-none, is_unended-none}
+use Rattle.als_record.proofs.Records.{is_committed-own, is_committed-other, has_rollback-own, has_rollback-other, has_prepare-own, has_prepare-other, last_lsn-own, last_lsn-other, undo_next_of-own, undo_next_of-other, is_committed-none, has_rollback-none, has_prepare-none, records_of-none, undo_next_of-none, is_unended-none}
 use Rattle.als_record.proofs.Numbers.{without, eqb-refl, eqb-sym}
 use Rattle.als_record.proofs.Unended.{unended-checkpoint, unended-more, unended-end, unended-new, unended-new_end, is_among-unended}
 
 module _ (log : List Record) (r : Record) (t : ℕ) where
   pub row_of-other : is_of t r ≡ false → row_of (log ++ r ∷ []) t ≡ row_of log t
   unfolding row_of state_of
-  row_of-other o = cc (is_committed-other log r t o, has_rollback-other log r t o, last_lsn-other log r t o, undo_next_of-other log r t o)
+  row_of-other o = cc (is_committed-other log r t o, has_rollback-other log r t o, has_prepare-other log r t o, last_lsn-other log r t o, undo_next_of-other log r t o)
 
-  state_step : (c h : Bool) (b : Body) → cond (c || is_commit b) Committed (cond (h || is_rollback b) RollingBack Active) ≡ state_after (cond c Committed (cond h RollingBack Active)) b
-  state_step true h (Update key before after) = refl
-  state_step true h (Compensation undo_next key after) = refl
-  state_step true h Commit = refl
-  state_step true h Rollback = refl
-  state_step true h End = refl
-  state_step true h BeginCheckpoint = refl
-  state_step true h (EndCheckpoint transactions pages) = refl
-  state_step false true (Update key before after) = refl
-  state_step false true (Compensation undo_next key after) = refl
-  state_step false true Commit = refl
-  state_step false true Rollback = refl
-  state_step false true End = refl
-  state_step false true BeginCheckpoint = refl
-  state_step false true (EndCheckpoint transactions pages) = refl
-  state_step false false (Update key before after) = refl
-  state_step false false (Compensation undo_next key after) = refl
-  state_step false false Commit = refl
-  state_step false false Rollback = refl
-  state_step false false End = refl
-  state_step false false BeginCheckpoint = refl
-  state_step false false (EndCheckpoint transactions pages) = refl
+  state_step : (c h p : Bool) (b : Body) → cond (c || is_commit b) Committed (cond (h || is_rollback b) RollingBack (cond (p || is_prepare b) Prepared Active)) ≡ state_after (cond c Committed (cond h RollingBack (cond p Prepared Active))) b
+  state_step true h p (Update key before after) = refl
+  state_step true h p (Compensation undo_next key after) = refl
+  state_step true h p Commit = refl
+  state_step true h p Rollback = refl
+  state_step true h p End = refl
+  state_step true h p BeginCheckpoint = refl
+  state_step true h p (EndCheckpoint transactions pages) = refl
+  state_step true h p Prepare = refl
+  state_step false true p (Update key before after) = refl
+  state_step false true p (Compensation undo_next key after) = refl
+  state_step false true p Commit = refl
+  state_step false true p Rollback = refl
+  state_step false true p End = refl
+  state_step false true p BeginCheckpoint = refl
+  state_step false true p (EndCheckpoint transactions pages) = refl
+  state_step false true p Prepare = refl
+  state_step false false true (Update key before after) = refl
+  state_step false false true (Compensation undo_next key after) = refl
+  state_step false false true Commit = refl
+  state_step false false true Rollback = refl
+  state_step false false true End = refl
+  state_step false false true BeginCheckpoint = refl
+  state_step false false true (EndCheckpoint transactions pages) = refl
+  state_step false false true Prepare = refl
+  state_step false false false (Update key before after) = refl
+  state_step false false false (Compensation undo_next key after) = refl
+  state_step false false false Commit = refl
+  state_step false false false Rollback = refl
+  state_step false false false End = refl
+  state_step false false false BeginCheckpoint = refl
+  state_step false false false (EndCheckpoint transactions pages) = refl
+  state_step false false false Prepare = refl
 
   pub state_of-own : is_of t r ≡ true → state_of (log ++ r ∷ []) t ≡ state_after (state_of log t) r.body
   unfolding state_of
-  state_of-own o = rw (is_committed-own log r t o, has_rollback-own log r t o) (state_step (is_committed log t) (has_rollback log t) r.body)
+  state_of-own o = rw (is_committed-own log r t o, has_rollback-own log r t o, has_prepare-own log r t o) (state_step (is_committed log t) (has_rollback log t) (has_prepare log t) r.body)
 
   pub row_of-own : is_of t r ≡ true → row_of (log ++ r ∷ []) t ≡ row_after (row_of log t) r
   unfolding row_of
@@ -51,7 +62,7 @@ module _ (log : List Record) (r : Record) (t : ℕ) where
 
 pub row_of-none : (log : List Record) (t : ℕ) → has_begun log t ≡ false → row_of log t ≡ fresh_row t
 unfolding row_of state_of last_lsn
-row_of-none log t n = rw (is_committed-none log t n, has_rollback-none log t n, records_of-none log t n, undo_next_of-none log t n) refl
+row_of-none log t n = rw (is_committed-none log t n, has_rollback-none log t n, has_prepare-none log t n, records_of-none log t n, undo_next_of-none log t n) refl
 
 -- a transaction's row bears its number
 pub row_of-trans : (log : List Record) (t : ℕ) → (row_of log t).trans.0 ≡ t

@@ -5,20 +5,21 @@ use Rattle.std.proofs.lemmas.Bool.{cases_Bool, eqb-true, eq-eqb, false≢true, a
 use Rattle.std.proofs.lemmas.List.Sums.{sum_by-cons}
 use Rattle.als_record.specs.declared.key.Key.{Key}
 use Rattle.als_record.specs.declared.record.Body.{Body}
-use Rattle.als_record.specs.declared.record.Body.TheVariants.{Update, Compensation, Commit, Rollback, End, BeginCheckpoint, EndCheckpoint}
+use Rattle.als_record.specs.declared.record.Body.TheVariants.{Update, Compensation, Commit, Rollback, End, BeginCheckpoint, EndCheckpoint, Prepare}
 use Rattle.als_record.specs.declared.record.Record.{Record}
 use Rattle.als_record.specs.Spelling.{record_len, IsBody, IsRecord}
 use Rattle.als_record.specs.LogText.{end_of, follow_from, IsLog}
-use Rattle.als_record.specs.Transactions.{is_transactional, is_update, is_among, transactions, unended, is_unended, is_committed, is_loser, survivors_after, all_surviving, last_lsn}
+use Rattle.als_record.specs.Transactions.{is_transactional, is_update, is_among, transactions, unended, in_doubt, is_unended, is_in_doubt, is_loser, survivors_after, all_surviving, last_lsn}
 use Rattle.als_record.specs.Images.{kept}
 use Rattle.als_record.specs.Validity.{may_follow, is_valid, IsValidLog}
-use Rattle.als_record.specs.Tail.{TailStep, Ends, Undoes, is_finished, ends, undoes, losing, tail_steps, undone, record_for, numbered, tail_of, tail_len, is_undone}
+use Rattle.als_record.specs.Tail.{TailStep, Ends, Undoes, is_finished, ends, undoes, losing, ending, tail_steps, undone, record_for, numbered, tail_of, tail_len, is_undone}
 use Rattle.als_record.proofs.Numbers.{is_among-filter, eqb-refl}
+use Rattle.als_record.proofs.Records.{loser_parts}
 use Rattle.als_record.proofs.Survivors.{all_surviving-push, all_surviving-nil, All-without_newest, log_induction}
-use Rattle.als_record.proofs.Unended.{is_among-unended, transactions-push, is_undone-unended, unended-is_undone}
+use Rattle.als_record.proofs.Unended.{is_among-unended, is_among-ending, All-unended, transactions-push, is_undone-ending, ending-is_undone}
 use Rattle.als_record.proofs.Validity.{is_valid-front, is_valid-push, may_follow-admitted, Admitted, Admitted-may_follow}
-use Rattle.als_record.proofs.TailSteps.{tail_of-front, losing-is_update}
-use Rattle.als_record.proofs.Takeover.{Steps, tail_steps-first, unended-without_tail}
+use Rattle.als_record.proofs.TailSteps.{doubting, tail_of-front, tail_steps-doubts, losing-is_update, is_finished-in_doubt}
+use Rattle.als_record.proofs.Takeover.{Steps, tail_steps-first, ending-without_tail}
 use Rattle.als_record.proofs.Falling.{losing-none, All-filter}
 use Rattle.als_record.proofs.Chain.{Threaded-valid}
 use Rattle.als_record.proofs.Places.{transactions-nil}
@@ -39,14 +40,24 @@ tail_of-undoes log u us e q = (
   ap (λ xs. numbered log (ends xs ++ undoes (losing log))) e ∙ ap (λ vs. numbered log (undoes vs)) q,
 )
 
--- none, where nothing is unended
-pub tail_of-none : (log : List Record) → unended log ≡ [] → tail_of log ≡ []
-unfolding tail_of numbered tail_steps undoes is_loser
-tail_of-none log e = ap (λ xs. numbered log (ends (filter (is_finished log) xs) ++ undoes (losing log))) e ∙ ap (λ us. numbered log (undoes us)) (losing-none log (λ t l. absurd (false≢true (ap (λ xs. is_among xs t) (sym e) ∙ is_among-unended log t ∙ (and_parts (is_unended log t) (not (is_committed log t)) l).0))))
+-- none, where a takeover ends no transaction
+pub tail_of-none : (log : List Record) → ending log ≡ [] → tail_of log ≡ []
+unfolding tail_of numbered tail_steps undoes
+tail_of-none log e = ap (λ xs. numbered log (ends xs ++ undoes (losing log))) (unfinished (unended log) (All-unended log)) ∙ ap (λ us. numbered log (undoes us)) (losing-none log (λ t l. absurd (nobody t (loser_parts log t l).0 (loser_parts log t l).2)))
+  where
+    nobody : (t : ℕ) → is_unended log t ≡ true → is_in_doubt log t ≡ false → ⊥
+    nobody t u d = false≢true (ap (λ xs. is_among xs t) (sym e) ∙ is_among-ending log t ∙ rw (u, d) refl)
 
-pub unended-tail_of : (log : List Record) → tail_of log ≡ [] → unended log ≡ []
+    unfinished : (ts : List ℕ) → AllByRecursion (λ t. is_unended log t ≡ true) ts → filter (is_finished log) ts ≡ []
+    unfinished [] a = refl
+    unfinished (t ∷ ts) a = elim (cases_Bool (is_finished log t)) [
+      | inl f ↦ absurd (nobody t a.0 (is_finished-in_doubt log t f))
+      | inr f ↦ rw f (unfinished ts a.1)
+    ]
+
+pub ending-tail_of : (log : List Record) → tail_of log ≡ [] → ending log ≡ []
 unfolding tail_of numbered
-unended-tail_of log e = unended-without_tail log (none (tail_steps log) e)
+ending-tail_of log e = ending-without_tail log (none (tail_steps log) e)
   where
     none : (steps : List TailStep) → numbered log steps ≡ [] → steps ≡ []
     none [] e = refl
@@ -54,10 +65,10 @@ unended-tail_of log e = unended-without_tail log (none (tail_steps log) e)
 
 -- none exactly where nothing of it is left to append
 pub tail_of-undone : (log : List Record) → is_undone log ≡ true → tail_of log ≡ []
-tail_of-undone log u = tail_of-none log (is_undone-unended log u)
+tail_of-undone log u = tail_of-none log (is_undone-ending log u)
 
 pub is_undone-tail_of : (log : List Record) → tail_of log ≡ [] → is_undone log ≡ true
-is_undone-tail_of log e = unended-is_undone log (unended-tail_of log e)
+is_undone-tail_of log e = ending-is_undone log (ending-tail_of log e)
 
 -- ---- what comes of it
 
@@ -79,6 +90,10 @@ module _ (log : List Record) (r : Record) (rest : List Record) (e : tail_of log 
       go : (steps : List TailStep) → tail_steps log ≡ steps → numbered log steps ≡ r ∷ rest → (step : TailStep) × (more : List TailStep) × (tail_steps log ≡ step ∷ more) × (r ≡ record_for log step)
       go [] q f = absurd (cc f)
       go (step ∷ more) q f = let g : r ≡ record_for log step = cc f in (step, more, q, g)
+
+  -- who is in doubt stays, with its updates
+  pub doubts-next : (in_doubt (log ++ r ∷ []) ≡ in_doubt log) × (doubting (log ++ r ∷ []) ≡ doubting log)
+  doubts-next = subst (λ u. (in_doubt (log ++ u ∷ []) ≡ in_doubt log) × (doubting (log ++ u ∷ []) ≡ doubting log)) (sym stepped.3) (tail_steps-doubts log stepped.0 stepped.1 stepped.2)
 
   module _ (v : is_valid log ≡ true) where
     first : Steps log stepped.0
@@ -139,6 +154,7 @@ surviving_fit pages = log_induction (λ l. AllByRecursion (IsRecord pages) l →
         go End = h parts.0
         go BeginCheckpoint = h parts.0
         go (EndCheckpoint transactions pages) = h parts.0
+        go Prepare = h parts.0
 
 -- and so do the transactions' numbers
 numbers_fit : (pages : ℕ) (log : List Record) → AllByRecursion (IsRecord pages) log → AllByRecursion (λ t. t < 2 ^ 32) (transactions log)
@@ -189,6 +205,7 @@ module _ (pages : ℕ) (log : List Record) (v : is_valid log ≡ true) (l : AllB
       go End e g = absurd (false≢true e)
       go BeginCheckpoint e g = absurd (false≢true e)
       go (EndCheckpoint transactions pages) e g = absurd (false≢true e)
+      go Prepare e g = absurd (false≢true e)
 
   step_fits : (step : TailStep) (more : List TailStep) → tail_steps log ≡ step ∷ more → IsRecord pages (record_for log step)
   unfolding tail_steps undoes losing

@@ -6,16 +6,16 @@ use Rattle.std.proofs.lemmas.List.Elements.{filter_agree}
 use Rattle.als_record.specs.declared.lsn.Lsn.{Lsn}
 use Rattle.als_record.specs.declared.key.Key.{Key}
 use Rattle.als_record.specs.declared.record.Body.{Body}
-use Rattle.als_record.specs.declared.record.Body.TheVariants.{Update, Compensation, Commit, Rollback, End, BeginCheckpoint, EndCheckpoint}
+use Rattle.als_record.specs.declared.record.Body.TheVariants.{Update, Compensation, Commit, Rollback, End, BeginCheckpoint, EndCheckpoint, Prepare}
 use Rattle.als_record.specs.declared.record.Record.{Record}
-use Rattle.als_record.specs.Transactions.{is_transactional, is_update, is_compensation, is_commit, is_end, is_of, is_among, to_undo_after, to_undo, is_some_left, is_committed, is_unended, is_loser, unended, without_newest, survivors_after, all_surviving}
+use Rattle.als_record.specs.Transactions.{is_transactional, is_update, is_compensation, is_commit, is_rollback, is_end, is_prepare, is_of, is_among, to_undo_after, to_undo, is_some_left, is_committed, has_ended, is_unended, is_in_doubt, is_loser, unended, in_doubt, without_newest, survivors_after, all_surviving, transactions}
 use Rattle.als_record.specs.Spelling.{Image}
-use Rattle.als_record.specs.Tail.{TailStep, Ends, Undoes, is_finished, ends, undoes, losing, tail_steps, undone, record_for, numbered, tail_of}
-use Rattle.als_record.proofs.Records.{to_undo-own, to_undo-other, is_committed-own, is_committed-other, is_loser-own, is_loser-other, has_begun-unended, has_ended-unended}
+use Rattle.als_record.specs.Tail.{TailStep, Ends, Undoes, is_finished, ends, undoes, losing, ending, tail_steps, undone, record_for, numbered, tail_of}
+use Rattle.als_record.proofs.Records.{to_undo-own, to_undo-other, is_committed-own, is_committed-other, is_unended-own, is_loser-other, is_loser-from, loser_parts, is_in_doubt-other, is_in_doubt-stays, is_in_doubt-committed, is_in_doubt-over, has_begun-unended, has_ended-unended}
 use Rattle.als_record.proofs.Numbers.{without, eqb-refl, eqb-sym, is_among-filter, Apart-filter, filter-except, without-absent}
 use Rattle.als_record.specs.Orders.{Apart}
 use Rattle.als_record.proofs.Survivors.{is_by, all_surviving-push, all_surviving-by, All-is_update}
-use Rattle.als_record.proofs.Unended.{unended-more, unended-end, Apart-unended, is_among-unended}
+use Rattle.als_record.proofs.Unended.{transactions-same, unended-more, unended-end, Apart-unended, is_among-unended}
 
 -- ---- lists
 
@@ -62,6 +62,21 @@ filter-none p t n (v ∷ us) = elim (cases_Bool (p v.trans.0)) [
   | inr z ↦ simp z (filter-none p t n us)
 ]
 
+-- a test of transactions that leaves one out keeps the same of a list without its newest update
+pub filter-passes_newest : (p : ℕ → Bool) (t : ℕ) → p t ≡ false → (us : List Record) → filter (λ v. p v.trans.0) (without_newest t us) ≡ filter (λ v. p v.trans.0) us
+filter-passes_newest p t n [] = refl
+filter-passes_newest p t n (v ∷ us) = elim (cases_Bool (v.trans.0 == t)) [
+  | inl w ↦ let z : p v.trans.0 ≡ false = ap p (eqb-true v.trans.0 t w) ∙ n in simp (w, z)
+  | inr w ↦ elim (cases_Bool (p v.trans.0)) [
+    | inl z ↦ simp (w, z) (ap (λ xs. v ∷ xs) (filter-passes_newest p t n us))
+    | inr z ↦ simp (w, z) (filter-passes_newest p t n us)
+  ]
+]
+
+-- the surviving updates of the transactions in doubt
+abbrev pub doubting : List Record → List Record
+doubting log = filter (λ u. is_in_doubt log u.trans.0) (all_surviving log)
+
 pub is_some_left-filter : (p : Record → Bool) (us : List Record) → is_some_left (filter p us) ≡ list_any p us
 is_some_left-filter p [] = refl
 is_some_left-filter p (u ∷ rest) = elim (cases_Bool (p u)) [
@@ -101,6 +116,7 @@ module _ (prev : Lsn) where
   undone-is_compensation End e = absurd (false≢true e)
   undone-is_compensation BeginCheckpoint e = absurd (false≢true e)
   undone-is_compensation (EndCheckpoint transactions pages) e = absurd (false≢true e)
+  undone-is_compensation Prepare e = absurd (false≢true e)
 
 -- what a compensation is and does
 module _ (b : Body) (c : is_compensation b ≡ true) where
@@ -115,6 +131,7 @@ module _ (b : Body) (c : is_compensation b ≡ true) where
       go End e = absurd (false≢true e)
       go BeginCheckpoint e = absurd (false≢true e)
       go (EndCheckpoint transactions pages) e = absurd (false≢true e)
+      go Prepare e = absurd (false≢true e)
 
   pub compensation-is_transactional : is_transactional b ≡ true
   compensation-is_transactional = by_cases (λ b. is_transactional b ≡ true) (λ _ _ _. refl)
@@ -124,6 +141,12 @@ module _ (b : Body) (c : is_compensation b ≡ true) where
 
   pub compensation-is_commit : is_commit b ≡ false
   compensation-is_commit = by_cases (λ b. is_commit b ≡ false) (λ _ _ _. refl)
+
+  pub compensation-is_prepare : is_prepare b ≡ false
+  compensation-is_prepare = by_cases (λ b. is_prepare b ≡ false) (λ _ _ _. refl)
+
+  pub compensation-is_rollback : is_rollback b ≡ false
+  compensation-is_rollback = by_cases (λ b. is_rollback b ≡ false) (λ _ _ _. refl)
 
   pub compensation-to_undo : (left : List Record) (r : Record) → to_undo_after left r b ≡ drop 1 left
   compensation-to_undo left r = by_cases (λ b. to_undo_after left r b ≡ drop 1 left) (λ _ _ _. refl)
@@ -164,9 +187,17 @@ module _ (log : List Record) (r : Record) (c : is_compensation r.body ≡ true) 
   other : (x : ℕ) → (x == r.trans.0) ≡ false → is_of x r ≡ false
   other x e = rw (compensation-is_transactional r.body c) (eqb-sym r.trans.0 x ∙ e)
 
-  parts : (is_unended log r.trans.0 ≡ true) × (not (is_committed log r.trans.0) ≡ true)
-  unfolding is_loser
-  parts = and_parts (is_unended log r.trans.0) (not (is_committed log r.trans.0)) l
+  parts : (is_unended log r.trans.0 ≡ true) × (is_committed log r.trans.0 ≡ false) × (is_in_doubt log r.trans.0 ≡ false)
+  parts = loser_parts log r.trans.0 l
+
+  pub compensation-is_in_doubt : (x : ℕ) → is_in_doubt (log ++ r ∷ []) x ≡ is_in_doubt log x
+  compensation-is_in_doubt x = elim (cases_Bool (x == r.trans.0)) [
+    | inl e ↦ let q : x ≡ r.trans.0 = eqb-true x r.trans.0 e in ap (is_in_doubt (log ++ r ∷ [])) q ∙ here ∙ ap (is_in_doubt log) (sym q)
+    | inr e ↦ is_in_doubt-other log r x (other x e)
+  ]
+    where
+      here : is_in_doubt (log ++ r ∷ []) r.trans.0 ≡ is_in_doubt log r.trans.0
+      here = is_in_doubt-stays log r r.trans.0 own (has_ended-unended log r.trans.0 parts.0) (has_begun-unended log r.trans.0 parts.0) (compensation-is_end r.body c) (compensation-is_prepare r.body c) (compensation-is_commit r.body c) (compensation-is_rollback r.body c)
 
   pub compensation-is_loser : (x : ℕ) → is_loser (log ++ r ∷ []) x ≡ is_loser log x
   compensation-is_loser x = elim (cases_Bool (x == r.trans.0)) [
@@ -175,8 +206,10 @@ module _ (log : List Record) (r : Record) (c : is_compensation r.body ≡ true) 
   ]
     where
       here : is_loser (log ++ r ∷ []) r.trans.0 ≡ is_loser log r.trans.0
-      here = is_loser-own log r r.trans.0 own
-          ∙ rw (compensation-is_end r.body c, compensation-is_commit r.body c, has_ended-unended log r.trans.0 parts.0, not-true (is_committed log r.trans.0) parts.1) (sym l)
+      here = is_loser-from (log ++ r ∷ []) r.trans.0
+          (is_unended-own log r r.trans.0 own ∙ rw (compensation-is_end r.body c, has_ended-unended log r.trans.0 parts.0) refl)
+          (is_committed-own log r r.trans.0 own ∙ rw (compensation-is_commit r.body c, parts.1) refl)
+          (compensation-is_in_doubt r.trans.0 ∙ parts.2) ∙ sym l
 
   pub compensation-is_committed : (x : ℕ) → is_committed (log ++ r ∷ []) x ≡ is_committed log x
   compensation-is_committed x = elim (cases_Bool (x == r.trans.0)) [
@@ -186,7 +219,7 @@ module _ (log : List Record) (r : Record) (c : is_compensation r.body ≡ true) 
     where
       here : is_committed (log ++ r ∷ []) r.trans.0 ≡ is_committed log r.trans.0
       here = is_committed-own log r r.trans.0 own
-          ∙ rw (compensation-is_commit r.body c, not-true (is_committed log r.trans.0) parts.1) refl
+          ∙ rw (compensation-is_commit r.body c, parts.1) refl
 
   pub compensation-all_surviving : all_surviving (log ++ r ∷ []) ≡ without_newest r.trans.0 (all_surviving log)
   compensation-all_surviving = all_surviving-push log r ∙ compensation-survivors r.body c (all_surviving log) r
@@ -196,6 +229,24 @@ module _ (log : List Record) (r : Record) (c : is_compensation r.body ≡ true) 
 
   pub compensation-unended : unended (log ++ r ∷ []) ≡ unended log
   compensation-unended = unended-more log r (compensation-is_transactional r.body c) (compensation-is_end r.body c) parts.0
+
+  pub compensation-in_doubt : in_doubt (log ++ r ∷ []) ≡ in_doubt log
+  unfolding in_doubt
+  compensation-in_doubt =
+      ap (filter (is_in_doubt (log ++ r ∷ []))) (transactions-same log r (compensation-is_transactional r.body c) (has_begun-unended log r.trans.0 parts.0))
+      ∙ filter_agree (is_in_doubt (log ++ r ∷ [])) (is_in_doubt log) compensation-is_in_doubt (transactions log)
+
+  pub compensation-doubting : doubting (log ++ r ∷ []) ≡ doubting log
+  compensation-doubting =
+      filter_agree (λ (u : Record). is_in_doubt (log ++ r ∷ []) u.trans.0) (λ u. is_in_doubt log u.trans.0) (λ u. compensation-is_in_doubt u.trans.0) (all_surviving (log ++ r ∷ []))
+      ∙ ap (filter (λ u. is_in_doubt log u.trans.0)) compensation-all_surviving
+      ∙ filter-passes_newest (is_in_doubt log) r.trans.0 parts.2 (all_surviving log)
+
+  pub compensation-ending : ending (log ++ r ∷ []) ≡ ending log
+  unfolding ending
+  compensation-ending =
+      ap (filter (λ x. not (is_in_doubt (log ++ r ∷ []) x))) compensation-unended
+      ∙ filter_agree (λ x. not (is_in_doubt (log ++ r ∷ []) x)) (λ x. not (is_in_doubt log x)) (λ x. ap not (compensation-is_in_doubt x)) (unended log)
 
   -- of the updates to undo, the first is the one undone
   pub compensation-losing : (u : Record) (rest : List Record) → losing log ≡ u ∷ rest → u.trans.0 ≡ r.trans.0 → losing (log ++ r ∷ []) ≡ rest
@@ -214,17 +265,17 @@ module _ (log : List Record) (r : Record) (c : is_compensation r.body ≡ true) 
 
   finished_others : (x : ℕ) → (x == r.trans.0) ≡ false → is_finished (log ++ r ∷ []) x ≡ is_finished log x
   unfolding is_finished
-  finished_others x e = rw (compensation-is_committed x, to_undo-other log r x (other x e)) refl
+  finished_others x e = rw (compensation-is_committed x, compensation-is_in_doubt x, to_undo-other log r x (other x e)) refl
 
   finished_here : (u : Record) (rest : List Record) → losing log ≡ u ∷ rest → u.trans.0 ≡ r.trans.0 → is_finished (log ++ r ∷ []) r.trans.0 ≡ not (list_any (is_by r.trans.0) rest)
   unfolding is_finished
   finished_here u rest e q =
-      rw (compensation-is_committed r.trans.0, not-true (is_committed log r.trans.0) parts.1, compensation-to_undo_of, loser-to_undo u rest e q)
+      rw (compensation-is_committed r.trans.0, compensation-is_in_doubt r.trans.0, parts.1, parts.2, compensation-to_undo_of, loser-to_undo u rest e q)
       (ap not (is_some_left-filter (is_by r.trans.0) rest))
 
   unfinished_before : (u : Record) (rest : List Record) → losing log ≡ u ∷ rest → u.trans.0 ≡ r.trans.0 → is_finished log r.trans.0 ≡ false
   unfolding is_finished
-  unfinished_before u rest e q = rw (not-true (is_committed log r.trans.0) parts.1, loser-to_undo u rest e q) refl
+  unfinished_before u rest e q = rw (parts.1, parts.2, loser-to_undo u rest e q) refl
 
   -- where no other transaction was finished, this one is after its last update
   pub compensation-finished : (u : Record) (rest : List Record) → losing log ≡ u ∷ rest → u.trans.0 ≡ r.trans.0 → filter (is_finished log) (unended log) ≡ [] → filter (is_finished (log ++ r ∷ [])) (unended (log ++ r ∷ [])) ≡ cond (list_any (is_by r.trans.0) rest) [] (r.trans.0 ∷ [])
@@ -238,6 +289,13 @@ module _ (log : List Record) (r : Record) (c : is_compensation r.body ≡ true) 
   ]
 
 -- ---- the end of a finished transaction
+
+pub is_finished-in_doubt : (log : List Record) (t : ℕ) → is_finished log t ≡ true → is_in_doubt log t ≡ false
+unfolding is_finished
+is_finished-in_doubt log t f = elim (cases_Bool (is_committed log t)) [
+  | inl c ↦ is_in_doubt-committed log t c
+  | inr c ↦ not-true (is_in_doubt log t) (and_parts (not (is_in_doubt log t)) (not (is_some_left (to_undo log t))) (rw c at f)).0
+]
 
 module _ (log : List Record) (r : Record) (b : r.body ≡ End) (u : is_unended log r.trans.0 ≡ true) where
   end_own : is_of r.trans.0 r ≡ true
@@ -274,17 +332,49 @@ module _ (log : List Record) (r : Record) (b : r.body ≡ End) (u : is_unended l
   pub end-unended : unended (log ++ r ∷ []) ≡ without r.trans.0 (unended log)
   end-unended = unended-end log r (rw b refl) (rw b refl) (has_begun-unended log r.trans.0 u)
 
-  end-is_finished : (x : ℕ) → is_finished (log ++ r ∷ []) x ≡ is_finished log x
-  unfolding is_finished
-  end-is_finished x = rw (end-is_committed x, end-to_undo x) refl
+  -- a finished transaction is not in doubt
+  pub end-is_in_doubt : is_finished log r.trans.0 ≡ true → (x : ℕ) → is_in_doubt (log ++ r ∷ []) x ≡ is_in_doubt log x
+  end-is_in_doubt f x = elim (cases_Bool (x == r.trans.0)) [
+    | inl e ↦ let q : x ≡ r.trans.0 = eqb-true x r.trans.0 e in ap (is_in_doubt (log ++ r ∷ [])) q ∙ is_in_doubt-over (log ++ r ∷ []) r.trans.0 over ∙ sym (is_finished-in_doubt log r.trans.0 f) ∙ ap (is_in_doubt log) (sym q)
+    | inr e ↦ is_in_doubt-other log r x (end_other x e)
+  ]
+    where
+      either : (h : Bool) → not (h || true) ≡ false
+      either true = refl
+      either false = refl
 
-  pub end-finished : (rest : List ℕ) → filter (is_finished log) (unended log) ≡ r.trans.0 ∷ rest → filter (is_finished (log ++ r ∷ [])) (unended (log ++ r ∷ [])) ≡ rest
-  end-finished rest e =
+      over : is_unended (log ++ r ∷ []) r.trans.0 ≡ false
+      over = is_unended-own log r r.trans.0 end_own ∙ rw b (either (has_ended log r.trans.0))
+
+  end-is_finished : is_finished log r.trans.0 ≡ true → (x : ℕ) → is_finished (log ++ r ∷ []) x ≡ is_finished log x
+  unfolding is_finished
+  end-is_finished f x = rw (end-is_committed x, end-to_undo x, end-is_in_doubt f x) refl
+
+  pub end-finished : is_finished log r.trans.0 ≡ true → (rest : List ℕ) → filter (is_finished log) (unended log) ≡ r.trans.0 ∷ rest → filter (is_finished (log ++ r ∷ [])) (unended (log ++ r ∷ [])) ≡ rest
+  end-finished f rest e =
       ap (filter (is_finished (log ++ r ∷ []))) end-unended
-      ∙ filter_agree (is_finished (log ++ r ∷ [])) (is_finished log) end-is_finished (without r.trans.0 (unended log))
+      ∙ filter_agree (is_finished (log ++ r ∷ [])) (is_finished log) (end-is_finished f) (without r.trans.0 (unended log))
       ∙ without-filter r.trans.0 (is_finished log) (unended log)
       ∙ ap (without r.trans.0) e
       ∙ rw (eqb-refl r.trans.0) (without-absent r.trans.0 rest (subst Apart e (Apart-filter (is_finished log) (unended log) (Apart-unended log))).0)
+
+  pub end-in_doubt : is_finished log r.trans.0 ≡ true → in_doubt (log ++ r ∷ []) ≡ in_doubt log
+  unfolding in_doubt
+  end-in_doubt f =
+      ap (filter (is_in_doubt (log ++ r ∷ []))) (transactions-same log r (ap is_transactional b) (has_begun-unended log r.trans.0 u))
+      ∙ filter_agree (is_in_doubt (log ++ r ∷ [])) (is_in_doubt log) (end-is_in_doubt f) (transactions log)
+
+  pub end-doubting : is_finished log r.trans.0 ≡ true → doubting (log ++ r ∷ []) ≡ doubting log
+  end-doubting f =
+      filter_agree (λ (u : Record). is_in_doubt (log ++ r ∷ []) u.trans.0) (λ u. is_in_doubt log u.trans.0) (λ u. end-is_in_doubt f u.trans.0) (all_surviving (log ++ r ∷ []))
+      ∙ ap (filter (λ u. is_in_doubt log u.trans.0)) end-all_surviving
+
+  pub end-ending : is_finished log r.trans.0 ≡ true → ending (log ++ r ∷ []) ≡ without r.trans.0 (ending log)
+  unfolding ending
+  end-ending f =
+      ap (filter (λ x. not (is_in_doubt (log ++ r ∷ []) x))) end-unended
+      ∙ filter_agree (λ x. not (is_in_doubt (log ++ r ∷ []) x)) (λ x. not (is_in_doubt log x)) (λ x. ap not (end-is_in_doubt f x)) (without r.trans.0 (unended log))
+      ∙ without-filter r.trans.0 (λ x. not (is_in_doubt log x)) (unended log)
 
   -- it had nothing to undo, so the losers' updates stay as they are
   pub end-losing : is_finished log r.trans.0 ≡ true → losing (log ++ r ∷ []) ≡ losing log
@@ -292,21 +382,21 @@ module _ (log : List Record) (r : Record) (b : r.body ≡ End) (u : is_unended l
   end-losing f = ap (filter (λ u. is_loser (log ++ r ∷ []) u.trans.0)) end-all_surviving ∙ elim (cases_Bool (is_committed log r.trans.0)) [
     | inl c ↦ filter_agree (λ (v : Record). is_loser (log ++ r ∷ []) v.trans.0) (λ v. is_loser log v.trans.0) (λ v. committed c v.trans.0) (all_surviving log)
     | inr c ↦ filter-absent (λ v. is_loser (log ++ r ∷ []) v.trans.0) (λ v. is_loser log v.trans.0) r.trans.0 (λ v w. is_loser-other log r v.trans.0 (end_other v.trans.0 w)) (all_surviving log)
-        (all_surviving-by r.trans.0 log ∙ nothing (to_undo log r.trans.0) (rw c at f))
+        (all_surviving-by r.trans.0 log ∙ nothing (to_undo log r.trans.0) (and_parts (not (is_in_doubt log r.trans.0)) (not (is_some_left (to_undo log r.trans.0))) (rw c at f)).1)
   ]
     where
       nothing : (left : List Record) → not (is_some_left left) ≡ true → left ≡ []
       nothing [] e = refl
       nothing (v ∷ rest) e = absurd (false≢true e)
 
-      off : (a : Bool) → (a && not true) ≡ false
-      off true = refl
-      off false = refl
+      off : (a d : Bool) → (a && not true && d) ≡ false
+      off true d = refl
+      off false d = refl
 
       committed : is_committed log r.trans.0 ≡ true → (x : ℕ) → is_loser (log ++ r ∷ []) x ≡ is_loser log x
       committed c x = elim (cases_Bool (x == r.trans.0)) [
         | inl e ↦ let q : x ≡ r.trans.0 = eqb-true x r.trans.0 e in
-            rw (q, end-is_committed r.trans.0, c) (off (is_unended (log ++ r ∷ []) r.trans.0) ∙ sym (off (is_unended log r.trans.0)))
+            rw (q, end-is_committed r.trans.0, c) (off (is_unended (log ++ r ∷ []) r.trans.0) (not (is_in_doubt (log ++ r ∷ []) r.trans.0)) ∙ sym (off (is_unended log r.trans.0) (not (is_in_doubt log r.trans.0))))
         | inr e ↦ is_loser-other log r x (end_other x e)
       ]
 
@@ -317,7 +407,7 @@ abbrev left_of : List Record → List TailStep
 left_of log = ends (filter (is_finished log) (unended log)) ++ undoes (losing log)
 
 next_end : (log : List Record) (t : ℕ) (ts : List ℕ) → filter (is_finished log) (unended log) ≡ t ∷ ts → left_of (log ++ record_for log (Ends t) ∷ []) ≡ ends ts ++ undoes (losing log)
-next_end log t ts p = ap (λ xs. ends xs ++ undoes (losing (log ++ r ∷ []))) (end-finished log r refl passes.1 ts p) ∙ ap (λ us. ends ts ++ undoes us) (end-losing log r refl passes.1 passes.0)
+next_end log t ts p = ap (λ xs. ends xs ++ undoes (losing (log ++ r ∷ []))) (end-finished log r refl passes.1 passes.0 ts p) ∙ ap (λ us. ends ts ++ undoes us) (end-losing log r refl passes.1 passes.0)
   where
     r : Record
     r = record_for log (Ends t)
@@ -359,6 +449,41 @@ tail_steps-next log step rest e = go (filter (is_finished log) (unended log)) re
         let s : step ≡ Undoes u = cc e in
         let m : cond (list_any (is_by u.trans.0) us) (undoes us) (Ends u.trans.0 ∷ undoes us) ≡ rest = cc e in
         ap (λ st. left_of (log ++ record_for log st ∷ [])) s ∙ next_undo log u us p q ∙ m
+    go [] p [] q e = absurd (cc e)
+
+-- and it leaves in doubt who was, with the same updates
+pub tail_steps-doubts : (log : List Record) (step : TailStep) (rest : List TailStep) → tail_steps log ≡ step ∷ rest → (in_doubt (log ++ record_for log step ∷ []) ≡ in_doubt log) × (doubting (log ++ record_for log step ∷ []) ≡ doubting log)
+unfolding tail_steps undoes
+tail_steps-doubts log step rest e = go (filter (is_finished log) (unended log)) refl (losing log) refl e
+  where
+    Same : TailStep → Type 0
+    Same st = (in_doubt (log ++ record_for log st ∷ []) ≡ in_doubt log) × (doubting (log ++ record_for log st ∷ []) ≡ doubting log)
+
+    at_end : (t : ℕ) (ts : List ℕ) → filter (is_finished log) (unended log) ≡ t ∷ ts → Same (Ends t)
+    at_end t ts p = (end-in_doubt log r refl passes.1 passes.0, end-doubting log r refl passes.1 passes.0)
+      where
+        r : Record
+        r = record_for log (Ends t)
+
+        passes : (is_finished log t ≡ true) × (is_unended log t ≡ true)
+        passes = and_parts (is_finished log t) (is_unended log t)
+            (ap (λ b. is_finished log t && b) (sym (is_among-unended log t)) ∙ sym (is_among-filter (is_finished log) t (unended log)) ∙ ap (λ xs. is_among xs t) p ∙ rw (eqb-refl t) refl)
+
+    at_undo : (u : Record) (us : List Record) → losing log ≡ u ∷ us → Same (Undoes u)
+    at_undo u us q = (compensation-in_doubt log r comp loser, compensation-doubting log r comp loser)
+      where
+        r : Record
+        r = record_for log (Undoes u)
+
+        comp : is_compensation r.body ≡ true
+        comp = undone-is_compensation u.prev u.body (losing-is_update log u us q)
+
+        loser : is_loser log u.trans.0 ≡ true
+        loser = losing-is_loser log u us q
+
+    go : (ts : List ℕ) → filter (is_finished log) (unended log) ≡ ts → (us : List Record) → losing log ≡ us → ends ts ++ undoes us ≡ step ∷ rest → Same step
+    go (t ∷ ts) p us q e = let s : step ≡ Ends t = cc e in subst Same (sym s) (at_end t ts p)
+    go [] p (u ∷ us) q e = let s : step ≡ Undoes u = cc e in subst Same (sym s) (at_undo u us q)
     go [] p [] q e = absurd (cc e)
 
 -- ---- the law of one takeover log

@@ -1,14 +1,16 @@
 -- The transactions of a log, and those unended, with one more record.
-use Rattle.std.proofs.Common.{◌≡◌, ℕ, ◌==◌, ◌+◌, max, Bool, true, false, cond, not, ◌&&◌, ◌||◌, List, [], ◌∷◌, ◌++◌, length, filter, fold, map, refl, sym, ap, ◌∙◌, inl, inr, append-nil}
+use Rattle.std.proofs.Common.{◌≡◌, ℕ, ◌==◌, ◌+◌, max, Bool, true, false, cond, not, ◌&&◌, ◌||◌, List, [], ◌∷◌, ◌++◌, length, filter, fold, map, refl, sym, ap, ◌∙◌, inl, inr, append-nil, arith}
+use Rattle.std.specs.List.{AllByRecursion}
 use Rattle.std.proofs.lemmas.Bool.{cases_Bool, eqb-true}
 use Rattle.std.proofs.lemmas.List.{length_push}
 use Rattle.std.proofs.lemmas.List.Elements.{filter-append, filter_agree}
 use Rattle.std.proofs.lemmas.List.Sums.{fold_push}
 use Rattle.als_record.specs.declared.record.Record.{Record}
-use Rattle.als_record.specs.Transactions.{is_transactional, is_end, is_of, is_among, is_some_left, records_of, has_begun, has_ended, is_unended, is_nobody, with_transaction, transactions, unended, greatest_trans}
-use Rattle.als_record.specs.Table.{row_of, table_of, is_closed}
-use Rattle.als_record.specs.Tail.{is_undone}
-use Rattle.als_record.proofs.Records.{is_unended-other, is_unended-own, has_ended-none, has_begun-unended, has_ended-unended}
+use Rattle.als_record.specs.declared.transaction_state.TransactionState.TheVariants.{Active, Committed, RollingBack, Prepared}
+use Rattle.als_record.specs.Transactions.{is_transactional, is_end, is_of, is_among, is_some_left, records_of, has_begun, has_ended, is_committed, has_rollback, has_prepare, is_unended, is_in_doubt, is_nobody, with_transaction, transactions, unended, in_doubt, greatest_trans}
+use Rattle.als_record.specs.Table.{state_of, row_of, table_of, is_prepared, is_closed}
+use Rattle.als_record.specs.Tail.{ending, is_undone}
+use Rattle.als_record.proofs.Records.{is_unended-other, is_unended-own, has_ended-none, has_begun-unended, has_ended-unended, in_doubt_parts}
 use Rattle.als_record.proofs.Numbers.{without, eqb-refl, eqb-sym, is_among-append, is_among-filter, Apart-push, Apart-filter, filter-except, filter-without, length-without}
 use Rattle.als_record.specs.Orders.{Apart}
 
@@ -79,6 +81,18 @@ is_among-unended log t = is_among-filter (is_unended log) t (transactions log) �
   | inr e ↦ simp e
 ]
 
+-- each of them is unended
+pub All-unended : (log : List Record) → AllByRecursion (λ t. is_unended log t ≡ true) (unended log)
+unfolding unended
+All-unended log = go (transactions log)
+  where
+    go : (ts : List ℕ) → AllByRecursion (λ t. is_unended log t ≡ true) (filter (is_unended log) ts)
+    go [] = tt
+    go (t ∷ ts) = elim (cases_Bool (is_unended log t)) [
+      | inl u ↦ rw u (u, go ts)
+      | inr u ↦ rw u (go ts)
+    ]
+
 -- ---- one more record
 
 module _ (log : List Record) (r : Record) where
@@ -98,6 +112,10 @@ module _ (log : List Record) (r : Record) where
 
   own_of : is_transactional r.body ≡ true → is_of r.trans.0 r ≡ true
   own_of w = rw (w, eqb-refl r.trans.0)
+
+  -- another record of a transaction that has begun
+  pub transactions-same : is_transactional r.body ≡ true → has_begun log r.trans.0 ≡ true → transactions (log ++ r ∷ []) ≡ transactions log
+  transactions-same w b = transactions-push log r ∙ (let m : is_among (transactions log) r.trans.0 ≡ true = is_among-transactions log r.trans.0 ∙ b in simp (w, m))
 
   -- a checkpoint's record
   pub unended-checkpoint : is_transactional r.body ≡ false → unended (log ++ r ∷ []) ≡ unended log
@@ -162,26 +180,101 @@ module _ (log : List Record) (r : Record) where
   pub length-unended_checkpoint : is_transactional r.body ≡ false → length (unended (log ++ r ∷ [])) ≡ length (unended log)
   length-unended_checkpoint w = ap length (unended-checkpoint w)
 
+-- ---- in doubt
+
+pub is_in_doubt-unended : (log : List Record) (t : ℕ) → is_in_doubt log t ≡ true → is_unended log t ≡ true
+is_in_doubt-unended log t d = (in_doubt_parts log t d).0
+
+pub Apart-in_doubt : (log : List Record) → Apart (in_doubt log)
+unfolding in_doubt
+Apart-in_doubt log = Apart-filter (is_in_doubt log) (transactions log) (Apart-transactions log)
+
+pub is_among-in_doubt : (log : List Record) (t : ℕ) → is_among (in_doubt log) t ≡ is_in_doubt log t
+unfolding in_doubt
+is_among-in_doubt log t = is_among-filter (is_in_doubt log) t (transactions log) ∙ ap (λ b. is_in_doubt log t && b) (is_among-transactions log t) ∙ elim (cases_Bool (is_in_doubt log t)) [
+  | inl e ↦ let b : has_begun log t ≡ true = has_begun-unended log t (is_in_doubt-unended log t e) in simp (e, b)
+  | inr e ↦ simp e
+]
+
+pub is_among-ending : (log : List Record) (t : ℕ) → is_among (ending log) t ≡ (not (is_in_doubt log t) && is_unended log t)
+unfolding ending
+is_among-ending log t = is_among-filter (λ x. not (is_in_doubt log x)) t (unended log) ∙ ap (λ b. not (is_in_doubt log t) && b) (is_among-unended log t)
+
+pub Apart-ending : (log : List Record) → Apart (ending log)
+unfolding ending
+Apart-ending log = Apart-filter (λ x. not (is_in_doubt log x)) (unended log) (Apart-unended log)
+
+-- the unended transactions are those that a takeover ends and those in doubt
+pub length-unended_parts : (log : List Record) → length (unended log) ≡ length (ending log) + length (in_doubt log)
+unfolding ending unended in_doubt
+length-unended_parts log = go (transactions log)
+  where
+    go : (ts : List ℕ) → length (filter (is_unended log) ts) ≡ length (filter (λ x. not (is_in_doubt log x)) (filter (is_unended log) ts)) + length (filter (is_in_doubt log) ts)
+    go [] = refl
+    go (t ∷ ts) = let h : length (filter (is_unended log) ts) ≡ length (filter (λ x. not (is_in_doubt log x)) (filter (is_unended log) ts)) + length (filter (is_in_doubt log) ts) = go ts in elim (cases_Bool (is_in_doubt log t)) [
+      | inl d ↦ let u : is_unended log t ≡ true = is_in_doubt-unended log t d in simp (u, d) (omega arith)
+      | inr d ↦ elim (cases_Bool (is_unended log t)) [
+        | inl u ↦ simp (u, d) (omega arith)
+        | inr u ↦ simp (u, d) (omega arith)
+      ]
+    ]
+
+-- where a takeover ends none, they are those in doubt
+pub unended-in_doubt : (log : List Record) → ending log ≡ [] → unended log ≡ in_doubt log
+unfolding ending unended in_doubt
+unended-in_doubt log = go (transactions log)
+  where
+    go : (ts : List ℕ) → filter (λ x. not (is_in_doubt log x)) (filter (is_unended log) ts) ≡ [] → filter (is_unended log) ts ≡ filter (is_in_doubt log) ts
+    go [] e = refl
+    go (t ∷ ts) e = elim (cases_Bool (is_in_doubt log t)) [
+      | inl d ↦ let u : is_unended log t ≡ true = is_in_doubt-unended log t d in
+          let f : filter (λ x. not (is_in_doubt log x)) (filter (is_unended log) ts) ≡ [] = (rw (u, d) at e) in
+          simp (u, d) (ap (λ xs. t ∷ xs) (go ts f))
+      | inr d ↦ elim (cases_Bool (is_unended log t)) [
+        | inl u ↦ let f : t ∷ filter (λ x. not (is_in_doubt log x)) (filter (is_unended log) ts) ≡ [] = (rw (u, d) at e) in absurd (cc f)
+        | inr u ↦ let f : filter (λ x. not (is_in_doubt log x)) (filter (is_unended log) ts) ≡ [] = (rw u at e) in simp (u, d) (go ts f)
+      ]
+    ]
+
+-- an unended transaction is in doubt exactly where its row says prepared
+pub is_prepared-state : (log : List Record) (t : ℕ) → is_unended log t ≡ true → is_prepared (state_of log t) ≡ is_in_doubt log t
+unfolding state_of is_in_doubt
+is_prepared-state log t u = rw u (go (is_committed log t) (has_rollback log t) (has_prepare log t))
+  where
+    go : (c h p : Bool) → is_prepared (cond c Committed (cond h RollingBack (cond p Prepared Active))) ≡ (true && p && not c && not h)
+    go true h true = refl
+    go true h false = refl
+    go false true true = refl
+    go false true false = refl
+    go false false true = refl
+    go false false false = refl
+
 -- ---- none left
 
--- nothing of the tail is left to append exactly where nothing is unended
-pub is_undone-unended : (log : List Record) → is_undone log ≡ true → unended log ≡ []
+-- nothing of the tail is left to append exactly where a takeover ends no transaction
+pub is_undone-ending : (log : List Record) → is_undone log ≡ true → ending log ≡ []
 unfolding is_undone
-is_undone-unended log = go (unended log)
+is_undone-ending log = go (ending log)
   where
     go : (ts : List ℕ) → is_nobody ts ≡ true → ts ≡ []
     go [] e = refl
     go (t ∷ rest) e = absurd cc
 
-pub unended-is_undone : (log : List Record) → unended log ≡ [] → is_undone log ≡ true
+pub ending-is_undone : (log : List Record) → ending log ≡ [] → is_undone log ≡ true
 unfolding is_undone
-unended-is_undone log e = ap is_nobody e
+ending-is_undone log e = ap is_nobody e
 
 -- then the transaction table is closed
 pub is_closed-table_of : (log : List Record) → is_closed (table_of log) ≡ is_undone log
-unfolding is_closed table_of is_undone
-is_closed-table_of log = go (unended log)
+unfolding is_closed table_of is_undone ending unended row_of
+is_closed-table_of log = go (transactions log)
   where
-    go : (ts : List ℕ) → is_closed (map (row_of log) ts) ≡ is_nobody ts
+    go : (ts : List ℕ) → is_closed (map (row_of log) (filter (is_unended log) ts)) ≡ is_nobody (filter (λ x. not (is_in_doubt log x)) (filter (is_unended log) ts))
     go [] = refl
-    go (t ∷ rest) = refl
+    go (t ∷ rest) = elim (cases_Bool (is_unended log t)) [
+      | inr u ↦ simp u (go rest)
+      | inl u ↦ let p : is_prepared (state_of log t) ≡ is_in_doubt log t = is_prepared-state log t u in elim (cases_Bool (is_in_doubt log t)) [
+        | inl d ↦ simp (u, d, p) (go rest)
+        | inr d ↦ simp (u, d, p)
+      ]
+    ]

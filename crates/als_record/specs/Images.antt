@@ -1,5 +1,5 @@
 -- What the keys of the database have: now, by history repeated (Mohan et al., TODS 1992, section 3), and after a takeover.
-use Rattle.std.specs.Prelude.{◌==◌, Bool, false, ◌&&◌, List, Option, Some, None, fold, find, filter_map, if◌then◌else◌}
+use Rattle.std.specs.Prelude.{ℕ, ◌==◌, Bool, false, not, ◌&&◌, ◌||◌, List, Option, Some, None, fold, find, filter_map, if◌then◌else◌}
 use Rattle.std.specs.Str.{bytes_eq}
 use Rattle.als_record.specs.declared.key.Key.{Key}
 use Rattle.als_record.specs.declared.change.Change.{Change}
@@ -8,7 +8,7 @@ use Rattle.als_record.specs.declared.record.Body.TheVariants.{Update}
 use Rattle.als_record.specs.declared.record.Record.{Record}
 use Rattle.als_record.specs.Spelling.{Image}
 use Rattle.als_record.specs.Pages.{change_of}
-use Rattle.als_record.specs.Transactions.{is_committed, all_surviving}
+use Rattle.als_record.specs.Transactions.{is_committed, is_in_doubt, all_surviving}
 
 abbrev pub same_key : Key → Key → Bool
 same_key a b = (a.page == b.page) && (a.slot == b.slot)
@@ -50,7 +50,15 @@ image_of_found (Some u) = image_written u.body
 unfoldable pub won : List Record → Key → Image
 won log k = image_of_found (find (λ u. is_update_at k u.body && is_committed log u.trans.0) (all_surviving log))
 
--- What a takeover keeps at a key: what the committed transactions leave there. What readers see is said by the word above, so
--- that the updates of a transaction which waits for a decision could be kept and yet not be read.
+-- a transaction whose updates a takeover keeps: committed, or in doubt
+abbrev pub is_kept : List Record → ℕ → Bool
+is_kept log t = is_committed log t || is_in_doubt log t
+
+-- What a takeover keeps at a key: the after image of the last update there that survives for a transaction that is committed or
+-- in doubt, absent if there is none. What readers see is said by the word above: updates in doubt are kept and not read.
 unfoldable pub kept : List Record → Key → Image
-kept log k = won log k
+kept log k = image_of_found (find (λ u. is_update_at k u.body && is_kept log u.trans.0) (all_surviving log))
+
+-- what a takeover would keep at a key if one transaction were left out
+unfoldable pub kept_without : List Record → ℕ → Key → Image
+kept_without log t k = image_of_found (find (λ u. is_update_at k u.body && (is_kept log u.trans.0 && not (u.trans.0 == t))) (all_surviving log))

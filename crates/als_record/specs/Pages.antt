@@ -3,7 +3,7 @@ use Rattle.std.specs.Prelude.{◌≡◌, ℕ, ◌<◌, ◌≤◌, ◌^◌, List,
 use Rattle.std.specs.List.{fold, filter_map, AllByRecursion}
 use Rattle.als_record.specs.declared.change.Change.{Change}
 use Rattle.als_record.specs.declared.record.Body.{Body}
-use Rattle.als_record.specs.declared.record.Body.TheVariants.{Update, Compensation, Commit, Rollback, End, BeginCheckpoint, EndCheckpoint}
+use Rattle.als_record.specs.declared.record.Body.TheVariants.{Update, Compensation, Commit, Rollback, End, BeginCheckpoint, EndCheckpoint, Prepare}
 use Rattle.als_record.specs.declared.record.Record.{Record}
 use Rattle.als_record.specs.Spelling.{Image, IsKey, IsImage}
 
@@ -16,6 +16,7 @@ change_in r Rollback = None
 change_in r End = None
 change_in r BeginCheckpoint = None
 change_in r (EndCheckpoint transactions pages) = None
+change_in r Prepare = None
 
 abbrev pub change_of : Record → Option Change
 change_of r = change_in r r.body

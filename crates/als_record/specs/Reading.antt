@@ -5,7 +5,7 @@ use Rattle.als_record.specs.declared.key.Key.{Key}
 use Rattle.als_record.specs.declared.rows.LoggedTransaction.{LoggedTransaction}
 use Rattle.als_record.specs.declared.rows.LoggedPage.{LoggedPage}
 use Rattle.als_record.specs.declared.record.Body.{Body}
-use Rattle.als_record.specs.declared.record.Body.TheVariants.{Update, Compensation, Commit, Rollback, End, BeginCheckpoint, EndCheckpoint}
+use Rattle.als_record.specs.declared.record.Body.TheVariants.{Update, Compensation, Commit, Rollback, End, BeginCheckpoint, EndCheckpoint, Prepare}
 use Rattle.als_record.specs.declared.record.Record.{Record}
 use Rattle.als_record.specs.declared.fault.Fault.{Fault}
 use Rattle.als_record.specs.declared.fault.Fault.TheVariants.{BadHeader, BadLength, BadType, BadReserved, WrongLsn, BadKey, BadValue, Memory}
@@ -44,9 +44,9 @@ long_at i bytes = from_be_bytes w64 (take 8 (drop i bytes))
 abbrev pub is_within : ℕ → ℕ → ℕ → Bool
 is_within low high n = nat_le low n && nat_le n high
 
--- there are types 1 to 7
+-- there are types 1 to 8
 abbrev pub is_type : ℕ → Bool
-is_type kind = is_within 1 7 kind
+is_type kind = is_within 1 8 kind
 
 -- the lengths that a type's records may have; a type that is none may have any record's
 abbrev pub is_size : ℕ → ℕ → Bool
@@ -126,7 +126,8 @@ read_body pages kind body =
     else if kind == 4 then Ok Rollback
     else if kind == 5 then Ok End
     else if kind == 6 then Ok BeginCheckpoint
-    else read_checkpoint body
+    else if kind == 7 then read_checkpoint body
+    else Ok Prepare
 
 -- the fields of the head
 abbrev pub size_at : List ℕ → ℕ
@@ -166,6 +167,7 @@ HasRows Rollback = ⊥
 HasRows End = ⊥
 HasRows BeginCheckpoint = ⊥
 HasRows (EndCheckpoint transactions pages) = Unit {0}
+HasRows Prepare = ⊥
 
 abbrev pub GivesRows : Result Body Fault → Type 0
 GivesRows (Ok body) = HasRows body

@@ -1,7 +1,7 @@
 -- The record that a view shows.
 use Rattle.std.specs.Prelude.{ℕ, Option, Some, None}
 use Rattle.als_record.specs.declared.record.Body.{Body}
-use Rattle.als_record.specs.declared.record.Body.TheVariants.{Update, Compensation, Commit, Rollback, End, BeginCheckpoint, EndCheckpoint}
+use Rattle.als_record.specs.declared.record.Body.TheVariants.{Update, Compensation, Commit, Rollback, End, BeginCheckpoint, EndCheckpoint, Prepare}
 use Rattle.als_record.specs.declared.record.Record.{Record}
 use Rattle.als_record.specs.Spelling.{Image}
 use Rattle.als_record.specs.declared.image_view.ImageView.{ImageView}
@@ -30,6 +30,7 @@ shown_body view.Rollback = Rollback
 shown_body view.End = End
 shown_body view.BeginCheckpoint = BeginCheckpoint
 shown_body (view.EndCheckpoint rows) = shown_rows rows
+shown_body view.Prepare = Prepare
 
 -- the record that a view shows
 abbrev pub shown : RecordView → Record

@@ -7,7 +7,7 @@ use Rattle.als_record.specs.declared.key.Key.{Key}
 use Rattle.als_record.specs.declared.rows.LoggedTransaction.{LoggedTransaction}
 use Rattle.als_record.specs.declared.rows.LoggedPage.{LoggedPage}
 use Rattle.als_record.specs.declared.record.Body.{Body}
-use Rattle.als_record.specs.declared.record.Body.TheVariants.{Update, Compensation, Commit, Rollback, End, BeginCheckpoint, EndCheckpoint}
+use Rattle.als_record.specs.declared.record.Body.TheVariants.{Update, Compensation, Commit, Rollback, End, BeginCheckpoint, EndCheckpoint, Prepare}
 use Rattle.als_record.specs.declared.record.Record.{Record}
 
 -- a key's value of up to 31 bytes, or nothing
@@ -23,6 +23,7 @@ type_byte Rollback = 4
 type_byte End = 5
 type_byte BeginCheckpoint = 6
 type_byte (EndCheckpoint transactions pages) = 7
+type_byte Prepare = 8
 
 -- the byte that stands for an image's length: 255 says that it is absent
 abbrev pub length_byte : Image → ℕ
@@ -59,6 +60,7 @@ body_bytes Rollback = []
 body_bytes End = []
 body_bytes BeginCheckpoint = []
 body_bytes (EndCheckpoint transactions pages) = to_be_bytes w16 (length transactions) ++ to_be_bytes w16 (length pages) ++ flat_map transaction_row transactions ++ flat_map page_row pages
+body_bytes Prepare = []
 
 -- the length of a body
 abbrev pub body_len : Body → ℕ
@@ -69,6 +71,7 @@ body_len Rollback = 0
 body_len End = 0
 body_len BeginCheckpoint = 0
 body_len (EndCheckpoint transactions pages) = 4 + 21 * length transactions + 12 * length pages
+body_len Prepare = 0
 
 -- the length of a whole record
 unfoldable pub record_len : Record → ℕ
@@ -110,6 +113,7 @@ IsBody pages Rollback = Unit {0}
 IsBody pages End = Unit {0}
 IsBody pages BeginCheckpoint = Unit {0}
 IsBody pages (EndCheckpoint transactions rows) = (length transactions ≤ 256) × (length rows ≤ 4096) × AllByRecursion IsLoggedTransaction transactions × AllByRecursion IsLoggedPage rows
+IsBody pages Prepare = Unit {0}
 
 -- a record of a database with this many pages: each field fits its width, and its key is in range
 pub record IsRecord (pages : ℕ) (r : Record) : Type 0 where

@@ -3,12 +3,12 @@
 use Rattle.std.specs.Prelude.{ℕ, ◌==◌, Bool, true, false, not, ◌&&◌, List, [], ◌∷◌, ◌++◌, drop, reverse, filter, fold, max, if◌then◌else◌}
 use Rattle.std.specs.List.{list_any}
 use Rattle.als_record.specs.declared.record.Body.{Body}
-use Rattle.als_record.specs.declared.record.Body.TheVariants.{Update, Compensation, Commit, Rollback, End, BeginCheckpoint, EndCheckpoint}
+use Rattle.als_record.specs.declared.record.Body.TheVariants.{Update, Compensation, Commit, Rollback, End, BeginCheckpoint, EndCheckpoint, Prepare}
 use Rattle.als_record.specs.declared.record.Record.{Record}
 
 -- ---- kinds of records
 
--- an update, compensation, commit, rollback or end: not a checkpoint's record
+-- an update, compensation, commit, rollback, end or prepare: not a checkpoint's record
 abbrev pub is_transactional : Body → Bool
 is_transactional (Update key before after) = true
 is_transactional (Compensation undo_next key after) = true
@@ -17,6 +17,7 @@ is_transactional Rollback = true
 is_transactional End = true
 is_transactional BeginCheckpoint = false
 is_transactional (EndCheckpoint transactions pages) = false
+is_transactional Prepare = true
 
 abbrev pub is_update : Body → Bool
 is_update (Update key before after) = true
@@ -37,6 +38,16 @@ is_rollback _ = false
 abbrev pub is_end : Body → Bool
 is_end End = true
 is_end _ = false
+
+abbrev pub is_prepare : Body → Bool
+is_prepare Prepare = true
+is_prepare _ = false
+
+-- what may follow a prepare: a commit or a rollback
+abbrev pub is_decision : Body → Bool
+is_decision Commit = true
+is_decision Rollback = true
+is_decision _ = false
 
 -- ---- one transaction
 
@@ -67,7 +78,7 @@ abbrev pub is_some_left : List Record → Bool
 is_some_left [] = false
 is_some_left (r ∷ rest) = true
 
--- whether the log holds a record of the transaction, its commit record, its rollback record, its end record
+-- whether the log holds a record of the transaction, its commit record, its rollback record, its prepare record, its end record
 unfoldable pub has_begun : List Record → ℕ → Bool
 has_begun log t = is_some_left (records_of log t)
 
@@ -76,6 +87,9 @@ is_committed log t = list_any (λ r. is_commit r.body) (records_of log t)
 
 unfoldable pub has_rollback : List Record → ℕ → Bool
 has_rollback log t = list_any (λ r. is_rollback r.body) (records_of log t)
+
+unfoldable pub has_prepare : List Record → ℕ → Bool
+has_prepare log t = list_any (λ r. is_prepare r.body) (records_of log t)
 
 unfoldable pub has_ended : List Record → ℕ → Bool
 has_ended log t = list_any (λ r. is_end r.body) (records_of log t)
@@ -88,10 +102,14 @@ is_unended log t = has_begun log t && not (has_ended log t)
 unfoldable pub is_open : List Record → ℕ → Bool
 is_open log t = is_unended log t && not (is_committed log t)
 
--- What a takeover has to undo: an unended transaction that has not committed. Which transactions hold keys is said by the word
--- above, so that one which waits for a decision could hold its keys and yet not be undone.
+-- in doubt: unended and prepared, with neither a commit nor a rollback record; its coordinator decides which of them follows
+unfoldable pub is_in_doubt : List Record → ℕ → Bool
+is_in_doubt log t = is_unended log t && has_prepare log t && not (is_committed log t) && not (has_rollback log t)
+
+-- What a takeover has to undo: an unended transaction that has not committed and is not in doubt. One in doubt holds its keys
+-- (it is open), and yet is not undone.
 unfoldable pub is_loser : List Record → ℕ → Bool
-is_loser log t = is_unended log t && not (is_committed log t)
+is_loser log t = is_unended log t && not (is_committed log t) && not (is_in_doubt log t)
 
 -- LastLSN: the LSN of the transaction's last record, 0 without one
 unfoldable pub last_lsn : List Record → ℕ → ℕ
@@ -126,12 +144,15 @@ with_transaction ids r = if is_transactional r.body && not (is_among ids r.trans
 unfoldable pub transactions : List Record → List ℕ
 transactions log = fold with_transaction [] log
 
--- the unended transactions, and the losers among them, in the same order
+-- the unended transactions, and the losers and those in doubt among them, in the same order
 unfoldable pub unended : List Record → List ℕ
 unended log = filter (is_unended log) (transactions log)
 
 unfoldable pub losers : List Record → List ℕ
 losers log = filter (is_loser log) (transactions log)
+
+unfoldable pub in_doubt : List Record → List ℕ
+in_doubt log = filter (is_in_doubt log) (transactions log)
 
 -- the greatest TransID of any record, 0 without one
 unfoldable pub greatest_trans : List Record → ℕ

@@ -2,12 +2,12 @@
 use Rattle.std.specs.Prelude.{ℕ, ◌==◌, nat_lt, nat_le, Bool, true, false, not, ◌&&◌, ◌||◌, IsTrue, List, [], ◌∷◌, ◌++◌, length, Option, Some, None, is_some, is_none, option_map, fold, find, if◌then◌else◌}
 use Rattle.als_record.specs.declared.trans_id.TransId.{TransId}
 use Rattle.als_record.specs.declared.record.Body.{Body}
-use Rattle.als_record.specs.declared.record.Body.TheVariants.{Update, Compensation, Commit, Rollback, BeginCheckpoint, EndCheckpoint}
+use Rattle.als_record.specs.declared.record.Body.TheVariants.{Update, Compensation, Commit, Rollback, BeginCheckpoint, EndCheckpoint, Prepare}
 use Rattle.als_record.specs.declared.record.Record.{Record}
 use Rattle.als_record.specs.declared.cause.Cause.{Cause}
 use Rattle.als_record.specs.declared.cause.Cause.TheVariants.{BadPrev, OldTransaction, WrongState, WrongUndoNext, WrongCompensation, RecordHeld, BeforeImage, TooManyTransactions, BadCheckpoint}
 use Rattle.als_record.specs.LogText.{end_of, IsLog}
-use Rattle.als_record.specs.Transactions.{is_transactional, is_end, is_some_left, to_undo, is_committed, has_rollback, is_unended, is_open, last_lsn, unended, greatest_trans, all_surviving}
+use Rattle.als_record.specs.Transactions.{is_transactional, is_decision, is_end, is_some_left, to_undo, is_committed, has_rollback, is_unended, is_open, is_in_doubt, last_lsn, unended, greatest_trans, all_surviving}
 use Rattle.als_record.specs.Images.{same_image, image_now, is_update_at, image_before}
 
 -- the PrevLSN that the next record of a transaction carries
@@ -27,14 +27,16 @@ abbrev pub is_forward : Body → Bool
 is_forward (Update key before after) = true
 is_forward Commit = true
 is_forward Rollback = true
+is_forward Prepare = true
 is_forward _ = false
 
--- 10: committed and more than the end; rolling back and more than compensations and the end; an end that leaves an update
--- which is neither committed nor compensated
+-- 10: committed and more than the end; rolling back and more than compensations and the end; in doubt and more than the
+-- decision, which is a commit or a rollback; an end that leaves an update which is neither committed nor compensated
 unfoldable pub wrong_state : List Record → Record → Bool
 wrong_state log r =
     (is_committed log r.trans.0 && not (is_end r.body))
     || (has_rollback log r.trans.0 && not (is_committed log r.trans.0) && is_forward r.body)
+    || (is_in_doubt log r.trans.0 && not (is_decision r.body))
     || (is_end r.body && not (is_committed log r.trans.0) && is_some_left (to_undo log r.trans.0))
 
 -- whether a compensation of the update goes on where the update's PrevLSN says

@@ -26,7 +26,8 @@ impl RecordView<'_> {
             | BodyView::Rollback
             | BodyView::End
             | BodyView::BeginCheckpoint
-            | BodyView::EndCheckpoint { .. } => None,
+            | BodyView::EndCheckpoint { .. }
+            | BodyView::Prepare => None,
         }
     }
 }

@@ -57,6 +57,7 @@ impl Body {
                     pages,
                 },
             },
+            Body::Prepare => BodyView::Prepare,
         }
     }
 }
@@ -107,6 +108,7 @@ impl RecordView<'_> {
             BodyView::End => Ok(self.with_body(Body::End)),
             BodyView::BeginCheckpoint => Ok(self.with_body(Body::BeginCheckpoint)),
             BodyView::EndCheckpoint { rows } => Ok(self.with_body(rows.to_body(alloc)?)),
+            BodyView::Prepare => Ok(self.with_body(Body::Prepare)),
         }
     }
 }

@@ -42,6 +42,7 @@ fn kind_of(body: &Body) -> u8
         Body::End => 5,
         Body::BeginCheckpoint => 6,
         Body::EndCheckpoint { .. } => 7,
+        Body::Prepare => 8,
     }
 }
 
@@ -132,7 +133,7 @@ fn append_body(out: &mut Vec<u8>, body: &Body)
             append(out, &compensation_front(*undo_next, *key, length_of(after)));
             append(out, value_bytes(after));
         }
-        Body::Commit | Body::Rollback | Body::End | Body::BeginCheckpoint => {}
+        Body::Commit | Body::Rollback | Body::End | Body::BeginCheckpoint | Body::Prepare => {}
         Body::EndCheckpoint {
             transactions,
             pages,

@@ -28,7 +28,7 @@ fn encoded_body_len(body: &Body) -> usize
             7 + value_bytes(before).len() + value_bytes(after).len()
         }
         Body::Compensation { after, .. } => 14 + value_bytes(after).len(),
-        Body::Commit | Body::Rollback | Body::End | Body::BeginCheckpoint => 0,
+        Body::Commit | Body::Rollback | Body::End | Body::BeginCheckpoint | Body::Prepare => 0,
         Body::EndCheckpoint {
             transactions,
             pages,

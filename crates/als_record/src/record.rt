@@ -42,4 +42,6 @@ pub enum Body {
         transactions: TransactionRows,
         pages: PageRows,
     },
+    /// The transaction is prepared: its coordinator decides whether it commits or rolls back.
+    Prepare,
 }

@@ -36,4 +36,5 @@ pub enum BodyView<'a> {
     EndCheckpoint {
         rows: RowsView<'a>,
     },
+    Prepare,
 }

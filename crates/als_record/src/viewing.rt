@@ -24,7 +24,7 @@ fn may_be(kind: u8, size: usize) -> bool
         1 => 35 <= size && size <= 97,
         2 => 42 <= size && size <= 73,
         7 => 32 <= size && size <= RECORD_LIMIT,
-        3..=6 => size == HEAD_LEN,
+        3..=6 | 8 => size == HEAD_LEN,
         _ => HEAD_LEN <= size && size <= RECORD_LIMIT,
     }
 }
@@ -78,7 +78,8 @@ fn whole<'a>(
         4 => found(bytes, at, size, BodyView::Rollback),
         5 => found(bytes, at, size, BodyView::End),
         6 => found(bytes, at, size, BodyView::BeginCheckpoint),
-        _ => found(bytes, at, size, checkpoint(body)?),
+        7 => found(bytes, at, size, checkpoint(body)?),
+        _ => found(bytes, at, size, BodyView::Prepare),
     }
 }
 
@@ -97,7 +98,7 @@ fn read<'a>(bytes: &'a [u8], at: Lsn, pages: u32) -> Result<Option<(RecordView<'
     if !may_be(kind, size) {
         return Err(Fault::BadLength);
     }
-    if !(1 <= kind && kind <= 7) {
+    if !(1 <= kind && kind <= 8) {
         return Err(Fault::BadType);
     }
     if !(bytes[5] == 0 && bytes[6] == 0 && bytes[7] == 0) {
