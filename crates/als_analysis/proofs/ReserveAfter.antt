@@ -16,7 +16,7 @@ use Rattle.als_analysis.specs.Open.{count_after, bytes_after, owed, owed_after, 
 use Rattle.als_analysis.specs.Noted.{Table, IsTableOf}
 use Rattle.als_analysis.proofs.KeptSteps.{remove-map}
 use Rattle.als_analysis.proofs.LogSteps.{step-checkpoint, step-more, step-end, step-new, step-new_end}
-use Rattle.als_analysis.proofs.TailLength.{owed-reserve}
+use Rattle.als_analysis.proofs.ReserveSum.{owed-reserve}
 
 -- a place of the rows is a place of the entries
 pub place : (entries : List OpenRow) (t : Table) (i : ℕ) → rows_of entries ≡ t.rows → i < length t.rows → i < length entries

@@ -9,7 +9,7 @@ use Rattle.std.proofs.lemmas.List.Sorted.{sum_by-IsPermutation, IsPermutation-re
 use Rattle.als_record.specs.declared.key.Key.{Key}
 use Rattle.als_record.specs.declared.lsn.Lsn.{Lsn}
 use Rattle.als_record.specs.declared.record.Body.{Body}
-use Rattle.als_record.specs.declared.record.Body.TheVariants.{Update, Compensation, Commit, Rollback, End, BeginCheckpoint, EndCheckpoint}
+use Rattle.als_record.specs.declared.record.Body.TheVariants.{Update, Compensation, Commit, Rollback, End, BeginCheckpoint, EndCheckpoint, Prepare}
 use Rattle.als_record.specs.declared.record.Record.{Record}
 use Rattle.als_record.specs.Spelling.{Image, image_len}
 use Rattle.als_record.specs.Images.{same_image, is_update_at, image_before}
@@ -26,7 +26,7 @@ not-false true e = refl
 not-false false e = absurd (false≢true (sym e))
 
 -- the same bytes, the newest update first
-undo_bytes-newest : (log : List Record) (t : ℕ) → undo_bytes log t ≡ sum_by undo_len (to_undo log t)
+pub undo_bytes-newest : (log : List Record) (t : ℕ) → undo_bytes log t ≡ sum_by undo_len (to_undo log t)
 unfolding surviving
 undo_bytes-newest log t = sum_by-IsPermutation undo_len (to_undo log t) (reverse (to_undo log t)) (IsPermutation-reverse (to_undo log t))
 
@@ -86,6 +86,7 @@ module _ (log : List Record) (r : Record) (own : is_of r.trans.0 r ≡ true) (fi
       go End e = refl
       go BeginCheckpoint e = refl
       go (EndCheckpoint transactions pages) e = refl
+      go Prepare e = refl
 
   pub survivor_count-own : survivor_count (log ++ r ∷ []) r.trans.0 % 2 ^ 64 ≡ count_after (survivor_count log r.trans.0 % 2 ^ 64) r.body
   unfolding wrong_compensation
@@ -105,3 +106,4 @@ module _ (log : List Record) (r : Record) (own : is_of r.trans.0 r ≡ true) (fi
       go End e = refl
       go BeginCheckpoint e = refl
       go (EndCheckpoint transactions pages) e = refl
+      go Prepare e = refl

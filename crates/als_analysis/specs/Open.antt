@@ -5,7 +5,7 @@ use Rattle.als_record.specs.declared.record.Body.{Body}
 use Rattle.als_record.specs.declared.record.Body.TheVariants.{Update, Compensation}
 use Rattle.als_record.specs.declared.record.Record.{Record}
 use Rattle.als_record.specs.declared.transaction_state.TransactionState.{TransactionState}
-use Rattle.als_record.specs.declared.transaction_state.TransactionState.TheVariants.{Committed}
+use Rattle.als_record.specs.declared.transaction_state.TransactionState.TheVariants.{Committed, Prepared}
 use Rattle.als_record.specs.declared.transaction_row.TransactionRow.{TransactionRow}
 use Rattle.als_record.specs.Spelling.{image_len}
 use Rattle.als_record.specs.Images.{image_before}
@@ -29,12 +29,13 @@ bytes_after bytes (Update key before after) = (bytes + (42 + image_len before)) 
 bytes_after bytes (Compensation undo_next key after) = (bytes + (2 ^ 64 - (42 + image_len after) % 2 ^ 64)) % 2 ^ 64
 bytes_after bytes _ = bytes
 
--- the bytes of the compensations to come: none for a committed transaction
+-- the bytes that may come before a transaction's end: the compensations, and of a prepared one its decision first; none of a committed one
 abbrev pub undo_owed : TransactionState → ℕ → ℕ
 undo_owed Committed bytes = 0
+undo_owed Prepared bytes = 28 + bytes
 undo_owed _ bytes = bytes
 
--- the bytes that a takeover appends for a transaction: its compensations and its end
+-- the bytes that a takeover, or a decision of a prepared transaction, may append for a transaction, its end with them
 abbrev pub owed : OpenRow → ℕ
 owed o = 28 + undo_owed o.row.state o.undo_bytes
 

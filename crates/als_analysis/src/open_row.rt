@@ -38,18 +38,20 @@ fn undo_bytes_after(undo_bytes: u64, body: &BodyView<'_>) -> u64
     }
 }
 
-/// The bytes that a takeover appends for a transaction in this state, modulo 2^64.
+/// The bytes that a takeover, or the decision of a prepared transaction, may append for a
+/// transaction in this state, modulo 2^64.
 fn owed_in(state: TransactionState, undo_bytes: u64) -> u64
     ensures { result ≡ (28 + undo_owed state undo_bytes) % 2 ^ 64 }
 {
     match state {
         TransactionState::Committed => 28,
+        TransactionState::Prepared => undo_bytes.wrapping_add(56),
         TransactionState::Active | TransactionState::RollingBack => undo_bytes.wrapping_add(28),
     }
 }
 
-/// The bytes that a takeover appends for a transaction of which this is the first record, and not
-/// its end, modulo 2^64.
+/// The bytes that may be appended for a transaction of which this is the first record, and not its
+/// end, modulo 2^64.
 pub(crate) fn owed_anew(body: &BodyView<'_>) -> u64
     ensures { result ≡ owed_after Active 0 (shown_body body.now) % 2 ^ 64 }
 {
@@ -65,9 +67,9 @@ fn next_state(state: TransactionState, body: &BodyView<'_>) -> TransactionState
 {
     match (body, state) {
         (BodyView::Commit, _) => TransactionState::Committed,
-        (BodyView::Rollback, TransactionState::Active | TransactionState::RollingBack) => {
-            TransactionState::RollingBack
-        }
+        (BodyView::Rollback, TransactionState::Committed) => TransactionState::Committed,
+        (BodyView::Rollback, _) => TransactionState::RollingBack,
+        (BodyView::Prepare, TransactionState::Active) => TransactionState::Prepared,
         _ => state,
     }
 }
@@ -110,15 +112,15 @@ impl OpenRow {
         self.left
     }
 
-    /// The bytes that a takeover appends for it, modulo 2^64.
+    /// The bytes that may be appended for it, modulo 2^64.
     pub(crate) fn owed(&self) -> u64
         ensures { result ≡ owed self.now % 2 ^ 64 }
     {
         owed_in(self.row.state, self.undo_bytes)
     }
 
-    /// The bytes that a takeover appends for it after one more record of the transaction, which is
-    /// not its end, modulo 2^64.
+    /// The bytes that may be appended for it after one more record of the transaction, which is not
+    /// its end, modulo 2^64.
     pub(crate) fn owed_after(&self, body: &BodyView<'_>) -> u64
         ensures { result ≡ owed_after self.now.row.state self.now.undo_bytes
             (shown_body body.now) % 2 ^ 64 }

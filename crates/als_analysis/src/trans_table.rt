@@ -28,8 +28,8 @@ const PLACE_COUNT: usize = 1024;
 const FEW: usize = 64;
 
 /// The transaction table of ARIES, kept as its log grows: the unended transactions in rising
-/// TransID, with the number of the updates that survive of each, and the length of what a takeover
-/// would append. It keeps no update, and has room for as many rows as a log can have: its size does
+/// TransID, with the number of the updates that survive of each, and the bytes that a takeover and
+/// decisions may append. It keeps no update, and has room for as many rows as a log can have: its size does
 /// not depend on the log.
 pub struct TransTable {
     entries: Vec<OpenRow>,
@@ -377,7 +377,8 @@ impl TransTable {
         }
     }
 
-    /// The bytes that a takeover would append: a kept sum, exact for a log of less than 2^62 bytes.
+    /// The bytes that must stay free behind the log, for a takeover and for the decisions of
+    /// transactions in doubt: a kept sum, exact for a log of less than 2^62 bytes.
     pub fn reserve_bytes(&self) -> u64
         ensures { (log : List Record) → IsTableOf self.now log → end_of log < 2 ^ 62
             → result ≡ reserve_of log }
@@ -385,7 +386,7 @@ impl TransTable {
         self.reserve
     }
 
-    /// What a takeover would append after another record of the transaction at this place, modulo
+    /// What must stay free after another record of the transaction at this place, modulo
     /// 2^64.
     fn reserve_after_known(&self, at: usize, logged: &RecordView<'_>) -> u64
         requires within { at < length self.now.rows }
@@ -402,7 +403,7 @@ impl TransTable {
         others.wrapping_add(entry.owed_after(&logged.body))
     }
 
-    /// What a takeover would append after a record of a transaction without a row, modulo 2^64.
+    /// What must stay free after a record of a transaction without a row, modulo 2^64.
     fn reserve_after_new(&self, logged: &RecordView<'_>) -> u64
         requires absent { is_among (numbers self.now.rows) logged.now.trans.0 ≡ false }
         requires kind { is_transactional (shown_body logged.now.body) ≡ true }
@@ -414,7 +415,7 @@ impl TransTable {
         self.reserve.wrapping_add(owed_anew(&logged.body))
     }
 
-    /// The bytes that a takeover would append after one more record, before that is noted, exact
+    /// The bytes that must stay free after one more record, before that is noted, exact
     /// for a log of less than 2^62 bytes. It takes no memory, and the cost does not depend on how
     /// long the log is.
     pub fn reserve_after(&self, logged: &RecordView<'_>) -> u64

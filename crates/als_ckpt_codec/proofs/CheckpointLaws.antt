@@ -8,7 +8,7 @@ use Rattle.byteorder.specs.Numbers.{big_number-reads_back}
 use Rattle.als_record.specs.declared.rows.LoggedTransaction.{LoggedTransaction}
 use Rattle.als_record.specs.declared.rows.LoggedPage.{LoggedPage}
 use Rattle.als_record.specs.declared.record.Body.{Body}
-use Rattle.als_record.specs.declared.record.Body.TheVariants.{Update, Compensation, Commit, Rollback, End, BeginCheckpoint, EndCheckpoint}
+use Rattle.als_record.specs.declared.record.Body.TheVariants.{Update, Compensation, Commit, Rollback, End, BeginCheckpoint, EndCheckpoint, Prepare}
 use Rattle.als_record.specs.declared.record.Record.{Record}
 use Rattle.als_record.proofs.RecordLaws.{length-body_bytes}
 use Rattle.als_record.specs.Spelling.{head, spelling, record_len, body_len, body_bytes, transaction_row, page_row, type_byte, IsBody, IsRecord}
@@ -98,6 +98,7 @@ tables-of_body pages bytes rest Rollback is fits = tt
 tables-of_body pages bytes rest End is fits = tt
 tables-of_body pages bytes rest BeginCheckpoint is fits = tt
 tables-of_body pages bytes rest (EndCheckpoint ts ps) is fits = record { rest = rest; spelled = is; fits = fits }
+tables-of_body pages bytes rest Prepare is fits = tt
 
 -- the tables of the record that was read are those that stand there
 pub tables-found : (pages size len : ℕ) (bytes logged : List ℕ) (r : Record) → logged ≡ head size 7 0 0 0 ++ bytes → take len logged ≡ spelling r → IsRecord pages r

@@ -4,7 +4,7 @@ use Rattle.std.specs.Int.{w32, w64, to_be_bytes}
 use Rattle.als_record.specs.declared.rows.LoggedTransaction.{LoggedTransaction}
 use Rattle.als_record.specs.declared.rows.LoggedPage.{LoggedPage}
 use Rattle.als_record.specs.declared.record.Body.{Body}
-use Rattle.als_record.specs.declared.record.Body.TheVariants.{Update, Compensation, Commit, Rollback, End, BeginCheckpoint, EndCheckpoint}
+use Rattle.als_record.specs.declared.record.Body.TheVariants.{Update, Compensation, Commit, Rollback, End, BeginCheckpoint, EndCheckpoint, Prepare}
 use Rattle.als_record.specs.Spelling.{body_bytes, IsBody}
 use Rattle.als_ckpt_codec.specs.declared.fault.Fault.{Fault}
 use Rattle.als_ckpt_codec.specs.declared.fault.Fault.TheVariants.{BadControl, Memory}
@@ -31,10 +31,10 @@ pub record AreNumbers (n : Numbers) : Type 0 where
   pub commits : n.commits < 2 ^ 64
   pub last_commit : n.last_commit.0 < 2 ^ 64
 
--- TransIDs rise from the least that may come on, and each state is active, committed or rolling back
+-- TransIDs rise from the least that may come on, and each state is active, committed, rolling back or prepared
 abbrev pub are_transactions : ℕ → List LoggedTransaction → Bool
 are_transactions least [] = true
-are_transactions least (t ∷ rest) = nat_le least t.trans.0 && (nat_le 1 t.state && (nat_le t.state 3 && are_transactions (t.trans.0 + 1) rest))
+are_transactions least (t ∷ rest) = nat_le least t.trans.0 && (nat_le 1 t.state && (nat_le t.state 4 && are_transactions (t.trans.0 + 1) rest))
 
 -- pages rise from the least that may come on, and each is below the page count
 abbrev pub are_pages : ℕ → ℕ → List LoggedPage → Bool
@@ -69,6 +69,7 @@ tables_of Rollback = Err BadControl
 tables_of End = Err BadControl
 tables_of BeginCheckpoint = Err BadControl
 tables_of (EndCheckpoint transactions dirty) = Ok (transactions, dirty)
+tables_of Prepare = Err BadControl
 
 -- What was found is this, or memory ran out.
 abbrev pub Finds : {X : Type 0} → X → Result X Fault → Type 0

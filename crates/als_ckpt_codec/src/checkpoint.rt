@@ -6,7 +6,7 @@ use als_record::{PageRows, TransactionRows};
 pub struct Checkpoint {
     pub numbers: Numbers,
     /// The transactions that had not ended, in rising TransID. The states are 1 active, 2
-    /// committed, 3 rolling back.
+    /// committed, 3 rolling back, 4 prepared.
     pub transactions: TransactionRows,
     /// The dirty pages, in rising page.
     pub pages: PageRows,

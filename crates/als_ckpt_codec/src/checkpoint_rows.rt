@@ -3,14 +3,14 @@ ghost use Rattle.als_ckpt_codec.specs.Checkpoint.{are_transactions, are_pages};
 
 use als_record::{LoggedPage, LoggedTransaction};
 
-/// Whether TransIDs rise, and each state is active, committed or rolling back.
+/// Whether TransIDs rise, and each state is active, committed, rolling back or prepared.
 pub(crate) fn are_transactions(rows: &[LoggedTransaction]) -> bool
     ensures { result ≡ are_transactions 0 rows.now }
 {
     let mut least = 0u64;
     for row in rows {
         let trans = row.trans.0 as u64;
-        if trans < least || row.state < 1 || 3 < row.state {
+        if trans < least || row.state < 1 || 4 < row.state {
             return false;
         }
         least = trans + 1;

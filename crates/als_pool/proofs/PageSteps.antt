@@ -6,7 +6,7 @@ use Rattle.std.proofs.lemmas.Option.{same_Some}
 use Rattle.als_record.specs.declared.lsn.Lsn.{Lsn}
 use Rattle.als_record.specs.declared.change.Change.{Change}
 use Rattle.als_record.specs.declared.record.Body.{Body}
-use Rattle.als_record.specs.declared.record.Body.TheVariants.{Update, Compensation, Commit, Rollback, End, BeginCheckpoint, EndCheckpoint}
+use Rattle.als_record.specs.declared.record.Body.TheVariants.{Update, Compensation, Commit, Rollback, End, BeginCheckpoint, EndCheckpoint, Prepare}
 use Rattle.als_record.specs.declared.record.Record.{Record}
 use Rattle.als_record.specs.LogText.{end_of, IsLog}
 use Rattle.als_record.specs.Pages.{PageState, change_in, change_of, changes_on, changes_above, lsn_after}
@@ -46,6 +46,7 @@ in_lsn r Rollback c is = absurd cc
 in_lsn r End c is = absurd cc
 in_lsn r BeginCheckpoint c is = absurd cc
 in_lsn r (EndCheckpoint transactions pages) c is = absurd cc
+in_lsn r Prepare c is = absurd cc
 
 pub change_lsn : (r : Record) (c : Change) → change_of r ≡ Some c → c.lsn ≡ r.lsn
 change_lsn r c is = in_lsn r r.body c is

@@ -2,7 +2,7 @@
 use Rattle.std.specs.Prelude.{◌≡◌, ◌≤◌, ℕ, Option, Some, None, IfSome}
 use Rattle.als_record.specs.declared.record.Record.{Record}
 use Rattle.als_record.specs.declared.record.Body.{Body}
-use Rattle.als_record.specs.declared.record.Body.TheVariants.{Update, Compensation, Commit, Rollback, End, BeginCheckpoint, EndCheckpoint}
+use Rattle.als_record.specs.declared.record.Body.TheVariants.{Update, Compensation, Commit, Rollback, End, BeginCheckpoint, EndCheckpoint, Prepare}
 use Rattle.als_scan.specs.declared.wanted.Wanted.{Wanted}
 
 -- the page that a record with this body writes
@@ -14,6 +14,7 @@ page_of Rollback = None
 page_of End = None
 page_of BeginCheckpoint = None
 page_of (EndCheckpoint rows pages) = None
+page_of Prepare = None
 
 -- it stands there or behind, is of the transaction, and writes the page, if these are named
 abbrev pub IsWanted : Wanted → Record → Type 0

@@ -65,3 +65,4 @@ other_view view.End n = refl
 other_view view.BeginCheckpoint n = refl
 other_view (view.EndCheckpoint (Spelled rows)) n = refl
 other_view (view.EndCheckpoint (Kept transactions pages)) n = refl
+other_view view.Prepare n = refl

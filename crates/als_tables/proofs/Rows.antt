@@ -6,7 +6,7 @@ use Rattle.std.proofs.lemmas.Bool.{and_from, le-leb}
 use Rattle.als_record.specs.declared.rows.LoggedTransaction.{LoggedTransaction}
 use Rattle.als_record.specs.declared.record.Record.{Record}
 use Rattle.als_record.specs.declared.transaction_state.TransactionState.{TransactionState}
-use Rattle.als_record.specs.declared.transaction_state.TransactionState.TheVariants.{Active, Committed, RollingBack}
+use Rattle.als_record.specs.declared.transaction_state.TransactionState.TheVariants.{Active, Committed, RollingBack, Prepared}
 use Rattle.als_record.specs.Orders.{Rising}
 use Rattle.als_record.specs.Spelling.{IsLoggedTransaction}
 use Rattle.als_record.specs.Table.{row_of, table_of}
@@ -52,24 +52,26 @@ pub few_rows : (log : List Record) → is_valid log ≡ true → length (table_o
 unfolding table_of
 few_rows log v = omega (arith, length-map_row log (unended log), length-unended log v)
 
-state_high : (s : TransactionState) → state_number s ≤ 3
+state_high : (s : TransactionState) → state_number s ≤ 4
 state_high Active = omega arith
 state_high Committed = omega arith
 state_high RollingBack = omega arith
+state_high Prepared = omega arith
 
 state_low : (s : TransactionState) → 1 ≤ state_number s
 state_low Active = omega arith
 state_low Committed = omega arith
 state_low RollingBack = omega arith
+state_low Prepared = omega arith
 
 rise : (log : List Record) (least : ℕ) (ts : List ℕ) → AllByRecursion (λ t. least ≤ t) ts → Rising ts → are_transactions least (logged_rows (map (row_of log) ts)) ≡ true
 unfolding row_of
 rise log least [] low h = refl
 rise log least (t ∷ ts) low h =
     let row = row_of log t in
-    and_from (nat_le least t) (nat_le 1 (state_number row.state) && (nat_le (state_number row.state) 3 && are_transactions (t + 1) (logged_rows (map (row_of log) ts)))) (le-leb least t low.0)
-    (and_from (nat_le 1 (state_number row.state)) (nat_le (state_number row.state) 3 && are_transactions (t + 1) (logged_rows (map (row_of log) ts))) (le-leb 1 (state_number row.state) (state_low row.state))
-    (and_from (nat_le (state_number row.state) 3) (are_transactions (t + 1) (logged_rows (map (row_of log) ts))) (le-leb (state_number row.state) 3 (state_high row.state)) (rise log (t + 1) ts (above t ts h.0) h.1)))
+    and_from (nat_le least t) (nat_le 1 (state_number row.state) && (nat_le (state_number row.state) 4 && are_transactions (t + 1) (logged_rows (map (row_of log) ts)))) (le-leb least t low.0)
+    (and_from (nat_le 1 (state_number row.state)) (nat_le (state_number row.state) 4 && are_transactions (t + 1) (logged_rows (map (row_of log) ts))) (le-leb 1 (state_number row.state) (state_low row.state))
+    (and_from (nat_le (state_number row.state) 4) (are_transactions (t + 1) (logged_rows (map (row_of log) ts))) (le-leb (state_number row.state) 4 (state_high row.state)) (rise log (t + 1) ts (above t ts h.0) h.1)))
   where
     above : (t : ℕ) (xs : List ℕ) → AllByRecursion (λ y. t < y) xs → AllByRecursion (λ y. t + 1 ≤ y) xs
     above t [] a = tt

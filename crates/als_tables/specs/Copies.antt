@@ -3,13 +3,14 @@ use Rattle.std.specs.Prelude.{ℕ, List, map}
 use Rattle.als_record.specs.declared.rows.LoggedTransaction.{LoggedTransaction}
 use Rattle.als_record.specs.declared.transaction_row.TransactionRow.{TransactionRow}
 use Rattle.als_record.specs.declared.transaction_state.TransactionState.{TransactionState}
-use Rattle.als_record.specs.declared.transaction_state.TransactionState.TheVariants.{Active, Committed, RollingBack}
+use Rattle.als_record.specs.declared.transaction_state.TransactionState.TheVariants.{Active, Committed, RollingBack, Prepared}
 
 -- the number of a state
 abbrev pub state_number : TransactionState → ℕ
 state_number Active = 1
 state_number Committed = 2
 state_number RollingBack = 3
+state_number Prepared = 4
 
 -- a row, as a checkpoint has it
 abbrev pub logged_row : TransactionRow → LoggedTransaction

@@ -20,6 +20,7 @@ fn number_of(state: TransactionState) -> u8
         TransactionState::Active => 1,
         TransactionState::Committed => 2,
         TransactionState::RollingBack => 3,
+        TransactionState::Prepared => 4,
     }
 }
 

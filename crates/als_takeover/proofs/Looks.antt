@@ -3,7 +3,7 @@ use Rattle.std.proofs.Common.{◌≡◌, ℕ, true, Option, Some, None, ap, ◌�
 use Rattle.std.specs.Prelude.{IsSomeAnd, is_some}
 use Rattle.std.proofs.lemmas.Bool.{false≢true, and_parts}
 use Rattle.als_record.specs.declared.record.Body.{Body}
-use Rattle.als_record.specs.declared.record.Body.TheVariants.{Update, Compensation, Commit, Rollback, End, BeginCheckpoint, EndCheckpoint}
+use Rattle.als_record.specs.declared.record.Body.TheVariants.{Update, Compensation, Commit, Rollback, End, BeginCheckpoint, EndCheckpoint, Prepare}
 use Rattle.als_record.specs.declared.record.Record.{Record}
 use Rattle.als_record.specs.Reading.{HasRows}
 use Rattle.als_record.specs.Transactions.{is_transactional}
@@ -23,6 +23,7 @@ no_rows Rollback e h = h
 no_rows End e h = h
 no_rows BeginCheckpoint e h = h
 no_rows (EndCheckpoint transactions pages) e h = false≢true e
+no_rows Prepare e h = h
 
 module _ (old : Local) (t n : ℕ) (r : Record) (s : ChainStep old.log t n r) where
   -- a record stands there

@@ -6,24 +6,39 @@ ghost use Rattle.als_record.specs.declared.record.Record.{Record as AnyRecord};
 ghost use Rattle.als_analysis.specs.declared.open_row.OpenRow.{OpenRow as AnyRow};
 ghost use Rattle.als_analysis.specs.Noted.{IsTableOf};
 ghost use Rattle.als_takeover.specs.Next.{first_of, is_over, undo_of, AreCursors, IsNewest};
-ghost use Rattle.als_takeover.specs.Next.{IsTurn, IsTop, AreLosers, CannotRead};
+ghost use Rattle.als_takeover.specs.Next.{IsTurn, IsTop, AreUnfinished, CannotRead, NoneToUndo};
+ghost use Rattle.als_takeover.specs.Next.{cursor_in};
 
 use crate::chain::{is_update_record, let_go, next_of};
 use als_analysis::{OpenRow, TransTable};
 use als_disk::BlockDisk;
 use als_log::{Fault, LocalLog};
-use als_record::{Body, BodyView, Lsn, Record, TRANSACTION_LIMIT, TransactionState};
+use als_record::{
+    Body, BodyView, Lsn, Record, TRANSACTION_LIMIT, TransactionRow, TransactionState,
+};
 
 /// Where the undo of each transaction goes on, by the places of their rows.
 type Cursors = [u64; TRANSACTION_LIMIT];
 
-/// Whether nothing of a transaction is to be undone: it has committed, or no update of it survives.
+/// Whether nothing of a transaction is to be undone, so that it ends: it has committed, or no update
+/// of it survives. One in doubt does not end.
 fn is_finished(kept: &OpenRow) -> bool
     ensures { result ≡ is_over kept.now }
 {
     match kept.row().state {
         TransactionState::Committed => true,
         TransactionState::Active | TransactionState::RollingBack => kept.left() == 0,
+        TransactionState::Prepared => false,
+    }
+}
+
+/// Where the undo of a transaction goes on: nowhere, which is 0, of one in doubt.
+fn cursor_of(row: TransactionRow) -> u64
+    ensures { result ≡ cursor_in row }
+{
+    match row.state {
+        TransactionState::Prepared => 0,
+        _ => row.undo_next.0,
     }
 }
 
@@ -42,7 +57,7 @@ fn turn_of(rows: &[OpenRow]) -> usize
         if is_finished(kept) {
             return at;
         }
-        let here = kept.row().undo_next.0;
+        let here = cursor_of(kept.row());
         if top < here {
             greatest = at;
             top = here;
@@ -55,11 +70,11 @@ fn turn_of(rows: &[OpenRow]) -> usize
 fn cursors_of(rows: &[OpenRow]) -> Cursors
     requires { length rows.now ≤ 256 }
     ensures { (k : ℕ) (d : AnyRow) → k < length rows.now
-        → slice_index result k ≡ (slice_index_or rows.now k d).row.undo_next.0 }
+        → slice_index result k ≡ cursor_in (slice_index_or rows.now k d).row }
 {
     let mut cursors = [0; TRANSACTION_LIMIT];
     for at in 0..rows.len() {
-        cursors[at] = rows[at].row().undo_next.0;
+        cursors[at] = cursor_of(rows[at].row());
     }
     cursors
 }
@@ -80,9 +95,10 @@ fn greatest_of(cursors: &Cursors, count: usize) -> usize
     greatest
 }
 
-/// The newest update to be undone of all transactions, with the place of its transaction. The
-/// record at the greatest cursor is read. Where it is no update, that cursor moves to where its
-/// undo goes on, and all are compared again: another transaction may now have the newest one.
+/// The newest update to be undone of all transactions, with the place of its transaction; `None`
+/// where nothing is to be undone. The record at the greatest cursor is read. Where it is no update,
+/// that cursor moves to where its undo goes on, and all are compared again: another transaction may
+/// now have the newest one.
 fn newest_of<D: BlockDisk>(
     log: &mut LocalLog<D>,
     cursors: &mut Cursors,
@@ -91,8 +107,8 @@ fn newest_of<D: BlockDisk>(
     requires { count ≤ 256 }
     ensures found { (ts : List ℕ) → IsTrue (is_valid log.old.log) → length ts ≡ count
         → AreCursors log.old.log ts cursors.old
-        → IfOk result (λ found. MatchOption found (count ≡ 0) (λ x. IsNewest log.old.log ts x.0
-        x.1)) }
+        → IfOk result (λ found. MatchOption found (NoneToUndo log.old.log ts) (λ x. IsNewest log.old.log
+        ts x.0 x.1)) }
     ensures within { IfOk result (λ found. IfSome found (λ x. x.0 < count)) }
     ensures same { OnOk result (log.new ≡ log.old) }
     ensures err { (ts : List ℕ) → IsTrue (is_valid log.old.log) → length ts ≡ count
@@ -105,6 +121,10 @@ fn newest_of<D: BlockDisk>(
     'chains: loop {
         let at = greatest_of(cursors, count);
         let here = cursors[at];
+        // No cursor is above 0: each transaction is in doubt.
+        if here == 0 {
+            return Ok(None);
+        }
         let looked = log.record(Lsn(here))?;
         match looked {
             None => return Ok(None),
@@ -173,10 +193,10 @@ fn undo_along<D: BlockDisk>(
     end: Lsn,
 ) -> Result<Option<Record>, Fault>
     requires { length rows.now ≤ 256 }
-    ensures next { AreLosers log.old.log end.0 rows.now
+    ensures next { AreUnfinished log.old.log end.0 rows.now
         → IfOk result (λ found. found ≡ first_of (tail_of log.old.log)) }
     ensures same { OnOk result (log.new ≡ log.old) }
-    ensures err { AreLosers log.old.log end.0 rows.now
+    ensures err { AreUnfinished log.old.log end.0 rows.now
         → IfErr result (λ e. CannotRead e log.old log.new) }
 {
     let mut cursors = cursors_of(rows);
@@ -202,13 +222,18 @@ fn undo_at<D: BlockDisk>(
     requires few { length rows.now ≤ 256 }
     requires within { at < length rows.now }
     requires top { IsTop rows.now at }
-    ensures next { AreLosers log.old.log end.0 rows.now
+    ensures next { AreUnfinished log.old.log end.0 rows.now
         → IfOk result (λ found. found ≡ first_of (tail_of log.old.log)) }
     ensures same { OnOk result (log.new ≡ log.old) }
-    ensures err { AreLosers log.old.log end.0 rows.now
+    ensures err { AreUnfinished log.old.log end.0 rows.now
         → IfErr result (λ e. CannotRead e log.old log.new) }
 {
-    let looked = log.record(rows[at].row().undo_next)?;
+    let here = cursor_of(rows[at].row());
+    // No undo goes on above 0: each transaction is in doubt.
+    if here == 0 {
+        return Ok(None);
+    }
+    let looked = log.record(Lsn(here))?;
     if let Some(found) = looked {
         if is_update_record(&found) {
             let made = compensation_of(&rows[at], end, &found);
@@ -221,9 +246,9 @@ fn undo_at<D: BlockDisk>(
 }
 
 /// The next record that a takeover appends to its log: the first one of the log's tail, `None`
-/// where no transaction is unended. First each transaction with nothing to undo ends, in rising
-/// TransID; then the updates of all losers are undone in one falling sweep, whoever wrote them, and
-/// a transaction ends after its last one.
+/// where each unended transaction is in doubt. First each transaction with nothing to undo ends, in
+/// rising TransID; then the updates of all losers are undone in one falling sweep, whoever wrote
+/// them, and a transaction ends after its last one.
 ///
 /// The updates are read from the log, along the undo chains of all losers at once: no memory is
 /// taken. What a compensation has undone is passed over by its UndoNxtLSN.

@@ -4,7 +4,7 @@ use Rattle.std.specs.List.{AllByRecursion}
 use Rattle.std.proofs.lemmas.Bool.{cases_Bool, and_parts, ltb-false}
 use Rattle.als_record.specs.declared.key.Key.{Key}
 use Rattle.als_record.specs.declared.record.Body.{Body}
-use Rattle.als_record.specs.declared.record.Body.TheVariants.{Update, Compensation, Commit, Rollback, End, BeginCheckpoint, EndCheckpoint}
+use Rattle.als_record.specs.declared.record.Body.TheVariants.{Update, Compensation, Commit, Rollback, End, BeginCheckpoint, EndCheckpoint, Prepare}
 use Rattle.als_record.specs.declared.record.Record.{Record}
 use Rattle.als_record.specs.Spelling.{IsRecord, record_len}
 use Rattle.als_record.specs.LogText.{end_of}
@@ -49,6 +49,7 @@ updates_at-after k left r Rollback = omega arith
 updates_at-after k left r End = omega arith
 updates_at-after k left r BeginCheckpoint = omega arith
 updates_at-after k left r (EndCheckpoint rows pages) = omega arith
+updates_at-after k left r Prepare = omega arith
 
 updates_at-start : (k : Key) (t : ℕ) → updates_at k (to_undo [] t) * 2 + 16 ≤ end_of []
 unfolding to_undo records_of end_of

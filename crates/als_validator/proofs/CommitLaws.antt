@@ -3,7 +3,7 @@ use Rattle.std.proofs.Common.{◌≡◌, Bool, true, false, cond, not, List, [],
 use Rattle.std.specs.Prelude.{is_none}
 use Rattle.std.proofs.lemmas.Bool.{false≢true, and_parts}
 use Rattle.als_record.specs.declared.record.Body.{Body}
-use Rattle.als_record.specs.declared.record.Body.TheVariants.{Update, Compensation, Commit, Rollback, End, BeginCheckpoint, EndCheckpoint}
+use Rattle.als_record.specs.declared.record.Body.TheVariants.{Update, Compensation, Commit, Rollback, End, BeginCheckpoint, EndCheckpoint, Prepare}
 use Rattle.als_record.specs.declared.record.Record.{Record}
 use Rattle.als_record.specs.LogText.{end_of}
 use Rattle.als_record.specs.Transactions.{is_transactional, is_commit, is_end, is_of, has_begun, has_ended, is_unended, to_undo_after, to_undo, surviving}
@@ -25,6 +25,7 @@ commits-transactional Rollback e = refl
 commits-transactional End e = refl
 commits-transactional BeginCheckpoint e = absurd (false≢true e)
 commits-transactional (EndCheckpoint transactions pages) e = absurd (false≢true e)
+commits-transactional Prepare e = refl
 
 module _ (log : List Record) (r : Record) (v : is_valid log ≡ true) (at : r.lsn.0 ≡ end_of log) (good : first_bad log r ≡ None) where
   more : is_valid (log ++ r ∷ []) ≡ true
@@ -84,6 +85,7 @@ module _ (log : List Record) (r : Record) (v : is_valid (log ++ r ∷ []) ≡ tr
   ends_not End e = absurd (false≢true e)
   ends_not BeginCheckpoint e = refl
   ends_not (EndCheckpoint transactions pages) e = refl
+  ends_not Prepare e = refl
 
   own : is_commit r.body ≡ true → is_of r.trans.0 r ≡ true
   own e = rw (commits-transactional r.body e, eqb-refl r.trans.0) refl
@@ -104,6 +106,7 @@ module _ (log : List Record) (r : Record) (v : is_valid (log ++ r ∷ []) ≡ tr
       left End e = refl
       left BeginCheckpoint e = refl
       left (EndCheckpoint transactions pages) e = refl
+      left Prepare e = refl
 
   -- a commit record has added its own
   pub made-own : is_commit r.body ≡ true → (us : List Record) → us ≡ cond (is_unended (log ++ r ∷ []) r.trans.0) (surviving (log ++ r ∷ []) r.trans.0) [] → commits_of (log ++ r ∷ []) ≡ commits_of log ++ commit_with r.trans r.lsn us ∷ []

@@ -7,7 +7,7 @@ use Rattle.als_record.specs.declared.trans_id.TransId.{TransId}
 use Rattle.als_record.specs.declared.lsn.Lsn.{Lsn}
 use Rattle.als_record.specs.declared.key.Key.{Key}
 use Rattle.als_record.specs.declared.record.Body.{Body}
-use Rattle.als_record.specs.declared.record.Body.TheVariants.{Update, Compensation, Commit, Rollback, End, BeginCheckpoint, EndCheckpoint}
+use Rattle.als_record.specs.declared.record.Body.TheVariants.{Update, Compensation, Commit, Rollback, End, BeginCheckpoint, EndCheckpoint, Prepare}
 use Rattle.als_record.specs.declared.record.Record.{Record}
 use Rattle.als_record.specs.Spelling.{Image, IsKey, IsBody}
 use Rattle.als_record.specs.LogText.{end_of}
@@ -212,6 +212,7 @@ module _ (log : List Record) (r : Record) (k : Key) (old : KeyState) (kept : IsK
       no_change End u c = refl
       no_change BeginCheckpoint u c = refl
       no_change (EndCheckpoint transactions pages) u c = refl
+      no_change Prepare u c = refl
 
       same_left : (left : List Record) (b : Body) → is_update b ≡ false → is_compensation b ≡ false → to_undo_after left r b ≡ left
       same_left left (Update key before after) u c = absurd (true≢false u)
@@ -221,6 +222,7 @@ module _ (log : List Record) (r : Record) (k : Key) (old : KeyState) (kept : IsK
       same_left left End u c = refl
       same_left left BeginCheckpoint u c = refl
       same_left left (EndCheckpoint transactions pages) u c = refl
+      same_left left Prepare u c = refl
 
 -- neither an update nor a compensation
 -- ---- all keys

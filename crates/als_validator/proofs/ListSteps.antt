@@ -5,7 +5,7 @@ use Rattle.std.proofs.lemmas.Bool.{cases_eq, cases_lt, false≢true}
 use Rattle.std.proofs.lemmas.List.{length-map, length-set, length_push, get_or-set_same, get_or-set_other, get_or_append_left, get_or-map, set_past, map-set, set-get_or}
 use Rattle.std.proofs.lemmas.List.Edits.{length-remove, get_or-remove_below, get_or-remove_above}
 use Rattle.als_record.specs.declared.record.Body.{Body}
-use Rattle.als_record.specs.declared.record.Body.TheVariants.{Update, Compensation, Commit, Rollback, End, BeginCheckpoint, EndCheckpoint}
+use Rattle.als_record.specs.declared.record.Body.TheVariants.{Update, Compensation, Commit, Rollback, End, BeginCheckpoint, EndCheckpoint, Prepare}
 use Rattle.als_record.specs.declared.record.Record.{Record}
 use Rattle.als_record.specs.Transactions.{is_transactional, is_end, is_update, is_compensation, is_of, is_among, to_undo_after, to_undo, surviving, has_begun, is_unended, unended}
 use Rattle.als_record.specs.Validity.{may_follow}
@@ -119,6 +119,7 @@ module _ (log : List Record) (r : Record) (t : ℕ) (own : is_of t r ≡ true) w
       go End e = same End e refl
       go BeginCheckpoint e = same BeginCheckpoint e refl
       go (EndCheckpoint transactions pages) e = same (EndCheckpoint transactions pages) e refl
+      go Prepare e = same Prepare e refl
 
 surviving-none : (log : List Record) (t : ℕ) → has_begun log t ≡ false → surviving log t ≡ []
 unfolding surviving

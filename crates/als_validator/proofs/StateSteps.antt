@@ -7,15 +7,15 @@ use Rattle.std.proofs.lemmas.List.Folds.{list_any-append}
 use Rattle.std.proofs.lemmas.Bool.Decides.{nat_tests}
 use Rattle.als_record.specs.declared.trans_id.TransId.{TransId}
 use Rattle.als_record.specs.declared.record.Body.{Body}
-use Rattle.als_record.specs.declared.record.Body.TheVariants.{Update, Compensation, Commit, Rollback, End, BeginCheckpoint, EndCheckpoint}
+use Rattle.als_record.specs.declared.record.Body.TheVariants.{Update, Compensation, Commit, Rollback, End, BeginCheckpoint, EndCheckpoint, Prepare}
 use Rattle.als_record.specs.declared.record.Record.{Record}
-use Rattle.als_record.specs.declared.transaction_state.TransactionState.TheVariants.{Active, Committed, RollingBack}
+use Rattle.als_record.specs.declared.transaction_state.TransactionState.TheVariants.{Active, Committed, RollingBack, Prepared}
 use Rattle.als_record.specs.declared.transaction_row.TransactionRow.{TransactionRow}
-use Rattle.als_record.specs.Transactions.{records_of, is_transactional, is_commit, is_end, is_of, is_some_left, to_undo, is_committed, has_rollback, has_begun, is_unended, is_open, last_lsn, unended, greatest_trans}
-use Rattle.als_record.specs.Table.{state_of, row_of}
+use Rattle.als_record.specs.Transactions.{records_of, is_transactional, is_commit, is_end, is_decision, is_of, is_some_left, to_undo, is_committed, has_rollback, has_prepare, has_begun, is_unended, is_open, is_in_doubt, last_lsn, unended, greatest_trans}
+use Rattle.als_record.specs.Table.{is_prepared, state_of, row_of}
 use Rattle.als_record.specs.Validity.{prev_of, old_transaction, is_forward, wrong_state, goes_on_after, wrong_undo_next, undoes_newest, wrong_compensation, too_many, is_valid}
-use Rattle.als_record.proofs.Records.{is_unended-none, is_committed-own, is_committed-other, is_committed-none, has_rollback-none, to_undo-none}
-use Rattle.als_record.proofs.Unended.{length-unended_more, length-unended_end, length-unended_new, length-unended_new_end, length-unended_checkpoint}
+use Rattle.als_record.proofs.Records.{is_unended-none, is_committed-own, is_committed-other, is_committed-none, has_rollback-none, has_prepare-none, is_in_doubt-over, to_undo-none}
+use Rattle.als_record.proofs.Unended.{length-unended_more, length-unended_end, length-unended_new, length-unended_new_end, length-unended_checkpoint, is_prepared-state}
 use Rattle.als_analysis.proofs.LogSteps.{not_begun}
 use Rattle.als_validator.specs.Seen.{first_of, AreCommitted}
 use Rattle.als_validator.specs.Tests.{state_in, last_in, goes_on, barred, skips, misses}
@@ -50,7 +50,7 @@ module _ (log : List Record) (t : ℕ) (known : (is_unended log t ≡ true) ⊎ 
   unfolding row_of state_of
   state_in-known row e = elim known [
     | inl u ↦ ap state_in e ∙ rw u refl
-    | inr n ↦ ap state_in e ∙ rw (is_unended-none log t n, is_committed-none log t n, has_rollback-none log t n) refl
+    | inr n ↦ ap state_in e ∙ rw (is_unended-none log t n, is_committed-none log t n, has_rollback-none log t n, has_prepare-none log t n) refl
   ]
 
   pub newest-known : (newest : Option Record) → newest ≡ cond (is_unended log t) (first_of (to_undo log t)) None → newest ≡ first_of (to_undo log t)
@@ -58,6 +58,22 @@ module _ (log : List Record) (t : ℕ) (known : (is_unended log t ≡ true) ⊎ 
     | inl u ↦ e ∙ rw u refl
     | inr n ↦ e ∙ rw (is_unended-none log t n, to_undo-none log t n) refl
   ]
+
+-- in doubt: prepared, and neither committed nor rolling back
+pub in_doubt-known : (log : List Record) (t : ℕ) → (is_unended log t ≡ true) ⊎ (has_begun log t ≡ false) → is_in_doubt log t ≡ (has_prepare log t && not (is_committed log t) && not (has_rollback log t))
+unfolding is_in_doubt
+in_doubt-known log t known = elim known [
+  | inl u ↦ rw u refl
+  | inr n ↦ rw (is_unended-none log t n, has_prepare-none log t n) refl
+]
+
+-- and so the state of a row says, where there is one
+pub in_doubt-row : (log : List Record) (t : ℕ) (row : Option TransactionRow) → row ≡ cond (is_unended log t) (Some (row_of log t)) None → is_prepared (state_in row) ≡ is_in_doubt log t
+unfolding row_of
+in_doubt-row log t row e = elim (cases_Bool (is_unended log t)) [
+  | inl u ↦ ap (λ x. is_prepared (state_in x)) e ∙ rw u (is_prepared-state log t u)
+  | inr u ↦ ap (λ x. is_prepared (state_in x)) e ∙ rw u (sym (is_in_doubt-over log t u))
+]
 
 pub is_some-first : (us : List Record) → is_some (first_of us) ≡ is_some_left us
 is_some-first [] = refl
@@ -80,57 +96,104 @@ is_none-row log t row e = ap is_none e ∙ go (is_unended log t)
 
 -- ---- the causes
 
-pub wrong_state-barred : (log : List Record) (r : Record) → wrong_state log r ≡ barred (state_of log r.trans.0) (is_some_left (to_undo log r.trans.0)) r.body
+pub wrong_state-barred : (log : List Record) (r : Record) → (is_unended log r.trans.0 ≡ true) ⊎ (has_begun log r.trans.0 ≡ false) → wrong_state log r ≡ barred (state_of log r.trans.0) (is_some_left (to_undo log r.trans.0)) r.body
 unfolding wrong_state state_of
-wrong_state-barred log r = go (is_committed log r.trans.0) (has_rollback log r.trans.0) (is_some_left (to_undo log r.trans.0)) r.body
+wrong_state-barred log r known = rw (in_doubt-known log r.trans.0 known) (go (is_committed log r.trans.0) (has_rollback log r.trans.0) (has_prepare log r.trans.0) (is_some_left (to_undo log r.trans.0)) r.body)
   where
-    go : (c h l : Bool) (b : Body) → ((c && not (is_end b)) || (h && not c && is_forward b) || (is_end b && not c && l)) ≡ barred (cond c Committed (cond h RollingBack Active)) l b
-    go true true l (Update key before after) = refl
-    go true true l (Compensation undo_next key after) = refl
-    go true true l Commit = refl
-    go true true l Rollback = refl
-    go true true l End = refl
-    go true true l BeginCheckpoint = refl
-    go true true l (EndCheckpoint transactions pages) = refl
-    go true false l (Update key before after) = refl
-    go true false l (Compensation undo_next key after) = refl
-    go true false l Commit = refl
-    go true false l Rollback = refl
-    go true false l End = refl
-    go true false l BeginCheckpoint = refl
-    go true false l (EndCheckpoint transactions pages) = refl
-    go false true l (Update key before after) = refl
-    go false true l (Compensation undo_next key after) = refl
-    go false true l Commit = refl
-    go false true l Rollback = refl
-    go false true l End = refl
-    go false true l BeginCheckpoint = refl
-    go false true l (EndCheckpoint transactions pages) = refl
-    go false false l (Update key before after) = refl
-    go false false l (Compensation undo_next key after) = refl
-    go false false l Commit = refl
-    go false false l Rollback = refl
-    go false false l End = refl
-    go false false l BeginCheckpoint = refl
-    go false false l (EndCheckpoint transactions pages) = refl
+    go : (c h p l : Bool) (b : Body) → ((c && not (is_end b)) || (h && not c && is_forward b) || ((p && not c && not h) && not (is_decision b)) || (is_end b && not c && l)) ≡ barred (cond c Committed (cond h RollingBack (cond p Prepared Active))) l b
+    go true true true l (Update key before after) = refl
+    go true true true l (Compensation undo_next key after) = refl
+    go true true true l Commit = refl
+    go true true true l Rollback = refl
+    go true true true l End = refl
+    go true true true l BeginCheckpoint = refl
+    go true true true l (EndCheckpoint transactions pages) = refl
+    go true true true l Prepare = refl
+    go true true false l (Update key before after) = refl
+    go true true false l (Compensation undo_next key after) = refl
+    go true true false l Commit = refl
+    go true true false l Rollback = refl
+    go true true false l End = refl
+    go true true false l BeginCheckpoint = refl
+    go true true false l (EndCheckpoint transactions pages) = refl
+    go true true false l Prepare = refl
+    go true false true l (Update key before after) = refl
+    go true false true l (Compensation undo_next key after) = refl
+    go true false true l Commit = refl
+    go true false true l Rollback = refl
+    go true false true l End = refl
+    go true false true l BeginCheckpoint = refl
+    go true false true l (EndCheckpoint transactions pages) = refl
+    go true false true l Prepare = refl
+    go true false false l (Update key before after) = refl
+    go true false false l (Compensation undo_next key after) = refl
+    go true false false l Commit = refl
+    go true false false l Rollback = refl
+    go true false false l End = refl
+    go true false false l BeginCheckpoint = refl
+    go true false false l (EndCheckpoint transactions pages) = refl
+    go true false false l Prepare = refl
+    go false true true l (Update key before after) = refl
+    go false true true l (Compensation undo_next key after) = refl
+    go false true true l Commit = refl
+    go false true true l Rollback = refl
+    go false true true l End = refl
+    go false true true l BeginCheckpoint = refl
+    go false true true l (EndCheckpoint transactions pages) = refl
+    go false true true l Prepare = refl
+    go false true false l (Update key before after) = refl
+    go false true false l (Compensation undo_next key after) = refl
+    go false true false l Commit = refl
+    go false true false l Rollback = refl
+    go false true false l End = refl
+    go false true false l BeginCheckpoint = refl
+    go false true false l (EndCheckpoint transactions pages) = refl
+    go false true false l Prepare = refl
+    go false false true l (Update key before after) = refl
+    go false false true l (Compensation undo_next key after) = refl
+    go false false true l Commit = refl
+    go false false true l Rollback = refl
+    go false false true l End = refl
+    go false false true l BeginCheckpoint = refl
+    go false false true l (EndCheckpoint transactions pages) = refl
+    go false false true l Prepare = refl
+    go false false false l (Update key before after) = refl
+    go false false false l (Compensation undo_next key after) = refl
+    go false false false l Commit = refl
+    go false false false l Rollback = refl
+    go false false false l End = refl
+    go false false false l BeginCheckpoint = refl
+    go false false false l (EndCheckpoint transactions pages) = refl
+    go false false false l Prepare = refl
 
--- a checkpoint's record: whether its transaction has committed
-pub wrong_state-checkpoint : (log : List Record) (r : Record) → is_transactional r.body ≡ false → wrong_state log r ≡ is_committed log r.trans.0
+-- a checkpoint's record: whether its transaction has committed or is in doubt
+pub wrong_state-checkpoint : (log : List Record) (r : Record) → is_transactional r.body ≡ false → wrong_state log r ≡ (is_in_doubt log r.trans.0 || is_committed log r.trans.0)
 unfolding wrong_state
-wrong_state-checkpoint log r w = go (is_committed log r.trans.0) (has_rollback log r.trans.0) (is_some_left (to_undo log r.trans.0)) r.body w
+wrong_state-checkpoint log r w = go (is_committed log r.trans.0) (has_rollback log r.trans.0) (is_in_doubt log r.trans.0) (is_some_left (to_undo log r.trans.0)) r.body w
   where
-    go : (c h l : Bool) (b : Body) → is_transactional b ≡ false → ((c && not (is_end b)) || (h && not c && is_forward b) || (is_end b && not c && l)) ≡ c
-    go c h l (Update key before after) e = absurd (true≢false e)
-    go c h l (Compensation undo_next key after) e = absurd (true≢false e)
-    go c h l Commit e = absurd (true≢false e)
-    go c h l Rollback e = absurd (true≢false e)
-    go c h l End e = absurd (true≢false e)
-    go true h l BeginCheckpoint e = refl
-    go false true l BeginCheckpoint e = refl
-    go false false l BeginCheckpoint e = refl
-    go true h l (EndCheckpoint transactions pages) e = refl
-    go false true l (EndCheckpoint transactions pages) e = refl
-    go false false l (EndCheckpoint transactions pages) e = refl
+    go : (c h d l : Bool) (b : Body) → is_transactional b ≡ false → ((c && not (is_end b)) || (h && not c && is_forward b) || (d && not (is_decision b)) || (is_end b && not c && l)) ≡ (d || c)
+    go c h d l (Update key before after) e = absurd (true≢false e)
+    go c h d l (Compensation undo_next key after) e = absurd (true≢false e)
+    go c h d l Commit e = absurd (true≢false e)
+    go c h d l Rollback e = absurd (true≢false e)
+    go c h d l End e = absurd (true≢false e)
+    go c h d l Prepare e = absurd (true≢false e)
+    go true true true l BeginCheckpoint e = refl
+    go true true false l BeginCheckpoint e = refl
+    go true false true l BeginCheckpoint e = refl
+    go true false false l BeginCheckpoint e = refl
+    go false true true l BeginCheckpoint e = refl
+    go false true false l BeginCheckpoint e = refl
+    go false false true l BeginCheckpoint e = refl
+    go false false false l BeginCheckpoint e = refl
+    go true true true l (EndCheckpoint transactions pages) e = refl
+    go true true false l (EndCheckpoint transactions pages) e = refl
+    go true false true l (EndCheckpoint transactions pages) e = refl
+    go true false false l (EndCheckpoint transactions pages) e = refl
+    go false true true l (EndCheckpoint transactions pages) e = refl
+    go false true false l (EndCheckpoint transactions pages) e = refl
+    go false false true l (EndCheckpoint transactions pages) e = refl
+    go false false false l (EndCheckpoint transactions pages) e = refl
 
 pub wrong_undo_next-skips : (log : List Record) (r : Record) (newest : Option Record) → (is_transactional r.body ≡ true → newest ≡ first_of (to_undo log r.trans.0)) → wrong_undo_next log r ≡ skips newest r.body
 unfolding wrong_undo_next
@@ -163,6 +226,10 @@ wrong_undo_next-skips log r newest k = go (to_undo log r.trans.0) newest r.body 
     go [] (Some v) (EndCheckpoint transactions pages) k = refl
     go (u ∷ rest) None (EndCheckpoint transactions pages) k = refl
     go (u ∷ rest) (Some v) (EndCheckpoint transactions pages) k = refl
+    go [] None Prepare k = refl
+    go [] (Some v) Prepare k = refl
+    go (u ∷ rest) None Prepare k = refl
+    go (u ∷ rest) (Some v) Prepare k = refl
 
 pub wrong_compensation-misses : (log : List Record) (r : Record) (newest : Option Record) → (is_transactional r.body ≡ true → newest ≡ first_of (to_undo log r.trans.0)) → wrong_compensation log r ≡ misses newest r.body
 unfolding wrong_compensation
@@ -195,6 +262,10 @@ wrong_compensation-misses log r newest k = go (to_undo log r.trans.0) newest r.b
     go [] (Some v) (EndCheckpoint transactions pages) k = refl
     go (u ∷ rest) None (EndCheckpoint transactions pages) k = refl
     go (u ∷ rest) (Some v) (EndCheckpoint transactions pages) k = refl
+    go [] None Prepare k = refl
+    go [] (Some v) Prepare k = refl
+    go (u ∷ rest) None Prepare k = refl
+    go (u ∷ rest) (Some v) Prepare k = refl
 
 pub too_many-begins : (log : List Record) (r : Record) → is_valid log ≡ true → old_transaction log r ≡ false → too_many log r ≡ (is_transactional r.body && not (is_end r.body) && not (is_unended log r.trans.0) && nat_le 256 (length (unended log)))
 unfolding too_many
@@ -227,12 +298,13 @@ too_many-begins log r v o =
 
 pub goes_on-open : (log : List Record) (t : ℕ) → is_unended log t ≡ true → goes_on (row_of log t).state ≡ is_open log t
 unfolding row_of state_of is_open
-goes_on-open log t u = rw u (go (is_committed log t) (has_rollback log t))
+goes_on-open log t u = rw u (go (is_committed log t) (has_rollback log t) (has_prepare log t))
   where
-    go : (c h : Bool) → goes_on (cond c Committed (cond h RollingBack Active)) ≡ not c
-    go true h = refl
-    go false true = refl
-    go false false = refl
+    go : (c h p : Bool) → goes_on (cond c Committed (cond h RollingBack (cond p Prepared Active))) ≡ not c
+    go true h p = refl
+    go false true p = refl
+    go false false true = refl
+    go false false false = refl
 
 pub is_open-ended : (log : List Record) (t : ℕ) → is_unended log t ≡ false → is_open log t ≡ false
 unfolding is_open

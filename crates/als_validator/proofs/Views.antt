@@ -37,6 +37,7 @@ shows_no_update view.Rollback n = refl
 shows_no_update view.End n = refl
 shows_no_update view.BeginCheckpoint n = refl
 shows_no_update (view.EndCheckpoint (Spelled rows)) n = refl
+shows_no_update view.Prepare n = refl
 shows_no_update (view.EndCheckpoint (Kept transactions pages)) n = refl
 
 pub shows_no_compensation : (b : BodyView) → NoCompensation b → is_compensation (shown_body b) ≡ false
@@ -47,6 +48,7 @@ shows_no_compensation view.Rollback n = refl
 shows_no_compensation view.End n = refl
 shows_no_compensation view.BeginCheckpoint n = refl
 shows_no_compensation (view.EndCheckpoint (Spelled rows)) n = refl
+shows_no_compensation view.Prepare n = refl
 shows_no_compensation (view.EndCheckpoint (Kept transactions pages)) n = refl
 
 pub shows_no_commit : (b : BodyView) → (b ≡ view.Commit → ⊥) → is_commit (shown_body b) ≡ false
@@ -57,6 +59,7 @@ shows_no_commit view.Rollback n = refl
 shows_no_commit view.End n = refl
 shows_no_commit view.BeginCheckpoint n = refl
 shows_no_commit (view.EndCheckpoint (Spelled rows)) n = refl
+shows_no_commit view.Prepare n = refl
 shows_no_commit (view.EndCheckpoint (Kept transactions pages)) n = refl
 
 -- what is no update has seen whatever its key had
@@ -68,4 +71,5 @@ shows_saw_now log view.Rollback n = refl
 shows_saw_now log view.End n = refl
 shows_saw_now log view.BeginCheckpoint n = refl
 shows_saw_now log (view.EndCheckpoint (Spelled rows)) n = refl
+shows_saw_now log view.Prepare n = refl
 shows_saw_now log (view.EndCheckpoint (Kept transactions pages)) n = refl

@@ -4,9 +4,9 @@ use Rattle.als_record.specs.declared.record.Body.{Body}
 use Rattle.als_record.specs.declared.record.Body.TheVariants.{Compensation}
 use Rattle.als_record.specs.declared.record.Record.{Record}
 use Rattle.als_record.specs.declared.transaction_state.TransactionState.{TransactionState}
-use Rattle.als_record.specs.declared.transaction_state.TransactionState.TheVariants.{Active, Committed, RollingBack}
+use Rattle.als_record.specs.declared.transaction_state.TransactionState.TheVariants.{Active, Committed, RollingBack, Prepared}
 use Rattle.als_record.specs.declared.transaction_row.TransactionRow.{TransactionRow}
-use Rattle.als_record.specs.Transactions.{is_end}
+use Rattle.als_record.specs.Transactions.{is_end, is_decision}
 use Rattle.als_record.specs.Images.{same_image, is_update_at, image_before}
 use Rattle.als_record.specs.Validity.{is_forward}
 
@@ -20,7 +20,7 @@ abbrev pub last_in : Option TransactionRow → ℕ
 last_in None = 0
 last_in (Some row) = row.last.0
 
--- whether a transaction in a state is undone by a takeover
+-- whether an unended transaction in a state is open
 abbrev pub goes_on : TransactionState → Bool
 goes_on Committed = false
 goes_on _ = true
@@ -29,6 +29,7 @@ goes_on _ = true
 abbrev pub barred : TransactionState → Bool → Body → Bool
 barred Committed left body = not (is_end body)
 barred RollingBack left body = is_forward body || (is_end body && left)
+barred Prepared left body = not (is_decision body)
 barred Active left body = is_end body && left
 
 -- a compensation that does not go on where the newest surviving update says

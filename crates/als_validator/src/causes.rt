@@ -7,6 +7,7 @@ ghost use Rattle.als_record.specs.Spelling.{IsKey};
 ghost use Rattle.als_record.specs.Shown.{shown, shown_body, shown_image};
 ghost use Rattle.als_record.specs.Transactions.{is_transactional, is_end, is_open};
 ghost use Rattle.als_record.specs.Images.{same_image, is_update_at, image_before};
+ghost use Rattle.als_record.specs.Table.{is_prepared};
 ghost use Rattle.als_record.specs.Validity.{fits_checkpoints};
 ghost use Rattle.als_analysis.specs.Noted.{IsTableOf};
 ghost use Rattle.als_validator.specs.Causing.{TellsBadPrev, TellsOld, TellsWrongState};
@@ -72,11 +73,20 @@ fn is_barred(state: TransactionState, left: bool, body: &BodyView<'_>) -> bool
         (TransactionState::Committed, _) => true,
         (
             TransactionState::RollingBack,
-            BodyView::Update { .. } | BodyView::Commit | BodyView::Rollback,
+            BodyView::Update { .. } | BodyView::Commit | BodyView::Rollback | BodyView::Prepare,
         ) => { true }
+        (TransactionState::Prepared, BodyView::Commit | BodyView::Rollback) => false,
+        (TransactionState::Prepared, _) => true,
         (_, BodyView::End) => left,
         _ => false,
     }
+}
+
+/// Whether a transaction in this state waits for its decision.
+fn does_wait(state: TransactionState) -> bool
+    ensures { result ≡ is_prepared state }
+{
+    matches!(state, TransactionState::Prepared)
 }
 
 /// Whether this is an update of the key with this before image.
@@ -163,7 +173,9 @@ fn does_go_on(state: TransactionState) -> bool
 {
     match state {
         TransactionState::Committed => false,
-        TransactionState::Active | TransactionState::RollingBack => true,
+        TransactionState::Active | TransactionState::RollingBack | TransactionState::Prepared => {
+            true
+        }
     }
 }
 
@@ -189,14 +201,16 @@ pub(crate) fn is_old(past: &Past, greatest: TransId, logged: &RecordView<'_>) ->
 }
 
 /// 10: what the transaction may no longer write. A checkpoint's record may not name one that has
-/// committed.
+/// committed or is in doubt.
 pub(crate) fn is_wrong_state(past: &Past, committed: &[TransId], logged: &RecordView<'_>) -> bool
     ensures { TellsWrongState past.now committed.now (shown logged.now) result }
 {
+    let state = state_of(past.row);
     if is_transaction_record(&logged.body) {
-        return is_barred(state_of(past.row), past.newest.is_some(), &logged.body);
+        return is_barred(state, past.newest.is_some(), &logged.body);
     }
-    is_listed(committed, logged.trans)
+    let waits = does_wait(state);
+    waits || is_listed(committed, logged.trans)
 }
 
 /// 11: a compensation that does not pass over exactly the update that is to be undone.

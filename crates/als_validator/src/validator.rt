@@ -280,7 +280,7 @@ impl Validator {
         self.begun
     }
 
-    /// The bytes that a takeover would append, exact for a log of less than 2^62 bytes.
+    /// The bytes that must stay free behind the log, exact for a log of less than 2^62 bytes.
     pub fn reserve_bytes(&self) -> u64
         ensures { (pages : ℕ) (log : List Record) → IsValidatorOf pages self.now log
             → end_of log < 2 ^ 62 → result ≡ reserve_of log }
@@ -288,8 +288,8 @@ impl Validator {
         self.table.reserve_bytes()
     }
 
-    /// The bytes that a takeover would append after one more record that may follow the log, before
-    /// that is taken, exact for a log of less than 2^62 bytes. It takes no memory, and the cost
+    /// The bytes that must stay free after one more record that may follow the log, before that is
+    /// taken, exact for a log of less than 2^62 bytes. It takes no memory, and the cost
     /// does not depend on how much is kept.
     pub fn reserve_after(&self, logged: &RecordView<'_>) -> u64
         ensures { (pages : ℕ) (log : List Record) → IsValidatorOf pages self.now log

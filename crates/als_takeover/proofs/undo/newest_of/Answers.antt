@@ -1,4 +1,4 @@
-use Rattle.std.proofs.Common.{◌≡◌, ◌<◌, true, false, length, get_or, set, sym, ap, ◌∙◌, subst, arith}
+use Rattle.std.proofs.Common.{◌≡◌, ◌<◌, ◌≤◌, true, false, length, get_or, set, sym, ap, ◌∙◌, subst, arith}
 use Rattle.std.proofs.lemmas.Result.{err_from_is_err_and}
 use Rattle.als_record.specs.declared.record.Record.{Record}
 use Rattle.als_record.specs.Transactions.{is_update}
@@ -6,10 +6,22 @@ use Rattle.als_record.specs.UndoChain.{goes_to}
 use Rattle.als_record.specs.Validity.{is_valid}
 use Rattle.als_record.proofs.ChainReads.{ChainStep}
 use Rattle.als_log.specs.Local.{Local}
-use Rattle.als_takeover.specs.Next.{AreCursors, IsNewest, CannotRead}
-use Rattle.als_takeover.proofs.Next.{cursor-step, cursor-newest, cursor-moved}
+use Rattle.als_takeover.specs.Next.{AreCursors, NoneToUndo, IsNewest, CannotRead}
+use Rattle.als_takeover.proofs.Next.{above, cursor-step, cursor-newest, cursor-moved, all_met}
 use Rattle.als_takeover.proofs.Looks.{has-step, reads-only, is-step, not-none}
 use Rattle.als_takeover.proofs.undo.newest_of.Goals as goal
+
+pub returns-then-here-eq0-clause-found : goal.returns-then-here-eq0-clause-found
+returns-then-here-eq0-clause-found g c ts v n are =
+    let S = c.chains.log in
+    let inv = c.chains.invariant in
+    let at = c.greatest_of-at.result in
+    let xs = c.chains.cursors in
+    let good : is_valid S.log ≡ true = subst (λ (x : Local). is_valid x.log ≡ true) (sym inv.same) v in
+    let here_are : AreCursors S.log ts xs = subst (λ (x : Local). AreCursors x.log ts xs) (sym inv.same) (inv.chains ts v n are) in
+    let zero_here : get_or xs at 0 ≡ 0 = c.if-here-eq0.true in
+    let none : NoneToUndo S.log ts = all_met S.log ts xs good here_are (λ j l. let h : get_or xs j 0 ≤ get_or xs at 0 = c.greatest_of-at.ensures.top j (omega (arith, l, n)) in omega arith) in
+    subst (λ (x : Local). NoneToUndo x.log ts) inv.same none
 
 pub returns-in_err-looked-clause-err : goal.returns-in_err-looked-clause-err
 returns-in_err-looked-clause-err g c ts v n are =
@@ -21,7 +33,8 @@ returns-in_err-looked-clause-err g c ts v n are =
     let here_are : AreCursors S.log ts xs = subst (λ (x : Local). AreCursors x.log ts xs) (sym inv.same) (inv.chains ts v n are) in
     let some : 0 < c.args.count = omega (arith, c.if-count-eq0.false) in
     let lt : at < length ts = omega (arith, n, c.greatest_of-at.ensures.within some) in
-    let step : (r : Record) × ChainStep S.log (get_or ts at 0) (get_or xs at 0) r = cursor-step S.log ts xs good here_are at lt in
+    let up : 0 < get_or xs at 0 = above (get_or xs at 0) c.if-here-eq0.false in
+    let step : (r : Record) × ChainStep S.log (get_or ts at 0) (get_or xs at 0) r = cursor-step S.log ts xs good here_are at lt up in
     let r = step.0 in
     let s = step.1 in
     let p = err_from_is_err_and c.from_residual.result c.from_residual.ensures.1 in
@@ -38,7 +51,8 @@ returns-in-None-clause-found g c ts v n are =
     let here_are : AreCursors S.log ts xs = subst (λ (x : Local). AreCursors x.log ts xs) (sym inv.same) (inv.chains ts v n are) in
     let some : 0 < c.args.count = omega (arith, c.if-count-eq0.false) in
     let lt : at < length ts = omega (arith, n, c.greatest_of-at.ensures.within some) in
-    let step : (r : Record) × ChainStep S.log (get_or ts at 0) (get_or xs at 0) r = cursor-step S.log ts xs good here_are at lt in
+    let up : 0 < get_or xs at 0 = above (get_or xs at 0) c.if-here-eq0.false in
+    let step : (r : Record) × ChainStep S.log (get_or ts at 0) (get_or xs at 0) r = cursor-step S.log ts xs good here_are at lt up in
     let r = step.0 in
     let s = step.1 in
     absurd (not-none S (get_or ts at 0) (get_or xs at 0) r s (sym c.in-None.is ∙ c.in_ok-looked.ensures.ok (has-step S (get_or ts at 0) (get_or xs at 0) r s)))
@@ -53,7 +67,8 @@ returns-then-is_update_record-clause-found g c ts v n are =
     let here_are : AreCursors S.log ts xs = subst (λ (x : Local). AreCursors x.log ts xs) (sym inv.same) (inv.chains ts v n are) in
     let some : 0 < c.args.count = omega (arith, c.if-count-eq0.false) in
     let lt : at < length ts = omega (arith, n, c.greatest_of-at.ensures.within some) in
-    let step : (r : Record) × ChainStep S.log (get_or ts at 0) (get_or xs at 0) r = cursor-step S.log ts xs good here_are at lt in
+    let up : 0 < get_or xs at 0 = above (get_or xs at 0) c.if-here-eq0.false in
+    let step : (r : Record) × ChainStep S.log (get_or ts at 0) (get_or xs at 0) r = cursor-step S.log ts xs good here_are at lt up in
     let r = step.0 in
     let s = step.1 in
     let same : c.in-Some.found ≡ r = is-step S (get_or ts at 0) (get_or xs at 0) r s c.in-Some.found (sym c.in-Some.is ∙ c.in_ok-looked.ensures.ok (has-step S (get_or ts at 0) (get_or xs at 0) r s)) in
@@ -71,7 +86,8 @@ returns-then-here-next-clause-found g c ts v n are =
     let here_are : AreCursors S.log ts xs = subst (λ (x : Local). AreCursors x.log ts xs) (sym inv.same) (inv.chains ts v n are) in
     let some : 0 < c.args.count = omega (arith, c.if-count-eq0.false) in
     let lt : at < length ts = omega (arith, n, c.greatest_of-at.ensures.within some) in
-    let step : (r : Record) × ChainStep S.log (get_or ts at 0) (get_or xs at 0) r = cursor-step S.log ts xs good here_are at lt in
+    let up : 0 < get_or xs at 0 = above (get_or xs at 0) c.if-here-eq0.false in
+    let step : (r : Record) × ChainStep S.log (get_or ts at 0) (get_or xs at 0) r = cursor-step S.log ts xs good here_are at lt up in
     let r = step.0 in
     let s = step.1 in
     let same : c.in-Some.found ≡ r = is-step S (get_or ts at 0) (get_or xs at 0) r s c.in-Some.found (sym c.in-Some.is ∙ c.in_ok-looked.ensures.ok (has-step S (get_or ts at 0) (get_or xs at 0) r s)) in
@@ -89,7 +105,8 @@ chains-preserved g c = record {
       let here_are : AreCursors S.log ts xs = subst (λ (x : Local). AreCursors x.log ts xs) (sym inv.same) (inv.chains ts v n are) in
       let some : 0 < c.args.count = omega (arith, c.if-count-eq0.false) in
       let lt : at < length ts = omega (arith, n, c.greatest_of-at.ensures.within some) in
-      let step : (r : Record) × ChainStep S.log (get_or ts at 0) (get_or xs at 0) r = cursor-step S.log ts xs good here_are at lt in
+      let up : 0 < get_or xs at 0 = above (get_or xs at 0) c.if-here-eq0.false in
+      let step : (r : Record) × ChainStep S.log (get_or ts at 0) (get_or xs at 0) r = cursor-step S.log ts xs good here_are at lt up in
       let r = step.0 in
       let s = step.1 in
       let same : c.in-Some.found ≡ r = is-step S (get_or ts at 0) (get_or xs at 0) r s c.in-Some.found (sym c.in-Some.is ∙ c.in_ok-looked.ensures.ok (has-step S (get_or ts at 0) (get_or xs at 0) r s)) in

@@ -3,8 +3,8 @@ use Rattle.std.proofs.lemmas.Result.{err_from_is_err_and}
 use Rattle.als_record.specs.declared.record.Record.{Record}
 use Rattle.als_record.specs.Transactions.{unended}
 use Rattle.als_analysis.specs.Open.{fresh_open}
-use Rattle.als_takeover.specs.Next.{AreCursors, IsNewest}
-use Rattle.als_takeover.proofs.Next.{first-none, first-undo, cursors-rows, as_many, none-left}
+use Rattle.als_takeover.specs.Next.{AreCursors, NoneToUndo, IsNewest}
+use Rattle.als_takeover.proofs.Next.{first-none, first-undo, cursors-rows, as_many}
 use Rattle.als_takeover.proofs.undo.undo_along.Goals as goal
 
 pub returns-in_err-newest-clause-err : goal.returns-in_err-newest-clause-err
@@ -31,5 +31,5 @@ returns-in-None-clause-next g c h =
     let es = c.args.rows.now in
     let are : AreCursors log (unended log) c.cursors_of-cursors.result = cursors-rows log es h.table h.left h.small c.args.end.0 h.at_end h.none_over h.valid c.cursors_of-cursors.result c.cursors_of-cursors.ensures in
     let many : length (unended log) ≡ length es = as_many log es h.table h.left h.small c.args.end.0 h.at_end in
-    let empty : length es ≡ 0 = (rw c.in-None.is at c.in_ok-newest.ensures.found (unended log) h.valid many are) in
-    first-none log es h.table h.left h.small c.args.end.0 h.at_end h.none_over (none-left es empty)
+    let none : NoneToUndo log (unended log) = (rw c.in-None.is at c.in_ok-newest.ensures.found (unended log) h.valid many are) in
+    first-none log es h.table h.left h.small c.args.end.0 h.at_end h.none_over none

@@ -1,7 +1,7 @@
 use Rattle.std.proofs.Common.{ap, ◌∙◌}
 use Rattle.als_analysis.specs.Noted.{Table}
 use Rattle.als_record.proofs.TailBound.{reserve_of-exact}
-use Rattle.als_analysis.proofs.TailLength.{owed-reserve}
+use Rattle.als_analysis.proofs.ReserveSum.{owed-reserve}
 use Rattle.als_analysis.proofs.trans_table.TransTable.reserve_bytes.Goals as goal
 
 pub returns : goal.returns
