@@ -10,7 +10,7 @@ use Rattle.std.proofs.lemmas.List.Elements.{filter-append}
 use Rattle.als_record.specs.declared.record.Body.{Body}
 use Rattle.als_record.specs.declared.record.Body.TheVariants.{Update, Compensation, Commit}
 use Rattle.als_record.specs.declared.record.Body.TheVariants.{Rollback, End, BeginCheckpoint}
-use Rattle.als_record.specs.declared.record.Body.TheVariants.{EndCheckpoint}
+use Rattle.als_record.specs.declared.record.Body.TheVariants.{EndCheckpoint, Prepare}
 use Rattle.als_ckpt_codec.specs.declared.numbers.Numbers.{Numbers}
 use Rattle.als_record.specs.declared.change.Change.{Change}
 use Rattle.als_record.specs.declared.lsn.Lsn.{Lsn}
@@ -66,6 +66,7 @@ change_lsn r Rollback c e = absurd (cc e)
 change_lsn r End c e = absurd (cc e)
 change_lsn r BeginCheckpoint c e = absurd (cc e)
 change_lsn r (EndCheckpoint transactions pages) c e = absurd (cc e)
+change_lsn r Prepare c e = absurd (cc e)
 
 on_record : (page : ℕ) (r : Record) (n : ℕ) → n ≤ r.lsn.0
     → AllByRecursion (λ change. n ≤ change.lsn.0) (changes_on page (r ∷ []))

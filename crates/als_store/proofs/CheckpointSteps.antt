@@ -7,7 +7,7 @@ use Rattle.std.specs.Prelude.{Result, Ok, Err, OnOk, IfErr}
 use Rattle.als_ckpt.specs.declared.fault.Fault.{Fault}
 use Rattle.als_ckpt.specs.declared.fault.Fault.TheVariants.{Device, BadControl, Memory, NothingToDo}
 use Rattle.als_ckpt.specs.declared.fault.Fault.TheVariants.{CkptBusy, LogBehind}
-use Rattle.als_ckpt.specs.Outcomes.{Publishes, PublishFails, RefusesBegin, RefusesPublish}
+use Rattle.als_ckpt.specs.Outcomes.{Publishes, PublishFails, RefusesBegin, RefusesNext, RefusesPublish}
 use Rattle.std.specs.List.{AllByRecursion}
 use Rattle.als_record.specs.declared.record.Record.{Record}
 use Rattle.als_record.specs.declared.rows.LoggedPage.{LoggedPage}
@@ -131,7 +131,7 @@ module _ (pages : ℕ) (held : CommitCount) (l : Local) (c : Controlled) (pool :
             told_written l.log pool c.held c.begun w.told;
       }) (λ e. e))
 
-  pub stored-next_failed : (c' : Controlled)
+  stored-next_failed : (c' : Controlled)
       → c' ≡ record c { failures = c'.failures; attempts = c.attempts + 1 }
       → IsStored pages l held c' pool validator true origin recovering
   stored-next_failed c' e =
@@ -231,6 +231,14 @@ module _ (pages : ℕ) (held : CommitCount) (l : Local) (c : Controlled) (pool :
       → IsStored pages l held c' pool validator broken origin recovering
   begin_kept (Ok x) c' chk is ok err = stored-begun c' chk is ok.1
   begin_kept (Err f) c' chk is ok err = same_kept c' (refused_begin f c' err)
+
+  pub next_err : (f : Fault) (c' : Controlled) → RefusesNext f c c' → IsStored pages l held c' pool validator true origin recovering
+  next_err NothingToDo c' r = stored-broken pages held l c pool validator broken origin recovering h l c' (same_kept c' r.1)
+  next_err Device c' r = stored-next_failed c' r.1.same
+  next_err CkptBusy c' r = absurd r
+  next_err LogBehind c' r = absurd r
+  next_err Memory c' r = absurd r
+  next_err BadControl c' r = absurd r
 
   pub publish_err : (f : Fault) (c' : Controlled) → IsLocal l → RefusesPublish f c c'
       → IsStored pages l held c' pool validator true origin recovering

@@ -1,5 +1,5 @@
 -- What a finished takeover leaves.
-use Rattle.std.proofs.Common.{◌≡◌, ℕ, ◌-◌, ◌<◌, ◌≤◌, nat_lt, Bool, true, false, List, [], ◌∷◌, length, filter, Option, Some, None, refl, sym, ap, subst, ◌∙◌, inl, inr, arith, lt-ltb}
+use Rattle.std.proofs.Common.{◌≡◌, ℕ, ◌-◌, ◌<◌, ◌≤◌, nat_lt, Bool, true, false, List, [], ◌∷◌, ◌++◌, length, filter, Option, Some, None, refl, sym, ap, subst, ◌∙◌, inl, inr, arith, lt-ltb, append-nil}
 use Rattle.std.specs.List.{AllByRecursion}
 use Rattle.std.proofs.lemmas.Bool.{cases_Bool}
 use Rattle.als_record.specs.declared.change.Change.{Change}
@@ -8,7 +8,6 @@ use Rattle.als_record.specs.declared.lsn.Lsn.{Lsn}
 use Rattle.als_record.specs.declared.record.Record.{Record}
 use Rattle.als_record.specs.Images.{kept, image_now}
 use Rattle.als_record.specs.Pages.{changes_on, changes_above}
-use Rattle.als_record.specs.Table.{table_of, is_closed}
 use Rattle.als_record.specs.Tail.{tail_of, is_undone}
 use Rattle.als_record.specs.Validity.{IsValidLog}
 use Rattle.als_record.proofs.PageImages.{page_at-image_now}
@@ -26,12 +25,12 @@ use Rattle.als_pool.specs.Queues.{total_waiting, pending_of}
 use Rattle.als_pool.specs.Pooled.{Pooled, unread_of}
 use Rattle.als_pool.specs.Images.{IsPageOf}
 use Rattle.als_pool.proofs.QueueLists.{total-set}
-use Rattle.als_reopen.specs.Taken.{IsTaken, IsTakenOver}
-use Rattle.als_store.specs.Takeover.{is_done, IsFinished}
+use Rattle.als_reopen.specs.Taken.{IsTaken, IsTakenOver, IsUndecided}
+use Rattle.als_store.specs.Takeover.{is_done, slot_now, IsUntouched, IsFinished}
 use Rattle.als_store.specs.Origin.{Origin, origin_of}
 use Rattle.als_store.specs.Warm.{IsWarm}
 use Rattle.als_store.specs.Parts.{IsStored, stored_of}
-use Rattle.als_store.proofs.TakeoverLaws.{contains_last, done_primary, taken_over-whole}
+use Rattle.als_store.proofs.TakeoverLaws.{done_primary, whole-no_tail}
 use Rattle.als_tables.specs.declared.commit_count.CommitCount.{CommitCount}
 
 nothing : {X : Type 0} (xs : List X) → length xs ≤ 0 → xs ≡ []
@@ -79,27 +78,49 @@ module _ (pages : ℕ) (held : CommitCount) (l : Local) (c : Controlled) (pool :
   warm = h.warm was
 
   over : IsTakenOver l.log (newest c).mark.0 (newest c).seal.0
-  over = subst (λ (p : Phase). IsTaken p l.log (newest c).mark.0 (newest c).seal.0) (done_primary (newest c).phase done) (warm.taken.each (newest c) (contains_last c.synced c.since))
+  over = subst (λ (p : Phase). IsTaken p l.log (newest c).mark.0 (newest c).seal.0) (done_primary (newest c).phase done) warm.taken.now
 
-  undone : is_undone l.log ≡ true
-  undone = is_undone-tail_of l.log (taken_over-whole l.log (newest c).mark.0 (newest c).seal.0 over)
+  -- where nothing waits for redo, each slot has what was last written there
+  now_written : total_waiting pool.waits ≡ 0 → (k : Key) → k.page < pages → k.slot < 15 → slot_now (stored_of pages l c pool broken origin recovering) k ≡ image_now l.log k
+  now_written none k in_range low =
+      let lt : k.page < length pool.waits = omega (arith, h.paged.count, in_range) in
+      page_at-image_now l.log k (lsn_now pool.frames k.page) low
+      (page_has_all l.log pool k.page (unread_of pool.unread k.page) (warm.is_pool.each k.page lt) (none_waits pool.waits k.page lt none))
 
-  sealed_valid : IsValidLog pages over.sealed
-  sealed_valid = IsValidLog-front pages over.sealed (tail_of over.sealed) (subst (IsValidLog pages) over.parts h.is_log)
+  -- and where nothing of a tail is left, that is what a takeover keeps
+  now_kept : is_undone l.log ≡ true → (k : Key) → image_now l.log k ≡ kept l.log k
+  now_kept undone k = image_now-without_tail l.log h.is_log.valid undone k
 
-  now_kept : (k : Key) → image_now l.log k ≡ kept over.sealed k
-  now_kept k = ap (λ (log : List Record). image_now log k) over.parts ∙ (tail_of-takes_over over.sealed sealed_valid.valid).images k
+  module _ (none : over.more ≡ []) where
+    parts : l.log ≡ over.sealed ++ tail_of over.sealed
+    parts = over.parts ∙ ap (λ (xs : List Record). (over.sealed ++ tail_of over.sealed) ++ xs) none ∙ append-nil (over.sealed ++ tail_of over.sealed)
+
+    undecided : IsUndecided l.log (newest c).seal.0
+    undecided = record { sealed = over.sealed; parts = parts; ends = over.ends }
+
+    undone : is_undone l.log ≡ true
+    undone = is_undone-tail_of l.log (whole-no_tail l.log over.sealed parts)
+
+    sealed_valid : IsValidLog pages over.sealed
+    sealed_valid = IsValidLog-front pages over.sealed (tail_of over.sealed) (subst (IsValidLog pages) parts h.is_log)
+
+    now_sealed : (k : Key) → image_now l.log k ≡ kept over.sealed k
+    now_sealed k = ap (λ (log : List Record). image_now log k) parts ∙ (tail_of-takes_over over.sealed sealed_valid.valid).images k
+
+    untouched : IsUntouched (stored_of pages l c pool broken origin recovering) over.sealed
+    untouched = record {
+      table = is_closed-table_of l.log ∙ undone;
+      images = λ k in_range low. now_written (warm.taken.drained ready done undecided) k in_range low ∙ now_sealed k;
+      same = λ k. sym (now_kept undone k) ∙ now_sealed k;
+    }
 
   pub finished : IsFinished (stored_of pages l c pool broken origin recovering)
   finished = record {
     sealed = over.sealed;
+    more = over.more;
     ends = over.ends;
     parts = over.parts;
-    table = is_closed-table_of l.log ∙ undone;
-    images = λ k in_range low.
-        let lt : k.page < length pool.waits = omega (arith, h.paged.count, in_range) in
-        page_at-image_now l.log k (lsn_now pool.frames k.page) low
-        (page_has_all l.log pool k.page (unread_of pool.unread k.page) (warm.is_pool.each k.page lt) (none_waits pool.waits k.page lt (warm.taken.drained ready done)))
-        ∙ now_kept k;
-    same = λ k. sym (image_now-without_tail l.log h.is_log.valid undone k) ∙ now_kept k;
+    decided = over.decided;
+    untouched = untouched;
+    images = λ undone none k in_range low. now_written none k in_range low ∙ now_kept undone k;
   }

@@ -1,19 +1,17 @@
 -- What a crash leaves of a store, from what its devices hold.
-use Rattle.std.proofs.Common.{◌≡◌, ℕ, ◌+◌, ◌*◌, ◌<◌, ◌≤◌, List, [], ◌∷◌, ◌++◌, Option, Some, None}
-use Rattle.std.proofs.Common.{refl, sym, ap, subst, ◌∙◌, arith, append_assoc, length-append}
+use Rattle.std.proofs.Common.{◌≡◌, ℕ, ◌+◌, ◌*◌, ◌<◌, ◌≤◌, List, [], ◌++◌, Option, Some, None}
+use Rattle.std.proofs.Common.{refl, sym, ap, subst, ◌∙◌, inl, inr, arith, append-nil, append_assoc, length-append}
 use Rattle.std.specs.Prelude.{Bool, true, length, Contains, IfSome, slice_index}
-use Rattle.std.specs.List.{AllByRecursion, sum_by}
+use Rattle.std.specs.List.{AllByRecursion}
 use Rattle.std.proofs.lemmas.List.{get_or_append_left}
-use Rattle.std.proofs.lemmas.List.Sums.{sum_by-cons}
 use Rattle.als_record.specs.declared.lsn.Lsn.{Lsn}
 use Rattle.als_record.specs.declared.record.Record.{Record}
 use Rattle.als_record.specs.declared.rows.LoggedPage.{LoggedPage}
 use Rattle.als_record.specs.LogText.{header_bytes, spellings, log_text, end_of}
-use Rattle.als_record.specs.Spelling.{record_len}
+use Rattle.als_record.specs.Tail.{tail_of}
 use Rattle.als_record.specs.Validity.{IsValidLog}
 use Rattle.als_record.proofs.HeaderLaws.{length-header_bytes}
 use Rattle.als_record.proofs.LogLaws.{spellings-append, end_of_is}
-use Rattle.als_record.proofs.PageLaws.{record_len-least}
 use Rattle.als_record.proofs.TailFirst.{IsValidLog-front}
 use Rattle.als_disk.specs.Slot.{Slot, KeepsCandidate}
 use Rattle.als_disk.specs.SlotLaws.{Contains-one}
@@ -24,6 +22,7 @@ use Rattle.als_ckpt_codec.specs.declared.checkpoint.Checkpoint.{Checkpoint}
 use Rattle.als_ckpt_codec.specs.declared.numbers.Numbers.{Numbers}
 use Rattle.als_ckpt.specs.declared.phase.Phase.{Phase}
 use Rattle.als_ckpt.specs.declared.phase.Phase.TheVariants.{Following, Sealed, Primary}
+use Rattle.als_ckpt.specs.declared.control_state.ControlState.{ControlState}
 use Rattle.als_ckpt.specs.declared.region.Region.{Region}
 use Rattle.als_ckpt.specs.declared.region.Region.TheVariants.{First, Second}
 use Rattle.als_ckpt.specs.Regions.{Said, Held, Begun, held_at, IsPublished}
@@ -37,57 +36,14 @@ use Rattle.als_pool.specs.Pooled.{Pooled}
 use Rattle.als_pool.specs.Images.{IsPoolOf}
 use Rattle.als_pool.specs.Restart.{IsRowBelow, CoversPages, HoldsImagesFrom}
 use Rattle.als_reopen.specs.Node.{HoldsLog, position_of, rows_of}
-use Rattle.als_reopen.specs.Taken.{IsTakenOver, IsTaken}
+use Rattle.als_reopen.specs.Taken.{AreDecided, IsTaken, IsTakenFrom, WasTakenFrom}
 use Rattle.als_store.specs.Origin.{Origin, origin_of}
 use Rattle.als_store.specs.Checkpoints.{IsCovering, AreCovering}
 use Rattle.als_store.specs.Warm.{IsWarm}
 use Rattle.als_store.specs.Parts.{IsStored, stored_of}
 use Rattle.als_store.specs.Leaving.{HoldsLeft, IsCrashOf}
-use Rattle.als_store.proofs.OpeningLaws.{whole_front}
-use Rattle.als_store.proofs.TakeoverLaws.{phases_at}
-
--- ---- two fronts of one log
-
--- the one that ends first is a front of the other
-pub record IsBetween (a ra b rb : List Record) : Type 0 where
-  pub more : List Record
-  pub longer : b ≡ a ++ more
-  pub left : ra ≡ more ++ rb
-
-between : (a ra b rb : List Record) → a ++ ra ≡ b ++ rb → sum_by record_len a ≤ sum_by record_len b
-    → IsBetween a ra b rb
-between [] ra b rb e le = record { more = b; longer = refl; left = e }
-between (x ∷ a) ra [] rb e le =
-    let none : sum_by record_len [] ≡ 0 =
-    refl in absurd (omega (arith, le, none, sum_by-cons record_len x a, record_len-least x))
-between (x ∷ a) ra (y ∷ b) rb e le =
-    let first : x ≡ y = cc in
-    let others : a ++ ra ≡ b ++ rb = cc in
-    let rest = between a ra b rb others
-    (omega (
-      arith,
-      le,
-      sum_by-cons record_len x a,
-      sum_by-cons record_len y b,
-      ap record_len
-          first,
-    )) in
-    record {
-      more = rest.more;
-      longer =
-          ap (λ (z : Record). z ∷ b) (sym first) ∙ ap (λ (zs : List Record). x ∷ zs)
-          rest.longer;
-      left = rest.left;
-    }
-
-end_sum : (log : List Record) → end_of log ≡ 16 + sum_by record_len log
-unfolding end_of
-end_sum log = refl
-
-fronts_of : (log a ra b rb : List Record) → log ≡ a ++ ra → log ≡ b ++ rb → end_of a ≤ end_of b
-    → IsBetween a ra b rb
-fronts_of log a ra b rb ea eb le =
-    between a ra b rb (sym ea ∙ eb) (omega (arith, le, end_sum a, end_sum b))
+use Rattle.als_store.proofs.Splits.{fronts_of}
+use Rattle.als_store.proofs.TakeoverLaws.{phases_at, decided-front}
 
 -- ---- the log
 
@@ -142,8 +98,36 @@ left_taken Sealed log front rest mark seal parts ends in_front is =
           (sym f.left) ∙ is.tail;
     }
 left_taken Primary log front rest mark seal parts ends in_front is =
-    subst (λ (xs : List Record). IsTakenOver xs mark seal)
-    (sym (whole_front log front rest parts (omega (arith, is.whole, ends)))) is
+    let f = fronts_of log (is.sealed ++ tail_of is.sealed) is.more front rest is.parts parts
+    (omega (arith, is.whole, ends)) in
+    record {
+      sealed = is.sealed;
+      more = f.more;
+      parts = f.longer;
+      ends = is.ends;
+      whole = is.whole;
+      decided = decided-front (is.sealed ++ tail_of is.sealed) f.more rest
+          (subst (λ (xs : List Record). AreDecided (is.sealed ++ tail_of is.sealed) xs) f.left
+          is.decided);
+    }
+
+-- what a state that a crash leaves says of the front up to its mark
+left_from : (log front rest : List Record) (c : ControlState) → log ≡ front ++ rest
+    → end_of front ≡ c.mark.0 → IsSeal c.phase c.mark.0 c.seal.0 → c.mark.0 ≤ end_of log
+    → WasTakenFrom log c → IsTakenFrom front c
+left_from log front rest c parts ends in_front low w =
+    let f = fronts_of log front rest w.front w.since parts w.parts
+    (elim w.reaches [
+      | inl none ↦ omega (
+        arith,
+        ends,
+        low,
+        ap end_of
+            (w.parts ∙ ap (λ (xs : List Record). w.front ++ xs) none ∙ append-nil w.front),
+      )
+      | inr at ↦ omega (arith, ends, at)
+    ]) in
+    left_taken c.phase w.front front f.more c.mark.0 c.seal.0 f.longer ends in_front w.taken
 
 -- ---- the checkpoint
 
@@ -284,8 +268,8 @@ module _ (pages : ℕ) (held : CommitCount) (l : Local) (c : Controlled) (pool :
     node = record { blocks = l.blocks; said = said; log = front.front };
     holds = record {
       held = holds_log;
-      taken = left_taken one.state.phase l.log front.front front.rest one.state.mark.0
-          one.state.seal.0 front.parts front.ends fits.seal (w.taken.each one.state one.among);
+      taken = left_from l.log front.front front.rest one.state front.parts front.ends fits.seal
+          (w.taken.below one.state one.among) (w.taken.each one.state one.among);
       images = images;
     };
     may = record {

@@ -1,6 +1,8 @@
 pub mod PoolSteps
+pub mod Splits
 pub mod TakeoverLaws
 pub mod FinishedLaws
+pub mod DecisionLaws
 pub mod SealLaws
 pub mod CheckpointRows
 pub mod CheckpointLaws

@@ -36,7 +36,7 @@ use Rattle.als_pool.specs.Images.{IsPageOf, IsPoolOf, IsQueueOf, QueuesOf}
 use Rattle.als_pool.specs.Restart.{start_of, row_in, IsUnreadRow, IsRowBelow, HasRowsFrom}
 use Rattle.als_pool.specs.Restart.{CoversPages}
 use Rattle.als_reopen.specs.Node.{Node, position_of, rows_of, position_in, rows_in}
-use Rattle.als_reopen.specs.Taken.{IsTakenFrom}
+use Rattle.als_reopen.specs.Taken.{IsTakenFrom, WasTakenFrom}
 use Rattle.als_reopen.specs.Outcomes.{all_synced, said_now, IsControlRead, AreUnread, IsReopened}
 use Rattle.als_store.specs.Origin.{origin_of}
 use Rattle.als_store.specs.Stored.{Stored, FrontsFit}
@@ -45,6 +45,7 @@ use Rattle.als_store.specs.Takeover.{PhasesRise, follows}
 use Rattle.als_store.specs.Warm.{IsWarm}
 use Rattle.als_store.specs.Parts.{IsStored, stored_of}
 use Rattle.als_store.specs.Opening.{opened, IsOpened, TakesUp}
+use Rattle.als_store.proofs.TakeoverLaws.{was_now}
 
 -- ---- the log
 
@@ -270,8 +271,15 @@ module _ (pages blocks most log_failures log_attempts control_blocks control_fai
     warm-opened = record {
       is_pool = is_pool;
       taken = record {
-        each = λ s has. subst (λ (x : ControlState). IsTakenFrom l.log x) (only_synced s has)
-            taken_now;
+        now = subst (λ (since : List ControlState). IsTakenFrom l.log (last_state c.synced since))
+            (sym none_since) taken_now;
+        each = λ s has. subst (λ (x : ControlState). WasTakenFrom l.log x) (only_synced s has)
+            (was_now l.log c.synced taken_now);
+        below = λ s has. omega (
+          arith,
+          r.ends,
+          ap (λ (x : ControlState). x.mark.0) (only_synced s has),
+        );
         phases = subst (λ (since : List ControlState). PhasesRise c.synced since) (sym none_since)
             tt;
         drained = λ ready. absurd (false≢true (sym ready));

@@ -1,18 +1,20 @@
 -- The store when its log is sealed, and when the takeover is done.
-use Rattle.std.proofs.Common.{◌≡◌, ℕ, ◌+◌, ◌<◌, ◌≤◌, Bool, true, false, List, [], ◌∷◌, ◌++◌, length, Option, Some, None, refl, sym, ap, ◌∙◌, arith, append-nil}
-use Rattle.std.specs.Prelude.{◌*◌, ◌==◌, ◌&&◌, not, nat_le}
-use Rattle.std.proofs.lemmas.Bool.{and_parts, leb-true, le-leb, lt-leb, ne_eqb}
+use Rattle.std.proofs.Common.{◌≡◌, ℕ, ◌+◌, ◌<◌, ◌≤◌, Bool, true, false, List, [], ◌∷◌, ◌++◌, Option, Some, None, refl, sym, ap, subst, ◌∙◌, inl, inr, arith, append-nil}
+use Rattle.std.specs.Prelude.{◌*◌, ◌&&◌, ◌||◌, not, nat_le}
+use Rattle.std.specs.List.{list_any}
+use Rattle.std.proofs.lemmas.Bool.{and_parts, leb-true, le-leb, lt-leb}
 use Rattle.als_record.specs.declared.lsn.Lsn.{Lsn}
 use Rattle.als_record.specs.declared.record.Record.{Record}
 use Rattle.als_record.specs.LogText.{end_of}
-use Rattle.als_record.specs.Tail.{tail_of, is_undone, reserve_of}
+use Rattle.als_record.specs.Tail.{tail_of, is_undone, reserve_of, decision}
 use Rattle.als_record.specs.Spelling.{record_len}
 use Rattle.als_record.specs.Spelling.{IsRecord}
-use Rattle.als_record.specs.Table.{table_of, is_closed}
+use Rattle.als_record.specs.Table.{table_of, is_prepared, is_closed}
 use Rattle.als_record.specs.Validity.{first_bad}
 use Rattle.als_record.proofs.Validity.{first_bad-admitted}
 use Rattle.als_record.proofs.TailFirst.{tail_of-undone, is_undone-tail_of, tail_of-admitted, tail_of-IsRecord}
 use Rattle.als_record.proofs.Reserve.{room-next}
+use Rattle.als_record.proofs.Decisions.{decision-admitted, decision-reserved}
 use Rattle.als_record.proofs.Unended.{is_closed-table_of}
 use Rattle.als_takeover.specs.Next.{first_of, CannotRead}
 use Rattle.als_log.specs.declared.fault.Fault.{Fault as LogFault}
@@ -30,11 +32,12 @@ use Rattle.als_ckpt.specs.declared.region.Region.{Region}
 use Rattle.als_ckpt.specs.Control.{Controlled, newest, phase_byte, IsPosition, IsSeal, IsControlState, IsControlled, with_state}
 use Rattle.als_pool.specs.Queues.{total_waiting}
 use Rattle.als_pool.specs.Pooled.{Pooled}
-use Rattle.als_reopen.specs.Taken.{IsTakenOver, IsTaken}
+use Rattle.als_reopen.specs.Taken.{Decides, IsNextOfTail, IsTakenOver, IsTaken}
 use Rattle.als_store.specs.Takeover.{follows, is_done, GoesOn, AreTaken, is_drained}
 use Rattle.als_store.specs.Origin.{Origin}
 use Rattle.als_store.specs.Parts.{IsStored, stored_of}
-use Rattle.als_store.proofs.TakeoverLaws.{contains_last, follows_low, rest_is_tail, taken_written}
+use Rattle.als_store.proofs.DecisionLaws.{decision-IsRecord}
+use Rattle.als_store.proofs.TakeoverLaws.{contains_last, follows_low, rest_is_tail, ComesIn, taken_written}
 use Rattle.als_store.proofs.StoredParts.{stored-written, stored-torn}
 use Rattle.als_tables.specs.declared.commit_count.CommitCount.{CommitCount}
 
@@ -52,18 +55,21 @@ phase_high Following = omega arith
 phase_high Sealed = omega arith
 phase_high Primary = omega arith
 
--- a sealed log with nothing of its tail left to append has its whole tail
+-- a sealed log with nothing of its tail left to append has its whole tail, and nothing was decided since
 whole_tail : (p : Phase) (log : List Record) (mark seal : ℕ) → follows p ≡ false → is_done p ≡ false → is_undone log ≡ true → mark ≡ end_of log → IsTaken p log mark seal → IsTakenOver log mark seal
 whole_tail Following log mark seal e f none at is = absurd cc
 whole_tail Primary log mark seal e f none at is = absurd cc
 whole_tail Sealed log mark seal e f none at is =
     let rest : is.rest ≡ [] = sym (rest_is_tail log seal is) ∙ tail_of-undone log none in
     let all : is.undone ≡ tail_of is.sealed = sym (append-nil is.undone) ∙ ap (λ (xs : List Record). is.undone ++ xs) (sym rest) ∙ is.tail in
+    let parts : log ≡ is.sealed ++ tail_of is.sealed = is.parts ∙ ap (λ (xs : List Record). is.sealed ++ xs) all in
     record {
       sealed = is.sealed;
-      parts = is.parts ∙ ap (λ (xs : List Record). is.sealed ++ xs) all;
+      more = [];
+      parts = parts ∙ sym (append-nil (is.sealed ++ tail_of is.sealed));
       ends = is.ends;
-      whole = at;
+      whole = omega (arith, at, ap end_of parts);
+      decided = tt;
     }
 
 pub record Drained (log : List Record) (waiting acknowledged : ℕ) : Type 0 where
@@ -111,6 +117,7 @@ module _ (pages : ℕ) (held : CommitCount) (l : Local) (c : Controlled) (pool :
   seal_taken end is on taken = taken_written l.log c.synced c.since recovering (total_waiting pool.waits) taken (record (newest c) { phase = Sealed; mark = end; seal = end })
       (seal_on end on)
       (record { sealed = l.log; undone = []; rest = tail_of l.log; parts = sym (append-nil l.log); ends = sym is; tail = refl })
+      (omega (arith, is))
       (λ ready done. absurd cc)
 
   pub stored-sealed : (c' : Controlled) (end : Lsn) (validator' : Validator) → IsValidatorOf pages validator' l.log → judges validator' ≡ false → end.0 ≡ end_of l.log → end_of l.log ≤ l.synced → follows (newest c).phase ≡ true → c' ≡ with_state c (record (newest c) { phase = Sealed; mark = end; seal = end }) → IsStored pages l held c' pool validator' broken origin recovering
@@ -142,8 +149,9 @@ module _ (pages : ℕ) (held : CommitCount) (l : Local) (c : Controlled) (pool :
     finish_taken : AreTaken l.log c.synced c.since recovering (total_waiting pool.waits) → AreTaken l.log c.synced (c.since ++ record (newest c) { phase = Primary } ∷ []) recovering (total_waiting pool.waits)
     finish_taken taken = taken_written l.log c.synced c.since recovering (total_waiting pool.waits) taken (record (newest c) { phase = Primary })
         finish_on
-        (whole_tail (newest c).phase l.log (newest c).mark.0 (newest c).seal.0 past unfinished parts_of.undone mark_is (taken.each (newest c) (contains_last c.synced c.since)))
-        (λ ready done. parts_of.waits)
+        (whole_tail (newest c).phase l.log (newest c).mark.0 (newest c).seal.0 past unfinished parts_of.undone mark_is taken.now)
+        (omega (arith, mark_is))
+        (λ ready done undecided. parts_of.waits)
 
     pub stored-finished : (c' : Controlled) → c' ≡ with_state c (record (newest c) { phase = Primary }) → IsStored pages l held c' pool validator broken origin recovering
     stored-finished c' e = stored-written pages held l c pool validator broken origin recovering h c' (record (newest c) { phase = Primary }) validator h.judged (h.judging ∙ past) local (end_front (newest c).mark mark_is) h.marks.newest_synced finish_on finish_taken e
@@ -151,34 +159,48 @@ module _ (pages : ℕ) (held : CommitCount) (l : Local) (c : Controlled) (pool :
     pub stored-finish_torn : (c' : Controlled) → c' ≡ record (with_state c (record (newest c) { phase = Primary })) { sure = false; failures = c'.failures } → IsStored pages l held c' pool validator true origin recovering
     stored-finish_torn c' e = stored-torn pages held l c pool validator broken origin recovering h c' (record (newest c) { phase = Primary }) validator h.judged (h.judging ∙ past) local (end_front (newest c).mark mark_is) h.marks.newest_synced finish_on finish_taken e
 
-  -- ---- the next record of the tail
+  -- ---- the next record
 
-  -- it stands at the log's end, fits its spelling and may follow; the device has room for it, and for the rest behind it
+  -- it stands at the log's end, fits its spelling and may follow; the device has room for it, and for what a takeover and decisions then append
   pub record Next (r : Record) : Type 0 where
-    pub rest : List Record
-    pub first : tail_of l.log ≡ r ∷ rest
     pub fits : IsRecord pages r
     pub at : r.lsn.0 ≡ end_of l.log
     pub good : first_bad l.log r ≡ None
     pub left : end_of l.log + record_len r + reserve_of (l.log ++ r ∷ []) ≤ 512 * l.blocks
 
-  pub next_of : (r : Record) → first_of (tail_of l.log) ≡ Some r → Next r
-  next_of r e =
-      let f = first_cons (tail_of l.log) r e in
-      let a = tail_of-admitted l.log r f.0 f.1 h.is_log.valid in
+  -- the room that is kept behind the log
+  kept_room : end_of l.log + reserve_of l.log ≤ 512 * l.blocks
+  kept_room = h.fit l.log [] (sym (append-nil l.log)) (omega (arith, controlled.from_synced (newest c) (contains_last c.synced c.since), h.marks.newest_synced, local.synced, local.written))
+
+  next_in_tail : (r : Record) → IsNextOfTail l.log r → Next r
+  next_in_tail r n =
+      let a = tail_of-admitted l.log r n.rest n.first h.is_log.valid in
       record {
-        rest = f.0;
-        first = f.1;
-        fits = tail_of-IsRecord pages l.log r f.0 h.is_log (omega (arith, local.fits, local.few)) f.1;
+        fits = tail_of-IsRecord pages l.log r n.rest h.is_log (omega (arith, local.fits, local.few)) n.first;
         at = a.place;
         good = first_bad-admitted l.log r a;
-        left = omega (
-          arith,
-          end_of-push l.log r,
-          room-next l.log r f.0 f.1,
-          h.fit l.log [] (sym (append-nil l.log)) (omega (arith, controlled.from_synced (newest c) (contains_last c.synced c.since), h.marks.newest_synced, local.synced, local.written)),
-        );
+        left = omega (arith, end_of-push l.log r, room-next l.log r n.rest n.first, kept_room);
       }
+
+  next_decision : (r : Record) → Decides l.log r → Next r
+  next_decision r d = subst Next (sym d.is) (
+      let made : Record = decision l.log r.trans.0 r.body in
+      let a = decision-admitted l.log r.trans.0 d.doubt h.is_log.valid r.body d.decides in
+      record {
+        fits = decision-IsRecord pages l.log r.trans.0 r.body h.is_log (omega (arith, local.fits, local.few)) d.doubt d.decides;
+        at = refl;
+        good = first_bad-admitted l.log made a;
+        left = omega (arith, decision-reserved l.log r.trans.0 d.doubt r.body d.decides, kept_room);
+      }
+      )
+
+  pub next_of : (r : Record) → ComesIn (newest c).phase l.log r → Next r
+  next_of r (inl next) = next_in_tail r next
+  next_of r (inr d) = next_decision r d.1
+
+-- the first of a tail is the next
+pub next_first : (log : List Record) (r : Record) → first_of (tail_of log) ≡ Some r → IsNextOfTail log r
+next_first log r e = let f = first_cons (tail_of log) r e in record { rest = f.0; first = f.1 }
 
 -- ---- whether something of the tail is left to append
 
@@ -196,13 +218,18 @@ some_left log r rest e = go (is_undone log) (λ u. let wrong : r ∷ rest ≡ []
     go true n = absurd (n refl)
     go false n = refl
 
-pub rows_undone : (log : List Record) (entries : List OpenRow) → rows_of entries ≡ table_of log → (length entries == 0) ≡ is_undone log
+-- a takeover has something left to append where not every row is of a transaction in doubt
+pub rows_left : (log : List Record) (entries : List OpenRow) → rows_of entries ≡ table_of log → list_any (λ o. not (is_prepared o.row.state)) entries ≡ not (is_undone log)
 unfolding is_closed
-rows_undone log entries e = closed entries ∙ ap is_closed e ∙ is_closed-table_of log
+rows_left log entries e = open_rows entries ∙ ap (λ rows. not (is_closed rows)) e ∙ ap not (is_closed-table_of log)
   where
-    closed : (os : List OpenRow) → (length os == 0) ≡ is_closed (rows_of os)
-    closed [] = refl
-    closed (o ∷ os) = ne_eqb (length (o ∷ os)) 0 (λ none. omega (arith, none))
+    either : (prepared closed : Bool) → (not prepared || not closed) ≡ not (prepared && closed)
+    either true closed = refl
+    either false closed = refl
+
+    open_rows : (os : List OpenRow) → list_any (λ o. not (is_prepared o.row.state)) os ≡ not (is_closed (rows_of os))
+    open_rows [] = refl
+    open_rows (o ∷ os) = ap (λ b. not (is_prepared o.row.state) || b) (open_rows os) ∙ either (is_prepared o.row.state) (is_closed (rows_of os))
 
 -- a record that could not be read: the device failed
 pub read_fails : (e : LogFault) (old new : Local) → CannotRead e old new → ReadFails old new

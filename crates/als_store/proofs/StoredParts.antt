@@ -47,7 +47,7 @@ use Rattle.als_store.specs.Parts.{IsStored, IsHeldPool, AreMarks, stored_of, spa
 use Rattle.als_store.specs.Spare.{HasSpare}
 use Rattle.als_store.proofs.PoolSteps.{IsCalm, routed_count}
 use Rattle.als_store.proofs.TakeoverLaws.{phases_push, taken_calm, taken_settled, taken_marked}
-use Rattle.als_store.proofs.TakeoverLaws.{taken_new}
+use Rattle.als_store.proofs.TakeoverLaws.{taken_new, taken_ready}
 use Rattle.als_tables.specs.declared.commit_count.CommitCount.{CommitCount}
 
 -- ---- the log
@@ -385,6 +385,31 @@ module _ (pages : ℕ) (held : CommitCount) (l : Local) (c : Controlled) (pool :
               k.grows w.told;
         };
     sure = λ e. h.sure (whole e);
+  }
+
+  -- nothing waits any more of what a restart found
+  pub stored-ready : total_waiting pool.waits ≡ 0
+      → IsStored pages l held c pool validator broken origin false
+  stored-ready none = record {
+    log_pages = h.log_pages;
+    is_log = h.is_log;
+    fit = h.fit;
+    judged = h.judged;
+    judging = h.judging;
+    paged = h.paged;
+    held_is = h.held_is;
+    few_pages = h.few_pages;
+    marks = h.marks;
+    rise = h.rise;
+    warm = λ was.
+        let w : IsWarm recovering (origin_of l c pool) = h.warm was in
+        record {
+          is_pool = w.is_pool;
+          taken = taken_ready l.log c.synced c.since recovering (total_waiting pool.waits) w.taken
+              none;
+          told = w.told;
+        };
+    sure = h.sure;
   }
 
   -- pages of which nothing was written or synced

@@ -1,17 +1,19 @@
 -- What the control states say of the log, as the log grows and states are written.
-use Rattle.std.proofs.Common.{◌≡◌, ℕ, zero, suc, ◌≤◌, ◌⊎◌, true, List, [], ◌∷◌, ◌++◌, length, take, drop, refl, sym, ap, subst, ◌∙◌, inl, inr, arith, append-nil, append_assoc}
+use Rattle.std.proofs.Common.{◌≡◌, ℕ, zero, suc, ◌≤◌, ◌⊎◌, true, List, [], ◌∷◌, ◌++◌, length, take, drop, refl, sym, ap, subst, ◌∙◌, inl, inr, arith, append-nil, append_assoc, length-append}
 use Rattle.std.specs.Prelude.{Contains, Bool, false}
 use Rattle.als_record.specs.declared.lsn.Lsn.{Lsn}
 use Rattle.als_record.specs.declared.record.Record.{Record}
 use Rattle.als_record.specs.LogText.{end_of}
 use Rattle.als_record.specs.Tail.{tail_of}
+use Rattle.als_record.proofs.PageLaws.{end_of-push}
 use Rattle.als_record.proofs.TailSteps.{tail_of-front}
 use Rattle.als_ckpt.specs.declared.phase.Phase.{Phase}
 use Rattle.als_ckpt.specs.declared.phase.Phase.TheVariants.{Following, Sealed, Primary}
 use Rattle.als_ckpt.specs.declared.control_state.ControlState.{ControlState}
 use Rattle.als_ckpt.specs.Control.{phase_byte, last_state, first_state}
-use Rattle.als_reopen.specs.Taken.{IsSealed, IsTakenOver, IsTaken, IsTakenFrom}
+use Rattle.als_reopen.specs.Taken.{IsSealed, Decides, IsNextOfTail, MayCome, AreDecided, IsTakenOver, IsTaken, IsTakenFrom, WasTakenFrom, IsUndecided}
 use Rattle.als_store.specs.Takeover.{follows, is_done, GoesOn, PhasesRise, AreTaken}
+use Rattle.als_store.proofs.Splits.{same_front}
 
 -- ---- lists
 
@@ -154,36 +156,109 @@ sealed_more log seal r rest e s = record {
 }
 
 -- with its whole tail there is no more of it
-pub taken_over-whole : (log : List Record) (mark seal : ℕ) → IsTakenOver log mark seal → tail_of log ≡ []
-taken_over-whole log mark seal t = rest_is_tail log seal (record {
-  sealed = t.sealed;
-  undone = tail_of t.sealed;
+pub whole-no_tail : (log sealed : List Record) → log ≡ sealed ++ tail_of sealed → tail_of log ≡ []
+whole-no_tail log sealed parts = rest_is_tail log (end_of sealed) (record {
+  sealed = sealed;
+  undone = tail_of sealed;
   rest = [];
-  parts = t.parts;
-  ends = t.ends;
-  tail = append-nil (tail_of t.sealed);
+  parts = parts;
+  ends = refl;
+  tail = append-nil (tail_of sealed);
 })
 
-taken_more : (p : Phase) (log : List Record) (mark seal : ℕ) (r : Record) (rest : List Record) → tail_of log ≡ r ∷ rest → IsTaken p log mark seal → IsTaken p (log ++ r ∷ []) mark seal
-taken_more Following log mark seal r rest e t = tt
-taken_more Sealed log mark seal r rest e t = sealed_more log seal r rest e t
-taken_more Primary log mark seal r rest e t = let none : r ∷ rest ≡ [] = sym e ∙ taken_over-whole log mark seal t in absurd (cc none)
+-- ---- a log that was taken over, as it goes on
+
+decided-push : (log more : List Record) (r : Record) → AreDecided log more → MayCome (log ++ more) r → AreDecided log (more ++ r ∷ [])
+decided-push log [] r all may = (subst (λ (xs : List Record). MayCome xs r) (append-nil log) may, tt)
+decided-push log (x ∷ more) r all may = (all.0, decided-push (log ++ x ∷ []) more r all.1 (subst (λ (xs : List Record). MayCome xs r) (sym (append_assoc log (x ∷ []) more)) may))
+
+-- so are those of a front
+pub decided-front : (log more rest : List Record) → AreDecided log (more ++ rest) → AreDecided log more
+decided-front log [] rest all = tt
+decided-front log (x ∷ more) rest all = (all.0, decided-front (log ++ x ∷ []) more rest all.1)
+
+over_more : (log : List Record) (mark seal : ℕ) (r : Record) → MayCome log r → IsTakenOver log mark seal → IsTakenOver (log ++ r ∷ []) mark seal
+over_more log mark seal r may t = record {
+  sealed = t.sealed;
+  more = t.more ++ r ∷ [];
+  parts = ap (λ (xs : List Record). xs ++ r ∷ []) t.parts ∙ append_assoc (t.sealed ++ tail_of t.sealed) t.more (r ∷ []);
+  ends = t.ends;
+  whole = t.whole;
+  decided = decided-push (t.sealed ++ tail_of t.sealed) t.more r t.decided (subst (λ (xs : List Record). MayCome xs r) t.parts may);
+}
+
+-- what may come next in a phase: a record of the tail; in Primary a decision too
+abbrev pub ComesIn : Phase → List Record → Record → Type 0
+ComesIn p log r = IsNextOfTail log r ⊎ ((is_done p ≡ true) × Decides log r)
+
+may_come : (p : Phase) (log : List Record) (r : Record) → ComesIn p log r → MayCome log r
+may_come p log r (inl next) = inr next
+may_come p log r (inr d) = inl d.1
+
+taken_more : (p : Phase) (log : List Record) (mark seal : ℕ) (r : Record) → ComesIn p log r → IsTaken p log mark seal → IsTaken p (log ++ r ∷ []) mark seal
+taken_more Following log mark seal r next t = tt
+taken_more Sealed log mark seal r (inl next) t = sealed_more log seal r next.rest next.first t
+taken_more Sealed log mark seal r (inr d) t = absurd (cc d.0)
+taken_more Primary log mark seal r next t = over_more log mark seal r (may_come Primary log r next) t
+
+-- once it has gone on it is no more the sealed log and its tail
+more_not_undecided : (log : List Record) (mark seal : ℕ) (r : Record) → IsTakenOver log mark seal → IsUndecided (log ++ r ∷ []) seal → ⊥
+more_not_undecided log mark seal r t u =
+    let parts : log ++ r ∷ [] ≡ t.sealed ++ (tail_of t.sealed ++ (t.more ++ r ∷ [])) =
+    ap (λ (xs : List Record). xs ++ r ∷ []) t.parts ∙ append_assoc (t.sealed ++ tail_of t.sealed) t.more (r ∷ []) ∙ append_assoc t.sealed (tail_of t.sealed) (t.more ++ r ∷ []) in
+    let same : t.sealed ≡ u.sealed = same_front (log ++ r ∷ []) t.sealed (tail_of t.sealed ++ (t.more ++ r ∷ [])) u.sealed (tail_of u.sealed) parts u.parts (t.ends ∙ sym u.ends) in
+    let whole : length (u.sealed ++ tail_of u.sealed) ≡ length (t.sealed ++ tail_of t.sealed) = ap (λ (xs : List Record). length (xs ++ tail_of xs)) (sym same) in
+    let longer : length (u.sealed ++ tail_of u.sealed) ≡ length (t.sealed ++ (tail_of t.sealed ++ (t.more ++ r ∷ []))) = ap length (sym u.parts ∙ parts) in
+    let one : length (r ∷ []) ≡ 1 = refl in
+    omega (
+      arith,
+      whole,
+      longer,
+      one,
+      length-append t.sealed (tail_of t.sealed),
+      length-append t.sealed (tail_of t.sealed ++ (t.more ++ r ∷ [])),
+      length-append (tail_of t.sealed) (t.more ++ r ∷ []),
+      length-append t.more (r ∷ []),
+    )
+
+-- ---- what older states say
+
+pub was_now : (log : List Record) (c : ControlState) → IsTakenFrom log c → WasTakenFrom log c
+was_now log c is = record { front = log; since = []; parts = sym (append-nil log); reaches = inl refl; taken = is }
+
+was_more : (log : List Record) (r : Record) (c : ControlState) → c.mark.0 ≤ end_of log → WasTakenFrom log c → WasTakenFrom (log ++ r ∷ []) c
+was_more log r c low w = record {
+  front = w.front;
+  since = w.since ++ r ∷ [];
+  parts = ap (λ (xs : List Record). xs ++ r ∷ []) w.parts ∙ append_assoc w.front w.since (r ∷ []);
+  reaches = inr (elim w.reaches [
+    | inl none ↦ omega (arith, low, ap end_of (w.parts ∙ ap (λ (xs : List Record). w.front ++ xs) none ∙ append-nil w.front))
+    | inr at ↦ at
+  ]);
+  taken = w.taken;
+}
 
 -- ---- the states of a store
 
 module _ (log : List Record) (s : ControlState) (since : List ControlState) (recovering : Bool) (waiting : ℕ) (h : AreTaken log s since recovering waiting) where
-  newest_taken : IsTakenFrom log (last_state s since)
-  newest_taken = h.each (last_state s since) (contains_last s since)
-
   -- fewer changes wait
   pub taken_calm : (fewer : ℕ) → fewer ≤ waiting → AreTaken log s since recovering fewer
-  taken_calm fewer le = record { each = h.each; phases = h.phases; drained = λ ready done. omega (arith, le, h.drained ready done) }
+  taken_calm fewer le = record { now = h.now; each = h.each; below = h.below; phases = h.phases; drained = λ ready done undecided. omega (arith, le, h.drained ready done undecided) }
+
+  -- nothing waits any more of what a restart found
+  pub taken_ready : waiting ≡ 0 → AreTaken log s since false waiting
+  taken_ready none = record { now = h.now; each = h.each; below = h.below; phases = h.phases; drained = λ ready done undecided. none }
 
   -- the newest state alone stays
   pub taken_settled : AreTaken log (last_state s since) [] recovering waiting
   taken_settled = record {
+    now = h.now;
     each = λ c has. elim (contains_cases (last_state s since) [] c has) [
-      | inl same ↦ subst (λ (x : ControlState). IsTakenFrom log x) same newest_taken
+      | inl same ↦ subst (λ (x : ControlState). WasTakenFrom log x) same (was_now log (last_state s since) h.now)
+      | inr none ↦ absurd (contains_none c none)
+    ];
+    below = λ c has. elim (contains_cases (last_state s since) [] c has) [
+      | inl same ↦ subst (λ (x : ControlState). x.mark.0 ≤ end_of log) same (h.below (last_state s since) (contains_last s since))
       | inr none ↦ absurd (contains_none c none)
     ];
     phases = tt;
@@ -191,34 +266,48 @@ module _ (log : List Record) (s : ControlState) (since : List ControlState) (rec
   }
 
   -- one more state
-  pub taken_written : (t : ControlState) → GoesOn (last_state s since) t → IsTakenFrom log t → (recovering ≡ false → is_done t.phase ≡ true → waiting ≡ 0) → AreTaken log s (since ++ t ∷ []) recovering waiting
-  taken_written t on is none = record {
+  pub taken_written : (t : ControlState) → GoesOn (last_state s since) t → IsTakenFrom log t → t.mark.0 ≤ end_of log → (recovering ≡ false → is_done t.phase ≡ true → IsUndecided log t.seal.0 → waiting ≡ 0) → AreTaken log s (since ++ t ∷ []) recovering waiting
+  taken_written t on is low none = record {
+    now = subst (λ (x : ControlState). IsTakenFrom log x) (sym (last_push s since t)) is;
     each = λ c has. elim (contains_push s since t c has) [
       | inl old ↦ h.each c old
-      | inr same ↦ subst (λ (x : ControlState). IsTakenFrom log x) same is
+      | inr same ↦ subst (λ (x : ControlState). WasTakenFrom log x) same (was_now log t is)
+    ];
+    below = λ c has. elim (contains_push s since t c has) [
+      | inl old ↦ h.below c old
+      | inr same ↦ subst (λ (x : ControlState). x.mark.0 ≤ end_of log) same low
     ];
     phases = phases_push s since t h.phases on;
-    drained = λ ready done. none ready (ap (λ (x : ControlState). is_done x.phase) (sym (last_push s since t)) ∙ done);
+    drained = λ ready done undecided. none ready (ap (λ (x : ControlState). is_done x.phase) (sym (last_push s since t)) ∙ done) (subst (λ (x : ControlState). IsUndecided log x.seal.0) (last_push s since t) undecided);
   }
+
+  -- a mark at or below the log's end stays so
+  below_more : (r : Record) (c : ControlState) → Contains (s ∷ since) c → c.mark.0 ≤ end_of (log ++ r ∷ [])
+  below_more r c has = omega (arith, h.below c has, end_of-push log r)
 
   -- a record that the source sends
   pub taken_fed : (r : Record) (more : ℕ) → follows (last_state s since).phase ≡ true → AreTaken (log ++ r ∷ []) s since recovering more
   taken_fed r more on = record {
-    each = λ c has. taken_low c.phase (log ++ r ∷ []) c.mark.0 c.seal.0 (omega (arith, (phases_to s since c h.phases has).phase, follows_low (last_state s since).phase on));
+    now = fed (last_state s since) (contains_last s since);
+    each = λ c has. was_now (log ++ r ∷ []) c (fed c has);
+    below = below_more r;
     phases = h.phases;
     drained = λ ready done. absurd (follows_not_done (last_state s since).phase on done);
   }
+    where
+      fed : (c : ControlState) → Contains (s ∷ since) c → IsTakenFrom (log ++ r ∷ []) c
+      fed c has = taken_low c.phase (log ++ r ∷ []) c.mark.0 c.seal.0 (omega (arith, (phases_to s since c h.phases has).phase, follows_low (last_state s since).phase on))
 
-  -- the next record of the tail
-  pub taken_undone : (r : Record) (rest : List Record) (more : ℕ) → tail_of log ≡ r ∷ rest → AreTaken (log ++ r ∷ []) s since recovering more
-  taken_undone r rest more e = record {
-    each = λ c has. taken_more c.phase log c.mark.0 c.seal.0 r rest e (h.each c has);
+  -- the next record of the tail, or a decision
+  pub taken_next : (r : Record) (more : ℕ) → ComesIn (last_state s since).phase log r → AreTaken (log ++ r ∷ []) s since recovering more
+  taken_next r more next = record {
+    now = taken_more (last_state s since).phase log (last_state s since).mark.0 (last_state s since).seal.0 r next h.now;
+    each = λ c has. was_more log r c (h.below c has) (h.each c has);
+    below = below_more r;
     phases = h.phases;
-    drained = λ ready done. absurd (
-        let over : IsTakenOver log (last_state s since).mark.0 (last_state s since).seal.0 = subst (λ (p : Phase). IsTaken p log (last_state s since).mark.0 (last_state s since).seal.0) (done_primary (last_state s since).phase done) newest_taken in
-        let none : r ∷ rest ≡ [] = sym e ∙ taken_over-whole log (last_state s since).mark.0 (last_state s since).seal.0 over in
-        cc none
-        );
+    drained = λ ready done undecided. absurd (more_not_undecided log (last_state s since).mark.0 (last_state s since).seal.0 r
+        (subst (λ (p : Phase). IsTaken p log (last_state s since).mark.0 (last_state s since).seal.0) (done_primary (last_state s since).phase done) h.now)
+        undecided);
   }
 
   -- a state with another mark, at or above the newest one and at or below the log's end
@@ -226,21 +315,28 @@ module _ (log : List Record) (s : ControlState) (since : List ControlState) (rec
   taken_marked t same_phase same_seal rises within = taken_written t
       (record { phase = omega (arith, ap phase_byte same_phase); seal = λ past. same_seal })
       (again t.phase same_phase)
-      (λ ready done. h.drained ready (ap is_done (sym same_phase) ∙ done))
+      within
+      (λ ready done undecided. h.drained ready (ap is_done (sym same_phase) ∙ done) (subst (λ (l : Lsn). IsUndecided log l.0) same_seal undecided))
     where
       moved : (p : Phase) (seal seal' : ℕ) → seal' ≡ seal → IsTaken p log (last_state s since).mark.0 seal → IsTaken p log t.mark.0 seal'
       moved Following seal seal' e is = tt
       moved Sealed seal seal' e is = subst (λ (n : ℕ). IsSealed log n) (sym e) is
-      moved Primary seal seal' e is = record { sealed = is.sealed; parts = is.parts; ends = is.ends ∙ sym e; whole = omega (arith, is.whole, rises, within) }
+      moved Primary seal seal' e is = record { sealed = is.sealed; more = is.more; parts = is.parts; ends = is.ends ∙ sym e; whole = omega (arith, is.whole, rises); decided = is.decided }
 
       again : (p : Phase) → p ≡ (last_state s since).phase → IsTaken p log t.mark.0 t.seal.0
-      again p e = moved p (last_state s since).seal.0 t.seal.0 (ap (λ (l : Lsn). l.0) same_seal) (subst (λ (q : Phase). IsTaken q log (last_state s since).mark.0 (last_state s since).seal.0) (sym e) newest_taken)
+      again p e = moved p (last_state s since).seal.0 t.seal.0 (ap (λ (l : Lsn). l.0) same_seal) (subst (λ (q : Phase). IsTaken q log (last_state s since).mark.0 (last_state s since).seal.0) (sym e) h.now)
 
 -- of a log that was just formatted
 pub taken_new : (recovering : Bool) → AreTaken [] first_state [] recovering 0
+unfolding end_of
 taken_new recovering = record {
+  now = tt;
   each = λ c has. elim (contains_cases first_state [] c has) [
-    | inl same ↦ subst (λ (x : ControlState). IsTakenFrom [] x) same tt
+    | inl same ↦ subst (λ (x : ControlState). WasTakenFrom [] x) same (was_now [] first_state tt)
+    | inr none ↦ absurd (contains_none c none)
+  ];
+  below = λ c has. elim (contains_cases first_state [] c has) [
+    | inl same ↦ subst (λ (x : ControlState). x.mark.0 ≤ end_of []) same (omega arith)
     | inr none ↦ absurd (contains_none c none)
   ];
   phases = tt;

@@ -2,6 +2,8 @@
 use Rattle.als_fault.specs.declared.fault_kind.FaultKind.{FaultKind}
 use Rattle.als_fault.specs.declared.fault_kind.FaultKind.TheVariants as kind
 use Rattle.als_record.specs.CauseNames.{kind_of_cause}
+use Rattle.als_log.specs.declared.fault.Fault.{Fault as LogFault}
+use Rattle.als_log.specs.declared.fault.Fault.TheVariants as log_fault
 use Rattle.als_pool.specs.declared.fault.Fault.{Fault as PoolFault}
 use Rattle.als_pool.specs.declared.fault.Fault.TheVariants as pool_fault
 use Rattle.als_store.specs.declared.fault.Fault.{Fault}
@@ -19,6 +21,13 @@ kind_of fault.Device = kind.Device
 kind_of fault.Memory = kind.Memory
 kind_of (fault.BadPage page) = kind.BadPage page
 kind_of fault.NumbersSpent = kind.NumbersSpent
+
+-- what a fault of the log is here
+abbrev pub of_log : LogFault → Fault
+of_log log_fault.NothingToDo = fault.NothingToDo
+of_log log_fault.LogFull = fault.LogFull
+of_log log_fault.Device = fault.Device
+of_log log_fault.Memory = fault.Memory
 
 -- what a fault of the pool is here
 abbrev pub of_pool : PoolFault → Fault

@@ -45,7 +45,7 @@ abbrev pub said_in : Stored → Said
 said_in s = record { state = s.control; checkpoint = held_at s.held s.control.published }
 
 -- What an opened store is, whatever the devices held: its log is valid, ends at the mark, and fits
--- the device with its tail; the checkpoint is the published one, none where none is published, and
+-- the device with its reserve; the checkpoint is the published one, none where none is published, and
 -- that of a front of it; no page was read, and what waits for each are its changes from where a
 -- restart looks for them. No page is lent, and the first lease gets number 1.
 pub record IsOpened (pages blocks failures attempts : ℕ) (s : Stored) : Type 0 where

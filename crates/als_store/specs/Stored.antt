@@ -121,14 +121,13 @@ formatted pages pool blocks failures attempts = record {
 
 -- ---- records
 
--- the log device has no room for the log with a record and with the tail that a takeover would then
--- append
+-- the log device has no room for the log with a record and for its reserve then
 abbrev pub IsTooLong : Stored → Record → Type 0
 IsTooLong s r = 512 * s.blocks < end_of s.log + record_len r + reserve_of (s.log ++ r ∷ [])
 
 -- A log device of so many blocks has room for each front of the log that ends at or above an
--- offset, with the tail that a takeover would append to it. From the acknowledged LSN on these are
--- the logs that a crash may leave: so a takeover can go ahead whatever it leaves.
+-- offset, with its reserve. From the acknowledged LSN on these are the logs that a crash may leave:
+-- so a takeover, and after it each decision, can go ahead whatever it leaves.
 abbrev pub FrontsFit : ℕ → ℕ → List Record → Type 0
 FrontsFit blocks from log =
     (front rest : List Record) → log ≡ front ++ rest → from ≤ end_of front

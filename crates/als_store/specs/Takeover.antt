@@ -1,21 +1,27 @@
 -- A takeover: the log at its seal, and what of its tail stands behind it.
-use Rattle.std.specs.Prelude.{◌≡◌, ◌≢◌, ℕ, ◌+◌, ◌≤◌, ◌<◌, nat_le, Bool, true, false, ◌&&◌, List, [], ◌∷◌, ◌++◌, Contains, None, slice_index_or}
+use Rattle.std.specs.Prelude.{◌≡◌, ◌⊎◌, ℕ, ◌+◌, ◌≤◌, ◌<◌, nat_le, Bool, true, false, ◌&&◌, List, [], ◌∷◌, ◌++◌, Contains, None, slice_index_or}
 use Rattle.als_record.specs.declared.key.Key.{Key}
 use Rattle.als_record.specs.declared.lsn.Lsn.{Lsn}
+use Rattle.als_record.specs.declared.record.Body.{Body}
+use Rattle.als_record.specs.declared.record.Body.TheVariants.{Commit, Rollback}
 use Rattle.als_record.specs.declared.record.Record.{Record}
 use Rattle.als_record.specs.Spelling.{Image}
 use Rattle.als_record.specs.LogText.{end_of}
 use Rattle.als_record.specs.Images.{kept}
 use Rattle.als_record.specs.Pages.{page_at}
 use Rattle.als_record.specs.Table.{table_of, is_closed}
-use Rattle.als_record.specs.Tail.{tail_of, is_undone}
+use Rattle.als_record.specs.Tail.{tail_of, is_undone, decision}
+use Rattle.als_log.specs.Local.{Local}
+use Rattle.als_log.specs.Outcomes.{ReadFails}
 use Rattle.als_frames.specs.Images.{lsn_now}
 use Rattle.als_ckpt.specs.declared.phase.Phase.{Phase}
 use Rattle.als_ckpt.specs.declared.phase.Phase.TheVariants.{Following, Sealed, Primary}
 use Rattle.als_ckpt.specs.declared.control_state.ControlState.{ControlState}
 use Rattle.als_ckpt.specs.Control.{phase_byte, last_state, IsSeal}
 pub use Rattle.als_reopen.specs.Taken.{follows}
-use Rattle.als_reopen.specs.Taken.{IsTakenFrom}
+use Rattle.als_reopen.specs.Taken.{AreDecided, Decides, IsNextOfTail, IsTakenFrom, WasTakenFrom, IsUndecided}
+use Rattle.als_store.specs.declared.decision.Decision.{Decision}
+use Rattle.als_store.specs.declared.decision.Decision.TheVariants as decision_of
 use Rattle.als_store.specs.declared.fault.Fault.{Fault}
 use Rattle.als_store.specs.declared.fault.Fault.TheVariants as fault
 use Rattle.als_store.specs.Spare.{Spare, HasSpare}
@@ -53,12 +59,15 @@ abbrev pub PhasesRise : ControlState → List ControlState → Type 0
 PhasesRise state [] = Unit {0}
 PhasesRise state (next ∷ rest) = GoesOn state next × PhasesRise next rest
 
--- What each control state that a crash may leave says is true of the log, phases never fall along them and there is one seal; and
--- in Primary no change waits for redo, unless the store is recovering.
+-- What the newest control state says is true of the log, and what each one that a crash may leave says is true of the log up to its mark.
+-- Phases never fall along them and there is one seal. In Primary no change waits for redo until a transaction in doubt is decided, unless
+-- the store is recovering.
 pub record AreTaken (log : List Record) (synced : ControlState) (since : List ControlState) (recovering : Bool) (waiting : ℕ) : Type 0 where
-  pub each : (c : ControlState) → Contains (synced ∷ since) c → IsTakenFrom log c
+  pub now : IsTakenFrom log (last_state synced since)
+  pub each : (c : ControlState) → Contains (synced ∷ since) c → WasTakenFrom log c
+  pub below : (c : ControlState) → Contains (synced ∷ since) c → c.mark.0 ≤ end_of log
   pub phases : PhasesRise synced since
-  pub drained : recovering ≡ false → is_done (last_state synced since).phase ≡ true → waiting ≡ 0
+  pub drained : recovering ≡ false → is_done (last_state synced since).phase ≡ true → IsUndecided log (last_state synced since).seal.0 → waiting ≡ 0
 
 abbrev pub IsUnderTakeover : Stored → Type 0
 IsUnderTakeover s = AreTaken s.log s.control s.since s.recovering (pending_of s)
@@ -69,15 +78,24 @@ IsUnderTakeover s = AreTaken s.log s.control s.since s.recovering (pending_of s)
 abbrev pub slot_now : Stored → Key → Image
 slot_now s key = slice_index_or (page_at s.log key.page (lsn_now s.pool.frames key.page)).slots key.slot None
 
--- The log is the one at the seal with its tail, its transaction table is closed, and each slot of each page as it is now has what
--- a takeover keeps there: of the log at the seal, which is the same of the whole log.
-pub record IsFinished (s : Stored) : Type 0 where
-  pub sealed : List Record
-  pub ends : end_of sealed ≡ (newest s).seal.0
-  pub parts : s.log ≡ sealed ++ tail_of sealed
+-- Until a transaction in doubt is decided the transaction table is closed, and each slot of each page as it is now has what a takeover keeps
+-- there: of the log at the seal, which is the same of the whole log.
+pub record IsUntouched (s : Stored) (sealed : List Record) : Type 0 where
   pub table : is_closed (table_of s.log) ≡ true
   pub images : (key : Key) → key.page < s.pages → key.slot < 15 → slot_now s key ≡ kept sealed key
   pub same : (key : Key) → kept s.log key ≡ kept sealed key
+
+-- The log is the one at the seal with its tail, and what was decided since of the transactions in doubt. Until the first decision the store
+-- is as the takeover left it. From then on, where nothing of a tail is left to append and no change waits for redo, each slot of each page
+-- as it is now has what a takeover keeps there of the whole log.
+pub record IsFinished (s : Stored) : Type 0 where
+  pub sealed : List Record
+  pub more : List Record
+  pub ends : end_of sealed ≡ (newest s).seal.0
+  pub parts : s.log ≡ (sealed ++ tail_of sealed) ++ more
+  pub decided : AreDecided (sealed ++ tail_of sealed) more
+  pub untouched : more ≡ [] → IsUntouched s sealed
+  pub images : is_undone s.log ≡ true → pending_of s ≡ 0 → (key : Key) → key.page < s.pages → key.slot < 15 → slot_now s key ≡ kept s.log key
 
 -- ---- the events
 
@@ -120,3 +138,36 @@ NotUndone old fault new = ⊥
 -- there is room for the next record of the tail
 abbrev pub HasRoomToUndo : Stored → Spare → Type 0
 HasRoomToUndo s spare = (made : Record) (rest : List Record) → tail_of s.log ≡ made ∷ rest → HasSpare spare made
+
+-- ---- a transaction in doubt is decided
+
+-- the body of the record that decides
+abbrev pub decision_body : Decision → Body
+decision_body decision_of.Commit = Commit
+decision_body decision_of.Rollback = Rollback
+
+-- The next record of the log's tail; or, once the takeover has ended, one that decides a transaction in doubt.
+abbrev pub ComesNext : Stored → Record → Type 0
+ComesNext s r = IsNextOfTail s.log r ⊎ ((is_primary s ≡ true) × Decides s.log r)
+
+-- the record that commits or rolls back the transaction is held, where it was in doubt
+pub record Resolves (old : Stored) (trans : ℕ) (verdict : Decision) (lsn : Lsn) (new : Stored) : Type 0 where
+  pub place : lsn.0 ≡ end_of old.log
+  pub after : new ≡ with_records old (decision old.log trans (decision_body verdict) ∷ [])
+
+-- there is room for that record
+abbrev pub HasRoomToResolve : Stored → ℕ → Decision → Spare → Type 0
+HasRoomToResolve s trans verdict spare = HasSpare spare (decision s.log trans (decision_body verdict))
+
+-- What survives of a transaction is not collected: an allocation failed, or the log device failed in a read, and nothing else has changed.
+abbrev pub CannotCollect : Fault → Local → Local → Type 0
+CannotCollect fault.Memory old new = new ≡ old
+CannotCollect fault.Device old new = ReadFails old new
+CannotCollect fault old new = ⊥
+
+-- The commit that a commit record of a transaction in doubt would make is not collected: an allocation failed, or the log device failed in a
+-- read.
+abbrev pub NotCollected : Stored → Fault → Stored → Type 0
+NotCollected old fault.Memory new = new ≡ old
+NotCollected old fault.Device new = FailsToRead old new
+NotCollected old fault new = ⊥

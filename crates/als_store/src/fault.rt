@@ -21,7 +21,7 @@ pub enum Fault {
     PageLent,
     /// There is nothing for the event to do.
     NothingToDo,
-    /// The log device has no room for the record and for what a takeover would then append.
+    /// The log device has no room for the record and for the reserve of the log with it.
     LogFull,
     /// A checkpoint is on its way, or its publishing is not synced.
     CkptBusy,

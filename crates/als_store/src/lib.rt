@@ -4,6 +4,8 @@
 
 // Why an event is refused.
 mod fault;
+// What becomes of a transaction in doubt.
+mod decision;
 // Devices handed back.
 mod unformatted;
 // What a new store has in memory.
@@ -19,6 +21,7 @@ mod opened;
 
 pub use als_ckpt::Phase;
 pub use als_reopen::{Disks, Fault as OpenFault, Unreopened};
+pub use decision::Decision;
 pub use fault::Fault;
 pub use opened::Opened;
 pub use store::Store;

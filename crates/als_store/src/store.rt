@@ -10,8 +10,9 @@
 //! Rules:
 //! 1. A record is held by all parts or by none: room is reserved in each part first, and then no
 //!    part can fail.
-//! 2. The device has room for every front of the log from the acknowledged LSN on, with the tail
-//!    that a takeover would append. So a takeover never meets a full log, whatever a crash leaves.
+//! 2. The device has room for every front of the log from the acknowledged LSN on, with its
+//!    reserve: what a takeover would append, and after it the decisions of transactions in doubt. So
+//!    neither meets a full log, whatever a crash leaves.
 //! 3. Each event makes one write or one sync of a device at most. A stop inside an event is a stop
 //!    before or after it.
 //! 4. After a failed write or sync the store is broken, and no event writes or syncs any more.

@@ -89,7 +89,8 @@ fn judge(validator: &Validator, logged: &RecordView<'_>) -> Result<(), Fault>
     }
 }
 
-/// The bytes that a takeover would append after a record that may follow the log.
+/// The reserve of the log with a record that may follow it: what a takeover and then the decisions
+/// of transactions in doubt would append.
 pub(super) fn reserve_after(validator: &Validator, logged: &RecordView<'_>) -> u64
     ensures { (pages : ℕ) (log : List AnyRecord) → IsValidatorOf pages validator.now log
         → logged.now.lsn.0 ≡ end_of log → first_bad log (shown logged.now) ≡ None
@@ -235,8 +236,8 @@ impl<D: BlockDisk> Store<D> {
 
     /// Holds a record that stands at the log's end, of which these are the bytes. It is refused for
     /// the first cause why it may not follow the log, else by LogFull where the log device has no
-    /// room for it and for the tail that a takeover would then append, and by Memory where a growth
-    /// is refused. An `Err` changes nothing. A log that was sealed takes no more records.
+    /// room for it and for the reserve of the log with it, and by Memory where a growth is refused.
+    /// An `Err` changes nothing. A log that was sealed takes no more records.
     #[inline(always)]
     pub fn admit(&mut self, logged: &RecordView<'_>, bytes: &[u8]) -> Result<(), Fault>
         requires fits { IsRecord self.old.stored.pages (shown logged.now) }

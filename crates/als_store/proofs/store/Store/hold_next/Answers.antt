@@ -1,19 +1,17 @@
 use Rattle.std.proofs.Common.{◌≡◌, ℕ, List, ◌∷◌, ◌++◌, [], sym, subst, refl, ap, ◌∙◌, arith}
-use Rattle.std.specs.Prelude.{Some}
 use Rattle.als_record.specs.Spelling.{IsRecord}
 use Rattle.als_record.specs.declared.record.Record.{Record}
 use Rattle.als_record.specs.LogText.{end_of, IsLog}
-use Rattle.als_record.specs.Tail.{tail_of}
 use Rattle.als_record.specs.Pages.{change_of}
-use Rattle.als_takeover.specs.Next.{first_of}
 use Rattle.als_pool.specs.Queues.{total_waiting}
 use Rattle.als_pool.specs.Pooled.{Pooled}
 use Rattle.als_pool.specs.Bounds.{EndsBelow}
 use Rattle.als_pool.specs.Images.{IsPoolOf}
 use Rattle.als_store.specs.Stored.{routed}
 use Rattle.als_store.specs.Spare.{Holding}
+use Rattle.als_store.specs.Takeover.{ComesNext}
 use Rattle.als_store.proofs.StoredParts.{can_route_change, valid_push, stored-again, stored-push, length-below_end, appended, short_push}
-use Rattle.als_store.proofs.TakeoverLaws.{taken_undone}
+use Rattle.als_store.proofs.TakeoverLaws.{taken_next}
 use Rattle.als_store.proofs.SealLaws.{next_of}
 use Rattle.als_tables.proofs.Counts.{commit_count-few}
 use Rattle.als_record.specs.Shown.{shown}
@@ -40,8 +38,8 @@ pub append_made-requires-clause-device : goal.append_made-requires-clause-device
 append_made-requires-clause-device g c =
     let s = c.self.inside in
     let r = shown c.args.seen.now in
-    let first = subst (λ (h : Holding). first_of (tail_of h.stored.log) ≡ Some r) (sym c.self.view_is) c.requires.first in
-    let n = next_of s.pages s.count s.log s.control s.pool.pool s.validator s.broken s.origin s.recovering c.self.invariant c.end.ensures.facts c.newest.ensures.facts r first in
+    let next = subst (λ (h : Holding). ComesNext h.stored r) (sym c.self.view_is) c.requires.next in
+    let n = next_of s.pages s.count s.log s.control s.pool.pool s.validator s.broken s.origin s.recovering c.self.invariant c.end.ensures.facts c.newest.ensures.facts r next in
     let short = short_push s.pages s.log.blocks s.log.log r n.fits c.end.ensures.facts.fits c.end.ensures.facts.few in
     rw c.in_ok-make_room.ensures.log (omega (arith, n.left, c.reserve_after-reserve_after.ensures s.pages s.log.log c.self.invariant.judged n.at n.good short))
 
@@ -59,8 +57,8 @@ pub invariant_of-self-2 : goal.invariant_of-self-2
 invariant_of-self-2 g c =
     let s = c.self.inside in
     let r = shown c.args.seen.now in
-    let first = subst (λ (h : Holding). first_of (tail_of h.stored.log) ≡ Some r) (sym c.self.view_is) c.requires.first in
-    let n = next_of s.pages s.count s.log s.control s.pool.pool s.validator s.broken s.origin s.recovering c.self.invariant c.end.ensures.facts c.newest.ensures.facts r first in
+    let next = subst (λ (h : Holding). ComesNext h.stored r) (sym c.self.view_is) c.requires.next in
+    let n = next_of s.pages s.count s.log s.control s.pool.pool s.validator s.broken s.origin s.recovering c.self.invariant c.end.ensures.facts c.newest.ensures.facts r next in
     let judged-room = c.in_ok-make_room.ensures.validator s.pages s.log.log c.self.invariant.judged in
     let judged = c.admit.ensures.kept s.pages s.log.log judged-room (valid_push s.pages s.log.log r c.self.invariant.is_log n.fits n.at n.good) in
     let can = can_route_change s.pages s.count s.log s.control s.pool.pool s.validator s.broken s.origin s.recovering c.self.invariant r (change_of r) refl n.fits n.at (omega (arith, c.end.ensures.facts.fits, c.end.ensures.facts.few)) c.change_can_follow.ensures in
@@ -70,4 +68,4 @@ invariant_of-self-2 g c =
     stored-push s.pages s.count s.log s.control s.pool.pool s.validator s.broken s.origin s.recovering c.self.invariant c.append_made.new.log r c.route_change.new.pool.pool c.admit.new.validator c.note.new.self (c.note.ensures s.log.log c.self.invariant.held_is) n.fits n.at n.good n.left
     (appended s.log c.make_room.new.log c.append_made.new.log r c.in_ok-make_room.ensures.log c.append_made.ensures) judged
     (c.admit.ensures.judging ∙ c.in_ok-make_room.ensures.judging) can (c.route_change.ensures.value ∙ ap (λ (v : Pooled). routed v (change_of r)) same) keeps ends
-    (λ taken. taken_undone s.log.log s.control.synced s.control.since s.recovering (total_waiting s.pool.pool.waits) taken r n.rest (total_waiting c.route_change.new.pool.pool.waits) n.first)
+    (λ taken. taken_next s.log.log s.control.synced s.control.since s.recovering (total_waiting s.pool.pool.waits) taken r (total_waiting c.route_change.new.pool.pool.waits) next)
