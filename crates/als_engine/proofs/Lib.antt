@@ -11,3 +11,4 @@ pub mod CheckpointLaws
 pub mod RestartLaws
 pub mod ReaderLaws
 pub mod UndoLaws
+pub mod DoubtLaws

@@ -10,14 +10,14 @@ use Rattle.als_record.specs.declared.record.Record.{Record}
 use Rattle.als_record.specs.declared.record.Body.{Body}
 use Rattle.als_record.specs.declared.record.Body.TheVariants.{Update, Compensation, Commit}
 use Rattle.als_record.specs.declared.record.Body.TheVariants.{Rollback, End, BeginCheckpoint}
-use Rattle.als_record.specs.declared.record.Body.TheVariants.{EndCheckpoint}
+use Rattle.als_record.specs.declared.record.Body.TheVariants.{EndCheckpoint, Prepare}
 use Rattle.als_record.specs.Reading.{read_record}
 use Rattle.als_record.specs.LogText.{end_of}
 use Rattle.als_record.specs.Validity.{is_valid}
 use Rattle.als_record.specs.Transactions.{is_commit}
 use Rattle.als_record.specs.Commits.{Commit as Committed, commits_of}
 use Rattle.als_record.specs.Tail.{TailStep, Ends, Undoes, undone, record_for, numbered, tail_steps}
-use Rattle.als_record.specs.Tail.{tail_of}
+use Rattle.als_record.specs.Tail.{tail_of, decision}
 use Rattle.als_commits.specs.Counting.{ended_count}
 use Rattle.als_view.specs.Showing.{View, IsShowing, IsPublishedOf, IsWarming, count_of, published_of}
 use Rattle.als_view.specs.Views.{listed_in}
@@ -33,7 +33,8 @@ use Rattle.als_store.specs.CheckpointEvents.{Publishes, BreaksPublish, NotPublis
 use Rattle.als_store.specs.CheckpointEvents.{NoBlock}
 use Rattle.als_store.specs.Events.{HasUnmarked, BreaksMark, SyncsControl, ReadsInVain, NotLent}
 use Rattle.als_store.specs.Events.{NotFlushed, NotShown}
-use Rattle.als_store.specs.Takeover.{UndoesOne, NotUndone}
+use Rattle.als_store.specs.Takeover.{UndoesOne, NotUndone, NotCollected, Resolves, decision_body}
+use Rattle.als_store.specs.declared.decision.Decision.{Decision}
 use Rattle.als_store.specs.Opening.{IsOpened}
 use Rattle.als_engine.specs.declared.fault.Fault.{Fault}
 use Rattle.als_engine.specs.declared.fault.Fault.TheVariants as fault
@@ -113,6 +114,7 @@ undone-no_commit prev Rollback = refl
 undone-no_commit prev End = refl
 undone-no_commit prev BeginCheckpoint = refl
 undone-no_commit prev (EndCheckpoint rows pages) = refl
+undone-no_commit prev Prepare = refl
 
 step-no_commit : (log : List Record) (step : TailStep)
     → is_commit (record_for log step).body ≡ false
@@ -369,6 +371,40 @@ serving_not_undone old new receiver refused view store_fault.Device s n =
     serving_still old new receiver refused view s _ n.after refl refl refl refl refl
 serving_not_undone old new receiver refused view (store_fault.BadPage p) s n = absurd n
 
+-- what a commit would write is not collected
+pub serving_not_collected : (old new : Stored) (receiver : Reception) (refused : Option Fault)
+    (view : View) (cause : StoreFault) → IsServing old receiver refused view
+    → NotCollected old cause new → IsServing new receiver refused view
+serving_not_collected old new receiver refused view store_fault.Memory s n =
+    serving_still old new receiver refused view s old n refl refl refl refl refl
+serving_not_collected old new receiver refused view store_fault.Device s n =
+    serving_still old new receiver refused view s _ n.after refl refl refl refl refl
+serving_not_collected old new receiver refused view store_fault.NothingToDo s n = absurd n
+serving_not_collected old new receiver refused view store_fault.CkptBusy s n = absurd n
+serving_not_collected old new receiver refused view (store_fault.Invalid cause) s n = absurd n
+serving_not_collected old new receiver refused view store_fault.LogBehind s n = absurd n
+serving_not_collected old new receiver refused view store_fault.PoolFull s n = absurd n
+serving_not_collected old new receiver refused view store_fault.PageLent s n = absurd n
+serving_not_collected old new receiver refused view store_fault.NumbersSpent s n = absurd n
+serving_not_collected old new receiver refused view store_fault.LogFull s n = absurd n
+serving_not_collected old new receiver refused view (store_fault.BadPage p) s n = absurd n
+
+-- room for a commit shows nothing, and the store is as it was
+pub serving_roomy : (old new : Stored) (receiver : Reception) (refused : Option Fault)
+    (before view : View) → IsServing old receiver refused before → new ≡ old
+    → view ≡ record before { room = view.room } → IsServing new receiver refused view
+serving_roomy old new receiver refused before view s same room =
+    subst (λ (h : Stored). IsServing h receiver refused view) (sym same)
+    (subst (λ (v : View). IsServing old receiver refused v) (sym room) (record {
+      ready = s.ready;
+      seen = record {
+        shows = record { parts = s.seen.shows.parts; ended = s.seen.shows.ended; front = s.seen.shows.front };
+        pages = s.seen.pages;
+        listed = s.seen.listed;
+        stable = s.seen.stable;
+      };
+    }))
+
 pub serving_not_shown : (old new : Stored) (receiver : Reception) (refused : Option Fault)
     (view : View) (page : ℕ) (cause : StoreFault) → IsServing old receiver refused view
     → NotShown old page cause new → IsServing new receiver refused view
@@ -461,6 +497,20 @@ seen_undone old new view lsn seen undoes valid ready other =
       book = refl;
     }) in
     seen_grown old new view view (undoes.made ∷ []) seen undoes.after on ready
+
+-- a transaction in doubt is decided, and its commit waits, if that makes one
+pub seen_resolved : (old new : Stored) (before mid view : View) (trans : ℕ) (verdict : Decision)
+    (lsn : Lsn) → IsSeen old before → Resolves old trans verdict lsn new
+    → old.recovering ≡ false → mid ≡ record before { room = mid.room }
+    → ((offset : ℕ) → IsShowing old.log offset mid
+    → IsShowing (old.log ++ decision old.log trans (decision_body verdict) ∷ []) offset view)
+    → view.published ≡ mid.published → (view.pages ≡ mid.pages) × (view.book ≡ mid.book)
+    → IsSeen new view
+seen_resolved old new before mid view trans verdict lsn seen resolves ready room shows published same =
+    seen_grown old new before view (decision old.log trans (decision_body verdict) ∷ []) seen
+    resolves.after
+    (goes_on_taken old new (decision old.log trans (decision_body verdict)) before mid view
+    resolves.after room shows published same) ready
 
 -- more of the log is acknowledged
 pub seen_synced : (old new : Stored) (view : View) (lsn : Lsn) → IsSeen old view

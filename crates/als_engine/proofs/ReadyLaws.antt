@@ -13,7 +13,8 @@ use Rattle.als_pool.specs.Pooled.{Pooled}
 use Rattle.als_store.specs.declared.fault.Fault.{Fault as StoreFault}
 use Rattle.als_store.specs.declared.fault.Fault.TheVariants.{NothingToDo, Device}
 use Rattle.als_store.specs.Stored.{Stored, formatted, acknowledged, newest}
-use Rattle.als_store.specs.Takeover.{WritesState, BreaksState, UndoesOne, NotUndone}
+use Rattle.als_store.specs.Takeover.{WritesState, BreaksState, UndoesOne, NotUndone, Resolves}
+use Rattle.als_store.specs.declared.decision.Decision.{Decision}
 use Rattle.als_store.specs.CheckpointEvents.{Publishes, BreaksPublish, NotPublished}
 use Rattle.als_store.specs.CheckpointEvents.{with_checkpoint}
 use Rattle.als_store.specs.declared.fault.Fault.TheVariants as store_fault
@@ -185,6 +186,18 @@ ready_undone held new receiver after refused lsn end pages ready undoes f at sam
   marks = subst (λ (h : Stored). acknowledged h ≤ (newest h).mark.0) (sym undoes.after) ready.marks;
   no_want = ready.no_want;
 }
+
+pub ready_resolved : (held new : Stored) (receiver after : Reception) (refused : Option Fault)
+    (trans : ℕ) (verdict : Decision) (lsn : Lsn) (end pages : ℕ) → IsReady held receiver refused
+    → Resolves held trans verdict lsn new → after ≡ fresh end pages → end ≡ end_of new.log
+    → pages ≡ new.pages → IsReady new after refused
+ready_resolved held new receiver after refused trans verdict lsn end pages ready resolves f at same =
+    record {
+      rests = rests_again new after end pages f at same;
+      marks = subst (λ (h : Stored). acknowledged h ≤ (newest h).mark.0) (sym resolves.after)
+          ready.marks;
+      no_want = ready.no_want;
+    }
 
 -- an undo that is refused for want of memory
 pub undo_wants : (old new : Stored) (fault : StoreFault) → NotUndone old fault new

@@ -4,8 +4,11 @@ use Rattle.std.proofs.Common.{ap, subst, ◌∙◌, arith}
 use Rattle.std.specs.Prelude.{false, true, Result, MatchOption}
 use Rattle.als_record.specs.declared.lsn.Lsn.{Lsn}
 use Rattle.als_record.specs.declared.record.Record.{Record}
+use Rattle.als_record.specs.declared.trans_id.TransId.{TransId}
+use Rattle.als_record.specs.Tail.{decision}
 use Rattle.als_ckpt.specs.declared.control_state.ControlState.{ControlState}
-use Rattle.als_store.specs.Takeover.{is_following, GoesOn}
+use Rattle.als_store.specs.Takeover.{is_following, GoesOn, decision_body}
+use Rattle.als_store.specs.declared.decision.Decision.{Decision}
 use Rattle.als_store.specs.Warm.{WasWarm}
 use Rattle.std.proofs.lemmas.Bool.{lt-leb}
 use Rattle.als_store.specs.Stored.{Stored, pending_of, acknowledged}
@@ -16,7 +19,7 @@ use Rattle.als_engine.specs.declared.step.Step.TheVariants as step
 use Rattle.als_engine.specs.Machine.{Machine, Keeps}
 use Rattle.als_engine.specs.Refusals.{feed_refusal, refusal}
 use Rattle.als_engine.specs.Readers.{ended_in}
-use Rattle.als_engine.specs.Takeover.{Undoes, UndoesOneOf}
+use Rattle.als_engine.specs.Takeover.{Undoes, UndoesOneOf, ResolvesHeld}
 use Rattle.als_engine.specs.Feeds.{Feeds, grown}
 use Rattle.als_engine.proofs.KeepLaws.{goes_on_same, keeps_equal, IsReadAlike, read_alike}
 use Rattle.als_engine.proofs.KeepLaws.{none_opened}
@@ -67,6 +70,13 @@ keeps_undone old new lsn does = go (refusal old step.UndoOne) does
     go None u = keeps_grown old new (u.undoes.made ∷ []) _ u.after u.undoes.after refl
         (record { listed = refl; published = refl })
     go (Some fault) h = keeps_equal old new h.1
+
+-- a transaction in doubt is decided
+pub keeps_resolved : (old new : Machine) (trans : TransId) (verdict : Decision) (lsn : Lsn)
+    → ResolvesHeld old trans verdict lsn new → Keeps old new
+keeps_resolved old new trans verdict lsn r =
+    keeps_grown old new (decision old.held.log trans.0 (decision_body verdict) ∷ []) _ r.after
+    r.resolves.after refl (record { listed = refl; published = refl })
 
 -- a refused feed holds records at most
 pub keeps_refused : (old new : Machine) (piece : List ℕ) (cause : Option Fault)

@@ -26,9 +26,11 @@ use Rattle.als_engine.specs.Readers.{ended_in}
 use Rattle.als_engine.specs.Publishing.{PublishesEnded, PublishesView}
 use Rattle.als_engine.specs.Readiness.{readied, BecomesReady, Readies}
 use Rattle.als_engine.specs.Takeover.{SealsLog, Undoes, FinishesTakeover, Seals, UndoesOneOf}
-use Rattle.als_engine.specs.Takeover.{Finishes}
+use Rattle.als_engine.specs.Takeover.{Finishes, ResolvesIt, ResolvesOf}
+use Rattle.als_record.specs.declared.trans_id.TransId.{TransId}
+use Rattle.als_store.specs.declared.decision.Decision.{Decision}
 use Rattle.als_engine.proofs.ReaderLaws.{ended_in-few}
-use Rattle.als_engine.proofs.RefusalLaws.{keeps_undone}
+use Rattle.als_engine.proofs.RefusalLaws.{keeps_undone, keeps_resolved}
 use Rattle.als_engine.proofs.KeepLaws.{goes_on_same, keeps_equal, IsReadAlike, read_alike}
 use Rattle.als_engine.proofs.KeepLaws.{none_opened, IsAsMade, as_made}
 
@@ -363,6 +365,20 @@ pub keeps_undo_one : (old new : Machine) (answer : Result Lsn Fault) → UndoesO
 keeps_undo_one old new (Ok lsn) does = keeps_undone old new lsn does
 keeps_undo_one old new (Err fault) does = keeps_not_undone old new fault does
 
+pub keeps_resolve : (old new : Machine) (trans : TransId) (verdict : Decision)
+    (answer : Result Lsn Fault) → ResolvesOf old trans verdict answer new → Keeps old new
+keeps_resolve old new trans verdict answer does =
+    keeps_does old new (step.Resolve trans verdict) (ResolvesIt trans verdict old) answer does
+    (go answer)
+  where
+    go : (a : Result Lsn Fault) → ResolvesIt trans verdict old a new → Keeps old new
+    go (Ok lsn) r = keeps_resolved old new trans verdict lsn r
+    go (Err fault) (inl same) = keeps_equal old new same.1
+    go (Err fault) (inr c) = keeps_changes old new _ c.1
+        (λ held e. set_stays old.held held (as_made old.held held _ e.after refl (λ w. w) (λ r. r))
+        (ap (λ (h : Stored). h.log) e.after) (ap (λ (h : Stored). h.control) e.after)
+        (λ b. ap (λ (h : Stored). h.broken) e.after ∙ b))
+
 -- a refused feed calls no device
 pub attempts_refused : (old new : Machine) (piece : List ℕ) (cause : Option Fault)
     (refused : FeedFault) → Feeds old piece cause (Err refused) new
@@ -494,3 +510,54 @@ attempts_not_undone old new fault does = go (refusal old step.UndoOne) does
     go None (inl h) = omega (arith, ap (λ (m : Machine). m.held.attempts) h.1)
     go None (inr c) = omega (arith, ap (λ (m : Machine). m.held.attempts) c.1.after, ap (λ (h : Stored). h.attempts) c.1.becomes.after)
     go (Some cause) h = omega (arith, ap (λ (m : Machine). m.held.attempts) h.1)
+
+pub attempts_resolve : (old new : Machine) (trans : TransId) (verdict : Decision)
+    (result : Result Lsn Fault) → ResolvesOf old trans verdict result new
+    → new.held.attempts ≤ old.held.attempts + 1
+attempts_resolve old new trans verdict result does =
+    go (refusal old (step.Resolve trans verdict)) result does
+  where
+    go : (r : Option Fault) (answer : Result Lsn Fault)
+        → MatchOption r (ResolvesIt trans verdict old answer new) (λ fault. (answer ≡ Err fault)
+        × (new ≡ old)) → new.held.attempts ≤ old.held.attempts + 1
+    go None (Ok lsn) r = omega (arith, ap (λ (m : Machine). m.held.attempts) r.after, ap (λ (h : Stored). h.attempts) r.resolves.after)
+    go None (Err fault) (inl h) = omega (arith, ap (λ (m : Machine). m.held.attempts) h.1)
+    go None (Err fault) (inr c) = omega (arith, ap (λ (m : Machine). m.held.attempts) c.1.after, ap (λ (h : Stored). h.attempts) c.1.becomes.after)
+    go (Some cause) answer same = omega (arith, ap (λ (m : Machine). m.held.attempts) same.1)
+
+pub attempts_mark_write : (old new : Machine) (result : Result (Unit {0}) Fault)
+    → MarkWrites old result new → new.held.attempts ≤ old.held.attempts + 1
+attempts_mark_write old new result does = go (refusal old step.MarkWrite) result does
+  where
+    go : (r : Option Fault) (answer : Result (Unit {0}) Fault)
+        → MatchOption r (MovesMark old answer new) (λ fault. (answer ≡ Err fault)
+        × (new ≡ old)) → new.held.attempts ≤ old.held.attempts + 1
+    go None (Ok done) c = omega (arith, ap (λ (m : Machine). m.held.attempts) c.after, ap (λ (h : Stored). h.attempts) c.becomes.after)
+    go None (Err fault) c = omega (arith, ap (λ (m : Machine). m.held.attempts) c.1.after, ap (λ (h : Stored). h.attempts) c.1.becomes.after)
+    go (Some cause) answer same = omega (arith, ap (λ (m : Machine). m.held.attempts) same.1)
+
+pub publishes_step : (old new : Machine) (result : Result (Unit {0}) Fault)
+    → CkptPublishes old result new → Steps old step.CkptPublish (reply_of result) new
+publishes_step old new (Ok done) does = does
+publishes_step old new (Err fault) does = does
+
+attempts_of_publish : (old new : Stored) (b : Option Begun)
+    → IsSomeAnd b (λ x. Publishes old x new) → new.attempts ≡ old.attempts + 1
+attempts_of_publish old new None h = absurd h
+attempts_of_publish old new (Some b) h = ap (λ (s : Stored). s.attempts) h.after
+
+attempts_of_torn : (old new : Stored) (b : Option Begun)
+    → IsSomeAnd b (λ x. BreaksPublish old x new) → new.attempts ≡ old.attempts + 1
+attempts_of_torn old new None h = absurd h
+attempts_of_torn old new (Some b) h = ap (λ (s : Stored). s.attempts) h.after
+
+pub attempts_publish : (old new : Machine) (result : Result (Unit {0}) Fault)
+    → CkptPublishes old result new → new.held.attempts ≤ old.held.attempts + 1
+attempts_publish old new result does = go (refusal old step.CkptPublish) result does
+  where
+    go : (r : Option Fault) (answer : Result (Unit {0}) Fault)
+        → MatchOption r (PublishesNext old answer new) (λ fault. (answer ≡ Err fault)
+        × (new ≡ old)) → new.held.attempts ≤ old.held.attempts + 1
+    go None (Ok done) c = omega (arith, ap (λ (m : Machine). m.held.attempts) c.after, attempts_of_publish old.held c.held old.held.begun c.becomes)
+    go None (Err fault) c = omega (arith, ap (λ (m : Machine). m.held.attempts) c.1.after, attempts_of_torn old.held c.1.held old.held.begun c.1.becomes)
+    go (Some cause) answer same = omega (arith, ap (λ (m : Machine). m.held.attempts) same.1)

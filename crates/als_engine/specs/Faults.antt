@@ -24,6 +24,7 @@ use Rattle.als_engine.specs.declared.fault.Fault.TheVariants.{Device, Stopped, M
 use Rattle.als_engine.specs.declared.fault.Fault.TheVariants.{BadControl, Warming, Backlog}
 use Rattle.als_engine.specs.declared.fault.Fault.TheVariants.{BadConfig, NotSealed, PageLent}
 use Rattle.als_engine.specs.declared.fault.Fault.TheVariants.{Stranger, BadSlot, NumbersSpent}
+use Rattle.als_engine.specs.declared.fault.Fault.TheVariants.{NotPrimary, NotInDoubt}
 
 abbrev pub kind_of : Fault → FaultKind
 kind_of BadHeader = kind.BadHeader
@@ -63,6 +64,8 @@ kind_of BadConfig = kind.BadConfig
 kind_of NotSealed = kind.NotSealed
 kind_of BadSlot = kind.BadSlot
 kind_of NumbersSpent = kind.NumbersSpent
+kind_of NotPrimary = kind.NotPrimary
+kind_of NotInDoubt = kind.NotInDoubt
 
 -- the same fault, as the engine answers it
 abbrev pub from_record : RecordFault → Fault

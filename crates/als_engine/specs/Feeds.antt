@@ -23,6 +23,7 @@ use Rattle.als_engine.specs.declared.fault.Fault.TheVariants.{Device, Stopped, M
 use Rattle.als_engine.specs.declared.fault.Fault.TheVariants.{BadControl, Warming, Backlog}
 use Rattle.als_engine.specs.declared.fault.Fault.TheVariants.{BadConfig, NotSealed, PageLent}
 use Rattle.als_engine.specs.declared.fault.Fault.TheVariants.{Stranger, BadSlot, NumbersSpent}
+use Rattle.als_engine.specs.declared.fault.Fault.TheVariants.{NotPrimary, NotInDoubt}
 use Rattle.als_engine.specs.declared.fed.Fed.{Fed}
 use Rattle.als_engine.specs.declared.fed.FeedFault.{FeedFault}
 use Rattle.als_engine.specs.Faults.{from_record, from_cause}
@@ -109,6 +110,8 @@ kept_fault BadConfig = Some BadConfig
 kept_fault NotSealed = Some NotSealed
 kept_fault BadSlot = Some BadSlot
 kept_fault NumbersSpent = Some NumbersSpent
+kept_fault NotPrimary = Some NotPrimary
+kept_fault NotInDoubt = Some NotInDoubt
 
 -- whole records in front of a fault are held, and no rest is kept
 pub record FeedsFront (old : Machine) (piece : List ℕ) (refusal : FeedFault)

@@ -4,6 +4,7 @@ use Rattle.std.specs.Prelude.{List, [], ◌∷◌, ◌++◌, Option, Some, None,
 use Rattle.std.specs.Prelude.{if◌then◌else◌}
 use Rattle.als_record.specs.LogText.{end_of}
 use Rattle.als_record.specs.Tail.{is_undone}
+use Rattle.als_record.specs.Transactions.{is_in_doubt}
 use Rattle.als_ckpt.specs.declared.region.Region.{Region}
 use Rattle.als_ckpt.specs.declared.region.Region.TheVariants.{First, Second}
 use Rattle.als_ckpt.specs.Regions.{Begun, blocks_of, position_of}
@@ -17,6 +18,7 @@ use Rattle.als_engine.specs.declared.fault.Fault.TheVariants.{Recovering, Sealed
 use Rattle.als_engine.specs.declared.fault.Fault.TheVariants.{NotDrained, CkptBusy, PoolFull}
 use Rattle.als_engine.specs.declared.fault.Fault.TheVariants.{NothingToDo, Stopped, Backlog}
 use Rattle.als_engine.specs.declared.fault.Fault.TheVariants.{NotSealed, PageLent, NumbersSpent}
+use Rattle.als_engine.specs.declared.fault.Fault.TheVariants.{NotPrimary, NotInDoubt}
 use Rattle.als_engine.specs.declared.step.Step.{Step}
 use Rattle.als_engine.specs.declared.step.Step.TheVariants as step
 use Rattle.als_engine.specs.Machine.{Machine}
@@ -131,6 +133,9 @@ causes m step.UndoOne =
 causes m step.Finish =
     has_stopped m ∷ is_recovering m ∷ is_unsealed m ∷ (is_primary m.held, NothingToDo)
     ∷ (not (is_drained m.held), NotDrained) ∷ []
+causes m (step.Resolve trans verdict) =
+    has_stopped m ∷ is_recovering m ∷ (not (is_primary m.held), NotPrimary)
+    ∷ (not (is_in_doubt m.held.log trans.0), NotInDoubt) ∷ []
 causes m step.CkptBegin = has_stopped m ∷ (is_ckpt_busy m.held, CkptBusy) ∷ []
 causes m step.CkptBlock = has_stopped m ∷ (not (has_block m.held.begun), NothingToDo) ∷ []
 causes m step.CkptPublish =

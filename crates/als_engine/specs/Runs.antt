@@ -13,7 +13,7 @@ use Rattle.als_engine.specs.Events.{MarkWrites, ControlSyncs}
 use Rattle.als_engine.specs.Leases.{Recalls}
 use Rattle.als_engine.specs.Publishing.{PublishesView}
 use Rattle.als_engine.specs.Readiness.{Readies}
-use Rattle.als_engine.specs.Takeover.{Seals, UndoesOneOf, Finishes}
+use Rattle.als_engine.specs.Takeover.{Seals, UndoesOneOf, ResolvesOf, Finishes}
 use Rattle.als_engine.specs.Checkpointing.{CkptBegins, CkptWrites, CkptPublishes}
 
 -- the reply to an event that answers no value
@@ -59,5 +59,7 @@ Steps old step.UndoOne (reply.Undone lsn) new = UndoesOneOf old (Ok lsn) new
 Steps old step.UndoOne (reply.Refused fault) new = UndoesOneOf old (Err fault) new
 Steps old step.Finish reply.Done new = Finishes old (Ok tt) new
 Steps old step.Finish (reply.Refused fault) new = Finishes old (Err fault) new
+Steps old (step.Resolve trans verdict) (reply.Resolved lsn) new = ResolvesOf old trans verdict (Ok lsn) new
+Steps old (step.Resolve trans verdict) (reply.Refused fault) new = ResolvesOf old trans verdict (Err fault) new
 -- no other reply comes
 Steps _ _ _ _ = ⊥

@@ -1,9 +1,11 @@
 -- What the events of a takeover make of the small machine.
 use Rattle.std.specs.Prelude.{◌≡◌, ◌⊎◌, [], None, Result, Ok, Err}
 use Rattle.als_record.specs.declared.lsn.Lsn.{Lsn}
+use Rattle.als_record.specs.declared.trans_id.TransId.{TransId}
 use Rattle.als_store.specs.Stored.{Stored}
 use Rattle.als_store.specs.Takeover.{WritesState, BreaksState, sealed_state, finished_state}
-use Rattle.als_store.specs.Takeover.{UndoesOne}
+use Rattle.als_store.specs.Takeover.{UndoesOne, Resolves}
+use Rattle.als_store.specs.declared.decision.Decision.{Decision}
 use Rattle.als_store.specs.Events.{FailsToRead}
 use Rattle.als_engine.specs.declared.fault.Fault.{Fault}
 use Rattle.als_engine.specs.declared.fault.Fault.TheVariants.{Memory}
@@ -35,6 +37,17 @@ abbrev pub Undoes : Machine → Result Lsn Fault → Machine → Type 0
 Undoes old (Ok lsn) new = UndoesNext old lsn new
 Undoes old (Err fault) new = ((fault ≡ Memory) × (new ≡ old)) ⊎ FailsIn old fault FailsToRead new
 
+-- A record decides a transaction in doubt; there is no partial record. Or memory was wanted, or the log device failed in a read, which is
+-- counted.
+pub record ResolvesHeld (old : Machine) (trans : TransId) (verdict : Decision) (lsn : Lsn) (new : Machine) : Type 0 where
+  pub held : Stored
+  pub resolves : Resolves old.held trans.0 verdict lsn held
+  pub after : new ≡ record old { held = held; partial = [] }
+
+abbrev pub ResolvesIt : TransId → Decision → Machine → Result Lsn Fault → Machine → Type 0
+ResolvesIt trans verdict old (Ok lsn) new = ResolvesHeld old trans verdict lsn new
+ResolvesIt trans verdict old (Err fault) new = ((fault ≡ Memory) × (new ≡ old)) ⊎ FailsIn old fault FailsToRead new
+
 -- the control block is written with phase Primary
 abbrev pub FinishesTakeover : Machine → Result (Unit {0}) Fault → Machine → Type 0
 FinishesTakeover old (Ok done) new =
@@ -49,6 +62,9 @@ Seals old result new = Does old step.Seal (SealsLog old) result new
 
 abbrev pub UndoesOneOf : Machine → Result Lsn Fault → Machine → Type 0
 UndoesOneOf old result new = Does old step.UndoOne (Undoes old) result new
+
+abbrev pub ResolvesOf : Machine → TransId → Decision → Result Lsn Fault → Machine → Type 0
+ResolvesOf old trans verdict result new = Does old (step.Resolve trans verdict) (ResolvesIt trans verdict old) result new
 
 abbrev pub Finishes : Machine → Result (Unit {0}) Fault → Machine → Type 0
 Finishes old result new = Does old step.Finish (FinishesTakeover old) result new

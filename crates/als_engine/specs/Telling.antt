@@ -24,8 +24,8 @@ pub record Tells (m : Machine) (status : Status) : Type 0 where
 -- is lent only while changes wait for it. Readers have a list of published commits unless the
 -- engine is recovering, and each of them is acknowledged. Where the devices were sound when the
 -- engine was made, what each control state that a crash may leave says of the log is true, and a
--- finished takeover holds exactly what the committed transactions of the sealed log left, unless
--- the engine is recovering.
+-- finished takeover holds exactly what the transactions of the sealed log left that are committed or
+-- in doubt, and then what their decisions leave, unless the engine is recovering.
 pub record Stands (m : Machine) : Type 0 where
   pub valid : is_valid m.held.log ≡ true
   pub stable : acknowledged m.held ≤ end_of m.held.log

@@ -58,6 +58,8 @@ mod restart;
 mod stepping;
 // The takeover.
 mod taking_over;
+// Transactions in doubt are decided after it.
+mod resolving;
 
 use crate::config::Config;
 use crate::fault::Fault;

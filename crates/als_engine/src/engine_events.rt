@@ -12,7 +12,8 @@ use als_analysis::OpenRow;
 use als_disk::BlockDisk;
 use als_lease::PageLease;
 use als_page::Page;
-use als_record::{LoggedPage, Lsn, Record, TransactionRow};
+use als_record::{LoggedPage, Lsn, Record, TransId, TransactionRow};
+use als_store::Decision;
 use als_view::Told;
 use std::alloc::Global;
 use std::sync::Wait;
@@ -106,6 +107,10 @@ impl<D: BlockDisk> Events for Engine<D> {
 
     fn undo_one(&mut self) -> Result<Lsn, Fault> {
         Engine::undo_one(self)
+    }
+
+    fn resolve(&mut self, trans: TransId, verdict: Decision) -> Result<Lsn, Fault> {
+        Engine::resolve(self, trans, verdict)
     }
 
     fn finish(&mut self) -> Result<(), Fault> {

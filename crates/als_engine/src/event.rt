@@ -20,4 +20,5 @@ pub enum Event {
     Seal,
     UndoOne,
     Finish,
+    Resolve,
 }

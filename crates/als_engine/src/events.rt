@@ -16,7 +16,7 @@ ghost use Rattle.als_engine.specs.Publishing.{PublishesView, TellsReaders};
 ghost use Rattle.als_engine.specs.Readers.{book_told};
 ghost use Rattle.logbook.specs.Pages.{Book};
 ghost use Rattle.als_engine.specs.Readiness.{Readies};
-ghost use Rattle.als_engine.specs.Takeover.{Seals, UndoesOneOf, Finishes};
+ghost use Rattle.als_engine.specs.Takeover.{Seals, UndoesOneOf, ResolvesOf, Finishes};
 ghost use Rattle.als_engine.specs.Tally.{TellsOk, TellsTaken};
 ghost use Rattle.als_engine.specs.Telling.{Tells, Stands};
 
@@ -26,7 +26,8 @@ use crate::not_given::NotGiven;
 use crate::status::Status;
 use als_lease::PageLease;
 use als_page::Page;
-use als_record::{LoggedPage, Lsn, Record, TransactionRow};
+use als_record::{LoggedPage, Lsn, Record, TransId, TransactionRow};
+use als_store::Decision;
 use als_view::Told;
 use std::alloc::Global;
 use std::sync::Wait;
@@ -180,6 +181,14 @@ pub trait Events {
         ensures undoes { alone → UndoesOneOf (machine self.old) result (machine self.new) }
         ensures keeps { alone → Keeps (machine self.old) (machine self.new) }
         ensures told { TellsOk event.UndoOne result (tally self.old) (tally self.new) }
+        ensures book { book self.new ≡ book self.old };
+
+    /// Commits or rolls back a transaction in doubt, and answers the LSN of the record.
+    fn resolve(&mut self, trans: TransId, verdict: Decision) -> Result<Lsn, Fault>
+        ensures resolves { alone → ResolvesOf (machine self.old) trans verdict result
+            (machine self.new) }
+        ensures keeps { alone → Keeps (machine self.old) (machine self.new) }
+        ensures told { TellsOk event.Resolve result (tally self.old) (tally self.new) }
         ensures book { book self.new ≡ book self.old };
 
     /// Ends the takeover.

@@ -94,6 +94,10 @@ pub enum Fault {
     BadSlot,
     /// The last lease number is used.
     NumbersSpent,
+    /// The takeover has not ended.
+    NotPrimary,
+    /// The transaction is not in doubt.
+    NotInDoubt,
 }
 
 impl Fault {
@@ -139,6 +143,8 @@ impl Fault {
             Fault::NotSealed => FaultKind::NotSealed,
             Fault::BadSlot => FaultKind::BadSlot,
             Fault::NumbersSpent => FaultKind::NumbersSpent,
+            Fault::NotPrimary => FaultKind::NotPrimary,
+            Fault::NotInDoubt => FaultKind::NotInDoubt,
         }
     }
 

@@ -87,7 +87,7 @@ fn hold_commit<D: BlockDisk>(
 }
 
 /// Room for a commit, if there is one.
-fn reserve_place(shown: &mut View, found: &Option<Commit>) -> Result<(), Fault>
+pub(crate) fn reserve_place(shown: &mut View, found: &Option<Commit>) -> Result<(), Fault>
     ensures same { shown.new ≡ record shown.old { room = shown.new.room } }
     ensures ok { OnOk result (IsSome found.now → 0 < shown.new.room) }
     ensures err { IfErr result (λ f. f ≡ fault.Memory) }

@@ -33,7 +33,7 @@ mod engine_events;
 mod step;
 
 pub use als_lease::PageLease;
-pub use als_store::Disks;
+pub use als_store::{Decision, Disks};
 pub use als_view::{Answer, Reader};
 pub use config::{CONTROL_BLOCKS, Config, LOG_BLOCK_LIMIT};
 pub use engine::Engine;

@@ -1,6 +1,7 @@
 use crate::fault::Fault;
 use crate::fed::{Fed, FeedFault};
-use als_record::Lsn;
+use als_record::{Lsn, TransId};
+use als_store::Decision;
 
 /// One step of a run.
 #[derive(Clone, Copy, Debug)]
@@ -39,6 +40,8 @@ pub enum Step<'a> {
     UndoOne,
     /// Ends the takeover.
     Finish,
+    /// Commits or rolls back a transaction in doubt.
+    Resolve(TransId, Decision),
 }
 
 /// What a step answers.
@@ -51,5 +54,7 @@ pub enum Reply {
     Acknowledged(Lsn),
     /// The LSN of the record of the tail that is held now.
     Undone(Lsn),
+    /// The LSN of the record that decides a transaction in doubt.
+    Resolved(Lsn),
     Refused(Fault),
 }

@@ -1,5 +1,6 @@
--- How many records each event holds, once the log is sealed: `undo_one` one, the others none.
-use Rattle.std.proofs.Common.{◌≡◌, ℕ, ◌+◌, false, List, [], ◌∷◌, Option, Some, None, Result}
+-- How many records each event holds, once the log is sealed: `undo_one` and `resolve` one, the
+-- others none.
+use Rattle.std.proofs.Common.{◌≡◌, ℕ, ◌+◌, false, List, [], ◌∷◌, ◌++◌, Option, Some, None, Result}
 use Rattle.std.proofs.Common.{Ok, Err, inl, inr, refl, ap, subst, ◌∙◌, arith, length}
 use Rattle.std.specs.Borrow.{Bor}
 use Rattle.std.specs.Prelude.{MatchOption, IsSomeAnd}
@@ -7,6 +8,8 @@ use Rattle.std.proofs.lemmas.Bool.{cases_Bool}
 use Rattle.std.proofs.lemmas.List.{length-append}
 use Rattle.als_record.specs.declared.lsn.Lsn.{Lsn}
 use Rattle.als_record.specs.declared.record.Record.{Record}
+use Rattle.als_record.specs.declared.trans_id.TransId.{TransId}
+use Rattle.als_record.specs.Tail.{decision, tail_of}
 use Rattle.als_lease.specs.Lease.{Leased}
 use Rattle.als_ckpt.specs.Regions.{Begun}
 use Rattle.als_store.specs.declared.fault.Fault.{Fault as StoreFault}
@@ -14,7 +17,8 @@ use Rattle.als_store.specs.declared.fault.Fault.TheVariants as store_fault
 use Rattle.als_store.specs.CheckpointEvents.{Publishes, BreaksPublish}
 use Rattle.als_store.specs.Events.{ReadsInVain}
 use Rattle.als_store.specs.Stored.{Stored}
-use Rattle.als_store.specs.Takeover.{is_following}
+use Rattle.als_store.specs.Takeover.{is_following, decision_body}
+use Rattle.als_store.specs.declared.decision.Decision.{Decision}
 use Rattle.als_engine.specs.declared.fault.Fault.{Fault}
 use Rattle.als_engine.specs.declared.fault.Fault.TheVariants.{Stopped, Recovering, Sealed}
 use Rattle.als_engine.specs.declared.fed.FeedFault.{FeedFault}
@@ -34,8 +38,8 @@ use Rattle.als_engine.specs.Publishing.{PublishesEnded}
 use Rattle.als_engine.specs.Readiness.{BecomesReady}
 use Rattle.als_engine.specs.Refusals.{refusal, feed_refusal, Does, first_of, lend_causes, give_causes}
 use Rattle.als_engine.specs.Runs.{Steps}
-use Rattle.als_engine.specs.Takeover.{SealsLog, Undoes, FinishesTakeover}
-use Rattle.als_reach.specs.Undoing.{undone_by}
+use Rattle.als_engine.specs.Takeover.{SealsLog, Undoes, FinishesTakeover, ResolvesIt}
+use Rattle.als_reach.specs.Undoing.{undone_by, resolved_by}
 
 -- ---- a machine whose log is another one's, and a store's
 
@@ -116,9 +120,11 @@ fed old new piece answer sealed f =
 
 -- as many records are held as a reply tells of
 abbrev pub HoldsBy : Machine → Reply → Machine → Type 0
-HoldsBy old answer new = length new.held.log ≡ length old.held.log + undone_by answer
+HoldsBy old answer new =
+    length new.held.log ≡ length old.held.log + undone_by answer + resolved_by answer
 
-pub none : (old new : Machine) → IsSameLog old new → length new.held.log ≡ length old.held.log + 0
+pub none : (old new : Machine) → IsSameLog old new
+    → length new.held.log ≡ length old.held.log + 0 + 0
 none old new e = omega (arith, ap (λ (l : List Record). length l) e.log)
 
 -- ---- the events
@@ -132,6 +138,7 @@ resync old new reply.Done s =
     (λ c. record { log = ap (λ (m : Machine). m.held.log) c }))
 resync old new (reply.Acknowledged lsn) s = absurd s
 resync old new (reply.Undone lsn) s = absurd s
+resync old new (reply.Resolved lsn) s = absurd s
 resync old new (reply.Refused fault) s =
     none old new (does old new step.Resync (DropsPartial old) (Err fault) s
     (λ c. absurd c))
@@ -145,6 +152,7 @@ recall old new page reply.Done s =
     (λ c. changes old new _ c (λ held e. after old.held held _ e.after refl)))
 recall old new page (reply.Acknowledged lsn) s = absurd s
 recall old new page (reply.Undone lsn) s = absurd s
+recall old new page (reply.Resolved lsn) s = absurd s
 recall old new page (reply.Refused fault) s =
     none old new (does old new (step.Recall page) (EndsLease old page) (Err fault) s
     (λ c. absurd c))
@@ -158,6 +166,7 @@ flush old new page reply.Done s =
     (λ c. changes old new _ c (λ held e. after old.held held _ e.after refl)))
 flush old new page (reply.Acknowledged lsn) s = absurd s
 flush old new page (reply.Undone lsn) s = absurd s
+flush old new page (reply.Resolved lsn) s = absurd s
 flush old new page (reply.Refused fault) s =
     none old new (does old new (step.Flush page) (WritesPage old page) (Err fault) s
     (λ c. changes old new _ c.1 (λ held e. after old.held held _ e.after refl)))
@@ -171,6 +180,7 @@ sync_pages old new reply.Done s =
     (λ c. changes old new _ c (λ held e. after old.held held _ e.after refl)))
 sync_pages old new (reply.Acknowledged lsn) s = absurd s
 sync_pages old new (reply.Undone lsn) s = absurd s
+sync_pages old new (reply.Resolved lsn) s = absurd s
 sync_pages old new (reply.Refused fault) s =
     none old new (does old new step.SyncPages (SyncsAllPages old) (Err fault) s
     (λ c. changes old new _ c.1 (λ held e. after old.held held _ e.after refl)))
@@ -184,6 +194,7 @@ log_write old new reply.Done s =
     (λ c. changes old new _ c (λ held e. after old.held held _ e.after refl)))
 log_write old new (reply.Acknowledged lsn) s = absurd s
 log_write old new (reply.Undone lsn) s = absurd s
+log_write old new (reply.Resolved lsn) s = absurd s
 log_write old new (reply.Refused fault) s =
     none old new (does old new step.LogWrite (WritesBlock old) (Err fault) s
     (λ c. changes old new _ c.1 (λ held e. after old.held held _ e.after refl)))
@@ -197,6 +208,7 @@ log_sync old new reply.Done s =
     (λ c. changes old new _ c (λ held e. after old.held held _ e.after refl)))
 log_sync old new (reply.Acknowledged lsn) s = absurd s
 log_sync old new (reply.Undone lsn) s = absurd s
+log_sync old new (reply.Resolved lsn) s = absurd s
 log_sync old new (reply.Refused fault) s =
     none old new (does old new step.LogSync (SyncsBlocks old) (Err fault) s
     (λ c. changes old new _ c.1 (λ held e. after old.held held _ e.after refl)))
@@ -210,6 +222,7 @@ mark_write old new reply.Done s =
     (λ c. changes old new _ c (λ held e. after old.held held _ e.after refl)))
 mark_write old new (reply.Acknowledged lsn) s = absurd s
 mark_write old new (reply.Undone lsn) s = absurd s
+mark_write old new (reply.Resolved lsn) s = absurd s
 mark_write old new (reply.Refused fault) s =
     none old new (does old new step.MarkWrite (MovesMark old) (Err fault) s
     (λ c. changes old new _ c.1 (λ held e. after old.held held _ e.after refl)))
@@ -223,6 +236,7 @@ ctl_sync old new (reply.Acknowledged lsn) s =
     none old new (does old new step.ControlSync (Acknowledges old) (Ok lsn) s
     (λ c. changes old new _ c (λ held e. after old.held held _ e.after refl)))
 ctl_sync old new (reply.Undone lsn) s = absurd s
+ctl_sync old new (reply.Resolved lsn) s = absurd s
 ctl_sync old new (reply.Refused fault) s =
     none old new (does old new step.ControlSync (Acknowledges old) (Err fault) s
     (λ c. changes old new _ c.1 (λ held e. after old.held held _ e.after refl)))
@@ -236,6 +250,7 @@ ckpt_begin old new reply.Done s =
     (λ c. changes old new _ c (λ held e. after old.held held _ e.after refl)))
 ckpt_begin old new (reply.Acknowledged lsn) s = absurd s
 ckpt_begin old new (reply.Undone lsn) s = absurd s
+ckpt_begin old new (reply.Resolved lsn) s = absurd s
 ckpt_begin old new (reply.Refused fault) s =
     none old new (does old new step.CkptBegin (Begins old) (Err fault) s
     (λ c. unchanged old new c.1))
@@ -249,6 +264,7 @@ ckpt_block old new reply.Done s =
     (λ c. changes old new _ c (λ held e. after old.held held _ e.after refl)))
 ckpt_block old new (reply.Acknowledged lsn) s = absurd s
 ckpt_block old new (reply.Undone lsn) s = absurd s
+ckpt_block old new (reply.Resolved lsn) s = absurd s
 ckpt_block old new (reply.Refused fault) s =
     none old new (does old new step.CkptBlock (WritesNext old) (Err fault) s
     (λ c. changes old new _ c.1 (λ held e. after old.held held _ e.after refl)))
@@ -262,6 +278,7 @@ ckpt_publish old new reply.Done s =
     (λ c. changes old new _ c (λ held e. published old.held held old.held.begun e)))
 ckpt_publish old new (reply.Acknowledged lsn) s = absurd s
 ckpt_publish old new (reply.Undone lsn) s = absurd s
+ckpt_publish old new (reply.Resolved lsn) s = absurd s
 ckpt_publish old new (reply.Refused fault) s =
     none old new (does old new step.CkptPublish (PublishesNext old) (Err fault) s
     (λ c. changes old new _ c.1 (λ held e. torn old.held held old.held.begun e)))
@@ -275,6 +292,7 @@ publish_view old new reply.Done s =
     (λ c. record { log = ap (λ (m : Machine). m.held.log) c.1 }))
 publish_view old new (reply.Acknowledged lsn) s = absurd s
 publish_view old new (reply.Undone lsn) s = absurd s
+publish_view old new (reply.Resolved lsn) s = absurd s
 publish_view old new (reply.Refused fault) s =
     none old new (does old new step.PublishView (PublishesEnded old) (Err fault) s
     (λ c. record { log = ap (λ (m : Machine). m.held.log) c.1 }))
@@ -288,6 +306,7 @@ ready old new reply.Done s =
     (λ c. record { log = ap (λ (m : Machine). m.held.log) c }))
 ready old new (reply.Acknowledged lsn) s = absurd s
 ready old new (reply.Undone lsn) s = absurd s
+ready old new (reply.Resolved lsn) s = absurd s
 ready old new (reply.Refused fault) s =
     none old new (does old new step.Ready (BecomesReady old) (Err fault) s
     (λ c. record { log = ap (λ (m : Machine). m.held.log) c.1 }))
@@ -303,6 +322,7 @@ seal old new reply.Done s =
     }))
 seal old new (reply.Acknowledged lsn) s = absurd s
 seal old new (reply.Undone lsn) s = absurd s
+seal old new (reply.Resolved lsn) s = absurd s
 seal old new (reply.Refused fault) s =
     none old new (does old new step.Seal (SealsLog old) (Err fault) s
     (λ c. changes old new _ c.1 (λ held e. after old.held held _ e.after refl)))
@@ -316,6 +336,7 @@ finish old new reply.Done s =
     (λ c. changes old new _ c (λ held e. after old.held held _ e.after refl)))
 finish old new (reply.Acknowledged lsn) s = absurd s
 finish old new (reply.Undone lsn) s = absurd s
+finish old new (reply.Resolved lsn) s = absurd s
 finish old new (reply.Refused fault) s =
     none old new (does old new step.Finish (FinishesTakeover old) (Err fault) s
     (λ c. changes old new _ c.1 (λ held e. after old.held held _ e.after refl)))
@@ -329,12 +350,13 @@ feed old new piece (reply.FeedRefused refused) sealed s =
 feed old new piece reply.Done sealed s = absurd s
 feed old new piece (reply.Acknowledged lsn) sealed s = absurd s
 feed old new piece (reply.Undone lsn) sealed s = absurd s
+feed old new piece (reply.Resolved lsn) sealed s = absurd s
 feed old new piece (reply.Refused fault) sealed s = absurd s
 
 held_next : (old new : Machine) (lsn : Lsn) (r : Option Fault)
     → MatchOption r (Undoes old (Ok lsn) new)
     (λ fault. (◌≡◌ {A = Result Lsn Fault} (Ok lsn) (Err fault)) × (new ≡ old))
-    → length new.held.log ≡ length old.held.log + 1
+    → length new.held.log ≡ length old.held.log + 1 + 0
 held_next old new lsn None u = omega (
   arith,
   ap (λ (m : Machine). length m.held.log) u.after,
@@ -356,6 +378,76 @@ undo_one old new (reply.Fed fed) s = absurd s
 undo_one old new (reply.FeedRefused refusal) s = absurd s
 undo_one old new reply.Done s = absurd s
 undo_one old new (reply.Acknowledged lsn) s = absurd s
+undo_one old new (reply.Resolved lsn) s = absurd s
+
+held_decision : (old new : Machine) (trans : TransId) (verdict : Decision) (lsn : Lsn)
+    (r : Option Fault)
+    → MatchOption r (ResolvesIt trans verdict old (Ok lsn) new)
+    (λ fault. (◌≡◌ {A = Result Lsn Fault} (Ok lsn) (Err fault)) × (new ≡ old))
+    → length new.held.log ≡ length old.held.log + 0 + 1
+held_decision old new trans verdict lsn None d = omega (
+  arith,
+  ap (λ (m : Machine). length m.held.log) d.after,
+  ap (λ (h : Stored). length h.log) d.resolves.after,
+  length-append old.held.log (decision old.held.log trans.0 (decision_body verdict) ∷ []),
+)
+held_decision old new trans verdict lsn (Some fault) h = absurd (cc h.0)
+
+resolve : (old new : Machine) (trans : TransId) (verdict : Decision) (answer : Reply)
+    → Steps old (step.Resolve trans verdict) answer new → HoldsBy old answer new
+resolve old new trans verdict (reply.Resolved lsn) s =
+    held_decision old new trans verdict lsn (refusal old (step.Resolve trans verdict)) s
+resolve old new trans verdict (reply.Refused fault) s =
+    none old new (does old new (step.Resolve trans verdict) (ResolvesIt trans verdict old) (Err fault)
+    s go)
+  where
+    go : ResolvesIt trans verdict old (Err fault) new → IsSameLog old new
+    go (inl c) = unchanged old new c.1
+    go (inr c) = changes old new _ c.1 (λ held e. after old.held held _ e.after refl)
+resolve old new trans verdict (reply.Fed fed) s = absurd s
+resolve old new trans verdict (reply.FeedRefused refusal) s = absurd s
+resolve old new trans verdict reply.Done s = absurd s
+resolve old new trans verdict (reply.Acknowledged lsn) s = absurd s
+resolve old new trans verdict (reply.Undone lsn) s = absurd s
+
+-- an `undo_one` that is not refused holds the next record of the log's tail
+pub record IsNext (old new : Machine) : Type 0 where
+  pub made : Record
+  pub rest : List Record
+  pub first : tail_of old.held.log ≡ made ∷ rest
+  pub log : new.held.log ≡ old.held.log ++ made ∷ []
+
+next_of : (old new : Machine) (lsn : Lsn) (r : Option Fault)
+    → MatchOption r (Undoes old (Ok lsn) new)
+    (λ fault. (◌≡◌ {A = Result Lsn Fault} (Ok lsn) (Err fault)) × (new ≡ old)) → IsNext old new
+next_of old new lsn None u = record {
+  made = u.undoes.made;
+  rest = u.undoes.rest;
+  first = u.undoes.first;
+  log = ap (λ (m : Machine). m.held.log) u.after ∙ ap (λ (h : Stored). h.log) u.undoes.after;
+}
+next_of old new lsn (Some fault) h = absurd (cc h.0)
+
+pub undoes_next : (old new : Machine) (event : Step) (lsn : Lsn)
+    → Steps old event (reply.Undone lsn) new → IsNext old new
+undoes_next old new step.UndoOne lsn s = next_of old new lsn (refusal old step.UndoOne) s
+undoes_next old new (step.Feed piece) lsn s = absurd s
+undoes_next old new step.Resync lsn s = absurd s
+undoes_next old new (step.Recall page) lsn s = absurd s
+undoes_next old new (step.Flush page) lsn s = absurd s
+undoes_next old new step.SyncPages lsn s = absurd s
+undoes_next old new step.LogWrite lsn s = absurd s
+undoes_next old new step.LogSync lsn s = absurd s
+undoes_next old new step.MarkWrite lsn s = absurd s
+undoes_next old new step.ControlSync lsn s = absurd s
+undoes_next old new step.CkptBegin lsn s = absurd s
+undoes_next old new step.CkptBlock lsn s = absurd s
+undoes_next old new step.CkptPublish lsn s = absurd s
+undoes_next old new step.PublishView lsn s = absurd s
+undoes_next old new step.Ready lsn s = absurd s
+undoes_next old new step.Seal lsn s = absurd s
+undoes_next old new step.Finish lsn s = absurd s
+undoes_next old new (step.Resolve trans verdict) lsn s = absurd s
 
 -- ---- leases
 
@@ -407,3 +499,4 @@ holds old new step.PublishView answer sealed s = publish_view old new answer s
 holds old new step.Ready answer sealed s = ready old new answer s
 holds old new step.Seal answer sealed s = seal old new answer s
 holds old new step.Finish answer sealed s = finish old new answer s
+holds old new (step.Resolve trans verdict) answer sealed s = resolve old new trans verdict answer s

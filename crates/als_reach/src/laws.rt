@@ -1,18 +1,23 @@
 ghost use Rattle.std.specs.Prelude.{◌≡◌, ℕ, ◌≤◌, ◌+◌, length, false, true, List, Option, Some};
 ghost use Rattle.std.specs.Prelude.{Result as AnyResult};
 ghost use Rattle.als_lease.specs.Lease.{Leased};
+ghost use Rattle.als_record.specs.declared.lsn.Lsn.{Lsn as AnyLsn};
+ghost use Rattle.als_record.specs.declared.trans_id.TransId.{TransId as AnyTransId};
 ghost use Rattle.als_record.specs.Tail.{tail_of};
+ghost use Rattle.als_store.specs.declared.decision.Decision.{Decision as AnyDecision};
 ghost use Rattle.als_store.specs.Takeover.{is_primary};
 ghost use Rattle.als_store.specs.Warm.{WasWarm};
 ghost use Rattle.als_engine.specs.declared.fault.Fault.{Fault as AnyFault};
 ghost use Rattle.als_engine.specs.declared.not_given.NotGiven.{NotGiven as AnyNotGiven};
 ghost use Rattle.als_engine.specs.declared.step.Step.{Step as AnyStep};
+ghost use Rattle.als_engine.specs.declared.step.Step.TheVariants as step;
 ghost use Rattle.als_engine.specs.declared.step.Reply.{Reply as AnyReply};
+ghost use Rattle.als_engine.specs.declared.step.Reply.TheVariants as reply;
 ghost use Rattle.als_engine.specs.Machine.{Machine, Keeps};
 ghost use Rattle.als_engine.specs.Telling.{Stands, told_in};
 ghost use Rattle.als_reach.specs.Reaching.{Makes, MakesLend, MakesGive, Asks, Run};
 ghost use Rattle.als_reach.specs.Reaching.{Reaches, ReachesFrom};
-ghost use Rattle.als_reach.specs.Undoing.{undone, IsSealed, EndsAtSeal};
+ghost use Rattle.als_reach.specs.Undoing.{undone, resolved, IsSealed, EndsAtSeal, GoesOnFrom};
 
 /// A law: what reaches a machine goes on with each event, each lend and give, and each query.
 pub fn reaching_goes_on()
@@ -55,17 +60,31 @@ pub fn what_is_reached_is_kept()
         → told_in start ≤ told_in now }
 {}
 
-/// A law: without a crash, `undo_one` answers Ok once for each record of the sealed log's tail,
-/// where the devices were sound when the engine was made.
+/// A law: without a crash, `undo_one` answers Ok once for each record of the sealed log's tail
+/// before a transaction in doubt is decided, where the devices were sound when the engine was made.
 pub fn undo_answers_once_a_record()
-    // From an acknowledged seal on the log grows by these records alone.
+    // From an acknowledged seal on the log grows by these records and by the decisions alone.
     ensures grows { (start : Machine) (now : Machine) (events : List AnyStep)
         (replies : List AnyReply) → Run start events replies now → Stands start
         → WasWarm start.held → IsSealed start
-        → length now.held.log ≡ length start.held.log + undone replies }
-    // Once the takeover is done, they are as many as the tail of the sealed log has.
+        → length now.held.log ≡ length start.held.log + undone replies + resolved replies }
+    // Once the takeover is done and before the first decision, they are as many as the tail of the
+    // sealed log has.
     ensures whole { (start : Machine) (now : Machine) (events : List AnyStep)
         (replies : List AnyReply) → Run start events replies now → Stands start
         → WasWarm start.held → EndsAtSeal start → now.held.recovering ≡ false
-        → is_primary now.held ≡ true → undone replies ≡ length (tail_of start.held.log) }
+        → is_primary now.held ≡ true → resolved replies ≡ 0
+        → undone replies ≡ length (tail_of start.held.log) }
+    // So many have come when the first transaction in doubt is decided.
+    ensures first { (start : Machine) (now : Machine) (events : List AnyStep)
+        (replies : List AnyReply) (trans : AnyTransId) (verdict : AnyDecision) (lsn : AnyLsn)
+        (new : Machine) → Run start events replies now → Stands start → WasWarm start.held
+        → EndsAtSeal start → resolved replies ≡ 0
+        → Makes now (step.Resolve trans verdict) (reply.Resolved lsn) new
+        → undone replies ≡ length (tail_of start.held.log) }
+    // Once the takeover is done the log is the sealed one and its tail; behind them stand decisions
+    // and what these left to append, and nothing else.
+    ensures decided { (start : Machine) (now : Machine) → Reaches start now → Stands start
+        → WasWarm start.held → EndsAtSeal start → now.held.recovering ≡ false
+        → is_primary now.held ≡ true → GoesOnFrom start now }
 {}

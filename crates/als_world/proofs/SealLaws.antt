@@ -7,7 +7,7 @@ use Rattle.als_record.specs.Tail.{tail_of}
 use Rattle.als_ckpt.specs.declared.phase.Phase.{Phase}
 use Rattle.als_ckpt.specs.declared.phase.Phase.TheVariants.{Following, Sealed, Primary}
 use Rattle.als_ckpt.specs.Control.{phase_byte, IsSeal}
-use Rattle.als_reopen.specs.Taken.{IsTaken, IsTakenFrom}
+use Rattle.als_reopen.specs.Taken.{IsTaken, WasTakenFrom}
 use Rattle.als_store.proofs.OpeningLaws.{whole_front}
 use Rattle.als_world.specs.Standing.{Standing, Up, Down, Keeps, IsTrue, IsSealedAt, log_of, control_of}
 use Rattle.als_world.proofs.KeepLaws.{fronts-nest}
@@ -40,14 +40,22 @@ same_sealed old new before after k a b =
 sealed_of : (log : List Record) (mark seal : ℕ) (p : Phase) → IsTaken p log mark seal → IsSeal p mark seal → 1 < phase_byte p → (sealed : List Record) × (rest : List Record) × (log ≡ sealed ++ rest) × (end_of sealed ≡ seal) × (seal ≤ mark)
 sealed_of log mark seal Following t s past = absurd (omega (arith, past))
 sealed_of log mark seal Sealed t s past = (t.sealed, t.undone, t.parts, t.ends, s.1)
-sealed_of log mark seal Primary t s past = (t.sealed, tail_of t.sealed, t.parts, t.ends, s.1)
+sealed_of log mark seal Primary t s past = (t.sealed, tail_of t.sealed ++ t.more, t.parts ∙ append_assoc t.sealed (tail_of t.sealed) t.more, t.ends, s.1)
 
 pub sealed_in : (s : Standing) → IsTrue s → 1 < phase_byte (control_of s).phase → (sealed : List Record) × IsSealedAt s sealed
 sealed_in (Up m slots) is past =
     let c = m.held.control in
-    let taken : IsTakenFrom m.held.log c = is.0.each c (0, omega arith, refl) in
-    let f = sealed_of m.held.log c.mark.0 c.seal.0 c.phase taken is.2 past in
-    (f.0, record { past = past; rest = f.1; parts = f.2; ends = f.3; acknowledged = f.4 })
+    let w : WasTakenFrom m.held.log c = is.0.each c (0, omega arith, refl) in
+    let f = sealed_of w.front c.mark.0 c.seal.0 c.phase w.taken is.2 past in (
+      f.0,
+      record {
+        past = past;
+        rest = f.1 ++ w.since;
+        parts = w.parts ∙ ap (λ (l : List Record). l ++ w.since) f.2 ∙ append_assoc f.0 f.1 w.since;
+        ends = f.3;
+        acknowledged = f.4;
+      },
+    )
 sealed_in (Down n workers) is past =
     let c = n.said.state in
     let f = sealed_of n.log c.mark.0 c.seal.0 c.phase is.0 is.1 past in

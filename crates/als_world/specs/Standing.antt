@@ -91,9 +91,10 @@ pub record Keeps (old new : Standing) : Type 0 where
   pub takeover : GoesOn (control_of old) (control_of new)
   pub counted : counted old ≤ counted new
 
--- What each control state says of the log is true: past Following the log is the sealed one and a front of its tail, and the seal is
--- acknowledged. A finished takeover
--- holds exactly what the committed transactions of the sealed log left, unless the engine is recovering.
+-- What each control state says of the log is true: past Following the log is the sealed one and a front of its tail, in Primary its whole tail
+-- and what was decided since of the transactions in doubt; and the seal is acknowledged. A finished takeover holds exactly what the transactions
+-- of the sealed log left that are committed or in doubt, until one in doubt is decided. From then on, where nothing of a tail is left to append
+-- and nothing is pending, it holds what a takeover keeps of the whole log. Of a finished takeover that is said unless the engine is recovering.
 abbrev pub IsTrue : Standing → Type 0
 IsTrue (Up m leases) = IsUnderTakeover m.held × (m.held.recovering ≡ false → is_primary m.held ≡ true → IsFinished m.held) × IsSealOf m.held.control
 IsTrue (Down n workers) = IsTakenFrom n.log n.said.state × IsSealOf n.said.state

@@ -52,8 +52,9 @@ impl<D: BlockDisk> Engine<D> {
         ensures taken { WasWarm self.now.machine.held → IsUnderTakeover self.now.machine.held }
         // Past Following the seal is acknowledged.
         ensures seal { IsSealOf self.now.machine.held.control }
-        // Then a finished takeover holds exactly what the committed transactions of the sealed log
-        // left, unless the engine is recovering.
+        // Then a finished takeover holds exactly what the transactions of the sealed log left that
+        // are committed or in doubt, and then what their decisions leave, unless the engine is
+        // recovering.
         ensures finished { WasWarm self.now.machine.held → self.now.machine.held.recovering ≡ false
             → is_primary self.now.machine.held ≡ true → IsFinished self.now.machine.held }
     {

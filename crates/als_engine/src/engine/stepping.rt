@@ -48,6 +48,10 @@ impl<D: BlockDisk> Engine<D> {
                 Err(fault) => Reply::Refused(fault),
             },
             Step::Finish => done(self.finish()),
+            Step::Resolve(trans, verdict) => match self.resolve(*trans, *verdict) {
+                Ok(lsn) => Reply::Resolved(lsn),
+                Err(fault) => Reply::Refused(fault),
+            },
         }
     }
 }

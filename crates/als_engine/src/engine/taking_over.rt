@@ -107,8 +107,8 @@ impl<D: BlockDisk> Engine<D> {
     /// takes no memory and no room of the log.
     ///
     /// Stopped. Recovering: it is not ready yet. NotSealed: the log was not sealed. NothingToDo:
-    /// the takeover is done. NotDrained: a transaction is unended, a change waits for redo, or the
-    /// log is not acknowledged to its end. Device: the write failed, and the engine has stopped.
+    /// the takeover is done. NotDrained: something of the tail is left to append, a change waits for
+    /// redo, or the log is not acknowledged to its end. Device: the write failed, and the engine has stopped.
     /// They come in this order.
     pub fn finish(&mut self) -> Result<(), Fault>
         ensures finishes { Finishes self.old.machine result self.new.machine }

@@ -1,8 +1,11 @@
+use Rattle.std.specs.Prelude.{Err}
 use Rattle.als_engine.specs.Refusals.{feed_refusal}
 use Rattle.als_engine.proofs.LeaseLaws.{recalls_step}
 use Rattle.als_engine.proofs.StepLaws.{attempts_refused, begins_step, attempts_finish}
 use Rattle.als_engine.proofs.StepLaws.{flushes_step, finishes_step, attempts_flush, attempts_begin}
 use Rattle.als_engine.proofs.StepLaws.{attempts_seal, attempts_not_undone, seals_step}
+use Rattle.als_engine.proofs.StepLaws.{attempts_resolve, attempts_mark_write, attempts_publish}
+use Rattle.als_engine.proofs.StepLaws.{publishes_step}
 use Rattle.als_engine.proofs.StepLaws.{attempts_ready, attempts_resync, attempts_log_write}
 use Rattle.als_engine.proofs.engine.Engine.step.Goals as goal
 
@@ -60,6 +63,11 @@ returns-in-Err-undo_one-clause-attempts g c =
     attempts_not_undone c.args.self.now.machine c.undo_one.new.self.machine
     c.in-Err-undo_one.fault c.in-Err-undo_one.ensures.undoes
 
+pub returns-in-Err-resolve-clause-attempts : goal.returns-in-Err-resolve-clause-attempts
+returns-in-Err-resolve-clause-attempts g c =
+    attempts_resolve c.args.self.now.machine c.resolve.new.self.machine c.in-Resolve.trans
+    c.in-Resolve.verdict (Err c.in-Err-resolve.fault) c.in-Err-resolve.ensures.resolves
+
 pub returns-in-Resync-clause-attempts : goal.returns-in-Resync-clause-attempts
 returns-in-Resync-clause-attempts g c =
     attempts_resync c.args.self.now.machine c.resync.new.self.machine c.resync.result
@@ -80,3 +88,19 @@ returns-in-Seal-clause-steps g c =
     rw (c.in-Seal.is, c.done-in-Seal.ensures)
     (seals_step c.args.self.now.machine c.seal.new.self.machine c.seal.result
     c.seal.ensures.seals)
+
+pub returns-in-MarkWrite-clause-attempts : goal.returns-in-MarkWrite-clause-attempts
+returns-in-MarkWrite-clause-attempts g c =
+    attempts_mark_write c.args.self.now.machine c.mark_write.new.self.machine c.mark_write.result
+    c.mark_write.ensures.writes
+
+pub returns-in-CkptPublish-clause-steps : goal.returns-in-CkptPublish-clause-steps
+returns-in-CkptPublish-clause-steps g c =
+    rw (c.in-CkptPublish.is, c.done-in-CkptPublish.ensures)
+    (publishes_step c.args.self.now.machine c.ckpt_publish.new.self.machine c.ckpt_publish.result
+    c.ckpt_publish.ensures.publishes)
+
+pub returns-in-CkptPublish-clause-attempts : goal.returns-in-CkptPublish-clause-attempts
+returns-in-CkptPublish-clause-attempts g c =
+    attempts_publish c.args.self.now.machine c.ckpt_publish.new.self.machine c.ckpt_publish.result
+    c.ckpt_publish.ensures.publishes
