@@ -1,8 +1,8 @@
 use crate::split::{Split, add};
-use als_engine::{Events, Fault, Fed, FeedFault, NotGiven, Status};
+use als_engine::{Decision, Events, Fault, Fed, FeedFault, NotGiven, Status};
 use als_lease::PageLease;
 use als_page::Page;
-use als_record::{LoggedPage, Lsn, Record, TransactionRow};
+use als_record::{LoggedPage, Lsn, Record, TransId, TransactionRow};
 use als_view::Told;
 use std::alloc::Global;
 use std::rt::Clock;
@@ -184,6 +184,10 @@ impl<R: Clock, E: Events> Events for Timed<'_, R, E> {
 
     fn undo_one(&mut self) -> Result<Lsn, Fault> {
         self.events.undo_one()
+    }
+
+    fn resolve(&mut self, trans: TransId, verdict: Decision) -> Result<Lsn, Fault> {
+        self.events.resolve(trans, verdict)
     }
 
     fn finish(&mut self) -> Result<(), Fault> {

@@ -1,9 +1,9 @@
 ghost use Rattle.std.specs.Prelude.{◌≡◌};
 
 use crate::desk::Desk;
-use als_engine::{Events, Fault, Fed, FeedFault, NotGiven, PageLease, Status};
+use als_engine::{Decision, Events, Fault, Fed, FeedFault, NotGiven, PageLease, Status};
 use als_page::Page;
-use als_record::{LoggedPage, Lsn, Record, TransactionRow};
+use als_record::{LoggedPage, Lsn, Record, TransId, TransactionRow};
 use als_view::Told;
 use std::alloc::Global;
 use std::sync::Wait;
@@ -119,6 +119,10 @@ impl<E: Events, R: Wait> Events for Paced<'_, E, R> {
 
     fn undo_one(&mut self) -> Result<Lsn, Fault> {
         self.events.undo_one()
+    }
+
+    fn resolve(&mut self, trans: TransId, verdict: Decision) -> Result<Lsn, Fault> {
+        self.events.resolve(trans, verdict)
     }
 
     fn finish(&mut self) -> Result<(), Fault> {

@@ -3,6 +3,8 @@ use Rattle.std.proofs.Common.{◌≡◌, ℕ, Option, Some, List, inl, inr, Bor}
 use Rattle.std.specs.Prelude.{Result, Ok, Err}
 use Rattle.als_lease.specs.Lease.{Leased}
 use Rattle.als_record.specs.declared.lsn.Lsn.{Lsn}
+use Rattle.als_record.specs.declared.trans_id.TransId.{TransId}
+use Rattle.als_store.specs.declared.decision.Decision.{Decision}
 use Rattle.als_record.specs.declared.record.Record.{Record}
 use Rattle.als_page.specs.declared.page.Page.{Page}
 use Rattle.als_engine.specs.declared.fault.Fault.{Fault}
@@ -23,7 +25,7 @@ use Rattle.als_engine.specs.Events.{Resyncs, FlushesOne, PagesSync, LogWrites, L
 use Rattle.als_engine.specs.Leases.{Recalls, Lends, Gives}
 use Rattle.als_engine.specs.Publishing.{PublishesView}
 use Rattle.als_engine.specs.Readiness.{Readies}
-use Rattle.als_engine.specs.Takeover.{Seals, UndoesOneOf, Finishes}
+use Rattle.als_engine.specs.Takeover.{Seals, UndoesOneOf, ResolvesOf, Finishes}
 use Rattle.als_reach.specs.Reaching.{Makes, MakesLend, MakesGive, Asks, ReachesFrom}
 use Rattle.als_reach.proofs.Reached.{from-event, from-lend, from-give, from-query}
 
@@ -95,6 +97,10 @@ seal from old new (Err fault) on acts = makes from old new step.Seal (reply.Refu
 pub undo_one : (from : Option Machine) (old new : Machine) (answer : Result Lsn Fault) → GoesOn from old new → UndoesOneOf old answer new → ReachesFrom from new
 undo_one from old new (Ok lsn) on acts = makes from old new step.UndoOne (reply.Undone lsn) on acts
 undo_one from old new (Err fault) on acts = makes from old new step.UndoOne (reply.Refused fault) on acts
+
+pub resolve : (from : Option Machine) (old new : Machine) (trans : TransId) (verdict : Decision) (answer : Result Lsn Fault) → GoesOn from old new → ResolvesOf old trans verdict answer new → ReachesFrom from new
+resolve from old new trans verdict (Ok lsn) on acts = makes from old new (step.Resolve trans verdict) (reply.Resolved lsn) on acts
+resolve from old new trans verdict (Err fault) on acts = makes from old new (step.Resolve trans verdict) (reply.Refused fault) on acts
 
 pub finish : (from : Option Machine) (old new : Machine) (answer : Result (Unit {0}) Fault) → GoesOn from old new → Finishes old answer new → ReachesFrom from new
 finish from old new (Ok tt) on acts = makes from old new step.Finish reply.Done on acts

@@ -4,9 +4,9 @@ use crate::acknowledger::Acknowledger;
 use crate::ledgers::Ledgers;
 use crate::shared::Shared;
 use crate::thread_share::Share;
-use als_engine::{Events, Fault, Fed, FeedFault, NotGiven, PageLease, Status};
+use als_engine::{Decision, Events, Fault, Fed, FeedFault, NotGiven, PageLease, Status};
 use als_page::Page;
-use als_record::{LoggedPage, Lsn, Record, TransactionRow};
+use als_record::{LoggedPage, Lsn, Record, TransId, TransactionRow};
 use als_view::Told;
 use als_vouch::Voucher;
 use std::alloc::Global;
@@ -152,6 +152,11 @@ impl<L: Ledgers, E: Events, R: Wait> Events for Handle<'_, L, E, R> {
     fn undo_one(&mut self) -> Result<Lsn, Fault> {
         let mut locked = self.shared.lock.lock(self.rt);
         locked.undo_one(&mut self.share)
+    }
+
+    fn resolve(&mut self, trans: TransId, verdict: Decision) -> Result<Lsn, Fault> {
+        let mut locked = self.shared.lock.lock(self.rt);
+        locked.resolve(&mut self.share, trans, verdict)
     }
 
     fn finish(&mut self) -> Result<(), Fault> {

@@ -10,9 +10,9 @@ use crate::acknowledger::Acknowledger;
 use crate::books::Books;
 use crate::ledgers::{Floor, Ledgers};
 use crate::thread_share::Share;
-use als_engine::{Event, Events, Fault, Fed, FeedFault, NotGiven, PageLease};
+use als_engine::{Decision, Event, Events, Fault, Fed, FeedFault, NotGiven, PageLease};
 use als_page::Page;
-use als_record::{Lsn, Record};
+use als_record::{Lsn, Record, TransId};
 use als_view::Told;
 use std::marker::Model;
 use std::sync::Wait;
@@ -384,6 +384,26 @@ impl<L: Ledgers, E: Events> Locked<L, E> {
         let answer = engine.undo_one();
         stands(engine);
         books.note(share, Event::UndoOne, &answer);
+        answer
+    }
+
+    /// One `resolve`.
+    pub fn resolve(
+        &mut self,
+        share: &mut Share<L>,
+        trans: TransId,
+        verdict: Decision,
+    ) -> Result<Lsn, Fault>
+        ensures { TellsOk event.Resolve result share.old share.new }
+    {
+        let Locked {
+            engine,
+            books,
+            floor: _,
+        } = self;
+        let answer = engine.resolve(trans, verdict);
+        stands(engine);
+        books.note(share, Event::Resolve, &answer);
         answer
     }
 
