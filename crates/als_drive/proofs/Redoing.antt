@@ -90,17 +90,22 @@ abbrev other_causes : Machine → ℕ → List (Bool × Fault)
 other_causes m page =
     (is_lent m.held.pool page, PageLent) ∷ (not (has_waiting m.held.pool page), NothingToDo) ∷ (are_spent m.held.pool, NumbersSpent) ∷ (is_full m.held.pool page, PoolFull) ∷ []
 
--- so it is of an engine, which has not stopped
-pub lent_is_out : (lease : Leased) (page : ℕ) (old new : Machine) → Lends old page (Ok lease) new → IsOut new lease
-lent_is_out lease page old new e =
-    let runs : old.held.broken ≡ false = stopped_not old.held.broken (LendsIt old page lease new) (other_causes old page) (λ f. (Ok lease ≡ Err f) × (new ≡ old)) e (λ same. cc same.0) in
-    let acts : LendsIt old page lease new = refused_or_acts (first_of (lend_causes old page)) (LendsIt old page lease new) (LendsIt old page lease new) (λ f. (Ok lease ≡ Err f) × (new ≡ old)) (λ a. a) (λ (f : Fault) (same : (Ok lease ≡ Err f) × (new ≡ old)). cc same.0) e in
+-- a lease that a page was lent by is out, of an engine that has not stopped
+lent_stays_out : (lease : Leased) (page : ℕ) (old new : Machine) → old.held.broken ≡ false → LendsIt old page lease new → IsOut new lease
+lent_stays_out lease page old new runs acts =
     let b = acts.changes.becomes in
     let held : new.held ≡ acts.changes.held = ap (λ (m : Machine). m.held) acts.changes.after in
     record {
       goes_on = ap (λ (s : Stored). s.broken) (held ∙ b.after) ∙ runs;
       outstanding = subst (λ (s : Stored). IsOutstanding s.pool lease) (sym held) b.out;
     }
+
+-- so it is of an engine, which has not stopped
+pub lent_is_out : (lease : Leased) (page : ℕ) (old new : Machine) → Lends old page (Ok lease) new → IsOut new lease
+lent_is_out lease page old new e =
+    let runs : old.held.broken ≡ false = stopped_not old.held.broken (LendsIt old page lease new) (other_causes old page) (λ f. (Ok lease ≡ Err f) × (new ≡ old)) e (λ same. cc same.0) in
+    lent_stays_out lease page old new runs
+    (refused_or_acts (first_of (lend_causes old page)) (LendsIt old page lease new) (LendsIt old page lease new) (λ f. (Ok lease ≡ Err f) × (new ≡ old)) (λ a. a) (λ (f : Fault) (same : (Ok lease ≡ Err f) × (new ≡ old)). cc same.0) e)
 
 -- redo of a lease leaves it out
 pub still_out : (m : Machine) (lease redone : Leased) → redone ≡ with_done lease redone.done → IsOut m lease → IsOut m redone
