@@ -44,6 +44,11 @@ option_row() {
     printf '      --%-*s  %s\n' "$2" "$3 <$4>" "$(word_help "$3" "$1")"
 }
 
+# A row of the options of the page $1, so wide: a word alone, and its help.
+flag_row() {
+    printf '      --%-*s  %s\n' "$2" "$3" "$(word_help "$3" "$1")"
+}
+
 # The row of the word that asks for remarks, so wide.
 explain_row() {
     printf '      --%-*s  %s\n' "$1" explain "$(word_help explain)"
@@ -60,7 +65,7 @@ help_page() {
         als)
             text ABOUT
             printf '\nUsage: als <COMMAND>\n\nCommands:\n'
-            for command in make sim ship standby takeover dump verify status get; do
+            for command in make sim ship standby takeover resolve dump verify status get; do
                 printf '  %-8s  %s\n' "$command" "$(text "${command^^}_ABOUT")"
             done
             printf '  help      Print this message or the help of the given subcommand(s)\n\nOptions:\n'
@@ -114,6 +119,17 @@ help_page() {
             help_row 9
             text TAKEOVER_HELP
             ;;
+        resolve)
+            text RESOLVE_ABOUT
+            printf '\nUsage: als resolve [OPTIONS] --dir <DIR> --trans <T> <--commit|--rollback>\n\nOptions:\n'
+            option_row resolve 9 dir DIR
+            option_row resolve 9 trans T
+            flag_row resolve 9 commit
+            flag_row resolve 9 rollback
+            explain_row 9
+            help_row 9
+            text RESOLVE_HELP
+            ;;
         dump)
             text DUMP_ABOUT
             printf '\nUsage: als dump [OPTIONS] <PATH>\n\nArguments:\n  <PATH>  %s\n\nOptions:\n' "$(word_help path)"
@@ -166,6 +182,7 @@ tell() {
         'ship --help' | 'ship -h' | 'help ship') help_page ship ;;
         'standby --help' | 'standby -h' | 'help standby') help_page standby ;;
         'takeover --help' | 'takeover -h' | 'help takeover') help_page takeover ;;
+        'resolve --help' | 'resolve -h' | 'help resolve') help_page resolve ;;
         'dump --help' | 'dump -h' | 'help dump') help_page dump ;;
         'verify --help' | 'verify -h' | 'help verify') help_page verify ;;
         'status --help' | 'status -h' | 'help status') help_page status ;;

@@ -33,6 +33,13 @@ pub enum Command<'a> {
         dir: &'a str,
         explain: bool,
     },
+    /// A transaction in doubt commits, or rolls back.
+    Resolve {
+        dir: &'a str,
+        trans: u32,
+        is_commit: bool,
+        explain: bool,
+    },
     /// The records of a log file or of a standby's log: from an LSN on, of one transaction, of one
     /// page.
     Dump {

@@ -1,6 +1,6 @@
 use crate::texts;
 use crate::word::Word;
-use clap::{Arg, Command};
+use clap::{Arg, ArgGroup, Command};
 use std::alloc::{AllocError, Global};
 
 /// A command line: the word that it begins with, and those that may follow.
@@ -10,21 +10,25 @@ pub(crate) struct Line {
     about: &'static str,
     help: &'static str,
     words: &'static [Word],
+    /// One of these has to be given, and one alone, where there are any.
+    choice: &'static [&'static str],
 }
 
 /// The command lines that the program knows, in the order of its help.
-pub(crate) const LINES: [Line; 9] = [
+pub(crate) const LINES: [Line; 10] = [
     Line {
         name: "make",
         about: texts::MAKE_ABOUT,
         help: texts::MAKE_HELP,
         words: &[HEX, EXPLAIN],
+        choice: &[],
     },
     Line {
         name: "sim",
         about: texts::SIM_ABOUT,
         help: texts::SIM_HELP,
         words: &[EXPLAIN],
+        choice: &[],
     },
     Line {
         name: "ship",
@@ -44,6 +48,7 @@ pub(crate) const LINES: [Line; 9] = [
             TIMEOUT,
             EXPLAIN,
         ],
+        choice: &[],
     },
     Line {
         name: "standby",
@@ -83,12 +88,38 @@ pub(crate) const LINES: [Line; 9] = [
             TIMEOUT,
             EXPLAIN,
         ],
+        choice: &[],
     },
     Line {
         name: "takeover",
         about: texts::TAKEOVER_ABOUT,
         help: texts::TAKEOVER_HELP,
         words: &[DIR, EXPLAIN],
+        choice: &[],
+    },
+    Line {
+        name: "resolve",
+        about: texts::RESOLVE_ABOUT,
+        help: texts::RESOLVE_HELP,
+        words: &[
+            DIR,
+            Word::Short {
+                name: "trans",
+                value: "T",
+                help: "The transaction",
+                is_wanted: true,
+            },
+            Word::Flag {
+                name: "commit",
+                help: "Its coordinator has committed it",
+            },
+            Word::Flag {
+                name: "rollback",
+                help: "Its coordinator has rolled it back",
+            },
+            EXPLAIN,
+        ],
+        choice: &["commit", "rollback"],
     },
     Line {
         name: "dump",
@@ -106,32 +137,38 @@ pub(crate) const LINES: [Line; 9] = [
                 name: "trans",
                 value: "T",
                 help: "Only records of this transaction",
+                is_wanted: false,
             },
             Word::Short {
                 name: "page",
                 value: "P",
                 help: "Only records that change this page",
+                is_wanted: false,
             },
             EXPLAIN,
         ],
+        choice: &[],
     },
     Line {
         name: "verify",
         about: texts::VERIFY_ABOUT,
         help: texts::VERIFY_HELP,
         words: &[PATH, EXPLAIN],
+        choice: &[],
     },
     Line {
         name: "status",
         about: texts::STATUS_ABOUT,
         help: texts::STATUS_HELP,
         words: &[FOLDER, EXPLAIN],
+        choice: &[],
     },
     Line {
         name: "get",
         about: texts::GET_ABOUT,
         help: texts::GET_HELP,
         words: &[FOLDER, KEY_PAGE, KEY_SLOT, EXPLAIN],
+        choice: &[],
     },
 ];
 
@@ -192,9 +229,14 @@ impl Line {
         for word in self.words {
             words.push(word.arg(alloc))?;
         }
-        Command::new(alloc, self.name)
+        let command = Command::new(alloc, self.name)
             .about(self.about)
             .after_help(self.help)
-            .args(words)
+            .args(words)?;
+        if self.choice.is_empty() {
+            return Ok(command);
+        }
+        let choice = ArgGroup::new(alloc, "choice").args(self.choice)?;
+        command.group(choice.required(true))
     }
 }

@@ -75,6 +75,7 @@ fn asked<'a>(name: &str, matches: &ArgMatches<'a>) -> Option<Command<'a>> {
         "ship" => ship(matches),
         "standby" => standby(matches),
         "takeover" => takeover(matches),
+        "resolve" => resolve(matches),
         "dump" => dump(matches),
         "verify" => verify(matches),
         "status" => status(matches),
@@ -108,6 +109,15 @@ fn standby<'a>(matches: &ArgMatches<'a>) -> Option<Command<'a>> {
 fn takeover<'a>(matches: &ArgMatches<'a>) -> Option<Command<'a>> {
     Some(Command::Takeover {
         dir: matches.get_str("dir")?,
+        explain: matches.get_flag("explain"),
+    })
+}
+
+fn resolve<'a>(matches: &ArgMatches<'a>) -> Option<Command<'a>> {
+    Some(Command::Resolve {
+        dir: matches.get_str("dir")?,
+        trans: matches.get_one("trans")?,
+        is_commit: matches.get_flag("commit"),
         explain: matches.get_flag("explain"),
     })
 }

@@ -16,7 +16,7 @@ pub const MAKE_ABOUT: &str = "Makes a log text from record lines";
 pub const MAKE_HELP: &str = "Reads standard input: a line `pages N`, and then record lines
   u T P S BEFORE AFTER    update of slot S of page P by transaction T
   c T P S AFTER NEXT      compensation with UndoNxtLSN NEXT
-  commit T, rollback T, end T
+  commit T, rollback T, end T, prepare T
   ckpt, ckptend           begin_chkpt, and end_chkpt with empty tables
 each with an optional ` prev=N` in place of its own PrevLSN. A value is lower
 case hexadecimal, `.` for the empty value, `-` for absent. Empty lines and lines
@@ -60,6 +60,8 @@ text, and
                           commits left at slot S of page P
   seal, undo, finish      seal the log, hold the next record of its tail, end
                           the takeover
+  resolve T commit|rollback
+                          then decide transaction T, which is in doubt
   takeover                drain, ready, force, seal, undo, force, drain and
                           finish
   fail log|control|pages K
@@ -138,7 +140,8 @@ writes no more: nothing here can do that.
 Redoes what was not redone, seals the log at its end, undoes each transaction that was not
 committed, and ends the takeover. From then on the folder follows no primary.
 Writes standard output: `end=E`, where the log ends, and a line `P/S VALUE` for each record
-of the database, or `empty`.
+of the database, or `empty`; standard error: a line for each transaction in doubt, which was
+prepared and neither committed nor rolled back. Its updates stay until `als resolve` decides.
 It may be run again after a crash: it goes on, and ends with the same log.
 
 Example:
@@ -149,6 +152,27 @@ Exit statuses: 0 done, 2 a fault of the command line, 3 `als: refused N Name`:
   33, 34, 1 to 16 a file of it is damaged
   37  log.blk is longer than the largest log";
 
+pub const RESOLVE_ABOUT: &str = "Decides a transaction in doubt after a takeover";
+
+pub const RESOLVE_HELP: &str =
+    "Needs DIR, the folder of a primary that `als takeover` made, in which transaction T is in
+doubt: it was prepared, and its commit or rollback never came. Ask the coordinator of T how it
+decided; nothing here can know that. Then give that decision: it is final.
+Redoes what was not redone, commits or rolls back T, and makes that stable. A rollback undoes
+the updates of T.
+Writes standard output: `end=E`, where the log then ends, and a line `P/S VALUE` for each
+record of the database, or `empty`.
+After a crash T is decided, or in doubt as before: run it again, 47 says that it was decided.
+
+Example:
+  als resolve --dir standby --trans 7 --commit
+
+Exit statuses: 0 done, 2 a fault of the command line, 3 `als: refused N Name`:
+  30  DIR or a file of it failed, it has no database, or another program has DIR
+  33, 34, 1 to 16 a file of it is damaged
+  46  DIR was not taken over: `als takeover` does that
+  47  T is not in doubt";
+
 pub const DUMP_ABOUT: &str = "Prints the records of a log file or of a standby";
 
 pub const DUMP_HELP: &str =
@@ -157,7 +181,7 @@ standby that does not run, of which the log is read as far as it is acknowledged
 Writes standard output: a line for each record that all options admit.
   L update trans=T P/S BEFORE AFTER prev=V
   L clr trans=T P/S AFTER prev=V next=N
-  L commit trans=T prev=V         (also rollback, end)
+  L commit trans=T prev=V         (also rollback, end, prepare)
   L begin_chkpt, L end_chkpt prev=V
 Where a record is not sound, the lines of those in front of it are written, and then it is
 refused: `als verify` tells where.

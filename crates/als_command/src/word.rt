@@ -33,11 +33,12 @@ pub(crate) enum Word {
         value: &'static str,
         help: &'static str,
     },
-    /// `--name VALUE`, a number of 32 bits that may be given.
+    /// `--name VALUE`, a number of 32 bits.
     Short {
         name: &'static str,
         value: &'static str,
         help: &'static str,
+        is_wanted: bool,
     },
     /// `--name VALUE`, a number of 64 bits.
     Long {
@@ -61,9 +62,12 @@ impl Word {
                 place(alloc, name, value, help).value_parser(value_parser!(u8))
             }
             Word::Text { name, value, help } => named(alloc, name, value, help).required(true),
-            Word::Short { name, value, help } => {
-                named(alloc, name, value, help).value_parser(value_parser!(u32))
-            }
+            Word::Short {
+                name,
+                value,
+                help,
+                is_wanted,
+            } => short(alloc, name, value, help).required(is_wanted),
             Word::Long {
                 name,
                 value,
@@ -98,6 +102,11 @@ fn named<'a>(alloc: Global, name: &'a str, value: &'a str, help: &'a str) -> Arg
         .value_name(value)
         .action(ArgAction::Set)
         .help(help)
+}
+
+/// A word whose value is a number of 32 bits.
+fn short<'a>(alloc: Global, name: &'a str, value: &'a str, help: &'a str) -> Arg<'a> {
+    named(alloc, name, value, help).value_parser(value_parser!(u32))
 }
 
 /// A word whose value is a number of 64 bits.

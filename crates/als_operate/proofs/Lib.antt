@@ -3,3 +3,4 @@ pub mod Visiting
 pub mod Keeping
 pub mod Checkpoints
 pub mod Refusing
+pub mod Decisions

@@ -5,3 +5,4 @@ pub mod Lines
 pub mod Upkeep
 pub mod Following
 pub mod Building
+pub mod Deciding

@@ -34,14 +34,20 @@ mod opening;
 mod following;
 // A standby that follows one session.
 mod standby_command;
+// A transaction in doubt is decided.
+mod deciding;
 // A standby that becomes a primary.
 mod takeover_command;
+// A primary that decides a transaction in doubt.
+mod resolve_command;
 
 pub use callers::Callers;
 pub use checkpointing::checkpoint;
+pub use deciding::decide;
 pub use fault::Fault;
 pub use following::follow;
 pub use meeting::{Meetings, Untold};
+pub use resolve_command::{Verdict, resolve};
 pub use settling::settle;
 pub use shipping::{Shipping, serve, serve_next, ship};
 pub use standby_command::{Following, Prepared, conclude, prepare, standby};

@@ -3,14 +3,17 @@ use crate::opening::{named, reopen};
 use crate::standby_command::PENDING;
 use crate::taking_over::take_over_telling;
 use als_drive::{Progress, listing};
+use als_engine::Events;
 use als_folder::Folder;
+use als_record::{TransId, TransactionState};
+use std::alloc::{AllocError, Global};
 use std::fs::File;
 use std::io::Write;
 use std::rt::Files;
 use std::sync::Wait;
 
 /// Makes a primary of the standby of a folder, and then prints `end=E` and each record of its
-/// database. It may be called again after a stop: the takeover then goes on. `progress` receives
+/// database. It answers the transactions that are in doubt. It may be called again after a stop: the takeover then goes on. `progress` receives
 /// the progress of its redo.
 ///
 /// Device: the folder or one of its files failed, it has no database, or another program has it.
@@ -20,10 +23,10 @@ pub fn takeover<R: AllocGlobal + Files<File = File> + Wait, P: Progress, O: Writ
     dir: &str,
     progress: &mut P,
     output: &mut O,
-) -> Result<(), Fault> {
+) -> Result<Vec<TransId>, Fault> {
     let folder = Folder::hold(rt, dir)?;
     match takeover_in(rt, &folder, progress, output) {
-        Ok(()) => Ok(()),
+        Ok(doubts) => Ok(doubts),
         Err(fault) => Err(named(&folder, fault)),
     }
 }
@@ -34,11 +37,36 @@ fn takeover_in<R: AllocGlobal + Files<File = File> + Wait, P: Progress, O: Write
     folder: &Folder,
     progress: &mut P,
     output: &mut O,
-) -> Result<(), Fault> {
+) -> Result<Vec<TransId>, Fault> {
     let mut engine = reopen(rt, folder, PENDING)?;
     take_over_telling(rt, &mut engine, progress)?;
-    let records = listing(rt.alloc(), &mut engine)?;
-    writeln!(output, "end={}", engine.status().end.0)?;
+    print_database(rt.alloc(), &mut engine, output)?;
+    doubts(rt.alloc(), &engine)
+}
+
+/// Prints where the log ends, and each record of the database.
+pub(crate) fn print_database<E: Events, O: Write>(
+    alloc: Global,
+    events: &mut E,
+    output: &mut O,
+) -> Result<(), Fault> {
+    let records = listing(alloc, events)?;
+    writeln!(output, "end={}", events.status().end.0)?;
     output.write_all(records.as_bytes())?;
     Ok(())
+}
+
+/// The transactions in doubt, in rising TransID.
+fn doubts<E: Events>(alloc: Global, events: &E) -> Result<Vec<TransId>, Fault> {
+    let rows = events.table(alloc)?;
+    let mut doubts = Vec::new(alloc);
+    for row in rows.iter() {
+        if matches!(row.state, TransactionState::Prepared) {
+            match doubts.push(row.trans) {
+                Ok(()) => {}
+                Err(_) => return Err(AllocError.into()),
+            }
+        }
+    }
+    Ok(doubts)
 }

@@ -1,6 +1,8 @@
-ghost use Rattle.std.specs.Prelude.{◌≡◌, OnOk};
+ghost use Rattle.std.specs.Prelude.{◌≡◌, true, OnOk};
+ghost use Rattle.als_record.specs.Tail.{is_undone};
 ghost use Rattle.als_engine.specs.declared.status.State.TheVariants.{Primary};
 ghost use Rattle.als_engine.specs.Machine.{state_of};
+ghost use Rattle.als_operate.specs.Deciding.{GrowsOn};
 
 use crate::fault::Fault;
 use als_drive::{Progress, Silent, drain, recover_telling};
@@ -61,7 +63,11 @@ fn seal<E: Events>(events: &mut E) -> Result<(), EngineFault> {
 }
 
 /// Holds each record of the log's tail.
-fn undo_all<E: Events>(events: &mut E) -> Result<(), EngineFault> {
+#[tactic(auto, using(crate::proofs::Decisions::grows_none, crate::proofs::Decisions::grows_more, crate::proofs::Decisions::undo_grows, crate::proofs::Decisions::undone_all))]
+pub(crate) fn undo_all<E: Events>(events: &mut E) -> Result<(), EngineFault>
+    ensures grows { E.alone → GrowsOn (E.machine events.old) (E.machine events.new) }
+    ensures done { OnOk result (E.alone → is_undone (E.machine events.new).held.log ≡ true) }
+{
     for _ in 0..u64::MAX {
         match events.undo_one() {
             Ok(_) => {}

@@ -9,11 +9,12 @@ use crate::terminals::Terminals;
 use crate::troubles;
 use als_command::Command;
 use als_drive::Progress;
+use als_engine::Decision;
 use als_fault::FaultKind;
 use als_folder::Trouble;
 use als_follow::standby as standby_with_workers;
 use als_inspect::{Wanted, dump, get, status, verify};
-use als_operate::{Following, Shipping, ship, standby, takeover};
+use als_operate::{Following, Shipping, Verdict, resolve, ship, standby, takeover};
 use als_record::{Key, Lsn, TransId};
 use std::fs;
 use std::fs::File;
@@ -107,8 +108,18 @@ fn attempt<R: AllocGlobal + Files<File = File> + Net + Threads + Wait + Sync, O:
             stand_by(rt, following, workers, &mut lines, output)?
         }
         Command::Takeover { dir, .. } => {
+            let mut lines = RedoLines::new(&mut *errors, seen);
+            let doubts = takeover(rt, dir, &mut lines, output)?;
+            tell_doubts(dir, doubts.as_slice(), output, errors)?
+        }
+        Command::Resolve {
+            dir,
+            trans,
+            is_commit,
+            ..
+        } => {
             let mut lines = RedoLines::new(errors, seen);
-            takeover(rt, dir, &mut lines, output)?
+            resolve(rt, verdict(dir, trans, is_commit), &mut lines, output)?
         }
         Command::Dump {
             path,
@@ -157,6 +168,47 @@ fn stand_by<
     Ok(())
 }
 
+/// A line for each transaction that is in doubt, behind what was printed.
+fn tell_doubts<O: Write, E: Write>(
+    dir: &str,
+    doubts: &[TransId],
+    output: &mut O,
+    errors: &mut E,
+) -> Result<(), Refusal> {
+    if doubts.is_empty() {
+        return Ok(());
+    }
+    if output.flush().is_err() {
+        return Err(Refusal {
+            kind: FaultKind::Stream,
+            trouble: None,
+        });
+    }
+    for trans in doubts.iter() {
+        // Where it can't be said, `als resolve` and `als status` can.
+        let _ = writeln!(
+            errors,
+            "als: transaction {} is in doubt: it was prepared and not decided; ask its coordinator, then run als resolve --dir {dir} --trans {} with --commit or --rollback",
+            trans.0, trans.0
+        );
+    }
+    Ok(())
+}
+
+/// What becomes of a transaction in doubt.
+fn verdict(dir: &str, trans: u32, is_commit: bool) -> Verdict<'_> {
+    let decision = if is_commit {
+        Decision::Commit
+    } else {
+        Decision::Rollback
+    };
+    Verdict {
+        dir,
+        trans: TransId(trans),
+        decision,
+    }
+}
+
 /// Which records are printed.
 fn wanted(from: u64, trans: Option<u32>, page: Option<u32>) -> Wanted {
     Wanted {
@@ -172,6 +224,7 @@ fn told_of(command: Command<'_>, seen: bool) -> Option<&str> {
         Command::Make { .. } | Command::Sim { .. } | Command::Ship { .. } => return None,
         Command::Standby { dir, explain, .. } => (dir, explain),
         Command::Takeover { dir, explain } => (dir, explain),
+        Command::Resolve { dir, explain, .. } => (dir, explain),
         Command::Dump { path, explain, .. } => (path, explain),
         Command::Verify { path, explain } => (path, explain),
         Command::Status { dir, explain } => (dir, explain),

@@ -5,18 +5,19 @@ pub const FIRST_OF_MAKE: [&str; 1] = ["pages P"];
 pub const FIRST_OF_SIM: [&str; 1] = ["world pages=B log=B frames=B workers=B pending=B"];
 
 /// The lines of records.
-pub const RECORD_FORMS: [&str; 7] = [
+pub const RECORD_FORMS: [&str; 8] = [
     "u T P S BEFORE AFTER",
     "c T P S AFTER NEXT",
     "commit T",
     "rollback T",
     "end T",
+    "prepare T",
     "ckpt",
     "ckptend",
 ];
 
 /// The lines of steps, and those that ask for what is there.
-pub const STEP_FORMS: [&str; 38] = [
+pub const STEP_FORMS: [&str; 40] = [
     "feed A B",
     "resync",
     "lend P W",
@@ -39,6 +40,8 @@ pub const STEP_FORMS: [&str; 38] = [
     "seal",
     "undo",
     "finish",
+    "resolve T commit",
+    "resolve T rollback",
     "read P S",
     "crash old",
     "crash new",

@@ -10,6 +10,7 @@ pub fn parse_record(line: &str) -> Option<RawRecord> {
         "commit" => raw_record(words.number()?, RawBody::Commit),
         "rollback" => raw_record(words.number()?, RawBody::Rollback),
         "end" => raw_record(words.number()?, RawBody::End),
+        "prepare" => raw_record(words.number()?, RawBody::Prepare),
         "ckpt" => raw_record(0, RawBody::BeginCheckpoint),
         "ckptend" => raw_record(0, RawBody::EndCheckpoint),
         _ => return None,

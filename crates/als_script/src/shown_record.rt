@@ -42,6 +42,7 @@ fn kind(body: &Body) -> &'static str {
         Body::End => "end",
         Body::BeginCheckpoint => "begin_chkpt",
         Body::EndCheckpoint { .. } => "end_chkpt",
+        Body::Prepare => "prepare",
     }
 }
 

@@ -23,5 +23,6 @@ fn state(state: TransactionState) -> &'static str {
         TransactionState::Active => "active",
         TransactionState::Committed => "committed",
         TransactionState::RollingBack => "rollback",
+        TransactionState::Prepared => "prepared",
     }
 }

@@ -30,6 +30,8 @@ pub enum StepLine {
     /// `undo`
     UndoOne,
     Finish,
+    /// `resolve T commit` or `resolve T rollback`
+    Resolve { trans: u32, is_commit: bool },
 }
 
 impl StepLine {
@@ -46,6 +48,10 @@ impl StepLine {
             },
             "flush" => StepLine::Flush {
                 page: words.number()?,
+            },
+            "resolve" => StepLine::Resolve {
+                trans: words.number()?,
+                is_commit: is_commit(words.next()?)?,
             },
             word => StepLine::named(word)?,
         };
@@ -71,5 +77,14 @@ impl StepLine {
             "finish" => Some(StepLine::Finish),
             _ => None,
         }
+    }
+}
+
+/// Whether a word decides for a commit; None where it is no decision.
+fn is_commit(word: &str) -> Option<bool> {
+    match word {
+        "commit" => Some(true),
+        "rollback" => Some(false),
+        _ => None,
     }
 }

@@ -11,7 +11,7 @@ pub fn reply<W: Write>(output: &mut W, reply: &Reply, end: Lsn) -> io::Result<()
     let end = end.0;
     match reply {
         Reply::Done => writeln!(output, "ok"),
-        Reply::Undone(lsn) => writeln!(output, "ok lsn={}", lsn.0),
+        Reply::Undone(lsn) | Reply::Resolved(lsn) => writeln!(output, "ok lsn={}", lsn.0),
         Reply::Acknowledged(lsn) => writeln!(output, "ok ack={}", lsn.0),
         Reply::Fed(Fed { taken, records }) => {
             writeln!(output, "ok taken={taken} records={records} end={end}")

@@ -1,6 +1,6 @@
 use crate::disk::Disk;
-use als_engine::{Fault, FeedFault, Reply, Status, Step};
-use als_record::Lsn;
+use als_engine::{Decision, Fault, FeedFault, Reply, Status, Step};
+use als_record::{Lsn, TransId};
 use als_script::{LeaseLine, StepLine};
 use als_world::{World, WorldReply, WorldStep, run};
 use std::alloc::Global;
@@ -30,7 +30,17 @@ pub fn step_of(line: StepLine, text: &[u8]) -> Option<Step<'_>> {
         StepLine::Seal => Step::Seal,
         StepLine::UndoOne => Step::UndoOne,
         StepLine::Finish => Step::Finish,
+        StepLine::Resolve { trans, is_commit } => Step::Resolve(TransId(trans), verdict(is_commit)),
     })
+}
+
+/// What becomes of a transaction in doubt.
+fn verdict(is_commit: bool) -> Decision {
+    if is_commit {
+        Decision::Commit
+    } else {
+        Decision::Rollback
+    }
 }
 
 /// The step of a line over a worker slot.

@@ -4,7 +4,7 @@ use Rattle.als_record.specs.declared.record.Body.{Body}
 use Rattle.als_record.specs.declared.record.Body.TheVariants as held
 use Rattle.als_record.specs.declared.record.Record.{Record}
 use Rattle.als_text.specs.declared.raw_body.RawBody.{RawBody}
-use Rattle.als_text.specs.declared.raw_body.RawBody.TheVariants.{Update, Compensation, Commit, Rollback, End, BeginCheckpoint, EndCheckpoint}
+use Rattle.als_text.specs.declared.raw_body.RawBody.TheVariants.{Update, Compensation, Commit, Rollback, End, BeginCheckpoint, EndCheckpoint, Prepare}
 
 -- what a record says that has these numbers and values; an end_chkpt has no rows
 abbrev pub body_of : RawBody → Body
@@ -15,6 +15,7 @@ body_of Rollback = held.Rollback
 body_of End = held.End
 body_of BeginCheckpoint = held.BeginCheckpoint
 body_of EndCheckpoint = held.EndCheckpoint [] []
+body_of Prepare = held.Prepare
 
 -- the record in its place, with its PrevLSN
 abbrev pub record_of : ℕ → ℕ → ℕ → RawBody → Record

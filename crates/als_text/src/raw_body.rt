@@ -27,6 +27,7 @@ pub enum RawBody {
     BeginCheckpoint,
     /// With empty tables.
     EndCheckpoint,
+    Prepare,
 }
 
 /// The type byte of a body's record.
@@ -41,6 +42,7 @@ pub fn kind_of(body: &RawBody) -> u8
         RawBody::End => 5,
         RawBody::BeginCheckpoint => 6,
         RawBody::EndCheckpoint => 7,
+        RawBody::Prepare => 8,
     }
 }
 
