@@ -104,7 +104,7 @@ fn a_checkpoint_is_read_back(rt: HostRuntime) {
         ("more than 256 transactions", 36, 2),
         ("more than 4,096 pages", 38, 17),
         ("no state", 44, 0),
-        ("a state above 3", 44, 4),
+        ("a state above 4", 44, 5),
         ("transactions that fall", 64, 4),
         ("a transaction twice", 64, 5),
         ("a page twice", 97, 0),

@@ -26,7 +26,7 @@ fn help_is_written(rt: HostRuntime) {
         "0 follows in one thread [default: 4]",
     );
     for command in [
-        "make", "sim", "standby", "takeover", "dump", "verify", "status", "get",
+        "make", "sim", "standby", "takeover", "resolve", "dump", "verify", "status", "get",
     ] {
         asks(&rt, &["als", command, "--help"], "      --explain");
     }
@@ -62,6 +62,24 @@ fn faults_are_told(rt: HostRuntime) {
         &rt,
         &["als", "ship", "--log", "primary.log"],
         "--listen <ADDR>",
+    );
+    let resolve = ["als", "resolve", "--dir", "db", "--trans", "1"];
+    errs(&rt, &resolve, "<--commit|--rollback>");
+    let both = [
+        "als",
+        "resolve",
+        "--dir",
+        "db",
+        "--trans",
+        "1",
+        "--commit",
+        "--rollback",
+    ];
+    errs(&rt, &both, "cannot be used with");
+    errs(
+        &rt,
+        &["als", "resolve", "--dir", "db", "--commit"],
+        "--trans <T>",
     );
     for workers in ["four", "18446744073709551616"] {
         errs(

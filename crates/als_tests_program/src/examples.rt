@@ -1,7 +1,7 @@
 use crate::row::run_scripts;
 
 /// The scripts of the folder of examples, with what they print.
-const EXAMPLES: [(&str, &str); 4] = [
+const EXAMPLES: [(&str, &str); 5] = [
     // `acknowledge.als`
     (
         "# What is acknowledged, when a page may be written, and what a failing device does.
@@ -168,6 +168,56 @@ state=Primary end=294 ack=294 pending=0 leases=0
 266 end trans=2 prev=224
 0/0 aa
 refused 21 Sealed taken=0 records=0 end=294
+",
+    ),
+    // `in-doubt.als`
+    (
+        "# A transaction in doubt: it was prepared, and its decision never came. Records stand at 16, 52 and 80.
+world pages=4 log=8 frames=4 workers=2 pending=1000
+u 1 0 0 - aa
+prepare 1
+u 2 0 1 - bb
+feed 16 116
+show table
+# Nothing is decided before the takeover.
+resolve 1 commit
+# Transaction 2 is undone. Transaction 1 keeps its update: its coordinator alone knows what it decided.
+takeover
+show log 116
+show table
+show db
+# Readers see nothing of it yet.
+read 0 0
+# Transaction 2 is not in doubt.
+resolve 2 commit
+# The coordinator of transaction 1 committed: its commit record, and its end.
+resolve 1 commit
+undo
+force
+publish
+read 0 0
+show log 186
+show table
+",
+        "ok taken=100 records=3 end=116
+trans 1 prepared last=52 undo=16
+trans 2 active last=80 undo=80
+refused 46 NotPrimary
+ok end=186
+116 clr trans=2 0/1 - prev=80 next=0
+158 end trans=2 prev=116
+trans 1 prepared last=52 undo=16
+0/0 aa
+ok - commits=0 lsn=0
+refused 47 NotInDoubt
+ok lsn=186
+ok lsn=214
+ok ack=242
+ok
+ok aa commits=1 lsn=186
+186 commit trans=1 prev=52
+214 end trans=1 prev=186
+none
 ",
     ),
 ];

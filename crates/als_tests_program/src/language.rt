@@ -36,7 +36,7 @@ const REFUSED_WORLDS: [&str; 11] = [
 ];
 
 /// Lines that are none of the language.
-const BAD_LINES: [&str; 78] = [
+const BAD_LINES: [&str; 84] = [
     " ",
     "nothing",
     "COMMIT 1",
@@ -59,6 +59,8 @@ const BAD_LINES: [&str; 78] = [
     "commit prev=1",
     "ckpt 0",
     "ckptend 0",
+    "prepare",
+    "prepare 1 2",
     "u 1 0 0 -",
     "u 1 0 0 - aa bb",
     "u 1 4294967296 0 - aa",
@@ -109,6 +111,10 @@ const BAD_LINES: [&str; 78] = [
     "read 0",
     "read 0 256",
     "read 4294967296 0",
+    "resolve 1",
+    "resolve 1 end",
+    "resolve 4294967296 commit",
+    "resolve 1 commit 1",
     "read 0 0 0",
     "show",
     "show page",

@@ -37,6 +37,9 @@ mod taking_over;
 // What a takeover is refused by.
 #[cfg(test)]
 mod takeover_refusals;
+// Transactions in doubt.
+#[cfg(test)]
+mod deciding;
 // Checkpoints.
 #[cfg(test)]
 mod checkpointing;

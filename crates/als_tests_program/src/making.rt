@@ -9,7 +9,7 @@ use std::thread::Threads;
 
 /// Record lines, and the text that they make: the bytes are those of the format, written down by
 /// hand and by another program.
-const TEXTS: [(&str, &str); 4] = [
+const TEXTS: [(&str, &str); 5] = [
     ("pages 4", "414c534c4f4730310000000400000000\n"),
     (
         "pages 4
@@ -40,6 +40,17 @@ c 2 0 0 aa 80
 0000002501000000000000000000007400000000000000500000000200000000000101aacc
 0000001c050000000000000000000099000000000000003400000001
 0000002b0200000000000000000000b50000000000000074000000020000000000000050000000000001aa
+",
+    ),
+    // A prepare, shaped as a commit.
+    (
+        "pages 4
+u 1 0 0 - aa
+prepare 1
+",
+        "414c534c4f4730310000000400000000
+000000240100000000000000000000100000000000000000000000010000000000ff01aa
+0000001c080000000000000000000034000000000000001000000001
 ",
     ),
     // Nothing is checked but the spelling; checkpoint records count for transaction 0.

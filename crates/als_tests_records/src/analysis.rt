@@ -144,3 +144,25 @@ fn many_updates_take_no_memory(rt: HostRuntime) {
     expect_left(&rt, &table, 4, Some(10));
     assert!(rt; table.reserve_bytes() == 4 * 28 + 40 * 42);
 }
+
+#[test]
+fn a_transaction_in_doubt_keeps_room_for_its_decision(rt: HostRuntime) {
+    let mut table = empty(&rt, rt.alloc());
+    note(&rt, &mut table, 16, 0, 1, update(0, None, 1));
+    assert!(rt; reserve_after(&table, 52, 16, 1, Said::Prepare) == 98);
+    note(&rt, &mut table, 52, 16, 1, Said::Prepare);
+    expect_row(&rt, &table, 0, row(1, TransactionState::Prepared, 52, 16));
+    expect_left(&rt, &table, 1, Some(1));
+    assert!(rt; table.reserve_bytes() == 56 + 42);
+    note(&rt, &mut table, 80, 0, 2, update(1, None, 1));
+    assert!(rt; table.reserve_bytes() == 168);
+    assert!(rt; reserve_after(&table, 116, 52, 1, Said::Commit) == 168 - 70);
+    assert!(rt; reserve_after(&table, 116, 52, 1, Said::Rollback) == 168 - 28);
+    note(&rt, &mut table, 116, 52, 1, Said::Rollback);
+    expect_row(
+        &rt,
+        &table,
+        0,
+        row(1, TransactionState::RollingBack, 116, 16),
+    );
+}

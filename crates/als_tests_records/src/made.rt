@@ -18,6 +18,7 @@ pub enum Said {
     Rollback,
     End,
     BeginCheckpoint,
+    Prepare,
 }
 
 // An update of a slot.
@@ -63,6 +64,7 @@ fn body(said: Said) -> Body {
         Said::Rollback => Body::Rollback,
         Said::End => Body::End,
         Said::BeginCheckpoint => Body::BeginCheckpoint,
+        Said::Prepare => Body::Prepare,
     }
 }
 

@@ -97,7 +97,7 @@ fn single_bytes_give_the_records(rt: HostRuntime) {
 #[test]
 fn a_refusal_stays(rt: HostRuntime) {
     let mut log = LOG;
-    log[40] = 8;
+    log[40] = 9;
     let refusal = Refusal {
         lsn: Lsn(52),
         fault: Fault::BadType,

@@ -26,6 +26,12 @@ const END: [u8; 28] = [
     0x00, 0x00, 0x00, 0x00, 0x00, 0x00, 0x00, 0x34, 0x00, 0x00, 0x00, 0x01,
 ];
 
+// A prepare at 52 of transaction 1.
+const PREPARE: [u8; 28] = [
+    0x00, 0x00, 0x00, 0x1c, 0x08, 0x00, 0x00, 0x00, 0x00, 0x00, 0x00, 0x00, 0x00, 0x00, 0x00, 0x34,
+    0x00, 0x00, 0x00, 0x00, 0x00, 0x00, 0x00, 0x10, 0x00, 0x00, 0x00, 0x01,
+];
+
 // A compensation at 181 of transaction 2, which goes on at 80 and gives 0/0 the value aa.
 const COMPENSATION: [u8; 43] = [
     0x00, 0x00, 0x00, 0x2b, 0x02, 0x00, 0x00, 0x00, 0x00, 0x00, 0x00, 0x00, 0x00, 0x00, 0x00, 0xb5,
@@ -137,6 +143,15 @@ fn text_of_one_transaction(rt: HostRuntime) -> Result<(), Fail> {
 }
 
 #[test]
+fn prepare_is_shaped_as_a_commit(rt: HostRuntime) -> Result<(), Fail> {
+    let prepare = spelled(&rt, rt.alloc(), &PREPARE, 52)?;
+    assert!(rt; prepare.prev == Lsn(16));
+    assert!(rt; matches!(prepare.body, Body::Prepare));
+    assert!(rt; prepare.change().is_none());
+    Ok(())
+}
+
+#[test]
 fn compensation_and_checkpoint(rt: HostRuntime) -> Result<(), Fail> {
     let undone = spelled(&rt, rt.alloc(), &COMPENSATION, 181)?;
     assert!(rt; undone.change().is_some());
@@ -164,7 +179,7 @@ fn faults_in_order(rt: HostRuntime) -> Result<(), Fail> {
     let alloc = rt.alloc();
     // each alone, and beside one that comes later
     expect_fault(&rt, [(3, 34), (4, 1)], Fault::BadLength);
-    expect_fault(&rt, [(4, 8), (5, 1)], Fault::BadType);
+    expect_fault(&rt, [(4, 9), (5, 1)], Fault::BadType);
     expect_fault(&rt, [(7, 1), (15, 17)], Fault::BadReserved);
     expect_fault(&rt, [(15, 17), (32, 15)], Fault::WrongLsn);
     expect_fault(&rt, [(31, 4), (33, 32)], Fault::BadKey);

@@ -276,3 +276,33 @@ fn all_chains_are_compared_again_behind_a_compensation(rt: HostRuntime) {
     next(&rt, a, &mut held, 356, 1, 314, None);
     is_over(&rt, &mut held, 384);
 }
+
+// A transaction in doubt is neither undone nor ended, until it is decided.
+#[test]
+fn a_transaction_in_doubt_is_left_alone(rt: HostRuntime) {
+    let a = rt.alloc();
+    let mut held = empty(&rt, a);
+    log(&rt, a, &mut held, 0, 1, update(0, None, 0xaa));
+    log(&rt, a, &mut held, 16, 1, Said::Prepare);
+    log(&rt, a, &mut held, 0, 2, update(1, None, 0xbb));
+    next(&rt, a, &mut held, 116, 2, 80, Some(0));
+    next(&rt, a, &mut held, 158, 2, 116, None);
+    is_over(&rt, &mut held, 186);
+    assert!(rt; surviving(&rt, a, &mut held, 1).as_slice() == [16].as_slice());
+    log(&rt, a, &mut held, 52, 1, Said::Rollback);
+    next(&rt, a, &mut held, 214, 1, 186, Some(0));
+    next(&rt, a, &mut held, 256, 1, 214, None);
+    is_over(&rt, &mut held, 284);
+}
+
+// With nothing written it is not ended either, and its commit opens its end.
+#[test]
+fn a_transaction_in_doubt_ends_behind_its_commit(rt: HostRuntime) {
+    let a = rt.alloc();
+    let mut held = empty(&rt, a);
+    log(&rt, a, &mut held, 0, 1, Said::Prepare);
+    is_over(&rt, &mut held, 44);
+    log(&rt, a, &mut held, 16, 1, Said::Commit);
+    next(&rt, a, &mut held, 72, 1, 44, None);
+    is_over(&rt, &mut held, 100);
+}

@@ -227,6 +227,41 @@ fn a_partial_rollback_goes_on(rt: HostRuntime) {
     assert!(rt; one.reserve_after(&commit.view()) == 28 + 28 + 42);
 }
 
+#[test]
+fn a_transaction_in_doubt_goes_on_by_its_decision(rt: HostRuntime) {
+    let mut one = fresh(&rt, rt.alloc());
+    admit(&rt, &mut one, 16, 0, 1, update(0, None, 0x11));
+    admit(&rt, &mut one, 52, 16, 1, Said::Prepare);
+    refuse(
+        &rt,
+        &mut one,
+        &[
+            (80, 52, 1, update(1, None, 0x22), Cause::WrongState),
+            (80, 52, 1, undo(0, None, 0), Cause::WrongState),
+            (80, 52, 1, Said::End, Cause::WrongState),
+            (80, 52, 1, Said::Prepare, Cause::WrongState),
+            (80, 0, 1, Said::BeginCheckpoint, Cause::WrongState),
+            (
+                80,
+                0,
+                2,
+                update(0, Some(0x11), 0x22),
+                Cause::RecordHeld { by: TransId(1) },
+            ),
+        ],
+    );
+    assert!(rt; one.reserve_bytes() == 56 + 42);
+    let commit = record(80, 52, 1, Said::Commit);
+    assert!(rt; one.check(&commit.view()) == Ok(()));
+    admit(&rt, &mut one, 80, 52, 1, Said::Rollback);
+    refuse(
+        &rt,
+        &mut one,
+        &[(108, 80, 1, Said::Prepare, Cause::WrongState)],
+    );
+    admit(&rt, &mut one, 108, 80, 1, undo(0, None, 0));
+}
+
 fn has_two_writes(rt: &impl Abort, made: &Commit) {
     assert!(rt; (made.trans.0, made.lsn.0, made.writes.len()) == (1, 168, 2));
 }

@@ -4,8 +4,8 @@ ghost use Rattle.als_view.specs.Views.{book_of};
 use crate::answers::Answers;
 use crate::spelled::Spelled;
 use crate::standbys::TEXT;
-use als_engine::{Event, Events, PageLease, Reader};
-use als_record::{Key, Lsn};
+use als_engine::{Decision, Event, Events, PageLease, Reader};
+use als_record::{Key, Lsn, TransId};
 use std::alloc::Global;
 use std::sync::Wait;
 
@@ -18,7 +18,8 @@ const NEW_KEY: Key = Key { page: 1, slot: 1 };
 const FIRST_PIECE: usize = 50;
 
 /// What is fed behind the log that the standby was opened with, from 108 on. T2 updates 1/0 (108), 1/1
-/// (144) and 2/0 (180), commits (216) and ends (244). T3 updates 3/2 (272) and stays unended.
+/// (144) and 2/0 (180), commits (216) and ends (244). T3 updates 3/2 (272) and stays unended. T4 updates
+/// 3/3 (308) and is prepared (344).
 pub(crate) fn text(alloc: Global) -> Option<Vec<u8>> {
     let mut spelled = Spelled::new(alloc, Lsn(108));
     spelled.begin(2);
@@ -29,6 +30,9 @@ pub(crate) fn text(alloc: Global) -> Option<Vec<u8>> {
     spelled.end();
     spelled.begin(3);
     spelled.update(3, 2, None, Some(0x44));
+    spelled.begin(4);
+    spelled.update(3, 3, None, Some(0x55));
+    spelled.prepare();
     spelled.text()
 }
 
@@ -89,6 +93,7 @@ fn play_whole<E: Events, R: Wait>(
     seal(events, answers);
     undo(events, answers);
     finish(events, answers);
+    decide(events, answers);
 }
 
 /// A commit is fed, acknowledged and published.
@@ -270,6 +275,7 @@ fn seal<E: Events>(events: &mut E, answers: &mut Answers)
     answers.unit(Event::Finish, events.finish());
     answers.unit(Event::Seal, events.seal());
     answers.unit(Event::Seal, events.seal());
+    answers.lsn(Event::Resolve, events.resolve(TransId(4), Decision::Commit));
     answers.fed(events.feed(&[0; 7]));
     answers.status(events.status());
 }
@@ -279,7 +285,7 @@ fn undo<E: Events>(events: &mut E, answers: &mut Answers)
     ensures { E.book events.new ≡ E.book events.old }
 {
     answers.lsn(Event::UndoOne, events.undo_one());
-    answers.record(events.record_at(Lsn(308)));
+    answers.record(events.record_at(Lsn(372)));
     answers.lsn(Event::UndoOne, events.undo_one());
     answers.lsn(Event::UndoOne, events.undo_one());
     redo(events, answers, 3);
@@ -293,6 +299,21 @@ fn finish<E: Events>(events: &mut E, answers: &mut Answers)
     force(events, answers);
     answers.unit(Event::Finish, events.finish());
     answers.unit(Event::Finish, events.finish());
+    answers.status(events.status());
+}
+
+/// The transaction in doubt is committed, and ends.
+fn decide<E: Events>(events: &mut E, answers: &mut Answers)
+    ensures { E.book events.new ≡ E.book events.old }
+{
+    answers.lsn(
+        Event::Resolve,
+        events.resolve(TransId(3), Decision::Rollback),
+    );
+    answers.lsn(Event::Resolve, events.resolve(TransId(4), Decision::Commit));
+    answers.lsn(Event::Resolve, events.resolve(TransId(4), Decision::Commit));
+    answers.lsn(Event::UndoOne, events.undo_one());
+    answers.lsn(Event::UndoOne, events.undo_one());
     answers.status(events.status());
 }
 

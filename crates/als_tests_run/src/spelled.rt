@@ -56,6 +56,10 @@ impl Spelled {
         self.put(Body::End);
     }
 
+    pub(crate) fn prepare(&mut self) {
+        self.put(Body::Prepare);
+    }
+
     /// A record behind those that the text has.
     fn put(&mut self, body: Body) {
         let lsn = Lsn(self.from.0.saturating_add(self.bytes.len() as u64));

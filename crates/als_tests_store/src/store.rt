@@ -1,6 +1,8 @@
 ghost use Rattle.std.specs.Prelude.{◌≡◌, ℕ};
 ghost use Rattle.als_record.specs.Spelling.{IsRecord, spelling};
 
+// A transaction in doubt is decided.
+mod deciding;
 // What refuses redo, a write and a sync, in order.
 mod refusals;
 // A store that was stopped is opened again.
