@@ -3,6 +3,7 @@
 //! ```text
 //! format --> Following --a bad record--> Refusing --resync--> Following
 //!            Following, Refusing --seal--> Sealed --finish--> Primary
+//!            Primary --resolve, undo_one--> Primary
 //! open ----> Recovering --ready--> Following, Sealed or Primary, by the phase
 //! any state --a write or a sync fails--> Stopped
 //! ```
@@ -21,6 +22,8 @@
 //!    most; its changes wait until then, so nothing is drained while one is out.
 //! 7. Each event that answers Ok is counted in the tally, and the bytes that a feed takes. It stands
 //!    in clauses alone.
+//! 8. A takeover leaves transactions in doubt as they are. In Primary `resolve` commits or rolls back
+//!    one, as its coordinator decided, and `undo_one` appends what that leaves to append.
 //!
 //! The engine is the store, the receiver of the partial record and the readers' view. Its contract
 //! speaks of one value, `Machine`, so a caller needs to know none of the three.

@@ -67,7 +67,8 @@ pub enum Fault {
     Stranger,
     /// There is nothing for the event to do.
     NothingToDo,
-    /// The log device has no room for the record and for what a takeover would then append.
+    /// The log device has no room for the record and for the reserve behind it: what a takeover and
+    /// the decisions of transactions in doubt would then append.
     LogFull,
     /// A device failed. Where it failed to write or to sync, the engine has stopped.
     Device,

@@ -39,7 +39,7 @@ abbrev pub rows_in : Said → List LoggedPage
 rows_in said = rows_of said.checkpoint
 
 -- The control device says the control state and its checkpoint. The text of the log stands below the mark, which is its end; the log is
--- valid, and it fits the log device with the tail that a takeover would append. The checkpoint is that of a front of the log.
+-- valid, and it fits the log device with its reserve. The checkpoint is that of a front of the log.
 pub record HoldsLog (pages blocks : ℕ) (log_slots control_slots : ℕ → Slot) (n : Node) : Type 0 where
   pub count : n.blocks ≡ blocks
   pub control : HoldsControl pages (512 * blocks) control_slots n.said

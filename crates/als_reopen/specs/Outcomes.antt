@@ -87,7 +87,7 @@ pub record AreUnread (pages most : ℕ) (old : ℕ → Slot) (blocks failures at
   pub left : (page : ℕ) → KeepsReadable (old page) (slots page)
   pub is : frames ≡ without_frames pages most slots blocks failures attempts
 
--- The log is valid and ends at the mark; it fits the device with the tail that a takeover would append; and the checkpoint is that of a
+-- The log is valid and ends at the mark; it fits the device with its reserve; and the checkpoint is that of a
 -- front of it. The validator and the counts are those of the log, and what waits for each page are its changes from where a restart looks.
 -- The validator judges while the log follows its source. No lease number is used.
 pub record IsReopened (pages blocks : ℕ) (said : Said) (log : List Record) (validator : Validator) (count : CommitCount) (pool : Pooled) : Type 0 where

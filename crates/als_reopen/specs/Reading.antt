@@ -68,7 +68,7 @@ CountsDevice (Shape shape) before now = now ≡ before
 CountsDevice (Invalid cause) before now = now ≡ before
 CountsDevice LogFull before now = ⊥
 
--- A text is that of a valid log which ends at the mark and fits the device with its tail, and of a front of which the checkpoint is.
+-- A text is that of a valid log which ends at the mark and fits the device with its reserve, and of a front of which the checkpoint is.
 pub record IsLogOn (pages blocks mark : ℕ) (text : List ℕ) (checkpoint : Option Checkpoint) (log : List Record) : Type 0 where
   pub text_is : text ≡ log_text pages log
   pub valid : IsValidLog pages log

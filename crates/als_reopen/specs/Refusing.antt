@@ -76,7 +76,7 @@ pub record HasOtherCheckpoint (pages : ℕ) (text : List ℕ) (checkpoint : Opti
   pub begins : BeginsWith pages text front
   pub unmet : IsUnmet checkpoint front
 
--- The text is that of a valid log that the checkpoint agrees with, and with the tail that a takeover would append it exceeds the device.
+-- The text is that of a valid log that the checkpoint agrees with, and with its reserve it exceeds the device.
 pub record IsTooLong (pages blocks mark : ℕ) (text : List ℕ) (checkpoint : Option Checkpoint) : Type 0 where
   pub log : List Record
   pub text_is : text ≡ log_text pages log

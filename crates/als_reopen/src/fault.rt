@@ -23,7 +23,8 @@ pub enum Fault {
     /// The control block or its checkpoint is none, the mark stands within a record, or the
     /// checkpoint is not that of the log.
     BadControl,
-    /// The log device has no room for the log and for what a takeover would append.
+    /// The log device has no room for the log and for its reserve: what a takeover and the decisions
+    /// of transactions in doubt would append.
     LogFull,
     /// A device failed.
     Device,

@@ -51,8 +51,8 @@ fn rows_of(checkpoint: &Option<Checkpoint>) -> &[LoggedPage]
     }
 }
 
-/// Whether a device of so many blocks has room for the log that was read and for what a takeover
-/// would append.
+/// Whether a device of so many blocks has room for the log that was read and for its reserve: what
+/// a takeover and the decisions of transactions in doubt would append.
 fn has_room<D: BlockDisk>(scan: &Scan<D>, blocks: u64) -> bool
     requires { blocks ≡ scan.now.blocks }
     ensures fits { result ≡ true → end_of scan.now.log + reserve_of scan.now.log ≤ 512 * blocks }
@@ -66,7 +66,7 @@ fn has_room<D: BlockDisk>(scan: &Scan<D>, blocks: u64) -> bool
     true
 }
 
-/// Reads the log whole, and takes it up where its device has room for what a takeover would append.
+/// Reads the log whole, and takes it up where its device has room for it and for its reserve.
 fn finish<D: BlockDisk>(
     alloc: Global,
     reading: Reading<D>,

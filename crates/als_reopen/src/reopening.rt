@@ -24,7 +24,8 @@ use std::alloc::Global;
 /// the control block, its checkpoint, the log's header and its records: `BadControl`, `Shape` or
 /// `Invalid`; `BadControl` where the mark stands within a record, or where the checkpoint is not
 /// that of the records below its position. Then `LogFull`: the device has no room for the log and
-/// for what a takeover would append. All hand the devices back.
+/// for its reserve (what a takeover and the decisions of transactions in doubt would append). All
+/// hand the devices back.
 pub fn reopen<D: BlockDisk>(
     alloc: Global,
     disks: Disks<D>,
