@@ -1,0 +1,5 @@
+mod WorkedPaths
+pub mod AnswerLaws
+pub mod NumberLaws
+pub mod AskingLaws
+pub mod TextLaws

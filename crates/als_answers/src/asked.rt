@@ -1,0 +1,18 @@
+use als_record::Key;
+
+/// What a path asks for.
+#[derive(Clone, Copy, Debug, PartialEq, Eq)]
+pub enum Asked {
+    /// `/keys/P/S`: the value of slot S of page P. A slot past 255, which no page has, is 255.
+    Value(Key),
+    /// `/status`.
+    Status,
+    /// `/metrics`.
+    Metrics,
+    /// `/health`.
+    Health,
+    /// `/keys/P/S`, where P or S is no number below 2^32.
+    NoNumber,
+    /// Any other path.
+    Nothing,
+}
