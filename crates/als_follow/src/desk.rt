@@ -27,9 +27,16 @@ pub(crate) struct Desk<'a, R: Wait> {
     rt: &'a R,
     /// Redo is due from this many pending changes on, up to an eighth of it.
     deep: u64,
-    /// Log bytes from one checkpoint to the next. 0: none is due.
+    /// Log bytes from one checkpoint to the next. 0: none is due, also where the log is quiet.
     each: u64,
     pending: AtomicU64,
+    acknowledged: AtomicU64,
+    // How far the log was acknowledged when the flusher last looked whether it grows.
+    seen: AtomicU64,
+    // How far it was acknowledged at the last checkpoint of a quiet log.
+    covered: AtomicU64,
+    // The log is quiet: all that waits is redone, also shallow.
+    quiet: AtomicBool,
     // Whether redo is under way.
     lending: AtomicBool,
     // Passes since redo last went on.
@@ -60,6 +67,10 @@ impl<'a, R: Wait> Desk<'a, R> {
             deep: MUCH.min(DEEP * pages as u64),
             each,
             pending: AtomicU64::new(0),
+            acknowledged: AtomicU64::new(end.0),
+            seen: AtomicU64::new(end.0),
+            covered: AtomicU64::new(0),
+            quiet: AtomicBool::new(false),
             lending: AtomicBool::new(false),
             idle: AtomicU64::new(0),
             spent: AtomicBool::new(false),
@@ -100,13 +111,21 @@ impl<'a, R: Wait> Desk<'a, R> {
 
     /// The log is acknowledged so far.
     pub fn tell_acknowledged(&self, lsn: Lsn) {
+        if self.acknowledged.swap(lsn.0, Ordering::SeqCst) != lsn.0 {
+            self.quiet.store(false, Ordering::SeqCst);
+        }
         if self.each == 0 || lsn.0 < self.next.load(Ordering::SeqCst) {
             return;
         }
-        self.next
-            .store(lsn.0.saturating_add(self.each), Ordering::SeqCst);
-        self.flush_due.store(true, Ordering::SeqCst);
+        self.set_flush_due(lsn.0);
         self.upkeep.ring();
+    }
+
+    /// The pages are due to be written, with the log acknowledged so far.
+    fn set_flush_due(&self, lsn: u64) {
+        self.next
+            .store(lsn.saturating_add(self.each), Ordering::SeqCst);
+        self.flush_due.store(true, Ordering::SeqCst);
     }
 
     /// Nothing more is fed: what waits is redone to its end.
@@ -210,7 +229,12 @@ impl<'a, R: Wait> Desk<'a, R> {
         };
         let due = self.pending.load(Ordering::SeqCst) >= floor;
         self.lending.store(due, Ordering::SeqCst);
-        due || self.last.load(Ordering::SeqCst)
+        due || self.last.load(Ordering::SeqCst) || self.is_redo_of_quiet_due()
+    }
+
+    /// Whether the log is quiet and changes wait.
+    fn is_redo_of_quiet_due(&self) -> bool {
+        self.quiet.load(Ordering::SeqCst) && self.pending.load(Ordering::SeqCst) > 0
     }
 
     /// Notes that redo goes on.
@@ -227,9 +251,46 @@ impl<'a, R: Wait> Desk<'a, R> {
             self.checkpoint_due.store(true, Ordering::SeqCst);
             self.upkeep.ring();
         }
-        let due = self.wait_for(&self.flush_due);
+        let due = self.wait_for_flush();
         self.flushing.store(due, Ordering::SeqCst);
         due
+    }
+
+    /// Waits until a round over the dirty pages is due, and takes it up. It looks once a second
+    /// whether the log is quiet. False: the desk is closed.
+    fn wait_for_flush(&self) -> bool {
+        for _ in self.rt.forever() {
+            let count = self.upkeep.listen();
+            if self.is_closed() {
+                self.upkeep.leave();
+                return false;
+            }
+            if self.flush_due.swap(false, Ordering::SeqCst) {
+                self.upkeep.leave();
+                return true;
+            }
+            if !self.upkeep.doze(self.rt, count) {
+                self.look_whether_quiet();
+            }
+        }
+        unreachable!()
+    }
+
+    /// Nothing was due for a second. Where the log has not grown since the look before, and is past
+    /// the last checkpoint of a quiet log, all that waits is redone, and then the pages are due.
+    fn look_whether_quiet(&self) {
+        let lsn = self.acknowledged.load(Ordering::SeqCst);
+        let grows = self.seen.swap(lsn, Ordering::SeqCst) != lsn;
+        if self.each == 0 || grows || self.covered.load(Ordering::SeqCst) == lsn {
+            return;
+        }
+        if self.pending.load(Ordering::SeqCst) > 0 && !self.spent.load(Ordering::SeqCst) {
+            self.quiet.store(true, Ordering::SeqCst);
+            self.redo.ring();
+            return;
+        }
+        self.covered.store(lsn, Ordering::SeqCst);
+        self.set_flush_due(lsn);
     }
 
     /// Waits until this is due, and takes it up. False: the desk is closed.
