@@ -1,0 +1,142 @@
+ghost use Rattle.std.specs.Prelude.{◌≡◌, ℕ};
+ghost use Rattle.als_disk.specs.Slot.{IsSettled};
+ghost use Rattle.als_operate.specs.FaultNames.{kind_of};
+
+use als_ckpt::read_state;
+use als_disk::{BlockDisk, FileDisk};
+use als_engine::{CONTROL_BLOCKS, Config, Disks, Engine, Reader, Refused};
+use als_fault::FaultKind;
+use als_folder::{Devices, Fault as FolderFault, Folder, LOG_LIMIT, Part, Sizes, Trouble, Wrong};
+use als_operate::Fault;
+use std::fs::File;
+use std::rt::Files;
+use std::sync::Wait;
+
+/// The engine of the folder's database and its readers, or, where there is none, of a new one whose log
+/// device has so many blocks.
+pub(crate) fn start<R: AllocGlobal + Files<File = File> + Wait>(
+    rt: &R,
+    folder: &Folder,
+    config: Config,
+    log_blocks: u64,
+) -> Result<(Engine<FileDisk>, Vec<Reader>), Fault> {
+    if folder.is_kept(rt)? {
+        let devices = folder.open(rt)?;
+        open(rt, devices, config)
+    } else {
+        begin(rt, folder, config, log_blocks)
+    }
+}
+
+/// The engine of the database that these devices hold. Files that are too short for it are refused
+/// as damaged, before they are read further.
+fn open<R: AllocGlobal + Wait>(
+    rt: &R,
+    devices: Devices,
+    config: Config,
+) -> Result<(Engine<FileDisk>, Vec<Reader>), Fault>
+    requires { (k : ℕ) → IsSettled (⟦<FileDisk<File> as BlockDisk>⟧.slot devices.control k) }
+{
+    let mut devices = devices;
+    check_lengths(&mut devices, config.pages)?;
+    made_or_fault(Engine::open(rt.alloc(), rt, disks(devices), config))
+}
+
+/// Refuses files that are too short for a database of so many pages, and for the mark that its
+/// control block has.
+fn check_lengths(devices: &mut Devices, pages: u64) -> Result<(), Fault>
+    requires { (k : ℕ) → IsSettled (⟦<FileDisk<File> as BlockDisk>⟧.slot devices.old.control k) }
+{
+    let found = devices.sizes();
+    if found.control < CONTROL_BLOCKS {
+        return Err(damaged(Part::Control, Wrong::Short));
+    }
+    let Ok(count) = u32::try_from(pages) else {
+        return Ok(());
+    };
+    let control = CONTROL_BLOCKS;
+    match read_state(&mut devices.control, count, LOG_LIMIT) {
+        Ok(state) => {
+            let log = state.mark.0.div_ceil(512);
+            let needed = Sizes {
+                log,
+                control,
+                pages,
+            };
+            match found.shorter_than(needed) {
+                Some(part) => Err(damaged(part, Wrong::Short)),
+                None => Ok(()),
+            }
+        }
+        // What the files should have is not known: the engine tells what is wrong with them.
+        Err(_) => {
+            let log = 1;
+            let needed = Sizes {
+                log,
+                control,
+                pages,
+            };
+            match found.shorter_than(needed) {
+                Some(_) => Err(damaged(Part::Control, Wrong::BadControl)),
+                None => Ok(()),
+            }
+        }
+    }
+}
+
+/// The files are not those of one database.
+fn damaged(part: Part, wrong: Wrong) -> Fault {
+    Fault::Folder(FolderFault::Damaged(Trouble { part, wrong }))
+}
+
+/// The same refusal. Where a device failed, it tells which file that was, and what is wrong with it.
+pub(crate) fn named(folder: &Folder, fault: Fault) -> Fault
+    ensures { kind_of result ≡ kind_of fault }
+{
+    match (fault.kind(), folder.trouble()) {
+        (FaultKind::Device, Some(trouble)) => Fault::Folder(FolderFault::Device(trouble)),
+        _ => fault,
+    }
+}
+
+/// The engine of a new database. The folder has it once it is formatted.
+fn begin<R: AllocGlobal + Files<File = File> + Wait>(
+    rt: &R,
+    folder: &Folder,
+    config: Config,
+    log_blocks: u64,
+) -> Result<(Engine<FileDisk>, Vec<Reader>), Fault> {
+    let sizes = Sizes {
+        log: log_blocks,
+        control: CONTROL_BLOCKS,
+        pages: config.pages,
+    };
+    let devices = folder.lay_out(rt, sizes)?;
+    let made = made_or_fault(Engine::format(rt.alloc(), rt, disks(devices), config))?;
+    folder.keep(rt)?;
+    Ok(made)
+}
+
+/// The devices of a folder as an engine takes them.
+fn disks(devices: Devices) -> Disks<FileDisk> {
+    let (log, control, pages) = devices.into_parts();
+    Disks {
+        log,
+        control,
+        pages,
+    }
+}
+
+/// The engine and its readers, or why there is none. The devices are dropped on a refusal.
+fn made_or_fault(
+    made: Result<(Engine<FileDisk>, Vec<Reader>), Refused<FileDisk>>,
+) -> Result<(Engine<FileDisk>, Vec<Reader>), Fault> {
+    match made {
+        Ok(made) => Ok(made),
+        Err(refused) => {
+            let fault = refused.fault;
+            drop(refused);
+            Err(Fault::Refused(fault))
+        }
+    }
+}

@@ -1,0 +1,24 @@
+-- A run of events behind another one.
+use Rattle.std.proofs.Common.{List}
+use Rattle.als_engine.specs.declared.step.Step.{Step}
+use Rattle.als_engine.specs.declared.step.Reply.{Reply}
+use Rattle.als_engine.specs.Machine.{Machine}
+use Rattle.als_reach.specs.Reaching.{Run, Begins, Goes, Lending, Giving, Queries, Reaches}
+use Rattle.als_reach.proofs.Reached.{reaches-none, reaches-event, reaches-lend, reaches-give, reaches-query}
+
+pub reaches_self : (m : Machine) → Reaches m m
+reaches_self m = reaches-none m
+
+reaches_run : (a b c : Machine) (events : List Step) (replies : List Reply) → Reaches a b → Run b events replies c → Reaches a c
+reaches_run a b _ _ _ r Begins = r
+reaches_run a b _ _ _ r (Goes events replies mid run event reply new makes) =
+    reaches-event a mid event reply new (reaches_run a b mid events replies r run) makes
+reaches_run a b _ _ _ r (Lending events replies mid run page answer new makes) =
+    reaches-lend a mid page answer new (reaches_run a b mid events replies r run) makes
+reaches_run a b _ _ _ r (Giving events replies mid run lease answer new makes) =
+    reaches-give a mid lease answer new (reaches_run a b mid events replies r run) makes
+reaches_run a b _ _ _ r (Queries events replies mid run new asks) =
+    reaches-query a mid new (reaches_run a b mid events replies r run) asks
+
+pub reaches_both : (a b c : Machine) → Reaches a b → Reaches b c → Reaches a c
+reaches_both a b c r s = reaches_run a b c s.events s.replies r s.run

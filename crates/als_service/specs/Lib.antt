@@ -1,0 +1,4 @@
+pub mod Pauses
+pub mod Losses
+pub mod Sessions
+pub mod Met

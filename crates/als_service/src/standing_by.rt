@@ -1,0 +1,244 @@
+use crate::heard::Heard;
+use crate::keeping::{Kept, Pace, keep_following};
+use crate::outages::Outages;
+use crate::primaries::{Dialled, Primaries};
+use crate::seats::{new_board, serve_reads};
+use crate::telling::Telling;
+use als_drive::{Progress, recover_telling};
+use als_engine::Reader;
+use als_follow::{Followed, follow_beside};
+use als_holding::{Held, hold};
+use als_operate::{Fault, Following, conclude, follow};
+use als_serve::{Servers, listen};
+use als_share::Counts;
+use als_standing::{Board, State};
+use std::alloc::Global;
+use std::fs::File;
+use std::io::{Read, Write};
+use std::net::{Net, TcpListener, TcpStream};
+use std::random::RandomSource;
+use std::rt::Files;
+use std::sync::{Arc, Wait};
+use std::thread::Threads;
+use std::time::Clock;
+
+/// The bytes of a megabyte.
+const MEGABYTE: u64 = 1_048_576;
+
+/// What a standby does beside following one session.
+#[derive(Clone, Copy, Debug)]
+pub struct Service<'a> {
+    /// Threads that redo pages; at least one does.
+    pub workers: usize,
+    /// Where its reads are answered over HTTP. None: nowhere.
+    pub serve: Option<&'a str>,
+    /// Threads that answer, 1 to 8.
+    pub readers: u64,
+    /// It follows one session after another, for ever.
+    pub keep: bool,
+}
+
+/// The standby of a folder that answers reads over HTTP, follows one session or one after another, and
+/// then prints `end=E ack=A`. Its reads are answered from the moment that its folder is held: 503 until
+/// what that holds is redone.
+///
+/// As `als_operate::prepare` says. Stream: the address can't be listened at, and no file was touched; or
+/// the primary does not answer. Then as a session ends; with `keep` a lost connection does not end it.
+pub fn standby<
+    R: AllocGlobal
+        + Files<File = File>
+        + Net<Listener = TcpListener, Stream = TcpStream>
+        + Threads
+        + Wait
+        + Sync
+        + Clock
+        + RandomSource
+        + Clone
+        + Send
+        + Drop
+        + 'static,
+    P: Progress + Outages,
+    O: Write,
+>(
+    rt: &R,
+    following: Following<'_>,
+    service: Service<'_>,
+    progress: &mut P,
+    output: &mut O,
+) -> Result<(), Fault> {
+    let listener = match service.serve {
+        Some(addr) => Some(listen(rt, rt.alloc(), addr)?),
+        None => None,
+    };
+    // A standby that is kept waits for its primary, also the first time.
+    let held = hold(rt, following, service.readers, !service.keep)?;
+    let pace = Pace {
+        workers: service.workers,
+        each: following.checkpoint_mb.saturating_mul(MEGABYTE),
+    };
+    stand(
+        rt,
+        held,
+        listener,
+        following,
+        pace,
+        service.keep,
+        progress,
+        output,
+    )
+}
+
+/// Answers reads and follows, over a folder that is held.
+fn stand<
+    R: AllocGlobal
+        + Files<File = File>
+        + Net<Listener = TcpListener, Stream = TcpStream>
+        + Threads
+        + Wait
+        + Sync
+        + Clock
+        + RandomSource
+        + Clone
+        + Send
+        + Drop
+        + 'static,
+    P: Progress + Outages,
+    O: Write,
+>(
+    rt: &R,
+    held: Held<TcpStream>,
+    listener: Option<TcpListener>,
+    following: Following<'_>,
+    pace: Pace,
+    keep: bool,
+    progress: &mut P,
+    output: &mut O,
+) -> Result<(), Fault> {
+    let Held {
+        folder,
+        engine,
+        readers,
+        answered,
+    } = held;
+    let (board, servers) = answer(rt, listener, readers)?;
+    let mut primaries = Dialled::new(rt, following, answered);
+    let Kept {
+        events: engine,
+        ended,
+    } = drive(rt, engine, pace, keep, &mut primaries, &board, progress);
+    board.set_state(State::Stopped);
+    close(rt, servers);
+    conclude(&folder, &engine, ended, output)
+}
+
+/// A board, and, where somebody may come to ask, the threads that answer by it.
+fn answer<R: AllocGlobal + Threads + Clock + RandomSource + Clone + Send + Drop + 'static>(
+    rt: &R,
+    listener: Option<TcpListener>,
+    readers: Vec<Reader>,
+) -> Result<(Arc<Board, Global>, Option<Servers>), Fault> {
+    let alloc = rt.alloc();
+    let board = new_board(alloc)?;
+    let servers = match listener {
+        Some(listener) => Some(serve_reads(rt, alloc, &listener, &board, readers)?),
+        None => {
+            drop(readers);
+            None
+        }
+    };
+    Ok((board, servers))
+}
+
+/// Ends the threads that answer, if there are any.
+fn close<R: Threads>(rt: &R, servers: Option<Servers>) {
+    if let Some(servers) = servers {
+        servers.close(rt);
+    }
+}
+
+/// Redoes what the engine holds, and then follows.
+fn drive<
+    E: Counts + Send + Drop,
+    R: AllocGlobal + Threads + Wait + Sync + Clock,
+    S: Read + Write + Drop,
+    L: Primaries<S>,
+    P: Progress + Outages,
+>(
+    rt: &R,
+    engine: E,
+    pace: Pace,
+    keep: bool,
+    primaries: &mut L,
+    board: &Board,
+    progress: &mut P,
+) -> Kept<E, Result<(), Fault>> {
+    let mut events = Telling::new(board, engine);
+    let ended = match recover_telling(rt, &mut events, progress) {
+        Ok(()) => None,
+        Err(fault) => Some(Fault::Refused(fault)),
+    };
+    if let Some(fault) = ended {
+        return Kept {
+            events: events.end(),
+            ended: Err(fault),
+        };
+    }
+    board.set_state(State::Waiting);
+    if keep {
+        let Kept { events, ended } = keep_following(
+            rt,
+            rt.alloc(),
+            events,
+            pace,
+            primaries,
+            board,
+            progress,
+        );
+        Kept {
+            events: events.end(),
+            ended: Err(ended),
+        }
+    } else {
+        let Kept { events, ended } = follow_once(rt, events, pace, primaries, board);
+        Kept {
+            events: events.end(),
+            ended,
+        }
+    }
+}
+
+/// Connects to the primary and follows one session. Where a thread can't be started, all is done in
+/// this one.
+fn follow_once<
+    E: Counts + Send + Drop,
+    R: AllocGlobal + Threads + Wait + Sync + Clock,
+    S: Read + Write + Drop,
+    L: Primaries<S>,
+>(rt: &R, events: E, pace: Pace, primaries: &mut L, board: &Board) -> Kept<E, Result<(), Fault>> {
+    let alloc = rt.alloc();
+    let (reader, writer) = match primaries.next() {
+        Ok(streams) => streams,
+        Err(e) => {
+            return Kept {
+                events,
+                ended: Err(Fault::from(e)),
+            };
+        }
+    };
+    let heard = Heard::new(reader, board, rt);
+    let Followed {
+        mut engine,
+        mut reader,
+        mut writer,
+        ended,
+    } = follow_beside(rt, alloc, events, pace.workers, pace.each, heard, writer);
+    let ended = match ended {
+        Some(ended) => ended,
+        None => follow(rt, alloc, &mut engine, pace.each, &mut reader, &mut writer),
+    };
+    primaries.part(reader.end(), writer);
+    Kept {
+        events: engine,
+        ended,
+    }
+}
