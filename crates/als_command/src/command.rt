@@ -10,14 +10,16 @@ pub enum Command<'a> {
     Sim {
         explain: bool,
     },
-    /// A log file to one follower.
+    /// A log file to one follower, or to one after another.
     Ship {
         log: &'a str,
         listen: &'a str,
         timeout: u64,
+        keep: bool,
+        follow: bool,
         explain: bool,
     },
-    /// One session as the standby of a folder.
+    /// One session as the standby of a folder, or one after another.
     Standby {
         dir: &'a str,
         from: &'a str,
@@ -26,6 +28,9 @@ pub enum Command<'a> {
         checkpoint_mb: u64,
         workers: u64,
         timeout: u64,
+        keep: bool,
+        serve: Option<&'a str>,
+        readers: u64,
         explain: bool,
     },
     /// A standby to a primary.

@@ -46,6 +46,14 @@ pub(crate) const LINES: [Line; 10] = [
                 help: "Where the follower comes to",
             },
             TIMEOUT,
+            Word::Flag {
+                name: "keep",
+                help: "Serve one follower after another",
+            },
+            Word::Flag {
+                name: "follow",
+                help: "Wait at the end of FILE for it to grow",
+            },
             EXPLAIN,
         ],
         choice: &[],
@@ -86,6 +94,21 @@ pub(crate) const LINES: [Line; 10] = [
                 is_wanted: false,
             },
             TIMEOUT,
+            Word::Flag {
+                name: "keep",
+                help: "Follow one session after another, for ever",
+            },
+            Word::Free {
+                name: "serve",
+                value: "ADDR",
+                help: "Answer reads over HTTP there: a port of the loopback, or HOST:PORT",
+            },
+            Word::Long {
+                name: "readers",
+                value: "R",
+                help: "Threads that answer them, 1 to 8 [default: 2]",
+                is_wanted: false,
+            },
             EXPLAIN,
         ],
         choice: &[],

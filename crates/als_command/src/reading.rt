@@ -15,6 +15,9 @@ const CHECKPOINT_MB: u64 = 4;
 /// The threads that redo pages, where the command line does not say.
 const WORKERS: u64 = 4;
 
+/// The threads that answer reads, where the command line does not say.
+const READERS: u64 = 2;
+
 /// The seconds that the other end may be silent, where the command line does not say.
 const TIMEOUT: u64 = 60;
 
@@ -89,6 +92,8 @@ fn ship<'a>(matches: &ArgMatches<'a>) -> Option<Command<'a>> {
         log: matches.get_str("log")?,
         listen: matches.get_str("listen")?,
         timeout: matches.get_one("timeout").unwrap_or(TIMEOUT),
+        keep: matches.get_flag("keep"),
+        follow: matches.get_flag("follow"),
         explain: matches.get_flag("explain"),
     })
 }
@@ -102,6 +107,9 @@ fn standby<'a>(matches: &ArgMatches<'a>) -> Option<Command<'a>> {
         checkpoint_mb: matches.get_one("checkpoint-mb").unwrap_or(CHECKPOINT_MB),
         workers: matches.get_one("workers").unwrap_or(WORKERS),
         timeout: matches.get_one("timeout").unwrap_or(TIMEOUT),
+        keep: matches.get_flag("keep"),
+        serve: matches.get_str("serve"),
+        readers: matches.get_one("readers").unwrap_or(READERS),
         explain: matches.get_flag("explain"),
     })
 }

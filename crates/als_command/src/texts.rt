@@ -86,6 +86,9 @@ asks for no log is passed over.
 Writes standard output: `sent=B`, the log bytes that it sent. With --explain, or on a
 terminal, standard error says what was passed over, and up to where the follower has
 acknowledged the log: no crash of it loses what is below.
+With --keep it serves one follower after another, for ever, a line for each session that came
+to the end; what ends a session early is said on standard error. With --follow a session waits
+at the end of FILE for it to grow; 44 where it shrank. With either FILE is read piece by piece.
 
 Example:
   printf 'pages 4\\nu 1 0 0 - aa\\ncommit 1\\nend 1\\n' | als make > primary.log
@@ -114,6 +117,12 @@ write pages and checkpoints; with 0 that one thread does all.
 Writes standard output: `end=E ack=A`, where the held log ends, and up to where no crash
 can lose it.
 To follow on, run it again: it goes on where it was left, also after a crash.
+With --keep it does so itself: after the end of the log, 43 or 44 it connects again, after a
+pause of at most 5 s; any other refusal ends it. With --explain, or on a terminal, standard
+error says once a minute at most that nothing comes.
+With --serve it answers over HTTP: GET /keys/P/S, /status, /metrics and /health. Nothing is
+encrypted, and nobody is asked who he is.
+With --keep or --serve one thread redoes at least: --workers 0 is 1.
 
 Example:
   mkdir standby
@@ -126,9 +135,12 @@ Exit statuses: 0 done, 2 a fault of the command line, 3 `als: refused N Name`:
   30  DIR or a file of it failed, or another program has DIR; or control.blk is missing,
       but log.blk or pages.blk has data: nothing was touched
   34  DIR has a database of another number of pages, or a damaged one (1, 33 too)
-  37  N is not 1 to 4,096, B not 1 to 4,194,304, or W not 0 to 8; no file was touched
+  37  N is not 1 to 4,096, B not 1 to 4,194,304, W not 0 to 8, or R not 1 to 8; no file
+      was touched
   40, 41 what came is no frame that may come
-  43  the primary went away; it does so too where its log is another or a shorter one
+  43  the primary went away; it does so too where its log is another or a shorter one.
+      With --keep: 1, where it does so before it has sent anything of its log, to DIR with
+      an empty database: then its log has another number of pages than N
   44  nobody serves at ADDR, the network or standard output failed, or the primary was
       silent for longer than SECONDS: run it again";
 

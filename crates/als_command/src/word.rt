@@ -33,6 +33,12 @@ pub(crate) enum Word {
         value: &'static str,
         help: &'static str,
     },
+    /// `--name VALUE`, a text that may be given.
+    Free {
+        name: &'static str,
+        value: &'static str,
+        help: &'static str,
+    },
     /// `--name VALUE`, a number of 32 bits.
     Short {
         name: &'static str,
@@ -62,6 +68,7 @@ impl Word {
                 place(alloc, name, value, help).value_parser(value_parser!(u8))
             }
             Word::Text { name, value, help } => named(alloc, name, value, help).required(true),
+            Word::Free { name, value, help } => named(alloc, name, value, help),
             Word::Short {
                 name,
                 value,

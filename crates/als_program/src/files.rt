@@ -13,16 +13,20 @@ use als_engine::Decision;
 use als_fault::FaultKind;
 use als_folder::Trouble;
 use als_follow::standby as standby_with_workers;
+use als_growing::{Lasting, ship_on};
 use als_inspect::{Wanted, dump, get, status, verify};
 use als_operate::{Following, Shipping, Verdict, resolve, ship, standby, takeover};
 use als_record::{Key, Lsn, TransId};
+use als_service::{Service, standby as serve_standby};
 use std::fs;
 use std::fs::File;
 use std::io::Write;
-use std::net::Net;
+use std::net::{Net, TcpListener, TcpStream};
+use std::random::RandomSource;
 use std::rt::Files;
 use std::sync::Wait;
 use std::thread::Threads;
+use std::time::Clock;
 
 /// The most threads that redo pages beside the one that follows.
 const WORKER_LIMIT: u64 = 8;
@@ -30,7 +34,18 @@ const WORKER_LIMIT: u64 = 8;
 /// A command on files, that reads no standard input. More is said of a refusal where that was asked
 /// for, or a person sees it.
 pub fn operate<
-    R: AllocGlobal + Files<File = File> + Net + Threads + Wait + Sync,
+    R: AllocGlobal
+        + Files<File = File>
+        + Net<Listener = TcpListener, Stream = TcpStream>
+        + Threads
+        + Wait
+        + Sync
+        + Clock
+        + RandomSource
+        + Clone
+        + Send
+        + Drop
+        + 'static,
     O: Write,
     E: Write,
 >(
@@ -63,19 +78,30 @@ pub fn operate<
 }
 
 /// Does what is asked for. A person who sees standard error is told how a long redo goes on.
-fn attempt<R: AllocGlobal + Files<File = File> + Net + Threads + Wait + Sync, O: Write, E: Write>(
-    rt: &R,
-    seen: bool,
-    command: Command,
-    output: &mut O,
-    errors: &mut E,
-) -> Result<(), Refusal> {
+fn attempt<
+    R: AllocGlobal
+        + Files<File = File>
+        + Net<Listener = TcpListener, Stream = TcpStream>
+        + Threads
+        + Wait
+        + Sync
+        + Clock
+        + RandomSource
+        + Clone
+        + Send
+        + Drop
+        + 'static,
+    O: Write,
+    E: Write,
+>(rt: &R, seen: bool, command: Command, output: &mut O, errors: &mut E) -> Result<(), Refusal> {
     match command {
         Command::Make { .. } | Command::Sim { .. } => {}
         Command::Ship {
             log,
             listen,
             timeout,
+            keep,
+            follow,
             explain,
         } => {
             let shipping = Shipping {
@@ -84,7 +110,15 @@ fn attempt<R: AllocGlobal + Files<File = File> + Net + Threads + Wait + Sync, O:
                 timeout,
             };
             let mut lines = MeetingLines::new(errors, seen || explain);
-            ship(rt, shipping, &mut lines, output)?
+            if keep || follow {
+                let lasting = Lasting {
+                    keep,
+                    grows: follow,
+                };
+                ship_on(rt, shipping, lasting, &mut lines, output)?
+            } else {
+                ship(rt, shipping, &mut lines, output)?
+            }
         }
         Command::Standby {
             dir,
@@ -94,7 +128,10 @@ fn attempt<R: AllocGlobal + Files<File = File> + Net + Threads + Wait + Sync, O:
             checkpoint_mb,
             workers,
             timeout,
-            ..
+            keep,
+            serve,
+            readers,
+            explain,
         } => {
             let following = Following {
                 dir,
@@ -104,11 +141,21 @@ fn attempt<R: AllocGlobal + Files<File = File> + Net + Threads + Wait + Sync, O:
                 checkpoint_mb,
                 timeout,
             };
-            let mut lines = RedoLines::new(errors, seen);
-            stand_by(rt, following, workers, &mut lines, output)?
+            let mut lines = RedoLines::new(errors, seen, explain);
+            if keep || serve.is_some() {
+                let service = Service {
+                    workers: workers_of(workers)?,
+                    serve,
+                    readers,
+                    keep,
+                };
+                serve_standby(rt, following, service, &mut lines, output)?
+            } else {
+                stand_by(rt, following, workers, &mut lines, output)?
+            }
         }
         Command::Takeover { dir, .. } => {
-            let mut lines = RedoLines::new(&mut *errors, seen);
+            let mut lines = RedoLines::new(&mut *errors, seen, false);
             let doubts = takeover(rt, dir, &mut lines, output)?;
             tell_doubts(dir, doubts.as_slice(), output, errors)?
         }
@@ -118,7 +165,7 @@ fn attempt<R: AllocGlobal + Files<File = File> + Net + Threads + Wait + Sync, O:
             is_commit,
             ..
         } => {
-            let mut lines = RedoLines::new(errors, seen);
+            let mut lines = RedoLines::new(errors, seen, false);
             resolve(rt, verdict(dir, trans, is_commit), &mut lines, output)?
         }
         Command::Dump {
@@ -143,7 +190,18 @@ fn attempt<R: AllocGlobal + Files<File = File> + Net + Threads + Wait + Sync, O:
 /// Follows a session with this many threads that redo; with none in the calling thread alone.
 /// BadConfig: more than `WORKER_LIMIT`.
 fn stand_by<
-    R: AllocGlobal + Files<File = File> + Net + Threads + Wait + Sync,
+    R: AllocGlobal
+        + Files<File = File>
+        + Net<Listener = TcpListener, Stream = TcpStream>
+        + Threads
+        + Wait
+        + Sync
+        + Clock
+        + RandomSource
+        + Clone
+        + Send
+        + Drop
+        + 'static,
     P: Progress,
     O: Write,
 >(
@@ -166,6 +224,17 @@ fn stand_by<
         }
     }
     Ok(())
+}
+
+/// How many threads redo. BadConfig: more than `WORKER_LIMIT`.
+fn workers_of(workers: u64) -> Result<usize, Refusal> {
+    if workers > WORKER_LIMIT {
+        return Err(Refusal {
+            kind: FaultKind::BadConfig,
+            trouble: None,
+        });
+    }
+    Ok(workers as usize)
 }
 
 /// A line for each transaction that is in doubt, behind what was printed.

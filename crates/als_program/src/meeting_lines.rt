@@ -1,3 +1,4 @@
+use als_growing::Sessions;
 use als_operate::Meetings;
 use als_record::Lsn;
 use als_ship::Fault;
@@ -39,5 +40,12 @@ impl<W: Write> Meetings for MeetingLines<W> {
                 None => writeln!(self.errors, "als: the follower has acknowledged nothing"),
             };
         }
+    }
+}
+
+// What ends a session early is said to everybody: the shipper goes on.
+impl<W: Write> Sessions for MeetingLines<W> {
+    fn ended(&mut self, fault: Fault) {
+        let _ = writeln!(self.errors, "als: a session ended early: {fault}");
     }
 }

@@ -1,4 +1,6 @@
 use als_drive::Progress;
+use als_operate::Fault;
+use als_service::Outages;
 use std::io::Write;
 
 /// Nothing is said of a redo of fewer changes.
@@ -7,11 +9,14 @@ const LONG: u64 = 100_000;
 /// Into so many parts a long redo is divided.
 const PARTS: u64 = 20;
 
-/// Says how a long redo goes on: a line at its beginning, and one after each part of it at most.
+/// Says how a long redo goes on, a line at its beginning and one after each part of it at most; and
+/// that nobody sends.
 #[derive(Drop)]
 pub struct RedoLines<W: Write> {
     errors: W,
     pace: Pace,
+    /// Whether it is said that nobody sends.
+    tells_outages: bool,
 }
 
 /// When a line is due.
@@ -26,10 +31,14 @@ enum Pace {
 }
 
 impl<W: Write> RedoLines<W> {
-    /// Lines for a person, if one sees them.
-    pub fn new(errors: W, seen: bool) -> RedoLines<W> {
+    /// Lines for a person, if one sees them. That nobody sends is also said to who asked for it.
+    pub fn new(errors: W, seen: bool, asked: bool) -> RedoLines<W> {
         let pace = if seen { Pace::First } else { Pace::Never };
-        RedoLines { errors, pace }
+        RedoLines {
+            errors,
+            pace,
+            tells_outages: seen || asked,
+        }
     }
 }
 
@@ -60,5 +69,24 @@ impl<W: Write> Progress for RedoLines<W> {
             // Where it can't be said, the redo goes on.
             let _ = writeln!(self.errors, "als: redo: {changes} changes wait");
         }
+    }
+}
+
+// Where it can't be said, the standby waits all the same.
+impl<W: Write> Outages for RedoLines<W> {
+    fn outage(&mut self, fault: Option<Fault>, millis: u64) {
+        if !self.tells_outages {
+            return;
+        }
+        let _ = match fault {
+            Some(fault) => writeln!(
+                self.errors,
+                "als: no primary: {fault}; it is asked again in {millis} ms"
+            ),
+            None => writeln!(
+                self.errors,
+                "als: nothing new of the primary; it is asked again in {millis} ms"
+            ),
+        };
     }
 }

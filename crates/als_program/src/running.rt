@@ -10,14 +10,27 @@ use als_command::{Command, NoCommand, args};
 use std::convert::AsStr;
 use std::fs::File;
 use std::io::{BufWriter, Read, Write};
-use std::net::Net;
+use std::net::{Net, TcpListener, TcpStream};
+use std::random::RandomSource;
 use std::rt::Files;
 use std::sync::Wait;
 use std::thread::Threads;
+use std::time::Clock;
 
 /// All of the program, where no stream is a terminal.
 pub fn program<
-    R: AllocGlobal + Files<File = File> + Net + Threads + Wait + Sync,
+    R: AllocGlobal
+        + Files<File = File>
+        + Net<Listener = TcpListener, Stream = TcpStream>
+        + Threads
+        + Wait
+        + Sync
+        + Clock
+        + RandomSource
+        + Clone
+        + Send
+        + Drop
+        + 'static,
     S: AsStr,
     I: Read + Drop,
     O: Write + Drop,
@@ -37,7 +50,18 @@ pub fn program<
 /// answers the exit status: 0, 2 for a fault of what the caller wrote, 3 for a refusal. What it has
 /// to say of itself goes to `errors`.
 pub fn program_on<
-    R: AllocGlobal + Files<File = File> + Net + Threads + Wait + Sync,
+    R: AllocGlobal
+        + Files<File = File>
+        + Net<Listener = TcpListener, Stream = TcpStream>
+        + Threads
+        + Wait
+        + Sync
+        + Clock
+        + RandomSource
+        + Clone
+        + Send
+        + Drop
+        + 'static,
     S: AsStr,
     I: Read + Drop,
     O: Write + Drop,
@@ -54,7 +78,18 @@ pub fn program_on<
 
 /// Runs the command over a buffer, which is written out also where the command fails.
 fn execute<
-    R: AllocGlobal + Files<File = File> + Net + Threads + Wait + Sync,
+    R: AllocGlobal
+        + Files<File = File>
+        + Net<Listener = TcpListener, Stream = TcpStream>
+        + Threads
+        + Wait
+        + Sync
+        + Clock
+        + RandomSource
+        + Clone
+        + Send
+        + Drop
+        + 'static,
     S: AsStr,
     I: Read + Drop,
     O: Write + Drop,
@@ -76,7 +111,18 @@ fn execute<
 }
 
 fn obey<
-    R: AllocGlobal + Files<File = File> + Net + Threads + Wait + Sync,
+    R: AllocGlobal
+        + Files<File = File>
+        + Net<Listener = TcpListener, Stream = TcpStream>
+        + Threads
+        + Wait
+        + Sync
+        + Clock
+        + RandomSource
+        + Clone
+        + Send
+        + Drop
+        + 'static,
     S: AsStr,
     I: Read + Drop,
     O: Write,

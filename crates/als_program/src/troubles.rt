@@ -26,7 +26,9 @@ fn say<W: Write>(errors: &mut W, trouble: Trouble) -> io::Result<()> {
         Wrong::Missing => "the file is missing, or a link that leads nowhere",
         Wrong::NoFolder => "this is no folder",
         Wrong::Denied => "it may not be opened or written",
-        Wrong::Locked => "another program has the folder",
+        Wrong::Locked => {
+            "another program has the folder; a standby with --serve answers GET /status and /keys/P/S"
+        }
         Wrong::ReadOnly => "its file system is read-only",
         Wrong::Kept => "there is a database already",
         Wrong::NoControl => {
