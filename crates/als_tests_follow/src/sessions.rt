@@ -10,7 +10,7 @@ use std::sync::Wait;
 use std::thread::Threads;
 
 /// A checkpoint is due each so many bytes of log: after each frame.
-const EACH: u64 = 8192;
+pub const EACH: u64 = 8192;
 
 /// Follows a session with so many workers; with 0 in one thread, as `als standby --workers 0`.
 pub fn follow_with<
@@ -19,11 +19,29 @@ pub fn follow_with<
     I: Read + Drop,
     O: Write + Drop,
 >(rt: &R, alloc: Global, engine: E, workers: usize, reader: I, writer: O) -> Followed<E, I, O> {
+    follow_each(rt, alloc, engine, workers, EACH, reader, writer)
+}
+
+/// The same, with a checkpoint each so many bytes of log.
+pub fn follow_each<
+    E: Counts + Send + Drop,
+    R: Threads + Wait + Sync,
+    I: Read + Drop,
+    O: Write + Drop,
+>(
+    rt: &R,
+    alloc: Global,
+    engine: E,
+    workers: usize,
+    each: u64,
+    reader: I,
+    writer: O,
+) -> Followed<E, I, O> {
     if workers > 0 {
-        return follow_beside(rt, alloc, engine, workers, EACH, reader, writer);
+        return follow_beside(rt, alloc, engine, workers, each, reader, writer);
     }
     let (mut engine, mut reader, mut writer) = (engine, reader, writer);
-    let ended = Some(follow(rt, alloc, &mut engine, EACH, &mut reader, &mut writer));
+    let ended = Some(follow(rt, alloc, &mut engine, each, &mut reader, &mut writer));
     Followed {
         engine,
         reader,

@@ -1,10 +1,12 @@
 use crate::row::{FED, Row, WORLD, run_row, run_scripts};
 use std::fs::File;
-use std::net::Net;
+use std::net::{Net, TcpListener, TcpStream};
 use std::process::Abort;
+use std::random::RandomSource;
 use std::rt::Files;
 use std::sync::Wait;
 use std::thread::Threads;
+use std::time::Clock;
 
 /// Scripts behind that.
 const FORCED: [(&str, &str); 11] = [
@@ -224,9 +226,21 @@ fn devices_are_written(rt: HostRuntime) {
 
 /// Records that only the log device has are read from it; a read that fails is refused alone, and
 /// changes nothing.
-fn reads_fail<R: Abort + AllocGlobal + Files<File = File> + Net + Threads + Wait + Sync>(
-    rt: &R,
-) -> Option<()> {
+fn reads_fail<
+    R: Abort
+        + AllocGlobal
+        + Files<File = File>
+        + Net<Listener = TcpListener, Stream = TcpStream>
+        + Threads
+        + Wait
+        + Sync
+        + Clock
+        + RandomSource
+        + Clone
+        + Send
+        + Drop
+        + 'static,
+>(rt: &R) -> Option<()> {
     let mut script = String::from_str(rt.alloc(), WORLD).ok()?;
     for trans in 1..21 {
         writeln!(script, "rollback {trans}").ok()?;

@@ -1,10 +1,12 @@
 use als_program::program;
 use std::fs::File;
-use std::net::Net;
+use std::net::{Net, TcpListener, TcpStream};
 use std::process::Abort;
+use std::random::RandomSource;
 use std::rt::Files;
 use std::sync::Wait;
 use std::thread::Threads;
+use std::time::Clock;
 
 /// A request for help goes to standard output and ends with 0; it needs no input.
 #[test]
@@ -25,6 +27,11 @@ fn help_is_written(rt: HostRuntime) {
         &["als", "standby", "--help"],
         "0 follows in one thread [default: 4]",
     );
+    asks(&rt, &["als", "ship", "--help"], "      --keep");
+    asks(&rt, &["als", "help", "ship"], "      --follow");
+    asks(&rt, &["als", "standby", "--help"], "      --keep");
+    asks(&rt, &["als", "help", "standby"], "      --serve <ADDR>");
+    asks(&rt, &["als", "standby", "-h"], "--readers <R>");
     for command in [
         "make", "sim", "standby", "takeover", "resolve", "dump", "verify", "status", "get",
     ] {
@@ -87,25 +94,56 @@ fn faults_are_told(rt: HostRuntime) {
             &["als", "standby", "--workers", workers],
             "--workers <W>",
         );
+        errs(
+            &rt,
+            &["als", "standby", "--readers", workers],
+            "--readers <R>",
+        );
     }
+    errs(&rt, &["als", "standby", "--serve"], "--serve <ADDR>");
+    errs(
+        &rt,
+        &["als", "ship", "--keep", "--keep"],
+        "cannot be used multiple times",
+    );
 }
 
-fn asks<R: Abort + AllocGlobal + Files<File = File> + Net + Threads + Wait + Sync>(
-    rt: &R,
-    words: &[&str],
-    part: &str,
-) {
+fn asks<
+    R: Abort
+        + AllocGlobal
+        + Files<File = File>
+        + Net<Listener = TcpListener, Stream = TcpStream>
+        + Threads
+        + Wait
+        + Sync
+        + Clock
+        + RandomSource
+        + Clone
+        + Send
+        + Drop
+        + 'static,
+>(rt: &R, words: &[&str], part: &str) {
     assert!(rt;
         answers(rt, words, 0, part) || answers(rt, words, 0, part),
         "{part}"
     );
 }
 
-fn errs<R: Abort + AllocGlobal + Files<File = File> + Net + Threads + Wait + Sync>(
-    rt: &R,
-    words: &[&str],
-    part: &str,
-) {
+fn errs<
+    R: Abort
+        + AllocGlobal
+        + Files<File = File>
+        + Net<Listener = TcpListener, Stream = TcpStream>
+        + Threads
+        + Wait
+        + Sync
+        + Clock
+        + RandomSource
+        + Clone
+        + Send
+        + Drop
+        + 'static,
+>(rt: &R, words: &[&str], part: &str) {
     assert!(rt;
         answers(rt, words, 2, part) || answers(rt, words, 2, part),
         "{part}"
@@ -114,12 +152,20 @@ fn errs<R: Abort + AllocGlobal + Files<File = File> + Net + Threads + Wait + Syn
 
 /// Whether a run without input ends with this status and writes one text, with this part in it: to
 /// standard output where it ends well, else to standard error.
-fn answers<R: AllocGlobal + Files<File = File> + Net + Threads + Wait + Sync>(
-    rt: &R,
-    words: &[&str],
-    wanted: u8,
-    part: &str,
-) -> bool {
+fn answers<
+    R: AllocGlobal
+        + Files<File = File>
+        + Net<Listener = TcpListener, Stream = TcpStream>
+        + Threads
+        + Wait
+        + Sync
+        + Clock
+        + RandomSource
+        + Clone
+        + Send
+        + Drop
+        + 'static,
+>(rt: &R, words: &[&str], wanted: u8, part: &str) -> bool {
     let mut output = Vec::new(rt.alloc());
     let mut errors = Vec::new(rt.alloc());
     let status = program(rt, words, std::io::empty(), &mut output, &mut errors);

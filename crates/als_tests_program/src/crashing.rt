@@ -1,10 +1,12 @@
 use crate::row::{joined, run_scripts};
 use std::fs::File;
-use std::net::Net;
+use std::net::{Net, TcpListener, TcpStream};
 use std::process::Abort;
+use std::random::RandomSource;
 use std::rt::Files;
 use std::sync::Wait;
 use std::thread::Threads;
+use std::time::Clock;
 
 /// A transaction that is committed and one that is not, under a takeover.
 const SEALED: (&str, &str) = (
@@ -259,12 +261,21 @@ show log 166
 );
 
 /// Takes a takeover on that crashed, whichever candidates the devices keep.
-fn take_on<R: Abort + AllocGlobal + Files<File = File> + Net + Threads + Wait + Sync>(
-    rt: &R,
-    begun: (&str, &str),
-    undone: &[(&str, &str)],
-    ending: (&str, &str),
-) {
+fn take_on<
+    R: Abort
+        + AllocGlobal
+        + Files<File = File>
+        + Net<Listener = TcpListener, Stream = TcpStream>
+        + Threads
+        + Wait
+        + Sync
+        + Clock
+        + RandomSource
+        + Clone
+        + Send
+        + Drop
+        + 'static,
+>(rt: &R, begun: (&str, &str), undone: &[(&str, &str)], ending: (&str, &str)) {
     for (lines, output) in undone {
         let output = joined(rt, output, ending.1);
         for kept in [" old\n", " new\n"] {

@@ -2,11 +2,13 @@ use crate::folder::Folder;
 use crate::following::TEXT;
 use als_program::program;
 use std::fs::{File, OpenOptions};
-use std::net::Net;
+use std::net::{Net, TcpListener, TcpStream};
 use std::process::Abort;
+use std::random::RandomSource;
 use std::rt::Files;
 use std::sync::Wait;
 use std::thread::Threads;
+use std::time::Clock;
 use std::{fs, io};
 
 /// The files of the folder that is damaged.
@@ -35,11 +37,20 @@ struct Refusal<'a> {
 }
 
 /// Whether the program prints this, is refused so, and says no more.
-fn is_told<R: AllocGlobal + Files<File = File> + Net + Threads + Wait + Sync>(
-    rt: &R,
-    words: &[&str],
-    wanted: Refusal,
-) -> bool {
+fn is_told<
+    R: AllocGlobal
+        + Files<File = File>
+        + Net<Listener = TcpListener, Stream = TcpStream>
+        + Threads
+        + Wait
+        + Sync
+        + Clock
+        + RandomSource
+        + Clone
+        + Send
+        + Drop
+        + 'static,
+>(rt: &R, words: &[&str], wanted: Refusal) -> bool {
     let mut output = Vec::new(rt.alloc());
     let mut errors = Vec::new(rt.alloc());
     let status = program(rt, words, io::empty(), &mut output, &mut errors);
@@ -50,11 +61,20 @@ fn is_told<R: AllocGlobal + Files<File = File> + Net + Threads + Wait + Sync>(
 }
 
 /// A command is refused so, and with `--explain` more is said. `None`: allocation failed.
-fn refuses<R: AllocGlobal + Files<File = File> + Net + Threads + Wait + Sync>(
-    rt: &R,
-    words: &[&str],
-    wanted: Refusal,
-) -> bool {
+fn refuses<
+    R: AllocGlobal
+        + Files<File = File>
+        + Net<Listener = TcpListener, Stream = TcpStream>
+        + Threads
+        + Wait
+        + Sync
+        + Clock
+        + RandomSource
+        + Clone
+        + Send
+        + Drop
+        + 'static,
+>(rt: &R, words: &[&str], wanted: Refusal) -> bool {
     let Ok(mut explained) = Vec::from_slice(rt.alloc(), words) else {
         return false;
     };
@@ -69,11 +89,21 @@ fn refuses<R: AllocGlobal + Files<File = File> + Net + Threads + Wait + Sync>(
 }
 
 /// The same, twice at most.
-fn is_refused<R: Abort + AllocGlobal + Files<File = File> + Net + Threads + Wait + Sync>(
-    rt: &R,
-    words: &[&str],
-    wanted: Refusal,
-) {
+fn is_refused<
+    R: Abort
+        + AllocGlobal
+        + Files<File = File>
+        + Net<Listener = TcpListener, Stream = TcpStream>
+        + Threads
+        + Wait
+        + Sync
+        + Clock
+        + RandomSource
+        + Clone
+        + Send
+        + Drop
+        + 'static,
+>(rt: &R, words: &[&str], wanted: Refusal) {
     let explained = wanted.explained;
     assert!(rt;
         refuses(rt, words, wanted) || refuses(rt, words, wanted),
@@ -118,9 +148,21 @@ fn laid_out<R: Abort + AllocGlobal + Files<File = File>>(rt: &R, altered: [Optio
 }
 
 /// Each file of a folder, damaged.
-fn files_are_told<R: Abort + AllocGlobal + Files<File = File> + Net + Threads + Wait + Sync>(
-    rt: &R,
-) {
+fn files_are_told<
+    R: Abort
+        + AllocGlobal
+        + Files<File = File>
+        + Net<Listener = TcpListener, Stream = TcpStream>
+        + Threads
+        + Wait
+        + Sync
+        + Clock
+        + RandomSource
+        + Clone
+        + Send
+        + Drop
+        + 'static,
+>(rt: &R) {
     laid_out(rt, [Some(0), None, None]);
     let header = Refusal {
         printed: "",
@@ -184,9 +226,21 @@ fn cuts<R: AllocGlobal + Files<File = File>>(rt: &R, number: usize, len: u64) ->
 }
 
 /// A file that is shorter than its database is told as that one, and each command is refused so.
-fn a_short_file_is_told<R: Abort + AllocGlobal + Files<File = File> + Net + Threads + Wait + Sync>(
-    rt: &R,
-) {
+fn a_short_file_is_told<
+    R: Abort
+        + AllocGlobal
+        + Files<File = File>
+        + Net<Listener = TcpListener, Stream = TcpStream>
+        + Threads
+        + Wait
+        + Sync
+        + Clock
+        + RandomSource
+        + Clone
+        + Send
+        + Drop
+        + 'static,
+>(rt: &R) {
     let refusal = "als: refused 34 BadControl\n";
     let rows = [
         (0, 0, "als: damaged/log.blk: the file ends too early\n"),
@@ -217,7 +271,19 @@ fn a_short_file_is_told<R: Abort + AllocGlobal + Files<File = File> + Net + Thre
 
 /// A folder without its control block.
 fn a_missing_file_is_told<
-    R: Abort + AllocGlobal + Files<File = File> + Net + Threads + Wait + Sync,
+    R: Abort
+        + AllocGlobal
+        + Files<File = File>
+        + Net<Listener = TcpListener, Stream = TcpStream>
+        + Threads
+        + Wait
+        + Sync
+        + Clock
+        + RandomSource
+        + Clone
+        + Send
+        + Drop
+        + 'static,
 >(rt: &R) {
     laid_out(rt, [None, None, None]);
     assert!(rt; fs::remove_file(rt, FILES[1]).is_ok());

@@ -2,10 +2,12 @@ use crate::folder::Folder;
 use crate::row::{Row, WORLD, run_row, run_scripts};
 use als_program::program;
 use std::fs::File;
-use std::net::Net;
+use std::net::{Net, TcpListener, TcpStream};
+use std::random::RandomSource;
 use std::rt::Files;
 use std::sync::Wait;
 use std::thread::Threads;
+use std::time::Clock;
 use std::{fs, io};
 
 /// A transaction that is prepared and not decided, and one that a takeover undoes; the records
@@ -188,13 +190,20 @@ const TOLD: &str =
     "als: transaction 1 is in doubt: it was prepared and not decided; ask its coordinator, then run als resolve --dir doubted --trans 1 with --commit or --rollback\n";
 
 /// Whether the program prints this, tells this on standard error, and ends so.
-fn answers<R: AllocGlobal + Files<File = File> + Net + Threads + Wait + Sync>(
-    rt: &R,
-    words: &[&str],
-    printed: &str,
-    told: &str,
-    status: u8,
-) -> bool {
+fn answers<
+    R: AllocGlobal
+        + Files<File = File>
+        + Net<Listener = TcpListener, Stream = TcpStream>
+        + Threads
+        + Wait
+        + Sync
+        + Clock
+        + RandomSource
+        + Clone
+        + Send
+        + Drop
+        + 'static,
+>(rt: &R, words: &[&str], printed: &str, told: &str, status: u8) -> bool {
     let mut output = Vec::new(rt.alloc());
     let mut errors = Vec::new(rt.alloc());
     let ended = program(rt, words, io::empty(), &mut output, &mut errors);
@@ -204,25 +213,56 @@ fn answers<R: AllocGlobal + Files<File = File> + Net + Threads + Wait + Sync>(
 }
 
 /// Whether a command ends well and prints this alone.
-fn prints<R: AllocGlobal + Files<File = File> + Net + Threads + Wait + Sync>(
-    rt: &R,
-    words: &[&str],
-    printed: &str,
-) -> bool {
+fn prints<
+    R: AllocGlobal
+        + Files<File = File>
+        + Net<Listener = TcpListener, Stream = TcpStream>
+        + Threads
+        + Wait
+        + Sync
+        + Clock
+        + RandomSource
+        + Clone
+        + Send
+        + Drop
+        + 'static,
+>(rt: &R, words: &[&str], printed: &str) -> bool {
     answers(rt, words, printed, "", 0)
 }
 
 /// Whether a command is refused so.
-fn refuses<R: AllocGlobal + Files<File = File> + Net + Threads + Wait + Sync>(
-    rt: &R,
-    words: &[&str],
-    refusal: &str,
-) -> bool {
+fn refuses<
+    R: AllocGlobal
+        + Files<File = File>
+        + Net<Listener = TcpListener, Stream = TcpStream>
+        + Threads
+        + Wait
+        + Sync
+        + Clock
+        + RandomSource
+        + Clone
+        + Send
+        + Drop
+        + 'static,
+>(rt: &R, words: &[&str], refusal: &str) -> bool {
     answers(rt, words, "", refusal, 3)
 }
 
 /// Nothing is decided before the takeover, which tells who is in doubt each time that it is run.
-fn takes_over<R: AllocGlobal + Files<File = File> + Net + Threads + Wait + Sync>(rt: &R) -> bool {
+fn takes_over<
+    R: AllocGlobal
+        + Files<File = File>
+        + Net<Listener = TcpListener, Stream = TcpStream>
+        + Threads
+        + Wait
+        + Sync
+        + Clock
+        + RandomSource
+        + Clone
+        + Send
+        + Drop
+        + 'static,
+>(rt: &R) -> bool {
     refuses(rt, &COMMIT, "als: refused 46 NotPrimary\n")
         && answers(rt, &TAKEOVER, "end=186\n0/0 aa\n", TOLD, 0)
         && answers(rt, &TAKEOVER, "end=186\n0/0 aa\n", TOLD, 0)
@@ -231,14 +271,40 @@ fn takes_over<R: AllocGlobal + Files<File = File> + Net + Threads + Wait + Sync>
 }
 
 /// It commits, once.
-fn commits<R: AllocGlobal + Files<File = File> + Net + Threads + Wait + Sync>(rt: &R) -> bool {
+fn commits<
+    R: AllocGlobal
+        + Files<File = File>
+        + Net<Listener = TcpListener, Stream = TcpStream>
+        + Threads
+        + Wait
+        + Sync
+        + Clock
+        + RandomSource
+        + Clone
+        + Send
+        + Drop
+        + 'static,
+>(rt: &R) -> bool {
     prints(rt, &COMMIT, "end=242\n0/0 aa\n")
         && refuses(rt, &COMMIT, "als: refused 47 NotInDoubt\n")
         && refuses(rt, &ROLLBACK, "als: refused 47 NotInDoubt\n")
 }
 
 /// It rolls back, once; a takeover then tells of nobody.
-fn rolls_back<R: AllocGlobal + Files<File = File> + Net + Threads + Wait + Sync>(rt: &R) -> bool {
+fn rolls_back<
+    R: AllocGlobal
+        + Files<File = File>
+        + Net<Listener = TcpListener, Stream = TcpStream>
+        + Threads
+        + Wait
+        + Sync
+        + Clock
+        + RandomSource
+        + Clone
+        + Send
+        + Drop
+        + 'static,
+>(rt: &R) -> bool {
     prints(rt, &ROLLBACK, "end=284\nempty\n")
         && refuses(rt, &ROLLBACK, "als: refused 47 NotInDoubt\n")
         && prints(rt, &TAKEOVER, "end=284\nempty\n")
@@ -246,9 +312,20 @@ fn rolls_back<R: AllocGlobal + Files<File = File> + Net + Threads + Wait + Sync>
 
 /// A commit, of which a crash then leaves all but the last write of the control block: so the
 /// transaction is in doubt as before, and may roll back.
-fn decides<R: AllocGlobal + Files<File = File> + Net + Threads + Wait + Sync>(
-    rt: &R,
-) -> Option<bool> {
+fn decides<
+    R: AllocGlobal
+        + Files<File = File>
+        + Net<Listener = TcpListener, Stream = TcpStream>
+        + Threads
+        + Wait
+        + Sync
+        + Clock
+        + RandomSource
+        + Clone
+        + Send
+        + Drop
+        + 'static,
+>(rt: &R) -> Option<bool> {
     lays_out(rt)?;
     let taken_over = takes_over(rt);
     let control = fs::read(rt, FILES[1]).ok()?;

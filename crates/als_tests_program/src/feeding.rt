@@ -1,10 +1,12 @@
 use crate::row::{Row, WORLD, run_row, run_scripts};
 use std::fs::File;
-use std::net::Net;
+use std::net::{Net, TcpListener, TcpStream};
 use std::process::Abort;
+use std::random::RandomSource;
 use std::rt::Files;
 use std::sync::Wait;
 use std::thread::Threads;
+use std::time::Clock;
 
 /// Feeds, taken and refused: whole scripts, and what they print.
 const FEEDS: [(&str, &str); 4] = [
@@ -103,9 +105,21 @@ fn feeds_are_taken_or_refused(rt: HostRuntime) {
 }
 
 /// A record is held as soon as its last byte has come, whatever the pieces.
-fn feeds_byte_by_byte<R: Abort + AllocGlobal + Files<File = File> + Net + Threads + Wait + Sync>(
-    rt: &R,
-) -> Option<()> {
+fn feeds_byte_by_byte<
+    R: Abort
+        + AllocGlobal
+        + Files<File = File>
+        + Net<Listener = TcpListener, Stream = TcpStream>
+        + Threads
+        + Wait
+        + Sync
+        + Clock
+        + RandomSource
+        + Clone
+        + Send
+        + Drop
+        + 'static,
+>(rt: &R) -> Option<()> {
     let mut script = format!(in rt.alloc();
         "{WORLD}u 1 0 0 - aa
 commit 1
@@ -137,9 +151,21 @@ fn feed_byte_by_byte(rt: HostRuntime) {
 }
 
 /// A piece that is longer than what the engine gives to the receiver at once.
-fn takes_a_long_piece<R: Abort + AllocGlobal + Files<File = File> + Net + Threads + Wait + Sync>(
-    rt: &R,
-) -> Option<()> {
+fn takes_a_long_piece<
+    R: Abort
+        + AllocGlobal
+        + Files<File = File>
+        + Net<Listener = TcpListener, Stream = TcpStream>
+        + Threads
+        + Wait
+        + Sync
+        + Clock
+        + RandomSource
+        + Clone
+        + Send
+        + Drop
+        + 'static,
+>(rt: &R) -> Option<()> {
     let world = "world pages=4 log=400 frames=4 workers=2 pending=5000\n";
     let mut script = format!(in rt.alloc(); "{world}u 1 0 0 - 00\n").ok()?;
     for _ in 0..1900 {

@@ -1,9 +1,11 @@
 use als_program::program;
 use std::fs::File;
 use std::net::{Ipv4Addr, Net, SocketAddr, TcpListener, TcpStream};
+use std::random::RandomSource;
 use std::rt::Files;
 use std::sync::Wait;
 use std::thread::Threads;
+use std::time::Clock;
 use std::{fs, io, thread};
 
 /// A log of a database of four pages: its header, an update of 0/0 to `aa` at 16, its commit at 52
@@ -16,11 +18,20 @@ pub const TEXT: [u8; 108] = [
 ];
 
 /// Whether the program ends well, tells nothing and prints this.
-fn prints<R: AllocGlobal + Files<File = File> + Net + Threads + Wait + Sync>(
-    rt: &R,
-    words: &[&str],
-    wanted: &str,
-) -> bool {
+pub fn prints<
+    R: AllocGlobal
+        + Files<File = File>
+        + Net<Listener = TcpListener, Stream = TcpStream>
+        + Threads
+        + Wait
+        + Sync
+        + Clock
+        + RandomSource
+        + Clone
+        + Send
+        + Drop
+        + 'static,
+>(rt: &R, words: &[&str], wanted: &str) -> bool {
     let mut output = Vec::new(rt.alloc());
     let mut errors = Vec::new(rt.alloc());
     let status = program(rt, words, io::empty(), &mut output, &mut errors);
@@ -28,12 +39,20 @@ fn prints<R: AllocGlobal + Files<File = File> + Net + Threads + Wait + Sync>(
 }
 
 /// Whether the program is refused so, and prints this.
-fn refuses<R: AllocGlobal + Files<File = File> + Net + Threads + Wait + Sync>(
-    rt: &R,
-    words: &[&str],
-    printed: &str,
-    refusal: &str,
-) -> bool {
+pub fn refuses<
+    R: AllocGlobal
+        + Files<File = File>
+        + Net<Listener = TcpListener, Stream = TcpStream>
+        + Threads
+        + Wait
+        + Sync
+        + Clock
+        + RandomSource
+        + Clone
+        + Send
+        + Drop
+        + 'static,
+>(rt: &R, words: &[&str], printed: &str, refusal: &str) -> bool {
     let mut output = Vec::new(rt.alloc());
     let mut errors = Vec::new(rt.alloc());
     let status = program(rt, words, io::empty(), &mut output, &mut errors);
@@ -43,7 +62,7 @@ fn refuses<R: AllocGlobal + Files<File = File> + Net + Threads + Wait + Sync>(
 }
 
 /// A port of this machine that nobody listens at, as text. `None`: allocation failed.
-fn free_port<N>(rt: &N) -> Option<String>
+pub fn free_port<N>(rt: &N) -> Option<String>
 where
     N: AllocGlobal + Net<Listener = TcpListener, Stream = TcpStream>,
 {
@@ -54,11 +73,20 @@ where
 
 /// Follows a session with so many threads that redo, and is called again while it is refused:
 /// nobody may listen yet, or allocation failed.
-fn stands<R: AllocGlobal + Files<File = File> + Net + Threads + Wait + Sync>(
-    rt: &R,
-    addr: &str,
-    workers: &str,
-) -> bool {
+fn stands<
+    R: AllocGlobal
+        + Files<File = File>
+        + Net<Listener = TcpListener, Stream = TcpStream>
+        + Threads
+        + Wait
+        + Sync
+        + Clock
+        + RandomSource
+        + Clone
+        + Send
+        + Drop
+        + 'static,
+>(rt: &R, addr: &str, workers: &str) -> bool {
     let words = [
         "als",
         "standby",
@@ -91,11 +119,20 @@ fn scans<R: Net>(rt: &R, addr: &str) -> bool {
 
 /// Serves a session: whether the sending end prints this. A growth that was refused is met by a
 /// second try.
-fn ships<R: AllocGlobal + Files<File = File> + Net + Threads + Wait + Sync>(
-    rt: &R,
-    addr: &str,
-    sent: &str,
-) -> bool {
+fn ships<
+    R: AllocGlobal
+        + Files<File = File>
+        + Net<Listener = TcpListener, Stream = TcpStream>
+        + Threads
+        + Wait
+        + Sync
+        + Clock
+        + RandomSource
+        + Clone
+        + Send
+        + Drop
+        + 'static,
+>(rt: &R, addr: &str, sent: &str) -> bool {
     let words = ["als", "ship", "--log", "followed.log", "--listen", addr];
     prints(rt, &words, sent) || prints(rt, &words, sent)
 }
@@ -107,10 +144,20 @@ fn lays_out<R: Files<File = File>>(rt: &R) -> bool {
 
 /// What the folder's phase is, and what committed transactions left at keys of it, outside the
 /// database too.
-fn holds<R: AllocGlobal + Files<File = File> + Net + Threads + Wait + Sync>(
-    rt: &R,
-    phase: &str,
-) -> bool {
+fn holds<
+    R: AllocGlobal
+        + Files<File = File>
+        + Net<Listener = TcpListener, Stream = TcpStream>
+        + Threads
+        + Wait
+        + Sync
+        + Clock
+        + RandomSource
+        + Clone
+        + Send
+        + Drop
+        + 'static,
+>(rt: &R, phase: &str) -> bool {
     prints(rt, &["als", "status", "followed"], phase)
         && prints(
             rt,
@@ -137,7 +184,20 @@ const PRIMARY: &str =
     "phase=Primary pages=4 end=108 ack=108 checkpoint=108 behind=0 transactions=0\n";
 
 /// What the folder then holds, and a takeover, twice.
-fn takes_over<R: AllocGlobal + Files<File = File> + Net + Threads + Wait + Sync>(rt: &R) -> bool {
+fn takes_over<
+    R: AllocGlobal
+        + Files<File = File>
+        + Net<Listener = TcpListener, Stream = TcpStream>
+        + Threads
+        + Wait
+        + Sync
+        + Clock
+        + RandomSource
+        + Clone
+        + Send
+        + Drop
+        + 'static,
+>(rt: &R) -> bool {
     let verify = ["als", "verify", "followed"];
     let dump = ["als", "dump", "followed", "--trans", "1", "--from", "52"];
     let takeover = ["als", "takeover", "--dir", "followed"];
@@ -221,6 +281,20 @@ fn standbys_that_are_refused(rt: HostRuntime) {
         ];
         assert!(rt; refuses(&rt, &words, "", bad) || refuses(&rt, &words, "", bad));
     }
+    let goes_on = [
+        ("--keep", "--readers", "0"),
+        ("--keep", "--readers", "9"),
+        ("--keep", "--workers", "9"),
+        ("--serve=127.0.0.1:0", "--readers", "18446744073709551615"),
+        ("--serve=127.0.0.1:0", "--workers", "9"),
+    ];
+    for (flag, name, number) in goes_on {
+        let words = [
+            "als", "standby", "--dir", "missing", "--from", "nowhere", "--pages", "4", flag, name,
+            number,
+        ];
+        assert!(rt; refuses(&rt, &words, "", bad) || refuses(&rt, &words, "", bad));
+    }
     let failed = "als: refused 30 Device\n";
     let words = [
         "als", "standby", "--dir", "missing", "--from", "nowhere", "--pages", "4",
@@ -228,6 +302,12 @@ fn standbys_that_are_refused(rt: HostRuntime) {
     assert!(rt; refuses(&rt, &words, "", failed) || refuses(&rt, &words, "", failed));
     let words = ["als", "takeover", "--dir", "missing"];
     assert!(rt; refuses(&rt, &words, "", failed) || refuses(&rt, &words, "", failed));
+    let nowhere = "als: refused 44 Stream\n";
+    let words = [
+        "als", "standby", "--dir", "missing", "--from", "nowhere", "--pages", "4", "--serve",
+        "nowhere",
+    ];
+    assert!(rt; refuses(&rt, &words, "", nowhere) || refuses(&rt, &words, "", nowhere));
 }
 
 /// A primary that says nothing is waited for as long as the command line says; one that is not

@@ -1,10 +1,12 @@
 use crate::row::{Row, WORLD, run_row, run_scripts};
 use std::fs::File;
-use std::net::Net;
+use std::net::{Net, TcpListener, TcpStream};
 use std::process::Abort;
+use std::random::RandomSource;
 use std::rt::Files;
 use std::sync::Wait;
 use std::thread::Threads;
+use std::time::Clock;
 
 /// A log of 32 blocks, for the longer texts.
 const WIDE: (&str, &str) = ("world pages=4 log=32 frames=4 workers=2 pending=1000\n", "");
@@ -185,9 +187,21 @@ fn records_are_judged(rt: HostRuntime) {
 }
 
 /// More than 256 transactions at once.
-fn limits_transactions<R: Abort + AllocGlobal + Files<File = File> + Net + Threads + Wait + Sync>(
-    rt: &R,
-) -> Option<()> {
+fn limits_transactions<
+    R: Abort
+        + AllocGlobal
+        + Files<File = File>
+        + Net<Listener = TcpListener, Stream = TcpStream>
+        + Threads
+        + Wait
+        + Sync
+        + Clock
+        + RandomSource
+        + Clone
+        + Send
+        + Drop
+        + 'static,
+>(rt: &R) -> Option<()> {
     let (world, _) = WIDE;
     let mut script = String::from_str(rt.alloc(), world).ok()?;
     for trans in 1..258 {

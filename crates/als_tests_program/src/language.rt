@@ -1,11 +1,13 @@
 use crate::row::{Row, WORLD, run_row};
 use als_program::program;
 use std::fs::File;
-use std::net::Net;
+use std::net::{Net, TcpListener, TcpStream};
 use std::process::Abort;
+use std::random::RandomSource;
 use std::rt::Files;
 use std::sync::Wait;
 use std::thread::Threads;
+use std::time::Clock;
 
 /// First lines that are no world.
 const BAD_WORLDS: [&str; 9] = [
@@ -123,9 +125,21 @@ const BAD_LINES: [&str; 84] = [
     "world pages=4 log=8 frames=4 workers=2 pending=1000",
 ];
 
-fn tells_bad_worlds<R: Abort + AllocGlobal + Files<File = File> + Net + Threads + Wait + Sync>(
-    rt: &R,
-) -> Option<()> {
+fn tells_bad_worlds<
+    R: Abort
+        + AllocGlobal
+        + Files<File = File>
+        + Net<Listener = TcpListener, Stream = TcpStream>
+        + Threads
+        + Wait
+        + Sync
+        + Clock
+        + RandomSource
+        + Clone
+        + Send
+        + Drop
+        + 'static,
+>(rt: &R) -> Option<()> {
     for line in BAD_WORLDS {
         let script = format!(in rt.alloc();
             "#
@@ -146,9 +160,21 @@ fn sim_tells_bad_worlds(rt: HostRuntime) {
     assert!(rt; tells_bad_worlds(&rt).is_some() || tells_bad_worlds(&rt).is_some());
 }
 
-fn tells_bad_lines<R: Abort + AllocGlobal + Files<File = File> + Net + Threads + Wait + Sync>(
-    rt: &R,
-) -> Option<()> {
+fn tells_bad_lines<
+    R: Abort
+        + AllocGlobal
+        + Files<File = File>
+        + Net<Listener = TcpListener, Stream = TcpStream>
+        + Threads
+        + Wait
+        + Sync
+        + Clock
+        + RandomSource
+        + Clone
+        + Send
+        + Drop
+        + 'static,
+>(rt: &R) -> Option<()> {
     for line in BAD_LINES {
         let script = format!(in rt.alloc();
             "{WORLD}feed 16 16
@@ -173,9 +199,21 @@ fn sim_tells_bad_lines(rt: HostRuntime) {
 
 /// Empty lines and comments are passed over and counted; a missing first line would come behind the
 /// last.
-fn counts_lines<R: Abort + AllocGlobal + Files<File = File> + Net + Threads + Wait + Sync>(
-    rt: &R,
-) -> Option<()> {
+fn counts_lines<
+    R: Abort
+        + AllocGlobal
+        + Files<File = File>
+        + Net<Listener = TcpListener, Stream = TcpStream>
+        + Threads
+        + Wait
+        + Sync
+        + Clock
+        + RandomSource
+        + Clone
+        + Send
+        + Drop
+        + 'static,
+>(rt: &R) -> Option<()> {
     let bare = "world pages=4 log=8 frames=4 workers=2 pending=1000";
     let zeros =
         "world pages=0004 log=08 frames=4 workers=2 pending=1000\nfeed 0016 000000000000000000000016";
@@ -217,9 +255,21 @@ fn sim_counts_lines(rt: HostRuntime) {
 }
 
 /// A line that is no text is a bad line, also where a comment that is none is passed over.
-fn wants_text<R: Abort + AllocGlobal + Files<File = File> + Net + Threads + Wait + Sync>(
-    rt: &R,
-) -> Option<()> {
+fn wants_text<
+    R: Abort
+        + AllocGlobal
+        + Files<File = File>
+        + Net<Listener = TcpListener, Stream = TcpStream>
+        + Threads
+        + Wait
+        + Sync
+        + Clock
+        + RandomSource
+        + Clone
+        + Send
+        + Drop
+        + 'static,
+>(rt: &R) -> Option<()> {
     let script = b"#\xff\nworld pages=4 log=8 frames=4 workers=2 pending=1000\ncommit 1\xff\n";
     let mut output = Vec::new(rt.alloc());
     let mut errors = Vec::new(rt.alloc());
@@ -237,9 +287,21 @@ fn sim_wants_text(rt: HostRuntime) {
 }
 
 /// A world that is refused ends the script, whatever follows.
-fn refuses_worlds<R: Abort + AllocGlobal + Files<File = File> + Net + Threads + Wait + Sync>(
-    rt: &R,
-) -> Option<()> {
+fn refuses_worlds<
+    R: Abort
+        + AllocGlobal
+        + Files<File = File>
+        + Net<Listener = TcpListener, Stream = TcpStream>
+        + Threads
+        + Wait
+        + Sync
+        + Clock
+        + RandomSource
+        + Clone
+        + Send
+        + Drop
+        + 'static,
+>(rt: &R) -> Option<()> {
     for line in REFUSED_WORLDS {
         let script = format!(in rt.alloc();
             "{line}

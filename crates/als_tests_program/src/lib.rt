@@ -73,6 +73,9 @@ mod shipping;
 // `als standby`, `als takeover`, `als verify` and `als dump`.
 #[cfg(test)]
 mod following;
+// Sessions of ends that go on, and what ends them all the same.
+#[cfg(test)]
+mod going_on;
 // The files of a standby's folder.
 #[cfg(test)]
 mod folder;

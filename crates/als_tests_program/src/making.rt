@@ -1,11 +1,13 @@
 use crate::row::{Row, run_row};
 use als_program::program;
 use std::fs::File;
-use std::net::Net;
+use std::net::{Net, TcpListener, TcpStream};
 use std::process::Abort;
+use std::random::RandomSource;
 use std::rt::Files;
 use std::sync::Wait;
 use std::thread::Threads;
+use std::time::Clock;
 
 /// Record lines, and the text that they make: the bytes are those of the format, written down by
 /// hand and by another program.
@@ -139,9 +141,21 @@ fn make_writes_log_texts(rt: HostRuntime) {
 }
 
 /// A value may have 254 bytes, and no more.
-fn takes_long_values<R: Abort + AllocGlobal + Files<File = File> + Net + Threads + Wait + Sync>(
-    rt: &R,
-) -> Option<()> {
+fn takes_long_values<
+    R: Abort
+        + AllocGlobal
+        + Files<File = File>
+        + Net<Listener = TcpListener, Stream = TcpStream>
+        + Threads
+        + Wait
+        + Sync
+        + Clock
+        + RandomSource
+        + Clone
+        + Send
+        + Drop
+        + 'static,
+>(rt: &R) -> Option<()> {
     let longest = "5a".repeat(rt.alloc(), 254).ok()?;
     let script = format!(in rt.alloc();
         "pages 1
@@ -172,9 +186,21 @@ fn make_takes_long_values(rt: HostRuntime) {
 }
 
 /// Without `--hex` the text itself is written.
-fn writes_bytes<R: Abort + AllocGlobal + Files<File = File> + Net + Threads + Wait + Sync>(
-    rt: &R,
-) -> Option<()> {
+fn writes_bytes<
+    R: Abort
+        + AllocGlobal
+        + Files<File = File>
+        + Net<Listener = TcpListener, Stream = TcpStream>
+        + Threads
+        + Wait
+        + Sync
+        + Clock
+        + RandomSource
+        + Clone
+        + Send
+        + Drop
+        + 'static,
+>(rt: &R) -> Option<()> {
     let mut output = Vec::new(rt.alloc());
     let mut errors = Vec::new(rt.alloc());
     let script = b"pages 258\ncommit 3\n".as_slice();
@@ -193,9 +219,21 @@ fn make_writes_bytes(rt: HostRuntime) {
 }
 
 /// A bad line is told by its number, and nothing is written.
-fn tells_bad_lines<R: Abort + AllocGlobal + Files<File = File> + Net + Threads + Wait + Sync>(
-    rt: &R,
-) -> Option<()> {
+fn tells_bad_lines<
+    R: Abort
+        + AllocGlobal
+        + Files<File = File>
+        + Net<Listener = TcpListener, Stream = TcpStream>
+        + Threads
+        + Wait
+        + Sync
+        + Clock
+        + RandomSource
+        + Clone
+        + Send
+        + Drop
+        + 'static,
+>(rt: &R) -> Option<()> {
     for (lines, number) in BAD {
         let errors = format!(in rt.alloc(); "line {number}: bad line\n").ok()?;
         run_row(rt, Row::make_hex(lines, "").failing(errors.as_str(), 2));

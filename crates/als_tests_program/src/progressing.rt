@@ -1,10 +1,12 @@
 use crate::folder::Folder;
 use als_program::{Terminals, program, program_on};
 use std::fs::File;
-use std::net::Net;
+use std::net::{Net, TcpListener, TcpStream};
+use std::random::RandomSource;
 use std::rt::Files;
 use std::sync::Wait;
 use std::thread::Threads;
+use std::time::Clock;
 use std::{fs, io};
 
 /// The files of the folder that is taken over.
@@ -15,10 +17,20 @@ const FILES: [&str; 3] = [
 ];
 
 /// A log of so many updates of one record. `None`: allocation failed.
-fn log_of<R: AllocGlobal + Files<File = File> + Net + Threads + Wait + Sync>(
-    rt: &R,
-    updates: u32,
-) -> Option<Vec<u8>> {
+fn log_of<
+    R: AllocGlobal
+        + Files<File = File>
+        + Net<Listener = TcpListener, Stream = TcpStream>
+        + Threads
+        + Wait
+        + Sync
+        + Clock
+        + RandomSource
+        + Clone
+        + Send
+        + Drop
+        + 'static,
+>(rt: &R, updates: u32) -> Option<Vec<u8>> {
     let mut script = String::new(rt.alloc());
     script
         .push_str(
@@ -49,10 +61,20 @@ end 1
 }
 
 /// The same, twice at most.
-fn made<R: AllocGlobal + Files<File = File> + Net + Threads + Wait + Sync>(
-    rt: &R,
-    updates: u32,
-) -> Option<Vec<u8>> {
+fn made<
+    R: AllocGlobal
+        + Files<File = File>
+        + Net<Listener = TcpListener, Stream = TcpStream>
+        + Threads
+        + Wait
+        + Sync
+        + Clock
+        + RandomSource
+        + Clone
+        + Send
+        + Drop
+        + 'static,
+>(rt: &R, updates: u32) -> Option<Vec<u8>> {
     match log_of(rt, updates) {
         Some(log) => Some(log),
         None => log_of(rt, updates),
@@ -60,11 +82,20 @@ fn made<R: AllocGlobal + Files<File = File> + Net + Threads + Wait + Sync>(
 }
 
 /// What a takeover that has to redo this log says on standard error. `None`: allocation failed.
-fn said<R: AllocGlobal + Files<File = File> + Net + Threads + Wait + Sync>(
-    rt: &R,
-    log: &[u8],
-    errors: bool,
-) -> Option<Vec<u8>> {
+fn said<
+    R: AllocGlobal
+        + Files<File = File>
+        + Net<Listener = TcpListener, Stream = TcpStream>
+        + Threads
+        + Wait
+        + Sync
+        + Clock
+        + RandomSource
+        + Clone
+        + Send
+        + Drop
+        + 'static,
+>(rt: &R, log: &[u8], errors: bool) -> Option<Vec<u8>> {
     Folder::of(rt.alloc(), log)?.write(rt, FILES)?;
     let terminals = Terminals {
         input: false,
@@ -78,11 +109,20 @@ fn said<R: AllocGlobal + Files<File = File> + Net + Threads + Wait + Sync>(
 }
 
 /// The same, twice at most.
-fn says<R: AllocGlobal + Files<File = File> + Net + Threads + Wait + Sync>(
-    rt: &R,
-    log: &[u8],
-    errors: bool,
-) -> Option<Vec<u8>> {
+fn says<
+    R: AllocGlobal
+        + Files<File = File>
+        + Net<Listener = TcpListener, Stream = TcpStream>
+        + Threads
+        + Wait
+        + Sync
+        + Clock
+        + RandomSource
+        + Clone
+        + Send
+        + Drop
+        + 'static,
+>(rt: &R, log: &[u8], errors: bool) -> Option<Vec<u8>> {
     match said(rt, log, errors) {
         Some(said) => Some(said),
         None => said(rt, log, errors),

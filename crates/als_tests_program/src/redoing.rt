@@ -1,10 +1,12 @@
 use crate::row::{Row, run_row, run_scripts};
 use std::fs::File;
-use std::net::Net;
+use std::net::{Net, TcpListener, TcpStream};
 use std::process::Abort;
+use std::random::RandomSource;
 use std::rt::Files;
 use std::sync::Wait;
 use std::thread::Threads;
+use std::time::Clock;
 
 /// Pages that are redone, written and replaced: whole scripts, and what they print.
 const PAGES: [(&str, &str); 3] = [
@@ -166,9 +168,21 @@ fn pages_are_redone_and_written(rt: HostRuntime) {
 }
 
 /// More changes of a page than one lease has, and a page that has none.
-fn goes_round<R: Abort + AllocGlobal + Files<File = File> + Net + Threads + Wait + Sync>(
-    rt: &R,
-) -> Option<()> {
+fn goes_round<
+    R: Abort
+        + AllocGlobal
+        + Files<File = File>
+        + Net<Listener = TcpListener, Stream = TcpStream>
+        + Threads
+        + Wait
+        + Sync
+        + Clock
+        + RandomSource
+        + Clone
+        + Send
+        + Drop
+        + 'static,
+>(rt: &R) -> Option<()> {
     let world = "world pages=4 log=32 frames=4 workers=2 pending=1000\n";
     let mut script = format!(in rt.alloc();
         "{world}u 1 2 0 - 00

@@ -1,10 +1,12 @@
 use als_program::program;
 use std::fs::File;
-use std::net::Net;
+use std::net::{Net, TcpListener, TcpStream};
 use std::process::Abort;
+use std::random::RandomSource;
 use std::rt::Files;
 use std::sync::Wait;
 use std::thread::Threads;
+use std::time::Clock;
 
 /// A world as most scripts have it.
 pub const WORLD: &str = "world pages=4 log=8 frames=4 workers=2 pending=1000\n";
@@ -69,10 +71,20 @@ impl<'a> Row<'a> {
 }
 
 /// Whether the program writes and answers what the row says.
-fn is_so<R: AllocGlobal + Files<File = File> + Net + Threads + Wait + Sync>(
-    rt: &R,
-    row: Row,
-) -> bool {
+fn is_so<
+    R: AllocGlobal
+        + Files<File = File>
+        + Net<Listener = TcpListener, Stream = TcpStream>
+        + Threads
+        + Wait
+        + Sync
+        + Clock
+        + RandomSource
+        + Clone
+        + Send
+        + Drop
+        + 'static,
+>(rt: &R, row: Row) -> bool {
     let mut output = Vec::new(rt.alloc());
     let mut errors = Vec::new(rt.alloc());
     let script = row.script.as_bytes();
@@ -84,10 +96,21 @@ fn is_so<R: AllocGlobal + Files<File = File> + Net + Threads + Wait + Sync>(
 
 /// Runs a row of a table, and again where its first run does not end so: an allocation fails once
 /// at most, so the second run meets none, and tells what differs.
-pub fn run_row<R: Abort + AllocGlobal + Files<File = File> + Net + Threads + Wait + Sync>(
-    rt: &R,
-    row: Row,
-) {
+pub fn run_row<
+    R: Abort
+        + AllocGlobal
+        + Files<File = File>
+        + Net<Listener = TcpListener, Stream = TcpStream>
+        + Threads
+        + Wait
+        + Sync
+        + Clock
+        + RandomSource
+        + Clone
+        + Send
+        + Drop
+        + 'static,
+>(rt: &R, row: Row) {
     if is_so(rt, row) {
         return;
     }
@@ -106,11 +129,21 @@ pub fn run_row<R: Abort + AllocGlobal + Files<File = File> + Net + Threads + Wai
 }
 
 /// One text behind the other. A growth that is refused once is met by a second try.
-pub fn joined<R: Abort + AllocGlobal + Files<File = File> + Net + Threads + Wait + Sync>(
-    rt: &R,
-    front: &str,
-    back: &str,
-) -> String {
+pub fn joined<
+    R: Abort
+        + AllocGlobal
+        + Files<File = File>
+        + Net<Listener = TcpListener, Stream = TcpStream>
+        + Threads
+        + Wait
+        + Sync
+        + Clock
+        + RandomSource
+        + Clone
+        + Send
+        + Drop
+        + 'static,
+>(rt: &R, front: &str, back: &str) -> String {
     if let Ok(text) = format!(in rt.alloc(); "{front}{back}") {
         return text;
     }
@@ -122,11 +155,21 @@ pub fn joined<R: Abort + AllocGlobal + Files<File = File> + Net + Threads + Wait
 
 /// Runs scripts that end well, each given by its lines and by what they print. In front of each
 /// stand lines that print this by themselves.
-pub fn run_scripts<R: Abort + AllocGlobal + Files<File = File> + Net + Threads + Wait + Sync>(
-    rt: &R,
-    front: (&str, &str),
-    scripts: &[(&str, &str)],
-) {
+pub fn run_scripts<
+    R: Abort
+        + AllocGlobal
+        + Files<File = File>
+        + Net<Listener = TcpListener, Stream = TcpStream>
+        + Threads
+        + Wait
+        + Sync
+        + Clock
+        + RandomSource
+        + Clone
+        + Send
+        + Drop
+        + 'static,
+>(rt: &R, front: (&str, &str), scripts: &[(&str, &str)]) {
     let (front, printed) = front;
     for (lines, output) in scripts {
         let script = joined(rt, front, lines);

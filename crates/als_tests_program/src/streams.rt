@@ -2,11 +2,13 @@ use als_program::program;
 use std::fs::File;
 use std::io;
 use std::io::{Read, Write};
-use std::net::Net;
+use std::net::{Net, TcpListener, TcpStream};
 use std::process::Abort;
+use std::random::RandomSource;
 use std::rt::Files;
 use std::sync::Wait;
 use std::thread::Threads;
+use std::time::Clock;
 
 /// A world for a script.
 const WORLD: &str = "world pages=4 log=8 frames=4 workers=2 pending=1000\n";
@@ -59,9 +61,21 @@ impl Read for Broken {
 }
 
 /// The most that standard input may have is read, one byte more is refused, and nothing is run.
-fn limits_input<R: Abort + AllocGlobal + Files<File = File> + Net + Threads + Wait + Sync>(
-    rt: &R,
-) -> Option<()> {
+fn limits_input<
+    R: Abort
+        + AllocGlobal
+        + Files<File = File>
+        + Net<Listener = TcpListener, Stream = TcpStream>
+        + Threads
+        + Wait
+        + Sync
+        + Clock
+        + RandomSource
+        + Clone
+        + Send
+        + Drop
+        + 'static,
+>(rt: &R) -> Option<()> {
     let world = WORLD.as_bytes();
     let fed = "feed 16 16\n".as_bytes();
     let rest = 16_777_216 - 64;
@@ -84,9 +98,21 @@ fn input_has_a_limit(rt: HostRuntime) {
 }
 
 /// A reader that fails, at once or behind a whole script, ends the program before anything is run.
-fn readers_fail<R: Abort + AllocGlobal + Files<File = File> + Net + Threads + Wait + Sync>(
-    rt: &R,
-) -> Option<()> {
+fn readers_fail<
+    R: Abort
+        + AllocGlobal
+        + Files<File = File>
+        + Net<Listener = TcpListener, Stream = TcpStream>
+        + Threads
+        + Wait
+        + Sync
+        + Clock
+        + RandomSource
+        + Clone
+        + Send
+        + Drop
+        + 'static,
+>(rt: &R) -> Option<()> {
     assert!(rt; ran(rt, &["als", "make"], Broken, 3, REFUSED)?.is_empty());
     let script = "pages 4\n".as_bytes().chain(Broken);
     assert!(rt; ran(rt, &["als", "make"], script, 3, REFUSED)?.is_empty());
@@ -104,9 +130,21 @@ fn readers_may_fail(rt: HostRuntime) {
 }
 
 /// What is wrong with standard input is said where that is asked for.
-fn tells_of_input<R: Abort + AllocGlobal + Files<File = File> + Net + Threads + Wait + Sync>(
-    rt: &R,
-) -> Option<()> {
+fn tells_of_input<
+    R: Abort
+        + AllocGlobal
+        + Files<File = File>
+        + Net<Listener = TcpListener, Stream = TcpStream>
+        + Threads
+        + Wait
+        + Sync
+        + Clock
+        + RandomSource
+        + Clone
+        + Send
+        + Drop
+        + 'static,
+>(rt: &R) -> Option<()> {
     let longer = io::repeat(b'\n').take(16_777_217);
     let told = b"als: refused 44 Stream
 als: standard input has more than 16,777,216 bytes; nothing of it was run
@@ -135,9 +173,21 @@ fn refuses(status: u8, errors: &[u8]) -> Option<()> {
 }
 
 /// A writer that fails is told, also where the buffer is written out behind a bad line.
-fn writers_fail<R: Abort + AllocGlobal + Files<File = File> + Net + Threads + Wait + Sync>(
-    rt: &R,
-) -> Option<()> {
+fn writers_fail<
+    R: Abort
+        + AllocGlobal
+        + Files<File = File>
+        + Net<Listener = TcpListener, Stream = TcpStream>
+        + Threads
+        + Wait
+        + Sync
+        + Clock
+        + RandomSource
+        + Clone
+        + Send
+        + Drop
+        + 'static,
+>(rt: &R) -> Option<()> {
     let words = ["als", "make"];
     for room in [0, 1, 15] {
         let mut errors = Vec::new(rt.alloc());
@@ -172,13 +222,21 @@ fn writers_may_fail(rt: HostRuntime) {
 }
 
 /// What a run writes, where it ends with this status and this on standard error.
-fn ran<R: AllocGlobal + Files<File = File> + Net + Threads + Wait + Sync, I: Read + Drop>(
-    rt: &R,
-    words: &[&str],
-    input: I,
-    status: u8,
-    errors: &[u8],
-) -> Option<Vec<u8>> {
+fn ran<
+    R: AllocGlobal
+        + Files<File = File>
+        + Net<Listener = TcpListener, Stream = TcpStream>
+        + Threads
+        + Wait
+        + Sync
+        + Clock
+        + RandomSource
+        + Clone
+        + Send
+        + Drop
+        + 'static,
+    I: Read + Drop,
+>(rt: &R, words: &[&str], input: I, status: u8, errors: &[u8]) -> Option<Vec<u8>> {
     let mut output = Vec::new(rt.alloc());
     let mut told = Vec::new(rt.alloc());
     let ended = program(rt, words, input, &mut output, &mut told);

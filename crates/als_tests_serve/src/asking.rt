@@ -1,0 +1,274 @@
+ghost use Rattle.std.specs.Prelude.{◌<◌, ◌^◌};
+
+use crate::written::{Change, transaction};
+use als_answers::Answering;
+use als_published_log::PublishedLog;
+use als_record::{Key, Lsn};
+use als_serve::config;
+use als_standing::{Report, Standing, State};
+use als_view::Reader;
+use http_server::{Connection, serve};
+use std::alloc::Global;
+use std::hash::RandomState;
+use std::sync::Wait;
+use std::test::*;
+
+/// What a standby tells of itself in these tests.
+pub struct Fixed(pub State);
+
+impl Drop for Fixed {
+    fn drop(self) {
+        let Fixed(_) = self;
+    }
+}
+
+impl Standing for Fixed {
+    fn report(&self) -> Report {
+        Report {
+            state: self.0,
+            end: Lsn(108),
+            acknowledged: Lsn(80),
+            pending: 5,
+            leases: 1,
+            silence: Some(2),
+        }
+    }
+}
+
+/// A log of two pages in which one commit wrote the byte 171 to slot 3 of page 1, and readers of
+/// it, to whom it is published. Its commit is at LSN 52. `None`: allocation failed.
+pub fn published<R: Wait>(
+    rt: &R,
+    alloc: Global,
+    readers: usize,
+) -> Option<(PublishedLog, Vec<Reader>)>
+    requires { (0 < readers) × (readers < 2 ^ 32) }
+{
+    let (mut log, all) = PublishedLog::new(alloc, rt, 2, readers).ok()?;
+    let change = Change {
+        key: Key { page: 1, slot: 3 },
+        before: None,
+        after: Some(171),
+    };
+    let text = transaction(alloc, log.end(), 1, &[change])?;
+    let fed = log.feed(text.as_slice()).is_ok() && log.publish(rt).is_ok();
+    if fed {
+        Some((log, all))
+    } else {
+        log.close(rt);
+        None
+    }
+}
+
+/// What is answered to these bytes.
+fn answered<S: Standing>(
+    alloc: Global,
+    keys: RandomState,
+    answering: &mut Answering<S>,
+    request: &[u8],
+) -> Option<Vec<u8>> {
+    let mut connection = Connection::new(alloc, keys, config());
+    let mut request = request;
+    let mut answer = Vec::new(alloc);
+    serve(&mut connection, answering, &mut request, &mut answer).ok()?;
+    Some(answer)
+}
+
+/// Whether these bytes are answered by those.
+fn gives<S: Standing>(
+    alloc: Global,
+    keys: RandomState,
+    answering: &mut Answering<S>,
+    request: &str,
+    answer: &str,
+) -> bool {
+    match answered(alloc, keys, answering, request.as_bytes()) {
+        Some(found) => found.as_slice() == answer.as_bytes(),
+        None => false,
+    }
+}
+
+/// Whether what is answered to these bytes begins so.
+fn begins<S: Standing>(
+    alloc: Global,
+    keys: RandomState,
+    answering: &mut Answering<S>,
+    request: &str,
+    front: &str,
+) -> bool {
+    match answered(alloc, keys, answering, request.as_bytes()) {
+        Some(found) => found.as_slice().starts_with(front.as_bytes()),
+        None => false,
+    }
+}
+
+const KEY: &str = "HTTP/1.1 200 OK\r\ncontent-type: application/json\r\ncache-control: no-store\r\n\
+    als-lsn: 52\r\ncontent-length: 35\r\n\r\n{\"value\":\"ab\",\"commits\":1,\"lsn\":52}";
+
+const NOTHING: &str =
+    "HTTP/1.1 200 OK\r\ncontent-type: application/json\r\ncache-control: no-store\r\n\
+    als-lsn: 52\r\ncontent-length: 35\r\n\r\n{\"value\":null,\"commits\":1,\"lsn\":52}";
+
+const STATUS: &str =
+    "HTTP/1.1 200 OK\r\ncontent-type: application/json\r\ncache-control: no-store\r\n\
+    content-length: 113\r\n\r\n{\"state\":\"following\",\"end\":108,\"acknowledged\":80,\"pending\":5,\
+    \"leases\":1,\"commits\":1,\"seconds_since_last_frame\":2}";
+
+#[test]
+fn each_path_is_answered(rt: HostRuntime) -> Result<(), Fail> {
+    let alloc = rt.alloc();
+    let keys = RandomState::new(&rt)?;
+    let (log, mut readers) = published(&rt, alloc, 1).ok_or("memory")?;
+    let reader = readers.pop().ok_or("a reader")?;
+    let mut answering = Answering::new(alloc, reader, Fixed(State::Following));
+    let table = [
+        ("GET /keys/1/3 HTTP/1.1\r\nHost: a\r\n\r\n", KEY),
+        (
+            "GET /keys/1/3 HTTP/1.1\r\nHost: a\r\nAls-At-Least: 52\r\n\r\n",
+            KEY,
+        ),
+        ("GET /keys/0/3 HTTP/1.1\r\nHost: a\r\n\r\n", NOTHING),
+        ("GET /keys/2/0 HTTP/1.1\r\nHost: a\r\n\r\n", NOTHING),
+        ("GET /keys/1/15 HTTP/1.1\r\nHost: a\r\n\r\n", NOTHING),
+        (
+            "GET /keys/4294967295/4294967295 HTTP/1.1\r\nHost: a\r\n\r\n",
+            NOTHING,
+        ),
+        ("GET /status HTTP/1.1\r\nHost: a\r\n\r\n", STATUS),
+    ];
+    for (request, answer) in table {
+        assert!(rt;
+            gives(alloc, keys, &mut answering, request, answer),
+            "{request}"
+        );
+    }
+    log.close(&rt);
+    Ok(())
+}
+
+#[test]
+fn each_refusal_is_answered(rt: HostRuntime) -> Result<(), Fail> {
+    let alloc = rt.alloc();
+    let keys = RandomState::new(&rt)?;
+    let (log, mut readers) = published(&rt, alloc, 1).ok_or("memory")?;
+    let reader = readers.pop().ok_or("a reader")?;
+    let mut answering = Answering::new(alloc, reader, Fixed(State::Sealed));
+    let table = [
+        (
+            "GET /keys/1/3 HTTP/1.1\r\nHost: a\r\nals-at-least: 53\r\n\r\n",
+            "HTTP/1.1 503 ",
+        ),
+        (
+            "GET /keys/1/3 HTTP/1.1\r\nHost: a\r\nals-at-least: x\r\n\r\n",
+            "HTTP/1.1 400 ",
+        ),
+        (
+            "GET /keys/1/3 HTTP/1.1\r\nHost: a\r\nals-at-least: 1\r\nals-at-least: 2\r\n\r\n",
+            "HTTP/1.1 400 ",
+        ),
+        ("GET /keys/a/3 HTTP/1.1\r\nHost: a\r\n\r\n", "HTTP/1.1 400 "),
+        (
+            "GET /keys/1/4294967296 HTTP/1.1\r\nHost: a\r\n\r\n",
+            "HTTP/1.1 400 ",
+        ),
+        ("GET /keys/1 HTTP/1.1\r\nHost: a\r\n\r\n", "HTTP/1.1 404 "),
+        ("GET / HTTP/1.1\r\nHost: a\r\n\r\n", "HTTP/1.1 404 "),
+        (
+            "POST / HTTP/1.1\r\nHost: a\r\ncontent-length: 1\r\n\r\nx",
+            "HTTP/1.1 404 ",
+        ),
+        ("GET /health HTTP/1.1\r\nHost: a\r\n\r\n", "HTTP/1.1 503 "),
+        (
+            "PUT /keys/1/3 HTTP/1.1\r\nHost: a\r\ncontent-length: 1\r\n\r\nx",
+            "HTTP/1.1 405 Method Not Allowed\r\n\
+            content-type: application/json\r\ncache-control: no-store\r\nallow: GET, HEAD\r\n",
+        ),
+        ("GET /status HTTP/1.1\r\n\r\n", "HTTP/1.1 400 "),
+        (
+            "\u{1}\u{2}\r\n\r\n",
+            "HTTP/1.1 400 Bad Request\r\nconnection: close\r\n",
+        ),
+        ("GET /status HTTP/1.1\r\nHost: a", "HTTP/1.1 400 "),
+    ];
+    for (request, front) in table {
+        assert!(rt;
+            begins(alloc, keys, &mut answering, request, front),
+            "{request}"
+        );
+    }
+    log.close(&rt);
+    let request = "GET /keys/1/3 HTTP/1.1\r\nHost: a\r\n\r\n";
+    assert!(rt; begins(alloc, keys, &mut answering, request, "HTTP/1.1 503 "));
+    Ok(())
+}
+
+#[test]
+fn metrics_and_health_are_answered(rt: HostRuntime) -> Result<(), Fail> {
+    let alloc = rt.alloc();
+    let keys = RandomState::new(&rt)?;
+    let (log, mut readers) = published(&rt, alloc, 1).ok_or("memory")?;
+    let reader = readers.pop().ok_or("a reader")?;
+    let mut answering = Answering::new(alloc, reader, Fixed(State::Following));
+    let health = "HEAD /health HTTP/1.1\r\nHost: a\r\n\r\n";
+    assert!(rt; begins(alloc, keys, &mut answering, health, "HTTP/1.1 200 OK\r\n"));
+    let metrics = "GET /metrics HTTP/1.0\r\n\r\n";
+    let found = answered(alloc, keys, &mut answering, metrics.as_bytes()).ok_or("an answer")?;
+    let text = String::from_utf8(found).ok().ok_or("text")?;
+    for line in [
+        "\r\ncontent-type: text/plain; version=0.0.4\r\n",
+        "\nals_state{state=\"following\"} 1\n",
+        "\n# TYPE als_end_bytes gauge\nals_end_bytes 108\n",
+        "\nals_acknowledged_bytes 80\n",
+        "\nals_pending_changes 5\n",
+        "\nals_leases 1\n",
+        "\nals_warming 0\n",
+        "\nals_commits 1\n",
+        "\nals_seconds_since_last_frame 2\n",
+    ] {
+        assert!(rt; text.contains(line), "{line}");
+    }
+    log.close(&rt);
+    Ok(())
+}
+
+#[test]
+fn a_standby_without_a_list_is_warming(rt: HostRuntime) -> Result<(), Fail> {
+    let alloc = rt.alloc();
+    let keys = RandomState::new(&rt)?;
+    let (publisher, mut readers) = als_view::new(alloc, &rt, 2, 1, false)?;
+    let reader = readers.pop().ok_or("a reader")?;
+    let mut answering = Answering::new(alloc, reader, Fixed(State::Following));
+    let key = "GET /keys/1/3 HTTP/1.1\r\nHost: a\r\n\r\n";
+    assert!(rt; begins(alloc, keys, &mut answering, key, "HTTP/1.1 503 "));
+    let health = "GET /health HTTP/1.1\r\nHost: a\r\n\r\n";
+    assert!(rt; begins(alloc, keys, &mut answering, health, "HTTP/1.1 503 "));
+    let status = "GET /status HTTP/1.1\r\nHost: a\r\n\r\n";
+    assert!(rt; begins(alloc, keys, &mut answering, status, "HTTP/1.1 200 "));
+    publisher.close(&rt);
+    Ok(())
+}
+
+#[test]
+fn a_request_has_at_most_eight_kilobytes(rt: HostRuntime) -> Result<(), Fail> {
+    let alloc = rt.alloc();
+    let keys = RandomState::new(&rt)?;
+    let (log, mut readers) = published(&rt, alloc, 1).ok_or("memory")?;
+    let reader = readers.pop().ok_or("a reader")?;
+    let mut answering = Answering::new(alloc, reader, Fixed(State::Following));
+    let mut request = String::from_str(alloc, "GET /status HTTP/1.1\r\nHost: a\r\nx: ")?;
+    for _ in 0..8192 {
+        request.push_str("y")?;
+    }
+    request.push_str("\r\n\r\n")?;
+    assert!(rt;
+        begins(
+            alloc,
+            keys,
+            &mut answering,
+            request.as_str(),
+            "HTTP/1.1 431 "
+        )
+    );
+    log.close(&rt);
+    Ok(())
+}

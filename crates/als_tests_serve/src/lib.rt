@@ -1,0 +1,15 @@
+//! Tests of what a standby answers over HTTP. They use public names alone.
+#![tactic(auto)]
+
+// Requests over bytes in memory.
+#[cfg(test)]
+mod asking;
+// What a session tells of its standby.
+#[cfg(test)]
+mod boards;
+// Threads that serve a listener of the loopback.
+#[cfg(test)]
+mod loopback;
+// Transactions, spelled.
+#[cfg(test)]
+mod written;
