@@ -1,0 +1,4 @@
+pub mod HistorySteps
+pub mod JudgingLaws
+pub mod SealBytes
+mod WorkedHistories

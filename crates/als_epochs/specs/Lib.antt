@@ -1,0 +1,6 @@
+pub mod FaultNames
+pub mod Histories
+pub mod HistoryLaws
+pub mod Inverse
+pub mod Judging
+pub mod Kept
