@@ -7,11 +7,11 @@ use Rattle.als_ckpt_codec.specs.Checkpoint.{checkpoint_bytes}
 use Rattle.als_ckpt.specs.declared.region.Region.{Region}
 use Rattle.als_ckpt.specs.declared.control_state.ControlState.{ControlState}
 use Rattle.als_ckpt.specs.Regions.{first_block, next_region, part_of, Held, held_at, with_held, block_written, blocks_synced, Begun, IsBegun, IsWhole, HasBlockLeft, IsPublished, blocks_of, position_of}
-use Rattle.als_ckpt.specs.Control.{Controlled, newest, control_block, with_whole, IsControlState, IsControlled, IsApartIf, IsBeginning}
+use Rattle.als_ckpt.specs.Control.{Controlled, newest, control_block, with_whole, IsControlState, Continues, IsControlled, IsApartIf, IsBeginning}
 use Rattle.als_ckpt.specs.Kept.{IsKept, IsKeeping, AreHeld}
 use Rattle.als_ckpt.proofs.KeptLaws.{IsKept-written, IsKept-failed, IsKept-synced}
 use Rattle.als_ckpt.proofs.RegionLaws.{block-above}
-use Rattle.als_ckpt.proofs.StateLaws.{Contains-last_state}
+use Rattle.als_ckpt.proofs.StateLaws.{Continues-same, Contains-last_state}
 use Rattle.als_record.specs.declared.lsn.Lsn.{Lsn}
 use Rattle.als_ckpt.proofs.HeldLaws.{AreHeld-same, AreHeld-written, AreHeld-tried, AreHeld-block, AreHeld-synced, AreHeld-begun, AreHeld-whole}
 
@@ -32,18 +32,18 @@ module _ (old new : ℕ → Slot) (pages log_bytes blocks : ℕ) (synced newest 
   }
 
   -- a write of the control block
-  module _ (s : ControlState) (fits : IsControlState log_bytes s) (rises : newest.mark.0 ≤ s.mark.0) (others : SameBlocksBut 0 old new)
+  module _ (s : ControlState) (fits : IsControlState log_bytes s) (rises : newest.mark.0 ≤ s.mark.0) (grows : Continues newest s) (others : SameBlocksBut 0 old new)
       (named : IsPublished pages s.published s.position.0 (held_at held s.published))
       (place : (s.published ≡ newest.published) ⊎ ((begun ≡ None) × (newest.published ≡ synced.published))) where
     pub IsKeeping-written : new 0 ≡ written (old 0) (control_block pages s) → IsKeeping new pages log_bytes blocks synced s (since ++ s ∷ []) sure held begun
     IsKeeping-written is = record {
-      states = IsKept-written pages log_bytes blocks (old 0) (new 0) synced newest s since sure kept.states fits rises is;
+      states = IsKept-written pages log_bytes blocks (old 0) (new 0) synced newest s since sure kept.states fits rises grows is;
       checkpoints = AreHeld-written old new pages synced newest since held s begun kept.checkpoints others named place;
     }
 
     pub IsKeeping-failed : FailsToWrite (old 0) (new 0) (control_block pages s) → IsKeeping new pages log_bytes blocks synced s (since ++ s ∷ []) false held begun
     IsKeeping-failed fails = record {
-      states = IsKept-failed pages log_bytes blocks (old 0) (new 0) synced newest s since sure kept.states fits rises fails;
+      states = IsKept-failed pages log_bytes blocks (old 0) (new 0) synced newest s since sure kept.states fits rises grows fails;
       checkpoints = AreHeld-written old new pages synced newest since held s begun kept.checkpoints others named place;
     }
 
@@ -113,10 +113,18 @@ log_bytes-whole : (old new : Controlled) (begun : Option Begun) → IsSomeAnd be
 log_bytes-whole old new None is = absurd is
 log_bytes-whole old new (Some b) is = ap (λ (v : Controlled). v.log_bytes) is
 
+-- a publish keeps the history
+pub Continues-whole : (old new : Controlled) (begun : Option Begun) (last : ControlState) (region : Region) (position : Lsn) → last ≡ newest old → IsSomeAnd begun (λ b. new ≡ with_whole old b)
+    → Continues (newest new) (record { phase = last.phase; published = Some region; mark = last.mark; position = position; seal = last.seal; history = last.history })
+Continues-whole old new None last region position same is = absurd is
+Continues-whole old new (Some b) last region position same is =
+    let still : newest new ≡ newest old = ap newest is in
+    Continues-same (newest new) _ (ap (λ (t : ControlState). t.history) (same ∙ sym still))
+
 -- the format admits the state that is published
 pub publishing-fits : (old new : Controlled) (begun : Option Begun) (last : ControlState) (region : Region) (position mark : Lsn) → IsControlled old → begun ≡ old.begun → last ≡ newest old → mark ≡ old.synced.mark
     → IsSomeAnd begun (λ b. IsWhole b × (position_of b ≤ mark.0) × (region ≡ b.region) × (position ≡ b.checkpoint.numbers.position)) → IsSomeAnd old.begun (λ b. new ≡ with_whole old b)
-    → IsControlState new.log_bytes (record { phase = last.phase; published = Some region; mark = last.mark; position = position; seal = last.seal })
+    → IsControlState new.log_bytes (record { phase = last.phase; published = Some region; mark = last.mark; position = position; seal = last.seal; history = last.history })
 publishing-fits old new begun last region position mark facts same_begun same_last same_mark ready is =
     let among : Contains (old.synced ∷ old.since) last = subst (Contains (old.synced ∷ old.since)) (sym same_last) (Contains-last_state old.synced old.since) in
     let fits : IsControlState old.log_bytes last = facts.fits last among in
@@ -130,4 +138,7 @@ publishing-fits old new begun last region position mark facts same_begun same_la
       in_log = fits.in_log;
       position = (place.0, omega (arith, low, at_mark, to_last));
       seal = fits.seal;
+      history = fits.history;
+      lsns = fits.lsns;
+      last = fits.last;
     })

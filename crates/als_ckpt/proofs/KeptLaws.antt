@@ -1,38 +1,47 @@
 -- What is kept true of the disk, from one call to the next.
-use Rattle.std.proofs.Common.{◌≡◌, Option, ℕ, ◌≤◌, Bool, true, false, IsTrue, List, [], ◌∷◌, ◌++◌, refl, sym, ap, subst, ◌∙◌, inl, inr}
+use Rattle.std.proofs.Common.{◌≡◌, Option, ℕ, ◌≤◌, Bool, true, false, IsTrue, List, [], ◌∷◌, ◌++◌, refl, sym, subst, inl, inr}
 use Rattle.std.specs.Prelude.{Contains, ◌⊎◌}
-use Rattle.std.proofs.lemmas.List.{map-append}
 use Rattle.std.proofs.lemmas.List.Elements.{Contains-append_left, Contains-push, Contains-push_cases}
-use Rattle.als_disk.specs.Slot.{Slot, only, written, FailsToWrite, KeepsReadable}
+use Rattle.als_disk.specs.Slot.{Slot, written, FailsToWrite, KeepsReadable}
 use Rattle.als_disk.specs.SlotLaws.{Contains-one, candidates-write, readable-write, candidates-fail}
 use Rattle.als_ckpt.specs.declared.control_state.ControlState.{ControlState}
-use Rattle.als_ckpt.specs.Control.{control_block, IsControlState, IsBlockOf, MarksRise, IsControlled, IsApartIf}
+use Rattle.als_ckpt.specs.Control.{control_block, Spells, HoldsState, AreBlocks, IsControlState, IsBlockOf, MarksRise, Continues, HistoriesGrow, IsControlled, IsApartIf}
 use Rattle.als_ckpt.specs.Kept.{IsKept, IsKeeping}
 use Rattle.als_ckpt.specs.Regions.{Held, Begun, IsPublished, held_at}
 use Rattle.als_ckpt.specs.Holding.{LeavesOneOf}
 use Rattle.als_ckpt.proofs.HeldLaws.{HoldsPublished-left}
-use Rattle.als_ckpt.proofs.StateLaws.{last_state-push, MarksRise-push, MarksRise-from, MarksRise-to, Contains-last_state}
+use Rattle.als_ckpt.proofs.StateLaws.{last_state-push, MarksRise-push, MarksRise-from, MarksRise-to, HistoriesGrow-push, HistoriesGrow-from, HistoriesGrow-to, Contains-last_state}
+use Rattle.als_ckpt.proofs.BlockLaws.{Spells-now}
 
 -- a block of one of the states is a block of one of more states
 IsBlockOf-push : (pages : ℕ) (states : List ControlState) (s : ControlState) (content : List ℕ) → IsBlockOf pages states content → IsBlockOf pages (states ++ s ∷ []) content
 IsBlockOf-push pages states s content h = record { state = h.state; among = Contains-append_left states (s ∷ []) h.state h.among; spelled = h.spelled }
 
-IsBlockOf-last : (pages : ℕ) (states : List ControlState) (s : ControlState) (content : List ℕ) → control_block pages s ≡ content → IsBlockOf pages (states ++ s ∷ []) content
-IsBlockOf-last pages states s content is = record { state = s; among = Contains-push states s; spelled = sym is }
+IsBlockOf-last : (pages : ℕ) (states : List ControlState) (s : ControlState) (content : List ℕ) → Spells pages s content → IsBlockOf pages (states ++ s ∷ []) content
+IsBlockOf-last pages states s content is = record { state = s; among = Contains-push states s; spelled = is }
+
+-- one state more, and its block
+AreBlocks-push : (pages : ℕ) (states : List ControlState) (contents : List (List ℕ)) (s : ControlState) (content : List ℕ) → AreBlocks pages states contents → Spells pages s content
+    → AreBlocks pages (states ++ s ∷ []) (contents ++ content ∷ [])
+AreBlocks-push pages [] [] s content are is = (is, tt)
+AreBlocks-push pages [] (x ∷ xs) s content are is = absurd are
+AreBlocks-push pages (t ∷ ts) [] s content are is = absurd are
+AreBlocks-push pages (t ∷ ts) (x ∷ xs) s content are is = (are.0, AreBlocks-push pages ts xs s content are.1 is)
 
 module _ (pages log_bytes blocks : ℕ) where
   -- one state, which is synced
-  pub IsKept-only : (slot : Slot) (s : ControlState) → 321 ≤ blocks → IsControlState log_bytes s → slot ≡ only (control_block pages s) → IsKept slot pages log_bytes blocks s s [] true
-  IsKept-only slot s room fits is = record {
+  pub IsKept-only : (slot : Slot) (s : ControlState) → 321 ≤ blocks → IsControlState log_bytes s → HoldsState pages slot s → IsKept slot pages log_bytes blocks s s [] true
+  IsKept-only slot s room fits holds = record {
     room = room;
     last = refl;
     fits = λ t has. subst (IsControlState log_bytes) (Contains-one has) fits;
     rising = tt;
+    growing = tt;
     candidates = λ content has.
-        let same : control_block pages s ≡ content = Contains-one (subst (λ (x : Slot). Contains x.candidates content) is has) in
-        IsBlockOf-last pages [] s content same;
-    all = λ sure. ap (λ (x : Slot). x.candidates) is;
-    readable = λ sure content has. sym (Contains-one (subst (λ (x : Slot). Contains x.readable content) is has));
+        let same : holds.content ≡ content = Contains-one (subst (λ (x : Slot). Contains x.candidates content) holds.block has) in
+        IsBlockOf-last pages [] s content (subst (Spells pages s) same holds.spelled);
+    all = λ sure. subst (λ (x : Slot). AreBlocks pages (s ∷ []) x.candidates) (sym holds.block) (holds.spelled, tt);
+    readable = λ sure content has. subst (Spells pages s) (Contains-one (subst (λ (x : Slot). Contains x.readable content) holds.block has)) holds.spelled;
   }
 
   pub IsKept-newest : (slot : Slot) (synced newest : ControlState) (since : List ControlState) (sure : Bool)
@@ -44,8 +53,8 @@ module _ (pages log_bytes blocks : ℕ) where
       → IsKept old pages log_bytes blocks synced newest since sure → IsTrue sure → KeepsReadable old new
       → IsKept new pages log_bytes blocks newest newest [] true
   IsKept-synced old new synced newest since sure kept is_sure keeps =
-      let block : keeps.content ≡ control_block pages newest = kept.readable is_sure keeps.content keeps.was_readable in
-      IsKept-only new newest kept.room (IsKept-newest old synced newest since sure kept) (keeps.left ∙ ap only block)
+      let spelled : Spells pages newest keeps.content = kept.readable is_sure keeps.content keeps.was_readable in
+      IsKept-only new newest kept.room (IsKept-newest old synced newest since sure kept) (record { content = keeps.content; block = keeps.left; spelled = spelled })
 
   module _ (old new : Slot) (synced newest s : ControlState) (since : List ControlState) (sure : Bool)
       (kept : IsKept old pages log_bytes blocks synced newest since sure) where
@@ -59,37 +68,42 @@ module _ (pages log_bytes blocks : ℕ) where
     rising-push : newest.mark.0 ≤ s.mark.0 → MarksRise synced (since ++ s ∷ [])
     rising-push rises = MarksRise-push synced since s kept.rising (subst (λ (t : ControlState). t.mark.0 ≤ s.mark.0) kept.last rises)
 
+    growing-push : Continues newest s → HistoriesGrow synced (since ++ s ∷ [])
+    growing-push grows = HistoriesGrow-push synced since s kept.growing (subst (λ (t : ControlState). Continues t s) kept.last grows)
+
     -- a write that succeeded
-    pub IsKept-written : IsControlState log_bytes s → newest.mark.0 ≤ s.mark.0 → new ≡ written old (control_block pages s)
+    pub IsKept-written : IsControlState log_bytes s → newest.mark.0 ≤ s.mark.0 → Continues newest s → new ≡ written old (control_block pages s)
         → IsKept new pages log_bytes blocks synced s (since ++ s ∷ []) sure
-    IsKept-written fits rises is = record {
+    IsKept-written fits rises grows is = record {
       room = kept.room;
       last = sym (last_state-push synced since s);
       fits = fits-push fits;
       rising = rising-push rises;
+      growing = growing-push grows;
       candidates = λ content has.
           elim (candidates-write old new (control_block pages s) content is has) [
             | inl before ↦ IsBlockOf-push pages (synced ∷ since) s content (kept.candidates content before)
-            | inr same ↦ IsBlockOf-last pages (synced ∷ since) s content same
+            | inr same ↦ IsBlockOf-last pages (synced ∷ since) s content (Spells-now pages s content same)
           ];
-      all = λ is_sure. ap (λ (x : Slot). x.candidates) is
-          ∙ ap (λ (xs : List (List ℕ)). xs ++ control_block pages s ∷ []) (kept.all is_sure)
-          ∙ sym (map-append (control_block pages) (synced ∷ since) (s ∷ []));
-      readable = λ _ content has. sym (readable-write old new (control_block pages s) content is has);
+      all = λ is_sure.
+          subst (λ (x : Slot). AreBlocks pages (synced ∷ (since ++ s ∷ [])) x.candidates) (sym is)
+          (AreBlocks-push pages (synced ∷ since) old.candidates s (control_block pages s) (kept.all is_sure) (Spells-now pages s (control_block pages s) refl));
+      readable = λ _ content has. Spells-now pages s content (readable-write old new (control_block pages s) content is has);
     }
 
     -- a write that failed
-    pub IsKept-failed : IsControlState log_bytes s → newest.mark.0 ≤ s.mark.0 → FailsToWrite old new (control_block pages s)
+    pub IsKept-failed : IsControlState log_bytes s → newest.mark.0 ≤ s.mark.0 → Continues newest s → FailsToWrite old new (control_block pages s)
         → IsKept new pages log_bytes blocks synced s (since ++ s ∷ []) false
-    IsKept-failed fits rises fails = record {
+    IsKept-failed fits rises grows fails = record {
       room = kept.room;
       last = sym (last_state-push synced since s);
       fits = fits-push fits;
       rising = rising-push rises;
+      growing = growing-push grows;
       candidates = λ content has.
           elim (candidates-fail old new (control_block pages s) content fails has) [
             | inl before ↦ IsBlockOf-push pages (synced ∷ since) s content (kept.candidates content before)
-            | inr same ↦ IsBlockOf-last pages (synced ∷ since) s content same
+            | inr same ↦ IsBlockOf-last pages (synced ∷ since) s content (Spells-now pages s content same)
           ];
       all = λ never. absurd cc;
       readable = λ never content has. absurd cc;
@@ -105,6 +119,9 @@ IsControlled-kept slots pages log_bytes blocks synced newest since sure failures
   rising = h.states.rising;
   from_synced = λ s has. MarksRise-from synced since s h.states.rising has;
   to_newest = λ s has. MarksRise-to synced since s h.states.rising has;
+  growing = h.states.growing;
+  grown_from = λ s has. HistoriesGrow-from synced since s h.states.rising h.states.growing has;
+  grown_to = λ s has. HistoriesGrow-to synced since s h.states.rising h.states.growing has;
   named = h.checkpoints.named;
   places = λ s has. subst (λ (t : ControlState). (s.published ≡ synced.published) ⊎ (s.published ≡ t.published)) h.states.last (h.checkpoints.places s has);
   apart = subst (λ (t : ControlState). IsApartIf pages synced t held begun) h.states.last h.checkpoints.apart;
@@ -120,7 +137,7 @@ LeavesOneOf-kept slots pages log_bytes blocks synced newest since sure failures 
       state = block.state;
       among = block.among;
       holds = record {
-        block = (keeps 0).left ∙ ap only block.spelled;
+        block = record { content = (keeps 0).content; block = (keeps 0).left; spelled = block.spelled };
         fits = h.states.fits block.state block.among;
         published = h.checkpoints.named block.state block.among;
         region = HoldsPublished-left slots left held block.state.published h.checkpoints.regions keeps;

@@ -1,11 +1,13 @@
 -- The control block of a database: what it says, its bytes, and what is known of it between two syncs.
-use Rattle.std.specs.Prelude.{◌≡◌, ◌≢◌, ◌⊎◌, ℕ, ◌+◌, ◌≤◌, Bool, true, List, [], ◌∷◌, ◌++◌, replicate, Option, None, Some, Contains, codes}
+use Rattle.std.specs.Prelude.{◌≡◌, ◌≢◌, ◌⊎◌, ℕ, ◌+◌, ◌-◌, ◌*◌, ◌≤◌, Bool, true, List, [], ◌∷◌, ◌++◌, length, replicate, Option, None, Some, Contains, codes}
 use Rattle.std.specs.Int.{w32, w64, to_be_bytes}
 use Rattle.als_ckpt.specs.declared.phase.Phase.{Phase}
 use Rattle.als_ckpt.specs.declared.phase.Phase.TheVariants.{Following, Sealed, Primary}
 use Rattle.als_ckpt.specs.declared.region.Region.{Region}
 use Rattle.als_ckpt.specs.declared.region.Region.TheVariants.{First, Second}
 use Rattle.als_ckpt.specs.declared.control_state.ControlState.{ControlState}
+use Rattle.als_disk.specs.Slot.{Slot, only}
+use Rattle.als_epochs.specs.Histories.{IsHistory, RisesFrom, GoesOn, last_seal, next_seal, seals_bytes}
 use Rattle.als_ckpt_codec.specs.declared.checkpoint.Checkpoint.{Checkpoint}
 use Rattle.als_ckpt_codec.specs.Checkpoint.{IsCheckpoint}
 use Rattle.als_ckpt.specs.Regions.{Held, nothing_held, held_in, held_at, with_held, next_region, Said, Begun, IsBegun, IsPublished, block_written, blocks_synced}
@@ -22,16 +24,48 @@ region_byte None = 0
 region_byte (Some First) = 1
 region_byte (Some Second) = 2
 
--- the control block of a database with this many pages: a text, version 1, the phase, the published region, the page
--- count, mark, position and seal, and zeros to the block's end
-unfoldable pub control_block : ℕ → ControlState → List ℕ
-control_block pages s =
-    codes "ALSCTL01" ++ (0 ∷ 1 ∷ phase_byte s.phase ∷ region_byte s.published ∷ (to_be_bytes w32 pages
-    ++ (to_be_bytes w64 s.mark.0 ++ (to_be_bytes w64 s.position.0 ++ (to_be_bytes w64 s.seal.0 ++ replicate 472 0)))))
+-- the front of a control block: a text, the version, the phase, the published region, the page count, mark, position and seal
+unfoldable pub control_head : ℕ → ℕ → ControlState → List ℕ
+control_head version pages s =
+    codes "ALSCTL01" ++ (0 ∷ version ∷ phase_byte s.phase ∷ region_byte s.published ∷ (to_be_bytes w32 pages
+    ++ (to_be_bytes w64 s.mark.0 ++ (to_be_bytes w64 s.position.0 ++ to_be_bytes w64 s.seal.0))))
 
--- a content spells a control state of a database with so many pages: it is its control block
+-- what stands behind it: the epoch, four zeros, the seals of the history, and zeros to the block's end
+unfoldable pub history_part : List ℕ → List ℕ
+history_part seals = to_be_bytes w32 (length seals) ++ (replicate 4 0 ++ (seals_bytes seals ++ replicate (464 - 8 * length seals) 0))
+
+-- the control block of a database with this many pages, which is version 2
+abbrev pub control_block : ℕ → ControlState → List ℕ
+control_block pages s = control_head 2 pages s ++ history_part s.history
+
+-- the control block of version 1, which has no history: zeros stand there
+abbrev pub version_1_block : ℕ → ControlState → List ℕ
+version_1_block pages s = control_head 1 pages s ++ replicate 472 0
+
+-- the history that version 1 implies: none while the log follows its source; from then on the one seal
+abbrev pub implied_history : Phase → ℕ → List ℕ
+implied_history Following seal = []
+implied_history Sealed seal = seal ∷ []
+implied_history Primary seal = seal ∷ []
+
+-- a content spells a control state of a database with so many pages: it is its control block, or the block of version 1 of a
+-- state whose history is what that version implies
 abbrev pub Spells : ℕ → ControlState → List ℕ → Type 0
-Spells pages state content = content ≡ control_block pages state
+Spells pages state content =
+    (content ≡ control_block pages state) ⊎ ((content ≡ version_1_block pages state) × (state.history ≡ implied_history state.phase state.seal.0))
+
+-- A block spells the state, and a crash leaves nothing else of it.
+pub record HoldsState (pages : ℕ) (slot : Slot) (state : ControlState) : Type 0 where
+  pub content : List ℕ
+  pub block : slot ≡ only content
+  pub spelled : Spells pages state content
+
+-- these contents spell these states, one each, in order
+abbrev pub AreBlocks : ℕ → List ControlState → List (List ℕ) → Type 0
+AreBlocks pages [] [] = Unit {0}
+AreBlocks pages [] (content ∷ contents) = ⊥
+AreBlocks pages (state ∷ states) [] = ⊥
+AreBlocks pages (state ∷ states) (content ∷ contents) = Spells pages state content × AreBlocks pages states contents
 
 -- a checkpoint's position is 0 exactly where no region is published, else from 16 to the mark
 abbrev pub IsPosition : Option Region → ℕ → ℕ → Type 0
@@ -44,12 +78,22 @@ IsSeal Following mark seal = seal ≡ 0
 IsSeal Sealed mark seal = (16 ≤ seal) × (seal ≤ mark)
 IsSeal Primary mark seal = (16 ≤ seal) × (seal ≤ mark)
 
--- A control state as the format admits it, for a log device of so many bytes.
+-- once the log is sealed, the last seal of the history is its own
+abbrev pub IsLastSeal : Phase → List ℕ → ℕ → Type 0
+IsLastSeal Following history seal = Unit {0}
+IsLastSeal Sealed history seal = last_seal history ≡ seal
+IsLastSeal Primary history seal = last_seal history ≡ seal
+
+-- A control state as the format admits it, for a log device of so many bytes. No seal of its history is below 16 or below the one
+-- before it.
 pub record IsControlState (log_bytes : ℕ) (s : ControlState) : Type 0 where
   pub begins : 16 ≤ s.mark.0
   pub in_log : s.mark.0 ≤ log_bytes
   pub position : IsPosition s.published s.mark.0 s.position.0
   pub seal : IsSeal s.phase s.mark.0 s.seal.0
+  pub history : IsHistory s.history
+  pub lsns : RisesFrom 16 s.history
+  pub last : IsLastSeal s.phase s.history s.seal.0
 
 -- the control state of a new database
 abbrev pub first_state : ControlState
@@ -59,6 +103,7 @@ first_state = record {
   mark = record { 0 = 16 };
   position = record { 0 = 0 };
   seal = record { 0 = 0 };
+  history = [];
 }
 
 -- The control block of a database with so many pages and a log device of so many bytes: the state of the last sync, and
@@ -116,6 +161,16 @@ abbrev pub MarksRise : ControlState → List ControlState → Type 0
 MarksRise state [] = Unit {0}
 MarksRise state (next ∷ rest) = (state.mark.0 ≤ next.mark.0) × MarksRise next rest
 
+-- The history of the later state goes on from that of the earlier one, whose mark is at or below the first seal that it lacks.
+pub record Continues (before after : ControlState) : Type 0 where
+  pub history : GoesOn before.history after.history
+  pub below : (seal : ℕ) → next_seal before.history after.history ≡ Some seal → before.mark.0 ≤ seal
+
+-- no history falls from one state to the next, and none goes on with a seal below the mark
+abbrev pub HistoriesGrow : ControlState → List ControlState → Type 0
+HistoriesGrow state [] = Unit {0}
+HistoriesGrow state (next ∷ rest) = Continues state next × HistoriesGrow next rest
+
 -- the state and the checkpoint that it publishes
 abbrev pub said_of : Controlled → ControlState → Said
 said_of control s = record { state = s; checkpoint = held_at control.held s.published }
@@ -142,14 +197,17 @@ IsApartIf pages synced newest held None = Unit {0}
 IsApartIf pages synced newest held (Some b) = IsBegun b × IsApart pages synced newest held b
 
 -- What is true of each control block: a crash leaves a state that the format admits, whose mark is at least that of the
--- synced state and at most that of the newest. It names the region that the synced state names, or that of the newest, and
--- that region holds the state's checkpoint.
+-- synced state and at most that of the newest. It continues the synced state, and the newest continues it. It names the region that
+-- the synced state names, or that of the newest, and that region holds the state's checkpoint.
 pub record IsControlled (control : Controlled) : Type 0 where
   pub room : 321 ≤ control.blocks
   pub fits : (s : ControlState) → IsAmong control s → IsControlState control.log_bytes s
   pub rising : MarksRise control.synced control.since
   pub from_synced : (s : ControlState) → IsAmong control s → control.synced.mark.0 ≤ s.mark.0
   pub to_newest : (s : ControlState) → IsAmong control s → s.mark.0 ≤ (newest control).mark.0
+  pub growing : HistoriesGrow control.synced control.since
+  pub grown_from : (s : ControlState) → IsAmong control s → Continues control.synced s
+  pub grown_to : (s : ControlState) → IsAmong control s → Continues s (newest control)
   pub named : (s : ControlState) → IsAmong control s → IsPublished control.pages s.published s.position.0 (held_at control.held s.published)
   pub places : (s : ControlState) → IsAmong control s → (s.published ≡ control.synced.published) ⊎ (s.published ≡ (newest control).published)
   pub apart : IsApartIf control.pages control.synced (newest control) control.held control.begun

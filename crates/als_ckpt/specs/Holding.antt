@@ -1,14 +1,14 @@
 -- What the blocks of a control device hold.
-use Rattle.std.specs.Prelude.{◌≡◌, ℕ}
-use Rattle.als_disk.specs.Slot.{Slot, only, KeepsCandidate}
+use Rattle.std.specs.Prelude.{ℕ}
+use Rattle.als_disk.specs.Slot.{Slot, KeepsCandidate}
 use Rattle.als_ckpt.specs.declared.control_state.ControlState.{ControlState}
 use Rattle.als_ckpt.specs.Regions.{Said, IsPublished, HoldsPublished}
-use Rattle.als_ckpt.specs.Control.{Controlled, control_block, IsControlState, IsAmong, said_of}
+use Rattle.als_ckpt.specs.Control.{Controlled, HoldsState, IsControlState, IsAmong, said_of}
 
--- A control device says this: block 0 is the control block of the state and nothing else, and the region that it names holds the
+-- A control device says this: block 0 spells the state and holds nothing else, and the region that it names holds the
 -- checkpoint, which stands at the state's position.
 pub record HoldsControl (pages log_bytes : ℕ) (slots : ℕ → Slot) (said : Said) : Type 0 where
-  pub block : slots 0 ≡ only (control_block pages said.state)
+  pub block : HoldsState pages (slots 0) said.state
   pub fits : IsControlState log_bytes said.state
   pub published : IsPublished pages said.state.published said.state.position.0 said.checkpoint
   pub region : HoldsPublished slots said.state.published said.checkpoint

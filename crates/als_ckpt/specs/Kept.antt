@@ -1,5 +1,5 @@
 -- What a running control block keeps true of its disk.
-use Rattle.std.specs.Prelude.{◌≡◌, ◌⊎◌, ℕ, ◌≤◌, ◌<◌, ◌+◌, Bool, IsTrue, List, ◌∷◌, Contains, Option, None, Some, length, map}
+use Rattle.std.specs.Prelude.{◌≡◌, ◌⊎◌, ℕ, ◌≤◌, ◌<◌, ◌+◌, Bool, IsTrue, List, ◌∷◌, Contains, Option, None, Some, length}
 use Rattle.als_disk.specs.Slot.{Slot}
 use Rattle.als_ckpt.specs.declared.control_state.ControlState.{ControlState}
 use Rattle.als_record.specs.declared.lsn.Lsn.{Lsn}
@@ -7,18 +7,19 @@ use Rattle.als_ckpt_codec.specs.declared.checkpoint.Checkpoint.{Checkpoint}
 use Rattle.als_ckpt_codec.specs.Checkpoint.{checkpoint_bytes}
 use Rattle.als_ckpt.specs.declared.region.Region.{Region}
 use Rattle.als_ckpt.specs.Regions.{Held, held_in, held_at, first_block, part_of, blocks_for, Begun, HoldsContent, IsPublished}
-use Rattle.als_ckpt.specs.Control.{control_block, last_state, IsControlState, IsBlockOf, MarksRise, IsApartIf}
+use Rattle.als_ckpt.specs.Control.{Spells, AreBlocks, last_state, IsControlState, IsBlockOf, MarksRise, HistoriesGrow, IsApartIf}
 
--- Each candidate of the block is the control block of a state that was written. Where no write failed they are those of
--- all of these states, oldest first, and a read gives the newest.
+-- Each candidate of the block spells a state that was written. Where no write failed they spell all of these states, oldest first,
+-- and a read gives the newest.
 pub record IsKept (slot : Slot) (pages log_bytes blocks : ℕ) (synced newest : ControlState) (since : List ControlState) (sure : Bool) : Type 0 where
   pub room : 321 ≤ blocks
   pub last : newest ≡ last_state synced since
   pub fits : (s : ControlState) → Contains (synced ∷ since) s → IsControlState log_bytes s
   pub rising : MarksRise synced since
+  pub growing : HistoriesGrow synced since
   pub candidates : (content : List ℕ) → Contains slot.candidates content → IsBlockOf pages (synced ∷ since) content
-  pub all : IsTrue sure → slot.candidates ≡ map (control_block pages) (synced ∷ since)
-  pub readable : IsTrue sure → (content : List ℕ) → Contains slot.readable content → content ≡ control_block pages newest
+  pub all : IsTrue sure → AreBlocks pages (synced ∷ since) slot.candidates
+  pub readable : IsTrue sure → (content : List ℕ) → Contains slot.readable content → Spells pages newest content
 
 -- The bytes of a checkpoint that is being written, and how far it is written.
 pub record IsSpelled (c : Checkpoint) (position : Lsn) (bytes : List ℕ) (written synced : ℕ) : Type 0 where

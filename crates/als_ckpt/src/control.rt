@@ -1,9 +1,10 @@
 ghost use Rattle.std.specs.Prelude.{◌≡◌, ◌≢◌, ◌≤◌, ◌<◌, ◌+◌, ◌⊎◌, ℕ, ◌∷◌, List, Contains, true};
-ghost use Rattle.std.specs.Prelude.{false, OnOk, OnErr, IfOk, IfErr, IsSomeAnd, map};
+ghost use Rattle.std.specs.Prelude.{false, OnOk, OnErr, IfOk, IfErr, IsSomeAnd};
 ghost use Rattle.als_disk.specs.Failures.{CountsFailure};
 ghost use Rattle.als_disk.specs.Slot.{only, IsSettled, SameBlocks};
 ghost use Rattle.als_ckpt.specs.Control.{control_block, first_state, newest, with_state, settled};
 ghost use Rattle.als_ckpt.specs.Control.{new_control, IsControlState, IsControlled, IsBlockOf};
+ghost use Rattle.als_ckpt.specs.Control.{AreBlocks, Continues};
 ghost use Rattle.als_ckpt.specs.Control.{MayName, IsBeginning, IsBusy, with_begun, with_next};
 ghost use Rattle.als_ckpt.specs.Control.{with_whole};
 ghost use Rattle.als_ckpt.specs.Regions.{Said, IsPublished, held_at, IsWhole};
@@ -26,6 +27,7 @@ use crate::regions::Regions;
 use crate::writes::Writes;
 use als_ckpt_codec::{Checkpoint, encode_checkpoint};
 use als_disk::BlockDisk;
+use als_epochs::History;
 use als_record::Lsn;
 use std::alloc::Global;
 use std::marker::Model;
@@ -111,16 +113,19 @@ impl<D: BlockDisk> Control<D> {
             ⊎ (control_block pages first_state ≡ content)) }
     {
         match store_first(&mut disk, pages) {
-            Ok(state) => Ok(Control {
-                disk,
-                pages,
-                log_bytes,
-                synced: state,
-                last: state,
-                writes: Writes::none(),
-                regions: Regions::unknown(),
-                begun: None,
-            }),
+            Ok(state) => {
+                let last = state;
+                Ok(Control {
+                    disk,
+                    pages,
+                    log_bytes,
+                    synced: state,
+                    last,
+                    writes: Writes::none(),
+                    regions: Regions::unknown(),
+                    begun: None,
+                })
+            }
             Err(fault) => Err(Refused { disk, fault }),
         }
     }
@@ -185,12 +190,13 @@ impl<D: BlockDisk> Control<D> {
             (D.block_count disk) (D.failures disk) (D.attempts disk) }
     {
         let regions = Regions::of(state.published, checkpoint);
+        let last = state;
         Control {
             disk,
             pages,
             log_bytes,
             synced: state,
-            last: state,
+            last,
             writes: Writes::none(),
             regions,
             begun: None,
@@ -219,6 +225,7 @@ impl<D: BlockDisk> Control<D> {
         requires rises { (newest self.old).mark.0 ≤ state.mark.0 }
         requires named { IsPublished self.old.pages state.published state.position.0
             (held_at self.old.held state.published) }
+        requires grows { Continues (newest self.old) state }
         requires place { MayName self.old state }
         ensures ok { OnOk result (self.new ≡ with_state self.old state) }
         ensures err { OnErr result (self.new
@@ -254,27 +261,44 @@ impl<D: BlockDisk> Control<D> {
         self.write(state)
     }
 
-    /// Writes the newest state with another phase, mark and seal, by one write of the disk.
+    /// Writes the newest state with another phase, mark, seal and history of seals, by one write of
+    /// the disk. The history goes on from the one before, and the newest mark is at or below the seal
+    /// that follows there.
     ///
     /// `Device`: the disk failed, and the state may have been written or not.
-    pub fn write_phase(&mut self, phase: Phase, mark: Lsn, seal: Lsn) -> Result<(), Fault>
+    pub fn write_phase(
+        &mut self,
+        phase: Phase,
+        mark: Lsn,
+        seal: Lsn,
+        seals: History,
+    ) -> Result<(), Fault>
         requires fits { IsControlState self.old.log_bytes (record (newest self.old) {
           phase = phase;
           mark = mark;
           seal = seal;
+          history = seals;
         }) }
         requires rises { (newest self.old).mark.0 ≤ mark.0 }
+        requires grows { Continues (newest self.old) (record (newest self.old) {
+          phase = phase;
+          mark = mark;
+          seal = seal;
+          history = seals;
+        }) }
         ensures ok { OnOk result (self.new
             ≡ with_state self.old (record (newest self.old) {
               phase = phase;
               mark = mark;
               seal = seal;
+              history = seals;
             })) }
         ensures err { OnErr result (self.new
             ≡ record (with_state self.old (record (newest self.old) {
               phase = phase;
               mark = mark;
               seal = seal;
+              history = seals;
             }))
             { sure = false; failures = self.new.failures }) }
         ensures fault { IfErr result (λ fault. fault ≡ Fault.Device) }
@@ -284,6 +308,31 @@ impl<D: BlockDisk> Control<D> {
             phase,
             mark,
             seal,
+            history: seals,
+            ..self.last
+        };
+        self.write(state)
+    }
+
+    /// Writes the newest state with another history, by one write of the disk. It goes on from the
+    /// one before, and the newest mark is at or below the seal that follows there.
+    ///
+    /// `Device`: the disk failed, and the state may have been written or not.
+    pub fn write_history(&mut self, history: History) -> Result<(), Fault>
+        requires fits { IsControlState self.old.log_bytes
+            (record (newest self.old) { history = history }) }
+        requires grows { Continues (newest self.old)
+            (record (newest self.old) { history = history }) }
+        ensures ok { OnOk result (self.new
+            ≡ with_state self.old (record (newest self.old) { history = history })) }
+        ensures err { OnErr result (self.new
+            ≡ record (with_state self.old (record (newest self.old) { history = history }))
+            { sure = false; failures = self.new.failures }) }
+        ensures fault { IfErr result (λ fault. fault ≡ Fault.Device) }
+        ensures failures { CountsFailure result self.old.failures self.new.failures }
+    {
+        let state = ControlState {
+            history,
             ..self.last
         };
         self.write(state)
@@ -390,9 +439,9 @@ impl<D: BlockDisk> Control<D> {
     pub fn into_disk(self) -> D
         ensures candidates { (content : List ℕ) → Contains (D.slot result 0).candidates content
             → IsBlockOf self.pages (self.synced ∷ self.since) content }
-        // Where no write has failed, they are those of all of these states, oldest first.
-        ensures all { self.sure ≡ true → (D.slot result 0).candidates
-            ≡ map (control_block self.pages) (self.synced ∷ self.since) }
+        // Where no write has failed, they spell all of these states, oldest first.
+        ensures all { self.sure ≡ true → AreBlocks self.pages (self.synced ∷ self.since)
+            (D.slot result 0).candidates }
         ensures leaves { LeavesOneOf self (D.slot result) }
         ensures facts { IsControlled self }
         ensures count { D.block_count result ≡ self.blocks }

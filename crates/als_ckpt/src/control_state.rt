@@ -3,6 +3,7 @@ ghost use Rattle.als_ckpt.specs.Control.{first_state};
 
 use crate::phase::Phase;
 use crate::region::Region;
+use als_epochs::History;
 use als_record::{FIRST_LSN, Lsn};
 
 /// What a control block says.
@@ -18,6 +19,8 @@ pub struct ControlState {
     pub position: Lsn,
     /// The end of the log at its seal, 0 while it follows its source.
     pub seal: Lsn,
+    /// The seals of all takeovers before the node, its own one too.
+    pub history: History,
 }
 
 impl ControlState {
@@ -31,6 +34,7 @@ impl ControlState {
             mark: FIRST_LSN,
             position: Lsn(0),
             seal: Lsn(0),
+            history: History::empty(),
         }
     }
 

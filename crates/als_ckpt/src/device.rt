@@ -1,11 +1,11 @@
 // Control blocks on a disk.
-ghost use Rattle.std.specs.Prelude.{◌≡◌, ◌≢◌, ◌≤◌, ◌<◌, ◌+◌, ◌⊎◌, ℕ, IsErrOf, List, Contains, OnOk};
+ghost use Rattle.std.specs.Prelude.{◌≡◌, ◌≤◌, ◌<◌, ◌+◌, ◌⊎◌, ℕ, IsErrOf, List, Contains, OnOk};
 ghost use Rattle.std.specs.Prelude.{OnErr, IfOk, IfErr};
 ghost use Rattle.als_disk.specs.Failures.{CountsFailure};
 ghost use Rattle.als_disk.specs.Slot.{only, written, FailsToWrite, IsSettled, SameBlocks};
 ghost use Rattle.als_disk.specs.Slot.{SameBlocksBut};
 ghost use Rattle.als_disk.specs.Store.{zeros};
-ghost use Rattle.als_ckpt.specs.Control.{control_block, first_state, IsControlState};
+ghost use Rattle.als_ckpt.specs.Control.{control_block, first_state, IsControlState, HoldsState};
 ghost use Rattle.als_ckpt.specs.declared.control_state.ControlState.{ControlState as AnyState};
 
 use crate::codec::{decode, encode};
@@ -74,7 +74,7 @@ pub(crate) fn store_first<D: BlockDisk>(disk: &mut D, pages: u32) -> Result<Cont
 }
 
 /// The control state that block 0 holds, of a database of so many pages, whose log device has so
-/// many bytes.
+/// many bytes. It may be of version 1 or 2.
 ///
 /// `Device`: the disk failed. `BadControl`: the block is not such a control block.
 pub fn read_state<D: BlockDisk>(
@@ -84,15 +84,15 @@ pub fn read_state<D: BlockDisk>(
 ) -> Result<ControlState, Fault>
     requires room { 1 ≤ D.block_count disk.old }
     requires settled { IsSettled (D.slot disk.old 0) }
-    ensures found { IfOk result (λ s. (D.slot disk.old 0 ≡ only (control_block pages s))
+    ensures found { IfOk result (λ s. HoldsState pages (D.slot disk.old 0) s
         × IsControlState log_bytes s) }
     ensures only { (s : AnyState) → IsControlState log_bytes s
-        → D.slot disk.old 0 ≡ only (control_block pages s)
+        → HoldsState pages (D.slot disk.old 0) s
         → IfOk result (λ t. t ≡ s) }
     ensures bad_control { IsErrOf result Fault.BadControl
         → (D.failures disk.new ≡ D.failures disk.old)
         × ((s : AnyState) → IsControlState log_bytes s
-        → D.slot disk.old 0 ≢ only (control_block pages s)) }
+        → HoldsState pages (D.slot disk.old 0) s → ⊥) }
     ensures device { IsErrOf result Fault.Device → D.failures disk.old < D.failures disk.new }
     ensures fault { IfErr result (λ fault. (fault ≡ Fault.Device) ⊎ (fault ≡ Fault.BadControl)) }
     ensures ok { OnOk result (D.failures disk.new ≡ D.failures disk.old) }

@@ -70,7 +70,7 @@ fn has_room<D: BlockDisk>(scan: &Scan<D>, blocks: u64) -> bool
 fn finish<D: BlockDisk>(
     alloc: Global,
     reading: Reading<D>,
-    state: ControlState,
+    state: &ControlState,
     checkpoint: &Option<Checkpoint>,
     blocks: u64,
 ) -> Result<ReadLog<D>, UnreadLog<D>>
@@ -78,10 +78,10 @@ fn finish<D: BlockDisk>(
     requires waiting { reading.waiting.queued ≡ commits_of reading.scan.log }
     requires met { IsMet reading.met reading.scan.log checkpoint.now }
     requires low { IfSome checkpoint.now (λ c. c.numbers.position.0 ≤ reading.scan.mark) }
-    requires mark { reading.scan.mark ≡ state.mark.0 }
+    requires mark { reading.scan.mark ≡ state.now.mark.0 }
     requires blocks { blocks ≡ reading.scan.blocks }
     ensures ok { IfOk result (λ x. IsReopened reading.scan.pages blocks (record {
-      state = state;
+      state = state.now;
       checkpoint = checkpoint.now;
     })
         x.log.log x.validator x.count x.pool.pool) }
@@ -217,17 +217,17 @@ pub(crate) fn read_log<D: BlockDisk>(
     page_disk: D,
     pages: u32,
     frames: usize,
-    state: ControlState,
+    state: &ControlState,
     checkpoint: &Option<Checkpoint>,
 ) -> Result<ReadLog<D>, UnreadLog<D>>
     requires pages { (1 ≤ pages) × (pages ≤ 4096) }
     requires settled { AreSettled (D.slot log) }
     requires few { D.block_count log ≤ 4194304 }
-    requires mark { (16 ≤ state.mark.0) × (state.mark.0 ≤ 512 * D.block_count log) }
-    requires position { IfSome checkpoint.now (IsBelowMark state.mark.0) }
+    requires mark { (16 ≤ state.now.mark.0) × (state.now.mark.0 ≤ 512 * D.block_count log) }
+    requires position { IfSome checkpoint.now (IsBelowMark state.now.mark.0) }
     requires room { pages ≤ D.block_count page_disk }
     ensures ok { IfOk result (λ x. IsReopened pages (D.block_count log) (record {
-      state = state;
+      state = state.now;
       checkpoint = checkpoint.now;
     })
         x.log.log x.validator x.count x.pool.pool) }
@@ -235,7 +235,7 @@ pub(crate) fn read_log<D: BlockDisk>(
     ensures log { IfOk result (λ x. x.log
         ≡ all_synced pages x.log.log (D.block_count log) (D.failures log)
         (D.attempts log) x.log.room) }
-    ensures text { IfOk result (λ x. text_of (D.slot log) state.mark.0 ≡ log_text pages x.log.log) }
+    ensures text { IfOk result (λ x. text_of (D.slot log) state.now.mark.0 ≡ log_text pages x.log.log) }
     ensures frames { IfOk result (λ x. x.pool.pool.frames
         ≡ without_frames pages frames (D.slot page_disk) (D.block_count page_disk)
         (D.failures page_disk)
@@ -244,12 +244,12 @@ pub(crate) fn read_log<D: BlockDisk>(
         → HoldsImagesFrom whole below pages (position_of checkpoint.now) (rows_of checkpoint.now)
         (D.slot page_disk) → HoldsImagesOf whole below x.pool.pool) }
     ensures bare { (whole : List AnyRecord)
-        → IsLogOn pages (D.block_count log) state.mark.0
-        (text_of (D.slot log) state.mark.0) checkpoint.now whole
+        → IsLogOn pages (D.block_count log) state.now.mark.0
+        (text_of (D.slot log) state.now.mark.0) checkpoint.now whole
         → IfErr result (λ u. IsBare u.fault) }
     // Over any text the fault is the first that is met in it.
-    ensures refuses { IfErr result (λ u. RefusesText u.fault pages (D.block_count log) state.mark.0
-        (text_of (D.slot log) state.mark.0) checkpoint.now) }
+    ensures refuses { IfErr result (λ u. RefusesText u.fault pages (D.block_count log) state.now.mark.0
+        (text_of (D.slot log) state.now.mark.0) checkpoint.now) }
     ensures failures { IfErr result (λ u. CountsLog u.fault (D.failures log) (D.failures u.log)
         × (D.failures u.pages ≡ D.failures page_disk)) }
     ensures left_log { IfErr result (λ u. IsDiskLeft (D.block_count log) (D.slot log) (D.slot u.log)

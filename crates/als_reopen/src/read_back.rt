@@ -85,7 +85,7 @@ pub(crate) fn read_back<D: BlockDisk>(
         control,
         pages: page_disk,
     } = disks;
-    match read_log(alloc, log, page_disk, pages, frames, state, &checkpoint) {
+    match read_log(alloc, log, page_disk, pages, frames, &state, &checkpoint) {
         Ok(read) => {
             let control = Control::reopen(control, pages, log_bytes, state, &checkpoint);
             Ok(read.with_control(control))

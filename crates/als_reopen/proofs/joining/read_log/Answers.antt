@@ -21,7 +21,7 @@ returns-in-Ok-finish-clause-images g c whole below h =
 pub returns-in-Err-finish-clause-bare : goal.returns-in-Err-finish-clause-bare
 returns-in-Err-finish-clause-bare g c whole h =
     let slots = g.D.BlockDisk.slot c.args.log in
-    let mark = c.args.state.mark.0 in
+    let mark = c.args.state.now.mark.0 in
     let checkpoint = c.args.checkpoint.now in
     let blocks = c.blocks-blocks.result in
     let counted = subst (λ (n : ℕ). IsLogOn c.args.pages n mark (text_of slots mark) checkpoint whole) (sym c.blocks-blocks.ensures) h in
@@ -33,7 +33,7 @@ pub returns-in-Err-finish-clause-left_log : goal.returns-in-Err-finish-clause-le
 returns-in-Err-finish-clause-left_log g c =
     let disk = c.args.log in
     let left = c.in-Err-finish.unread.log in
-    scan_left c.args.pages c.args.state.mark.0 (g.D.BlockDisk.block_count disk) (g.D.BlockDisk.failures disk) (g.D.BlockDisk.attempts disk) (g.D.BlockDisk.block_count left) (g.D.BlockDisk.attempts left)
+    scan_left c.args.pages c.args.state.now.mark.0 (g.D.BlockDisk.block_count disk) (g.D.BlockDisk.failures disk) (g.D.BlockDisk.attempts disk) (g.D.BlockDisk.block_count left) (g.D.BlockDisk.attempts left)
     (g.D.BlockDisk.slot disk) (g.D.BlockDisk.slot left) c.in-Ok-begin.reading.scan c.in-Ok-begin.ensures.scan c.in-Err-finish.ensures.left_log
 
 pub returns-in-Err-finish-clause-left_pages : goal.returns-in-Err-finish-clause-left_pages
