@@ -8,6 +8,7 @@ use Rattle.als_record.specs.LogText.{end_of}
 use Rattle.als_record.proofs.PageLaws.{end_of-append}
 use Rattle.als_log.specs.Local.{IsFrontEnd}
 use Rattle.als_store.specs.Takeover.{GoesOn}
+use Rattle.als_epochs.specs.HistoryLaws.{GoesOn-refl}
 use Rattle.als_store.specs.Stored.{Stored, acknowledged}
 use Rattle.als_engine.specs.Machine.{Machine, Keeps}
 use Rattle.als_store.specs.Warm.{WasWarm}
@@ -16,7 +17,7 @@ pub le_refl : (n : ℕ) → n ≤ n
 le_refl n = omega arith
 
 pub goes_on_same : (s : ControlState) → GoesOn s s
-goes_on_same s = record { phase = omega arith; seal = λ past. refl }
+goes_on_same s = record { phase = omega arith; seal = λ past. refl; history = GoesOn-refl s.history }
 
 keeps_same : (m : Machine) → Keeps m m
 keeps_same m = record {

@@ -26,7 +26,7 @@ use Rattle.als_engine.specs.Readers.{ended_in}
 use Rattle.als_engine.specs.Publishing.{PublishesEnded, PublishesView}
 use Rattle.als_engine.specs.Readiness.{readied, BecomesReady, Readies}
 use Rattle.als_engine.specs.Takeover.{SealsLog, Undoes, FinishesTakeover, Seals, UndoesOneOf}
-use Rattle.als_engine.specs.Takeover.{Finishes, ResolvesIt, ResolvesOf}
+use Rattle.als_engine.specs.Takeover.{Finishes, ResolvesIt, ResolvesOf, AdoptsIt, Adopts}
 use Rattle.als_record.specs.declared.trans_id.TransId.{TransId}
 use Rattle.als_store.specs.declared.decision.Decision.{Decision}
 use Rattle.als_engine.proofs.ReaderLaws.{ended_in-few}
@@ -292,6 +292,22 @@ keeps_seal old new result does = keeps_does old new step.Seal (SealsLog old) res
         (ap (λ (h : Stored). h.log) e.after) (ap (λ (h : Stored). h.control) e.after)
         (λ b. ap (λ (h : Stored). h.broken) e.after))
 
+pub keeps_adopt : (old new : Machine) (history : List ℕ) (result : Result (Unit {0}) Fault)
+    → Adopts old history result new → Keeps old new
+keeps_adopt old new history result does =
+    keeps_does old new (step.Adopt history) (AdoptsIt history old) result does (go result)
+  where
+    go : (r : Result (Unit {0}) Fault) → AdoptsIt history old r new → Keeps old new
+    go (Ok done) s = keeps_stays old new s.held (ap (λ (m : Machine). m.held) s.after)
+        (ap (λ (m : Machine). m.limit) s.after) (read_alike old new _ s.after refl refl)
+        (set_stays old.held s.held (as_made old.held s.held _ s.adopts.after refl (λ w. w) (λ r. r))
+        (ap (λ (h : Stored). h.log) s.adopts.after) (ap (λ (h : Stored). h.control) s.adopts.after)
+        (λ b. ap (λ (h : Stored). h.broken) s.adopts.after ∙ b))
+    go (Err fault) c = keeps_changes old new _ c.1
+        (λ held e. set_stays old.held held (as_made old.held held _ e.after refl (λ w. w) (λ r. r))
+        (ap (λ (h : Stored). h.log) e.after) (ap (λ (h : Stored). h.control) e.after)
+        (λ b. ap (λ (h : Stored). h.broken) e.after))
+
 pub keeps_acknowledged : (old new : Machine) (lsn : Lsn)
     → acknowledged old.held ≤ (newest old.held).mark.0 → GoesOn old.held.control new.held.control
     → ControlSyncs old (Ok lsn) new → Keeps old new
@@ -460,6 +476,22 @@ attempts_seal old new result does = go (refusal old step.Seal) result does
     go None (Ok done) c = omega (arith, ap (λ (m : Machine). m.held.attempts) c.after, ap (λ (h : Stored). h.attempts) c.seals.after)
     go None (Err fault) c = omega (arith, ap (λ (m : Machine). m.held.attempts) c.1.after, ap (λ (h : Stored). h.attempts) c.1.becomes.after)
     go (Some cause) answer same = omega (arith, ap (λ (m : Machine). m.held.attempts) same.1)
+
+pub attempts_adopt : (old new : Machine) (history : List ℕ) (result : Result (Unit {0}) Fault)
+    → Adopts old history result new → new.held.attempts ≤ old.held.attempts + 1
+attempts_adopt old new history result does = go (refusal old (step.Adopt history)) result does
+  where
+    go : (r : Option Fault) (answer : Result (Unit {0}) Fault)
+        → MatchOption r (AdoptsIt history old answer new) (λ fault. (answer ≡ Err fault)
+        × (new ≡ old)) → new.held.attempts ≤ old.held.attempts + 1
+    go None (Ok done) c = omega (arith, ap (λ (m : Machine). m.held.attempts) c.after, ap (λ (h : Stored). h.attempts) c.adopts.after)
+    go None (Err fault) c = omega (arith, ap (λ (m : Machine). m.held.attempts) c.1.after, ap (λ (h : Stored). h.attempts) c.1.becomes.after)
+    go (Some cause) answer same = omega (arith, ap (λ (m : Machine). m.held.attempts) same.1)
+
+pub adopts_step : (old new : Machine) (history : List ℕ) (result : Result (Unit {0}) Fault)
+    → Adopts old history result new → Steps old (step.Adopt history) (reply_of result) new
+adopts_step old new history (Ok done) does = does
+adopts_step old new history (Err fault) does = does
 
 pub seals_step : (old new : Machine) (result : Result (Unit {0}) Fault) → Seals old result new
     → Steps old step.Seal (reply_of result) new

@@ -8,6 +8,8 @@ use Rattle.als_record.specs.declared.cause.Cause.{Cause}
 use Rattle.als_record.specs.declared.cause.Cause.TheVariants as cause
 use Rattle.als_store.specs.declared.fault.Fault.{Fault as StoreFault}
 use Rattle.als_store.specs.declared.fault.Fault.TheVariants as store_fault
+use Rattle.als_epochs.specs.declared.fault.Fault.{Fault as EpochFault}
+use Rattle.als_epochs.specs.declared.fault.Fault.TheVariants as epoch_fault
 use Rattle.als_reopen.specs.declared.fault.Fault.{Fault as OpenFault}
 use Rattle.als_reopen.specs.declared.fault.Fault.TheVariants as open_fault
 use Rattle.als_engine.specs.declared.fault.Fault.{Fault}
@@ -25,6 +27,7 @@ use Rattle.als_engine.specs.declared.fault.Fault.TheVariants.{BadControl, Warmin
 use Rattle.als_engine.specs.declared.fault.Fault.TheVariants.{BadConfig, NotSealed, PageLent}
 use Rattle.als_engine.specs.declared.fault.Fault.TheVariants.{Stranger, BadSlot, NumbersSpent}
 use Rattle.als_engine.specs.declared.fault.Fault.TheVariants.{NotPrimary, NotInDoubt}
+use Rattle.als_engine.specs.declared.fault.Fault.TheVariants.{Diverged, OtherEpoch, EpochsSpent}
 
 abbrev pub kind_of : Fault → FaultKind
 kind_of BadHeader = kind.BadHeader
@@ -66,6 +69,9 @@ kind_of BadSlot = kind.BadSlot
 kind_of NumbersSpent = kind.NumbersSpent
 kind_of NotPrimary = kind.NotPrimary
 kind_of NotInDoubt = kind.NotInDoubt
+kind_of (Diverged seal) = kind.Diverged seal.0
+kind_of (OtherEpoch epoch) = kind.OtherEpoch epoch
+kind_of EpochsSpent = kind.EpochsSpent
 
 -- the same fault, as the engine answers it
 abbrev pub from_record : RecordFault → Fault
@@ -103,6 +109,11 @@ from_store store_fault.LogFull = LogFull
 from_store store_fault.Device = Device
 from_store store_fault.Memory = Memory
 from_store (store_fault.BadPage page) = BadPage page
+
+-- why an offered history is refused, as the engine answers it
+abbrev pub from_epochs : EpochFault → Fault
+from_epochs (epoch_fault.OtherEpoch epoch) = OtherEpoch epoch
+from_epochs (epoch_fault.Diverged seal) = Diverged seal
 
 -- why devices were not taken up again, as the engine answers it
 abbrev pub from_open : OpenFault → Fault

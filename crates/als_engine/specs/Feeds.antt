@@ -24,6 +24,7 @@ use Rattle.als_engine.specs.declared.fault.Fault.TheVariants.{BadControl, Warmin
 use Rattle.als_engine.specs.declared.fault.Fault.TheVariants.{BadConfig, NotSealed, PageLent}
 use Rattle.als_engine.specs.declared.fault.Fault.TheVariants.{Stranger, BadSlot, NumbersSpent}
 use Rattle.als_engine.specs.declared.fault.Fault.TheVariants.{NotPrimary, NotInDoubt}
+use Rattle.als_engine.specs.declared.fault.Fault.TheVariants.{Diverged, OtherEpoch, EpochsSpent}
 use Rattle.als_engine.specs.declared.fed.Fed.{Fed}
 use Rattle.als_engine.specs.declared.fed.FeedFault.{FeedFault}
 use Rattle.als_engine.specs.Faults.{from_record, from_cause}
@@ -112,6 +113,9 @@ kept_fault BadSlot = Some BadSlot
 kept_fault NumbersSpent = Some NumbersSpent
 kept_fault NotPrimary = Some NotPrimary
 kept_fault NotInDoubt = Some NotInDoubt
+kept_fault (Diverged seal) = Some (Diverged seal)
+kept_fault (OtherEpoch epoch) = Some (OtherEpoch epoch)
+kept_fault EpochsSpent = Some EpochsSpent
 
 -- whole records in front of a fault are held, and no rest is kept
 pub record FeedsFront (old : Machine) (piece : List ℕ) (refusal : FeedFault)

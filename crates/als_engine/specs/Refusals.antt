@@ -1,6 +1,7 @@
 -- Why an event is refused before it does anything.
 use Rattle.std.specs.Prelude.{◌≡◌, ℕ, nat_lt, nat_le, Bool, true, false, not, ◌||◌, is_some, is_none}
-use Rattle.std.specs.Prelude.{List, [], ◌∷◌, ◌++◌, Option, Some, None, MatchOption, Result, Err}
+use Rattle.std.specs.Prelude.{List, [], ◌∷◌, ◌++◌, length, ◌==◌, Option, Some, None, MatchOption}
+use Rattle.std.specs.Prelude.{Result, Ok, Err}
 use Rattle.std.specs.Prelude.{if◌then◌else◌}
 use Rattle.als_record.specs.LogText.{end_of}
 use Rattle.als_record.specs.Tail.{is_undone}
@@ -12,13 +13,19 @@ use Rattle.als_pool.specs.Pooled.{view_of}
 use Rattle.als_pool.specs.Refusals.{is_lent, has_waiting, are_spent, is_full as has_no_frame}
 use Rattle.als_pool.specs.Refusals.{is_due, is_behind}
 use Rattle.als_store.specs.Stored.{Stored, newest, pending_of, acknowledged}
-use Rattle.als_store.specs.Takeover.{is_following, is_primary, is_drained}
+use Rattle.als_store.specs.Takeover.{is_following, is_primary, is_drained, history_of}
+use Rattle.als_epochs.specs.declared.fault.Fault.{Fault as EpochFault}
+use Rattle.als_epochs.specs.declared.step.Step.{Step as Judged}
+use Rattle.als_epochs.specs.declared.step.Step.TheVariants.{Stay, Adopt}
+use Rattle.als_epochs.specs.Histories.{last_seal}
+use Rattle.als_epochs.specs.Judging.{judged}
 use Rattle.als_engine.specs.declared.fault.Fault.{Fault}
 use Rattle.als_engine.specs.declared.fault.Fault.TheVariants.{Recovering, Sealed, LogBehind}
 use Rattle.als_engine.specs.declared.fault.Fault.TheVariants.{NotDrained, CkptBusy, PoolFull}
 use Rattle.als_engine.specs.declared.fault.Fault.TheVariants.{NothingToDo, Stopped, Backlog}
 use Rattle.als_engine.specs.declared.fault.Fault.TheVariants.{NotSealed, PageLent, NumbersSpent}
-use Rattle.als_engine.specs.declared.fault.Fault.TheVariants.{NotPrimary, NotInDoubt}
+use Rattle.als_engine.specs.declared.fault.Fault.TheVariants.{NotPrimary, NotInDoubt, EpochsSpent}
+use Rattle.als_engine.specs.Faults.{from_epochs}
 use Rattle.als_engine.specs.declared.step.Step.{Step}
 use Rattle.als_engine.specs.declared.step.Step.TheVariants as step
 use Rattle.als_engine.specs.Machine.{Machine}
@@ -49,6 +56,24 @@ is_unsealed m = (is_following m.held, NotSealed)
 -- the log is not synced to its end
 abbrev pub is_unsynced : Stored → Bool
 is_unsynced held = nat_lt held.synced (end_of held.log)
+
+-- the history has room for no more seals
+abbrev pub is_spent : Stored → Bool
+is_spent held = length (history_of held) == 32
+
+-- the log ends below the last seal of the history
+abbrev pub is_below_seal : Stored → Bool
+is_below_seal held = nat_lt (end_of held.log) (last_seal (history_of held))
+
+-- an offered history is the own one, or it is refused by the judgement on it
+abbrev pub not_adopted : Result Judged EpochFault → List (Bool × Fault)
+not_adopted (Ok Stay) = (true, NothingToDo) ∷ []
+not_adopted (Ok Adopt) = []
+not_adopted (Err fault) = (true, from_epochs fault) ∷ []
+
+-- the judgement on an offered history
+abbrev pub judgement_on : Stored → List ℕ → Result Judged EpochFault
+judgement_on held offered = judged (history_of held) offered (end_of held.log)
 
 -- a fault of the log was met, and is kept until a resync
 abbrev pub has_refused : Option Fault → List (Bool × Fault)
@@ -126,7 +151,10 @@ causes m step.ControlSync = has_stopped m ∷ []
 causes m step.PublishView = has_stopped m ∷ is_recovering m ∷ (is_published m, NothingToDo) ∷ []
 causes m step.Ready = has_stopped m ∷ is_ready m ∷ (is_pending m.held, NotDrained) ∷ []
 causes m step.Seal =
-    has_stopped m ∷ is_recovering m ∷ has_sealed m ∷ (is_unsynced m.held, LogBehind) ∷ []
+    has_stopped m ∷ is_recovering m ∷ has_sealed m ∷ (is_spent m.held, EpochsSpent)
+    ∷ (is_unsynced m.held, LogBehind) ∷ (is_below_seal m.held, LogBehind) ∷ []
+causes m (step.Adopt offered) =
+    has_stopped m ∷ is_recovering m ∷ has_sealed m ∷ not_adopted (judgement_on m.held offered)
 causes m step.UndoOne =
     has_stopped m ∷ is_recovering m ∷ is_unsealed m
     ∷ (is_undone m.held.log, NothingToDo) ∷ []

@@ -13,7 +13,7 @@ use Rattle.als_engine.specs.Events.{MarkWrites, ControlSyncs}
 use Rattle.als_engine.specs.Leases.{Recalls}
 use Rattle.als_engine.specs.Publishing.{PublishesView}
 use Rattle.als_engine.specs.Readiness.{Readies}
-use Rattle.als_engine.specs.Takeover.{Seals, UndoesOneOf, ResolvesOf, Finishes}
+use Rattle.als_engine.specs.Takeover.{Adopts, Seals, UndoesOneOf, ResolvesOf, Finishes}
 use Rattle.als_engine.specs.Checkpointing.{CkptBegins, CkptWrites, CkptPublishes}
 
 -- the reply to an event that answers no value
@@ -53,6 +53,8 @@ Steps old step.PublishView reply.Done new = PublishesView old (Ok tt) new
 Steps old step.PublishView (reply.Refused fault) new = PublishesView old (Err fault) new
 Steps old step.Ready reply.Done new = Readies old (Ok tt) new
 Steps old step.Ready (reply.Refused fault) new = Readies old (Err fault) new
+Steps old (step.Adopt history) reply.Done new = Adopts old history (Ok tt) new
+Steps old (step.Adopt history) (reply.Refused fault) new = Adopts old history (Err fault) new
 Steps old step.Seal reply.Done new = Seals old (Ok tt) new
 Steps old step.Seal (reply.Refused fault) new = Seals old (Err fault) new
 Steps old step.UndoOne (reply.Undone lsn) new = UndoesOneOf old (Ok lsn) new

@@ -1,9 +1,10 @@
 -- What the events of a takeover make of the small machine.
-use Rattle.std.specs.Prelude.{◌≡◌, ◌⊎◌, [], None, Result, Ok, Err}
+use Rattle.std.specs.Prelude.{◌≡◌, ◌⊎◌, ℕ, List, [], None, Result, Ok, Err}
 use Rattle.als_record.specs.declared.lsn.Lsn.{Lsn}
 use Rattle.als_record.specs.declared.trans_id.TransId.{TransId}
 use Rattle.als_store.specs.Stored.{Stored}
 use Rattle.als_store.specs.Takeover.{WritesState, BreaksState, sealed_state, finished_state}
+use Rattle.als_store.specs.Takeover.{adopted_state}
 use Rattle.als_store.specs.Takeover.{UndoesOne, Resolves}
 use Rattle.als_store.specs.declared.decision.Decision.{Decision}
 use Rattle.als_store.specs.Events.{FailsToRead}
@@ -25,6 +26,17 @@ abbrev pub SealsLog : Machine → Result (Unit {0}) Fault → Machine → Type 0
 SealsLog old (Ok done) new = SealsHeld old new
 SealsLog old (Err fault) new =
     FailsIn old fault (λ held after. BreaksState (sealed_state held) held after) new
+
+-- the control block is written with the history of another node; the partial record is dropped, and nothing is refused any more
+pub record AdoptsHeld (old : Machine) (history : List ℕ) (new : Machine) : Type 0 where
+  pub held : Stored
+  pub adopts : WritesState (adopted_state old.held history) old.held held
+  pub after : new ≡ record old { held = held; partial = []; refused = None }
+
+abbrev pub AdoptsIt : List ℕ → Machine → Result (Unit {0}) Fault → Machine → Type 0
+AdoptsIt history old (Ok done) new = AdoptsHeld old history new
+AdoptsIt history old (Err fault) new =
+    FailsIn old fault (λ held after. BreaksState (adopted_state held history) held after) new
 
 -- The next record of the sealed log's tail is held; there is no partial record. Or memory was
 -- wanted, or the log device failed in a read, which is counted.
@@ -59,6 +71,9 @@ FinishesTakeover old (Err fault) new =
 
 abbrev pub Seals : Machine → Result (Unit {0}) Fault → Machine → Type 0
 Seals old result new = Does old step.Seal (SealsLog old) result new
+
+abbrev pub Adopts : Machine → List ℕ → Result (Unit {0}) Fault → Machine → Type 0
+Adopts old history result new = Does old (step.Adopt history) (AdoptsIt history old) result new
 
 abbrev pub UndoesOneOf : Machine → Result Lsn Fault → Machine → Type 0
 UndoesOneOf old result new = Does old step.UndoOne (Undoes old) result new

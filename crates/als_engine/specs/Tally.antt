@@ -28,11 +28,12 @@ place_of event.Seal = 16
 place_of event.UndoOne = 17
 place_of event.Finish = 18
 place_of event.Resolve = 19
+place_of event.Adopt = 20
 
 -- no event was made
 abbrev pub no_events : List ℕ
 no_events =
-    0 ∷ 0 ∷ 0 ∷ 0 ∷ 0 ∷ 0 ∷ 0 ∷ 0 ∷ 0 ∷ 0 ∷ 0 ∷ 0 ∷ 0 ∷ 0 ∷ 0 ∷ 0 ∷ 0 ∷ 0 ∷ 0 ∷ 0 ∷ []
+    0 ∷ 0 ∷ 0 ∷ 0 ∷ 0 ∷ 0 ∷ 0 ∷ 0 ∷ 0 ∷ 0 ∷ 0 ∷ 0 ∷ 0 ∷ 0 ∷ 0 ∷ 0 ∷ 0 ∷ 0 ∷ 0 ∷ 0 ∷ 0 ∷ []
 
 -- a tally with one of its numbers raised
 abbrev pub raised : ℕ → ℕ → List ℕ → List ℕ

@@ -1,9 +1,11 @@
 -- What a standby tells of itself.
-use Rattle.std.specs.Prelude.{◌≡◌, ℕ, ◌≤◌, true, false, not, length, if◌then◌else◌}
+use Rattle.std.specs.Prelude.{◌≡◌, ℕ, ◌≤◌, true, false, not, ◌∷◌, Contains, length, if◌then◌else◌}
+use Rattle.als_ckpt.specs.declared.control_state.ControlState.{ControlState}
+use Rattle.als_ckpt.specs.Control.{Continues}
 use Rattle.als_record.specs.LogText.{end_of}
 use Rattle.als_record.specs.Validity.{is_valid}
 use Rattle.als_pool.specs.Pooled.{leases_of}
-use Rattle.als_store.specs.Stored.{acknowledged, pending_of}
+use Rattle.als_store.specs.Stored.{acknowledged, newest, pending_of}
 use Rattle.als_store.specs.Takeover.{IsUnderTakeover, IsFinished, is_primary}
 use Rattle.als_store.specs.Warm.{WasWarm}
 use Rattle.als_engine.specs.declared.status.Status.{Status}
@@ -41,3 +43,9 @@ pub record Stands (m : Machine) : Type 0 where
 -- those whose records end at or below what is acknowledged.
 abbrev pub told_in : Machine → ℕ
 told_in m = if m.listed then m.published else ended_in m.held
+
+-- The history goes on from that of each control state which a crash may leave, and the log that such
+-- a state acknowledges ends at or below the first seal that its own history lacks.
+abbrev pub IsGrown : Machine → Type 0
+IsGrown m = (c : ControlState) → Contains (m.held.control ∷ m.held.since) c
+    → Continues c (newest m.held)

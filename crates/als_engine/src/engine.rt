@@ -39,6 +39,8 @@ ghost use Rattle.als_store.specs.Warm.{WasWarm};
 
 // What acknowledges the log.
 mod acknowledging;
+// The history of takeovers.
+mod adopting;
 // What is asked, and changes nothing.
 mod asking;
 // The steps of a checkpoint.

@@ -10,6 +10,7 @@ use crate::not_given::NotGiven;
 use crate::status::Status;
 use als_analysis::OpenRow;
 use als_disk::BlockDisk;
+use als_epochs::History;
 use als_lease::PageLease;
 use als_page::Page;
 use als_record::{LoggedPage, Lsn, Record, TransId, TransactionRow};
@@ -101,6 +102,10 @@ impl<D: BlockDisk> Events for Engine<D> {
         Engine::ready(self, rt)
     }
 
+    fn adopt(&mut self, history: History) -> Result<(), Fault> {
+        Engine::adopt(self, history)
+    }
+
     fn seal(&mut self) -> Result<(), Fault> {
         Engine::seal(self)
     }
@@ -119,6 +124,10 @@ impl<D: BlockDisk> Events for Engine<D> {
 
     fn status(&self) -> Status {
         Engine::status(self)
+    }
+
+    fn history(&self) -> History {
+        Engine::history(self)
     }
 
     fn table(&self, alloc: Global) -> Result<Vec<TransactionRow>, Fault> {

@@ -21,4 +21,5 @@ pub enum Event {
     UndoOne,
     Finish,
     Resolve,
+    Adopt,
 }

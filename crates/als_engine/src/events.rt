@@ -16,14 +16,16 @@ ghost use Rattle.als_engine.specs.Publishing.{PublishesView, TellsReaders};
 ghost use Rattle.als_engine.specs.Readers.{book_told};
 ghost use Rattle.logbook.specs.Pages.{Book};
 ghost use Rattle.als_engine.specs.Readiness.{Readies};
-ghost use Rattle.als_engine.specs.Takeover.{Seals, UndoesOneOf, ResolvesOf, Finishes};
+ghost use Rattle.als_engine.specs.Takeover.{Adopts, Seals, UndoesOneOf, ResolvesOf, Finishes};
+ghost use Rattle.als_store.specs.Takeover.{history_of};
 ghost use Rattle.als_engine.specs.Tally.{TellsOk, TellsTaken};
-ghost use Rattle.als_engine.specs.Telling.{Tells, Stands};
+ghost use Rattle.als_engine.specs.Telling.{Tells, Stands, IsGrown};
 
 use crate::fault::Fault;
 use crate::fed::{Fed, FeedFault};
 use crate::not_given::NotGiven;
 use crate::status::Status;
+use als_epochs::History;
 use als_lease::PageLease;
 use als_page::Page;
 use als_record::{LoggedPage, Lsn, Record, TransId, TransactionRow};
@@ -169,6 +171,13 @@ pub trait Events {
         ensures told { TellsOk event.Ready result (tally self.old) (tally self.new) }
         ensures book { book self.new ≡ book self.old };
 
+    /// Goes on with the history of another node, and drops the partial record.
+    fn adopt(&mut self, history: History) -> Result<(), Fault>
+        ensures adopts { alone → Adopts (machine self.old) history result (machine self.new) }
+        ensures keeps { alone → Keeps (machine self.old) (machine self.new) }
+        ensures told { TellsOk event.Adopt result (tally self.old) (tally self.new) }
+        ensures book { book self.new ≡ book self.old };
+
     /// Seals the log at its end: from now on no piece of the primary's log is taken.
     fn seal(&mut self) -> Result<(), Fault>
         ensures seals { alone → Seals (machine self.old) result (machine self.new) }
@@ -208,6 +217,12 @@ pub trait Events {
         // What always holds between two events: of the log, of what readers were told, and of a
         // takeover.
         ensures stands { alone → Stands (machine self.now) };
+
+    /// The node's history: the seals of all takeovers before it, its own one too.
+    fn history(&self) -> History
+        ensures history { alone → result ≡ history_of (machine self.now).held }
+        // A crash leaves a front of it, and a log that ends at or below its next seal.
+        ensures grown { alone → IsGrown (machine self.now) };
 
     /// The transaction table of the held log, in rising TransID. Only want of memory for the copy
     /// is refused.

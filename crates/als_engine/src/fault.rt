@@ -2,9 +2,11 @@ ghost use Rattle.std.specs.Prelude.{◌≡◌, Some};
 ghost use Rattle.als_fault.specs.Kinds.{number_of, name_of, text_of};
 ghost use Rattle.als_engine.specs.declared.fault.Fault.TheVariants.{Memory as OutOfMemory};
 ghost use Rattle.als_engine.specs.Faults.{kind_of, from_record, from_cause, from_store, from_open};
+ghost use Rattle.als_engine.specs.Faults.{from_epochs};
 
+use als_epochs::Fault as EpochFault;
 use als_fault::FaultKind;
-use als_record::{Cause, Fault as RecordFault, TransId};
+use als_record::{Cause, Fault as RecordFault, Lsn, TransId};
 use als_store::{Fault as StoreFault, OpenFault};
 use std::alloc::{AllocError, AllocFailed};
 use std::fmt;
@@ -99,6 +101,19 @@ pub enum Fault {
     NotPrimary,
     /// The transaction is not in doubt.
     NotInDoubt,
+    /// The log reaches past the seal with which the offered history goes on: the two logs parted
+    /// there.
+    Diverged {
+        /// That seal.
+        seal: Lsn,
+    },
+    /// The offered history does not go on from the own one.
+    OtherEpoch {
+        /// The epoch of the offered history.
+        epoch: u32,
+    },
+    /// The history has room for no more seals.
+    EpochsSpent,
 }
 
 impl Fault {
@@ -146,6 +161,9 @@ impl Fault {
             Fault::NumbersSpent => FaultKind::NumbersSpent,
             Fault::NotPrimary => FaultKind::NotPrimary,
             Fault::NotInDoubt => FaultKind::NotInDoubt,
+            Fault::Diverged { seal } => FaultKind::Diverged { seal: seal.0 },
+            Fault::OtherEpoch { epoch } => FaultKind::OtherEpoch { epoch },
+            Fault::EpochsSpent => FaultKind::EpochsSpent,
         }
     }
 
@@ -226,6 +244,17 @@ impl From<StoreFault> for Fault {
             StoreFault::Device => Fault::Device,
             StoreFault::Memory => Fault::Memory,
             StoreFault::BadPage { page } => Fault::BadPage { page },
+        }
+    }
+}
+
+impl From<EpochFault> for Fault {
+    ghost from_gives = { λ f e. e ≡ from_epochs f };
+
+    fn from(fault: EpochFault) -> Fault {
+        match fault {
+            EpochFault::OtherEpoch { epoch } => Fault::OtherEpoch { epoch },
+            EpochFault::Diverged { seal } => Fault::Diverged { seal },
         }
     }
 }

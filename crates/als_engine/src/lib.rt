@@ -32,6 +32,7 @@ mod engine_events;
 // One step of the small machine, and its reply.
 mod step;
 
+pub use als_epochs::History;
 pub use als_lease::PageLease;
 pub use als_store::{Decision, Disks};
 pub use als_view::{Answer, Reader};

@@ -1,5 +1,6 @@
 use crate::fault::Fault;
 use crate::fed::{Fed, FeedFault};
+use als_epochs::History;
 use als_record::{Lsn, TransId};
 use als_store::Decision;
 
@@ -34,6 +35,8 @@ pub enum Step<'a> {
     PublishView,
     /// Ends the recovery of a standby that was opened, and publishes the commits of its log.
     Ready,
+    /// Goes on with the history of another node.
+    Adopt(History),
     /// Seals the log: from then on it takes only its own tail.
     Seal,
     /// Holds the next record of the sealed log's tail.

@@ -31,6 +31,7 @@ use Rattle.als_log.specs.Local.{Local, IsLocal}
 use Rattle.als_ckpt.specs.Regions.{Begun}
 use Rattle.als_ckpt.specs.Control.{Controlled, IsBusy, newest, with_begun, with_next, with_whole}
 use Rattle.als_ckpt.specs.Control.{published, publishing, free_region}
+use Rattle.als_epochs.specs.HistoryLaws.{GoesOn-refl}
 use Rattle.als_pool.specs.Queues.{total_waiting}
 use Rattle.als_pool.specs.Pooled.{Pooled}
 use Rattle.als_store.specs.Checkpoints.{IsCovering, AreCovering}
@@ -172,7 +173,7 @@ module _ (pages : ℕ) (held : CommitCount) (l : Local) (c : Controlled) (pool :
       (λ e. e)
 
   published_on : (b : Begun) → GoesOn (newest c) (publishing (newest c) b)
-  published_on b = record { phase = omega arith; seal = λ past. refl }
+  published_on b = record { phase = omega arith; seal = λ past. refl; history = GoesOn-refl (newest c).history }
 
   published_taken : (b : Begun) → IsLocal l
       → AreTaken l.log c.synced c.since recovering (total_waiting pool.waits)
@@ -180,7 +181,7 @@ module _ (pages : ℕ) (held : CommitCount) (l : Local) (c : Controlled) (pool :
       (total_waiting pool.waits)
   published_taken b facts taken =
       taken_marked l.log c.synced c.since recovering (total_waiting pool.waits) taken
-      (publishing (newest c) b) refl refl (omega arith)
+      (publishing (newest c) b) refl refl (GoesOn-refl (newest c).history) (omega arith)
       (omega (arith, h.marks.newest_synced, facts.synced, facts.written))
 
   pub stored-published : (c' : Controlled) (b : Begun) → IsLocal l → c.begun ≡ Some b

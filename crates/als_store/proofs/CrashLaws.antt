@@ -2,7 +2,6 @@
 use Rattle.std.proofs.Common.{◌≡◌, ℕ, ◌+◌, ◌-◌, List, ap, subst, ◌∙◌, arith}
 use Rattle.std.specs.Prelude.{length, min, drop, Contains}
 use Rattle.std.proofs.lemmas.List.{drop_min, drop-drop, length-drop}
-use Rattle.als_record.specs.LogText.{log_text}
 use Rattle.als_disk.specs.Crash.{LeavesPicked}
 use Rattle.als_disk.specs.Slot.{Slot}
 use Rattle.als_disk.specs.SlotLaws.{Contains-one}

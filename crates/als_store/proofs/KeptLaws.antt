@@ -1,12 +1,12 @@
 -- What the devices of a store hold, from what the log's and the control block's say.
-use Rattle.std.proofs.Common.{ℕ, List, ◌∷◌, ap, subst, ◌∙◌, arith}
+use Rattle.std.proofs.Common.{ℕ, List, ◌∷◌, subst, ◌∙◌, arith}
 use Rattle.std.specs.Prelude.{Bool, Contains}
 use Rattle.als_record.specs.LogText.{log_text}
 use Rattle.als_disk.specs.Slot.{Slot}
 use Rattle.als_validator.specs.declared.validator.Validator.{Validator}
 use Rattle.als_log.specs.Local.{Local, IsLocal}
 use Rattle.als_log.specs.Texts.{AllHaveText}
-use Rattle.als_ckpt.specs.Control.{Controlled, control_block, IsControlled, IsControlState}
+use Rattle.als_ckpt.specs.Control.{Controlled, Spells, IsControlled, IsControlState}
 use Rattle.als_ckpt.specs.Control.{IsBlockOf}
 use Rattle.als_pool.specs.Pooled.{Pooled}
 use Rattle.als_store.specs.Origin.{Origin}
@@ -23,7 +23,7 @@ module _ (pages : ℕ) (held : CommitCount) (l : Local) (c : Controlled) (pool :
   control_of content is = record {
     state = is.state;
     one = is.among;
-    spelled = is.spelled ∙ ap (λ (p : ℕ). control_block p is.state) (h.marks.pages ∙ h.log_pages);
+    spelled = subst (λ (p : ℕ). Spells p is.state content) (h.marks.pages ∙ h.log_pages) is.spelled;
     formed = subst (λ (n : ℕ). IsControlState n is.state) h.marks.bytes
         (controlled.fits is.state is.among);
     above = controlled.from_synced is.state is.among;

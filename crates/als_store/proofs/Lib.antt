@@ -4,6 +4,7 @@ pub mod TakeoverLaws
 pub mod FinishedLaws
 pub mod DecisionLaws
 pub mod SealLaws
+pub mod AdoptLaws
 pub mod CheckpointRows
 pub mod CheckpointLaws
 pub mod StoredParts

@@ -1,13 +1,13 @@
 -- Which control state a crash leaves, by its picks.
-use Rattle.std.proofs.Common.{◌≡◌, ℕ, zero, suc, ◌+◌, ◌-◌, ◌*◌, ◌/◌, ◌<◌, ◌≤◌, Bool, true, false, cond}
-use Rattle.std.proofs.Common.{List, [], ◌∷◌, length, min, drop, refl, sym, ap, subst, ◌∙◌, arith, inl, inr}
-use Rattle.std.specs.Prelude.{map, slice_index, slice_index_or}
-use Rattle.std.proofs.lemmas.Bool.{cases_lt, cases_Bool}
-use Rattle.std.proofs.lemmas.List.{get_or-drop, get_or-map, length-map}
+use Rattle.std.proofs.Common.{◌≡◌, ℕ, zero, suc, ◌+◌, ◌-◌, ◌/◌, ◌<◌, ◌≤◌, Bool, true, false, cond}
+use Rattle.std.proofs.Common.{List, [], ◌∷◌, length, min, drop, refl, ap, subst, ◌∙◌, arith, inl, inr}
+use Rattle.std.specs.Prelude.{slice_index, slice_index_or}
+use Rattle.std.proofs.lemmas.Bool.{cases_lt}
+use Rattle.std.proofs.lemmas.List.{get_or-drop}
 use Rattle.als_disk.specs.Slot.{Slot, only, IsSettled}
 use Rattle.als_disk.specs.Crash.{has_choice, choices_below, picked}
 use Rattle.als_ckpt.specs.declared.control_state.ControlState.{ControlState}
-use Rattle.als_ckpt.specs.Control.{control_block}
+use Rattle.als_ckpt.specs.Control.{Spells, AreBlocks}
 use Rattle.als_store.specs.Stopped.{Devices, CrashesTo, NamesState, choices_of}
 use Rattle.als_store.specs.Stored.{Stored}
 
@@ -49,12 +49,36 @@ module _ (slots : ℕ → Slot) (low high : ℕ) (before : (k : ℕ) → k < low
 
 -- ---- the pick of the control block
 
-picked-map : {X : Type 0} (f : X → List ℕ) (x : X) (xs : List X) (n : ℕ)
-    → picked (map f (x ∷ xs)) n ≡ f (slice_index_or (x ∷ xs) (min n (length xs)) x)
-picked-map f x xs n =
-    let len : length (map f (x ∷ xs)) - 1 ≡ length xs = omega (arith, length-map (x ∷ xs) f) in
-    ap (λ (m : ℕ). slice_index_or (map f (x ∷ xs)) (min n m) []) len
-    ∙ get_or-map f (x ∷ xs) (min n (length xs)) x [] (omega arith)
+-- the contents that spell states, by their places
+blocks_len : (pages : ℕ) (states : List ControlState) (contents : List (List ℕ))
+    → AreBlocks pages states contents → length contents ≡ length states
+blocks_len pages [] [] are = refl
+blocks_len pages [] (content ∷ contents) are = absurd are
+blocks_len pages (state ∷ states) [] are = absurd are
+blocks_len pages (state ∷ states) (content ∷ contents) are =
+    let rest : length contents ≡ length states = blocks_len pages states contents are.1 in
+    omega (arith, rest)
+
+block_at : (pages : ℕ) (states : List ControlState) (contents : List (List ℕ))
+    → AreBlocks pages states contents → (n : ℕ) (s : ControlState) → n < length states
+    → Spells pages (slice_index_or states n s) (slice_index_or contents n [])
+block_at pages [] contents are n s lt = absurd (omega (arith, lt))
+block_at pages (state ∷ states) [] are n s lt = absurd are
+block_at pages (state ∷ states) (content ∷ contents) are zero s lt = are.0
+block_at pages (state ∷ states) (content ∷ contents) are (suc n) s lt =
+    block_at pages states contents are.1 n s (omega (arith, lt))
+
+-- the candidate that is picked spells the state of that number
+block_picked : (pages : ℕ) (state : ControlState) (since : List ControlState)
+    (contents : List (List ℕ)) → AreBlocks pages (state ∷ since) contents → (n : ℕ)
+    → Spells pages (slice_index_or (state ∷ since) (min n (length since)) state) (picked contents n)
+block_picked pages state since contents are n =
+    let len : length contents ≡ length (state ∷ since) =
+    blocks_len pages (state ∷ since) contents are in
+    let last : length since ≡ length contents - 1 = omega (arith, len) in
+    subst (λ (m : ℕ). Spells pages (slice_index_or (state ∷ since) (min n (length since)) state)
+    (slice_index_or contents (min n m) [])) last
+    (block_at pages (state ∷ since) contents are (min n (length since)) state (omega arith))
 
 pub state_picked : (s : Stored) (picks : List ℕ) (left : Devices) (used : ℕ) → s.broken ≡ false
     → CrashesTo s picks left used → NamesState s picks left
@@ -67,12 +91,14 @@ state_picked s picks left used running c =
     record {
       place = n;
       few = omega (arith, few);
-      names = c.picked.control 0
-          ∙ ap (λ (i : ℕ). only (picked (c.stopped.control.slot 0).candidates (slice_index (drop n picks) i)))
-          (none c.stopped.control.slot)
-          ∙ ap (λ (p : ℕ). only (picked (c.stopped.control.slot 0).candidates p))
-          (get_or-drop n picks 0 0 ∙ ap (λ (i : ℕ). slice_index picks i) at)
-          ∙ ap (λ (xs : List (List ℕ)). only (picked xs (slice_index picks n))) (c.stops.states running)
-          ∙ ap (λ (x : List ℕ). only x)
-          (picked-map (control_block s.pages) s.control s.since (slice_index picks n));
+      names = record {
+        content = picked (c.stopped.control.slot 0).candidates (slice_index picks n);
+        block = c.picked.control 0
+            ∙ ap (λ (i : ℕ). only (picked (c.stopped.control.slot 0).candidates (slice_index (drop n picks) i)))
+            (none c.stopped.control.slot)
+            ∙ ap (λ (p : ℕ). only (picked (c.stopped.control.slot 0).candidates p))
+            (get_or-drop n picks 0 0 ∙ ap (λ (i : ℕ). slice_index picks i) at);
+        spelled = block_picked s.pages s.control s.since (c.stopped.control.slot 0).candidates
+            (c.stops.states running) (slice_index picks n);
+      };
     }

@@ -29,7 +29,11 @@ use Rattle.als_log.specs.Local.{Local, IsLocal, IsFrontEnd}
 use Rattle.als_ckpt.specs.declared.phase.Phase.{Phase}
 use Rattle.als_ckpt.specs.declared.phase.Phase.TheVariants.{Following, Sealed, Primary}
 use Rattle.als_ckpt.specs.declared.region.Region.{Region}
-use Rattle.als_ckpt.specs.Control.{Controlled, newest, phase_byte, IsPosition, IsSeal, IsControlState, IsControlled, with_state}
+use Rattle.als_ckpt.specs.declared.control_state.ControlState.{ControlState}
+use Rattle.als_ckpt.specs.Control.{Controlled, newest, phase_byte, IsPosition, IsSeal, IsLastSeal, IsControlState, Continues, IsControlled, with_state}
+use Rattle.als_ckpt.proofs.StateLaws.{Continues-with}
+use Rattle.als_epochs.specs.Histories.{IsHistory, RisesFrom, Takes, last_seal}
+use Rattle.als_epochs.specs.HistoryLaws.{GoesOn-refl, IsSealed, sealed-history}
 use Rattle.als_pool.specs.Queues.{total_waiting}
 use Rattle.als_pool.specs.Pooled.{Pooled}
 use Rattle.als_reopen.specs.Taken.{Decides, IsNextOfTail, IsTakenOver, IsTaken}
@@ -49,6 +53,15 @@ sealed_seal : (p : Phase) (mark seal : ℕ) → follows p ≡ false → IsSeal p
 sealed_seal Following mark seal e h = absurd cc
 sealed_seal Sealed mark seal e h = h
 sealed_seal Primary mark seal e h = h
+
+sealed_last : (p : Phase) (history : List ℕ) (seal : ℕ) → follows p ≡ false → IsLastSeal p history seal → IsLastSeal Primary history seal
+sealed_last Following history seal e h = absurd cc
+sealed_last Sealed history seal e h = h
+sealed_last Primary history seal e h = h
+
+-- the newest control state, sealed at this offset, with this history
+abbrev pub sealing : Controlled → Lsn → List ℕ → ControlState
+sealing c end seals = record (newest c) { phase = Sealed; mark = end; seal = end; history = seals }
 
 phase_high : (p : Phase) → phase_byte p ≤ 3
 phase_high Following = omega arith
@@ -99,32 +112,44 @@ module _ (pages : ℕ) (held : CommitCount) (l : Local) (c : Controlled) (pool :
   pub seal_rises : (end : Lsn) → end.0 ≡ end_of l.log → (newest c).mark.0 ≤ end.0
   seal_rises end is = omega (arith, is, h.marks.newest_synced, local.synced, local.written)
 
-  pub seal_fits : (end : Lsn) → end.0 ≡ end_of l.log → IsControlState c.log_bytes (record (newest c) { phase = Sealed; mark = end; seal = end })
-  seal_fits end is =
+  pub seal_continues : (end : Lsn) (seals : List ℕ) → end.0 ≡ end_of l.log → seals ≡ (newest c).history ++ end.0 ∷ [] → Continues (newest c) (sealing c end seals)
+  seal_continues end seals is more = Continues-with (newest c) (sealing c end seals) end.0 [] more (seal_rises end is)
+
+  pub seal_fits : (end : Lsn) (seals : List ℕ) → end.0 ≡ end_of l.log → Takes (newest c).history end.0 → seals ≡ (newest c).history ++ end.0 ∷ [] → IsControlState c.log_bytes (sealing c end seals)
+  seal_fits end seals is takes more =
       let rises : (newest c).mark.0 ≤ end.0 = seal_rises end is in
+      let low : 16 ≤ end.0 = omega (arith, now.begins, rises) in
+      let made : IsSealed (newest c).history end.0 = sealed-history (newest c).history end.0 now.history now.lsns takes low (omega (arith, is, local.fits, local.few)) in
       record {
         begins = omega (arith, now.begins, rises);
         in_log = omega (arith, is, local.fits, h.marks.bytes);
         position = position_raised (newest c).published (newest c).mark.0 end.0 (newest c).position.0 rises now.position;
-        seal = (omega (arith, now.begins, rises), omega arith);
+        seal = (low, omega arith);
+        history = subst IsHistory (sym more) made.history;
+        lsns = subst (RisesFrom 16) (sym more) made.lsns;
+        last = ap last_seal more ∙ made.last;
       }
 
-  seal_on : (end : Lsn) → follows (newest c).phase ≡ true → GoesOn (newest c) (record (newest c) { phase = Sealed; mark = end; seal = end })
-  seal_on end on = record { phase = omega (arith, follows_low (newest c).phase on); seal = λ past. absurd (omega (arith, past, follows_low (newest c).phase on)) }
+  seal_on : (end : Lsn) (seals : List ℕ) → follows (newest c).phase ≡ true → seals ≡ (newest c).history ++ end.0 ∷ [] → GoesOn (newest c) (sealing c end seals)
+  seal_on end seals on more = record {
+    phase = omega (arith, follows_low (newest c).phase on);
+    seal = λ past. absurd (omega (arith, past, follows_low (newest c).phase on));
+    history = (end.0 ∷ [], more);
+  }
 
-  seal_taken : (end : Lsn) → end.0 ≡ end_of l.log → follows (newest c).phase ≡ true → AreTaken l.log c.synced c.since recovering (total_waiting pool.waits)
-      → AreTaken l.log c.synced (c.since ++ record (newest c) { phase = Sealed; mark = end; seal = end } ∷ []) recovering (total_waiting pool.waits)
-  seal_taken end is on taken = taken_written l.log c.synced c.since recovering (total_waiting pool.waits) taken (record (newest c) { phase = Sealed; mark = end; seal = end })
-      (seal_on end on)
+  seal_taken : (end : Lsn) (seals : List ℕ) → end.0 ≡ end_of l.log → follows (newest c).phase ≡ true → seals ≡ (newest c).history ++ end.0 ∷ [] → AreTaken l.log c.synced c.since recovering (total_waiting pool.waits)
+      → AreTaken l.log c.synced (c.since ++ sealing c end seals ∷ []) recovering (total_waiting pool.waits)
+  seal_taken end seals is on more taken = taken_written l.log c.synced c.since recovering (total_waiting pool.waits) taken (sealing c end seals)
+      (seal_on end seals on more)
       (record { sealed = l.log; undone = []; rest = tail_of l.log; parts = sym (append-nil l.log); ends = sym is; tail = refl })
       (omega (arith, is))
       (λ ready done. absurd cc)
 
-  pub stored-sealed : (c' : Controlled) (end : Lsn) (validator' : Validator) → IsValidatorOf pages validator' l.log → judges validator' ≡ false → end.0 ≡ end_of l.log → end_of l.log ≤ l.synced → follows (newest c).phase ≡ true → c' ≡ with_state c (record (newest c) { phase = Sealed; mark = end; seal = end }) → IsStored pages l held c' pool validator' broken origin recovering
-  stored-sealed c' end validator' judged judging is low on e = stored-written pages held l c pool validator broken origin recovering h c' (record (newest c) { phase = Sealed; mark = end; seal = end }) validator' judged judging local (end_front end is) (omega (arith, is, low)) (seal_on end on) (seal_taken end is on) e
+  pub stored-sealed : (c' : Controlled) (end : Lsn) (seals : List ℕ) (validator' : Validator) → IsValidatorOf pages validator' l.log → judges validator' ≡ false → end.0 ≡ end_of l.log → end_of l.log ≤ l.synced → follows (newest c).phase ≡ true → seals ≡ (newest c).history ++ end.0 ∷ [] → c' ≡ with_state c (sealing c end seals) → IsStored pages l held c' pool validator' broken origin recovering
+  stored-sealed c' end seals validator' judged judging is low on more e = stored-written pages held l c pool validator broken origin recovering h c' (sealing c end seals) validator' judged judging local (end_front end is) (omega (arith, is, low)) (seal_on end seals on more) (seal_taken end seals is on more) e
 
-  pub stored-seal_torn : (c' : Controlled) (end : Lsn) (validator' : Validator) → IsValidatorOf pages validator' l.log → judges validator' ≡ false → end.0 ≡ end_of l.log → end_of l.log ≤ l.synced → follows (newest c).phase ≡ true → c' ≡ record (with_state c (record (newest c) { phase = Sealed; mark = end; seal = end })) { sure = false; failures = c'.failures } → IsStored pages l held c' pool validator' true origin recovering
-  stored-seal_torn c' end validator' judged judging is low on e = stored-torn pages held l c pool validator broken origin recovering h c' (record (newest c) { phase = Sealed; mark = end; seal = end }) validator' judged judging local (end_front end is) (omega (arith, is, low)) (seal_on end on) (seal_taken end is on) e
+  pub stored-seal_torn : (c' : Controlled) (end : Lsn) (seals : List ℕ) (validator' : Validator) → IsValidatorOf pages validator' l.log → judges validator' ≡ false → end.0 ≡ end_of l.log → end_of l.log ≤ l.synced → follows (newest c).phase ≡ true → seals ≡ (newest c).history ++ end.0 ∷ [] → c' ≡ record (with_state c (sealing c end seals)) { sure = false; failures = c'.failures } → IsStored pages l held c' pool validator' true origin recovering
+  stored-seal_torn c' end seals validator' judged judging is low on more e = stored-torn pages held l c pool validator broken origin recovering h c' (sealing c end seals) validator' judged judging local (end_front end is) (omega (arith, is, low)) (seal_on end seals on more) (seal_taken end seals is on more) e
 
   -- ---- the end of a takeover
 
@@ -134,6 +159,9 @@ module _ (pages : ℕ) (held : CommitCount) (l : Local) (c : Controlled) (pool :
     in_log = now.in_log;
     position = now.position;
     seal = sealed_seal (newest c).phase (newest c).mark.0 (newest c).seal.0 past now.seal;
+    history = now.history;
+    lsns = now.lsns;
+    last = sealed_last (newest c).phase (newest c).history (newest c).seal.0 past now.last;
   }
 
   module _ (past : follows (newest c).phase ≡ false) (unfinished : is_done (newest c).phase ≡ false) (drained : is_drained (stored_of pages l c pool broken origin recovering) ≡ true) where
@@ -144,7 +172,7 @@ module _ (pages : ℕ) (held : CommitCount) (l : Local) (c : Controlled) (pool :
     mark_is = omega (arith, parts_of.whole, controlled.from_synced (newest c) (contains_last c.synced c.since), h.marks.newest_synced, local.synced, local.written)
 
     finish_on : GoesOn (newest c) (record (newest c) { phase = Primary })
-    finish_on = record { phase = phase_high (newest c).phase; seal = λ on. refl }
+    finish_on = record { phase = phase_high (newest c).phase; seal = λ on. refl; history = GoesOn-refl (newest c).history }
 
     finish_taken : AreTaken l.log c.synced c.since recovering (total_waiting pool.waits) → AreTaken l.log c.synced (c.since ++ record (newest c) { phase = Primary } ∷ []) recovering (total_waiting pool.waits)
     finish_taken taken = taken_written l.log c.synced c.since recovering (total_waiting pool.waits) taken (record (newest c) { phase = Primary })

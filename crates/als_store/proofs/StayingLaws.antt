@@ -56,7 +56,11 @@ module _ (pages blocks : ℕ) (log control page_slots log' control' page_slots' 
     held = record {
       count = node.held.count;
       control = record {
-        block = control_same 0 (omega arith) ∙ node.held.control.block;
+        block = record {
+          content = node.held.control.block.content;
+          block = control_same 0 (omega arith) ∙ node.held.control.block.block;
+          spelled = node.held.control.block.spelled;
+        };
         fits = node.held.control.fits;
         published = node.held.control.published;
         region = same_region control control' control_same n.said.state.published n.said.checkpoint

@@ -27,6 +27,7 @@ use Rattle.als_log.specs.Local.{Local, IsLocal, IsFrontEnd, whole_end, whole_fro
 use Rattle.als_ckpt.specs.declared.control_state.ControlState.{ControlState}
 use Rattle.als_ckpt.specs.Control.{Controlled, newest, last_state, with_state, settled, first_state}
 use Rattle.als_ckpt.specs.Control.{new_control}
+use Rattle.als_epochs.specs.HistoryLaws.{GoesOn-refl}
 use Rattle.als_frames.specs.Frames.{Paged}
 use Rattle.als_pool.specs.Queues.{total_waiting}
 use Rattle.als_pool.specs.Pooled.{Pooled, Room, Grows, new_pool}
@@ -714,7 +715,7 @@ module _ (pages : ℕ) (held : CommitCount) (l : Local) (c : Controlled) (pool :
 
   -- the newest state with the synced end as its mark
   marked_on : (mark : Lsn) → GoesOn (newest c) (record (newest c) { mark = mark })
-  marked_on mark = record { phase = omega arith; seal = λ past. refl }
+  marked_on mark = record { phase = omega arith; seal = λ past. refl; history = GoesOn-refl (newest c).history }
 
   marked_taken : (mark : Lsn) → IsLocal l → mark.0 ≡ l.synced
       → AreTaken l.log c.synced c.since recovering (total_waiting pool.waits)
@@ -722,7 +723,8 @@ module _ (pages : ℕ) (held : CommitCount) (l : Local) (c : Controlled) (pool :
       (total_waiting pool.waits)
   marked_taken mark facts is taken =
       taken_marked l.log c.synced c.since recovering (total_waiting pool.waits) taken
-      (record (newest c) { mark = mark }) refl refl (omega (arith, is, h.marks.newest_synced))
+      (record (newest c) { mark = mark }) refl refl (GoesOn-refl (newest c).history)
+      (omega (arith, is, h.marks.newest_synced))
       (omega (arith, is, facts.synced, facts.written))
 
   synced_front : (mark : Lsn) → IsLocal l → mark.0 ≡ l.synced → IsFrontEnd l.log mark.0

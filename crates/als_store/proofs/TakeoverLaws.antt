@@ -11,6 +11,8 @@ use Rattle.als_ckpt.specs.declared.phase.Phase.{Phase}
 use Rattle.als_ckpt.specs.declared.phase.Phase.TheVariants.{Following, Sealed, Primary}
 use Rattle.als_ckpt.specs.declared.control_state.ControlState.{ControlState}
 use Rattle.als_ckpt.specs.Control.{phase_byte, last_state, first_state}
+use Rattle.als_epochs.specs.Histories.{GoesOn as HistoryGoesOn}
+use Rattle.als_epochs.specs.HistoryLaws.{GoesOn-refl, GoesOn-trans}
 use Rattle.als_reopen.specs.Taken.{IsSealed, Decides, IsNextOfTail, MayCome, AreDecided, IsTakenOver, IsTaken, IsTakenFrom, WasTakenFrom, IsUndecided}
 use Rattle.als_store.specs.Takeover.{follows, is_done, GoesOn, PhasesRise, AreTaken}
 use Rattle.als_store.proofs.Splits.{same_front}
@@ -37,12 +39,13 @@ contains_last s (x ∷ since) = contains_tail s (x ∷ since) (last_state x sinc
 -- ---- control states
 
 goes_on_same : (s : ControlState) → GoesOn s s
-goes_on_same s = record { phase = omega arith; seal = λ past. refl }
+goes_on_same s = record { phase = omega arith; seal = λ past. refl; history = GoesOn-refl s.history }
 
 goes_on_both : (a b c : ControlState) → GoesOn a b → GoesOn b c → GoesOn a c
 goes_on_both a b c p q = record {
   phase = omega (arith, p.phase, q.phase);
   seal = λ past. q.seal (omega (arith, p.phase, past)) ∙ p.seal past;
+  history = GoesOn-trans a.history b.history c.history p.history q.history;
 }
 
 pub phases_from : (s : ControlState) (since : List ControlState) → PhasesRise s since → GoesOn s (last_state s since)
@@ -310,10 +313,10 @@ module _ (log : List Record) (s : ControlState) (since : List ControlState) (rec
         undecided);
   }
 
-  -- a state with another mark, at or above the newest one and at or below the log's end
-  pub taken_marked : (t : ControlState) → t.phase ≡ (last_state s since).phase → t.seal ≡ (last_state s since).seal → (last_state s since).mark.0 ≤ t.mark.0 → t.mark.0 ≤ end_of log → AreTaken log s (since ++ t ∷ []) recovering waiting
-  taken_marked t same_phase same_seal rises within = taken_written t
-      (record { phase = omega (arith, ap phase_byte same_phase); seal = λ past. same_seal })
+  -- a state with another mark, at or above the newest one and at or below the log's end, or with a history that goes on
+  pub taken_marked : (t : ControlState) → t.phase ≡ (last_state s since).phase → t.seal ≡ (last_state s since).seal → HistoryGoesOn (last_state s since).history t.history → (last_state s since).mark.0 ≤ t.mark.0 → t.mark.0 ≤ end_of log → AreTaken log s (since ++ t ∷ []) recovering waiting
+  taken_marked t same_phase same_seal grows rises within = taken_written t
+      (record { phase = omega (arith, ap phase_byte same_phase); seal = λ past. same_seal; history = grows })
       (again t.phase same_phase)
       within
       (λ ready done undecided. h.drained ready (ap is_done (sym same_phase) ∙ done) (subst (λ (l : Lsn). IsUndecided log l.0) same_seal undecided))

@@ -1,5 +1,5 @@
 -- What a store can take with no memory.
-use Rattle.std.specs.Prelude.{◌≡◌, ℕ, ◌<◌, ◌≤◌, Bool, true, IfSome}
+use Rattle.std.specs.Prelude.{◌≡◌, ℕ, ◌≤◌, Bool, true, IfSome}
 use Rattle.als_record.specs.declared.record.Record.{Record}
 use Rattle.als_record.specs.Spelling.{record_len}
 use Rattle.als_record.specs.Pages.{change_of}

@@ -1,12 +1,12 @@
 -- The devices of a store that was stopped, and what a crash leaves of them, by a list of picks.
 use Rattle.std.specs.Prelude.{◌≡◌, ℕ, ◌<◌, ◌≤◌, ◌+◌, ◌-◌, ◌*◌, ◌/◌, false, List, ◌∷◌, length, min}
-use Rattle.std.specs.Prelude.{drop, map, slice_index, slice_index_or}
+use Rattle.std.specs.Prelude.{drop, slice_index, slice_index_or}
 use Rattle.als_record.specs.LogText.{log_text}
-use Rattle.als_disk.specs.Slot.{Slot, only, IsSettled}
+use Rattle.als_disk.specs.Slot.{Slot, IsSettled}
 use Rattle.als_disk.specs.Crash.{LeavesPicked, choices_below}
 use Rattle.als_log.specs.Texts.{AllHaveText}
 use Rattle.als_ckpt.specs.declared.control_state.ControlState.{ControlState}
-use Rattle.als_ckpt.specs.Control.{control_block}
+use Rattle.als_ckpt.specs.Control.{AreBlocks, HoldsState}
 use Rattle.als_frames.specs.Frames.{slot_of}
 use Rattle.als_reopen.specs.declared.disks.Disks.{Disks}
 use Rattle.als_store.specs.Devices.{AreKept, AreImages}
@@ -64,7 +64,7 @@ pub record AreStopped (s : Stored) (d : Devices) : Type 0 where
   pub before : (k : ℕ) → 512 * k + 512 ≤ s.synced → IsSettled (d.log.slot k)
   pub beyond : (k : ℕ) → s.written < 512 * k → IsSettled (d.log.slot k)
   pub states : s.broken ≡ false
-      → (d.control.slot 0).candidates ≡ map (control_block s.pages) (s.control ∷ s.since)
+      → AreBlocks s.pages (s.control ∷ s.since) (d.control.slot 0).candidates
   pub pages : (page : ℕ) → page < s.pages → d.pages.slot page ≡ slot_of s.pool.frames page
   pub log_blocks : d.log.blocks ≡ s.blocks
   pub control_blocks : 321 ≤ d.control.blocks
@@ -91,5 +91,4 @@ state_at s n = slice_index_or (s.control ∷ s.since) (min n (length s.since)) s
 pub record NamesState (s : Stored) (picks : List ℕ) (left : Devices) : Type 0 where
   pub place : ℕ
   pub few : place ≤ s.written / 512 + 1 - s.synced / 512
-  pub names : left.control.slot 0
-      ≡ only (control_block s.pages (state_at s (slice_index picks place)))
+  pub names : HoldsState s.pages (left.control.slot 0) (state_at s (slice_index picks place))

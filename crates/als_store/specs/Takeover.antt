@@ -18,6 +18,8 @@ use Rattle.als_ckpt.specs.declared.phase.Phase.{Phase}
 use Rattle.als_ckpt.specs.declared.phase.Phase.TheVariants.{Following, Sealed, Primary}
 use Rattle.als_ckpt.specs.declared.control_state.ControlState.{ControlState}
 use Rattle.als_ckpt.specs.Control.{phase_byte, last_state, IsSeal}
+use Rattle.als_epochs.specs.Histories.{Takes}
+use Rattle.als_epochs.specs.Histories.{GoesOn as HistoryGoesOn}
 pub use Rattle.als_reopen.specs.Taken.{follows}
 use Rattle.als_reopen.specs.Taken.{AreDecided, Decides, IsNextOfTail, IsTakenFrom, WasTakenFrom, IsUndecided}
 use Rattle.als_store.specs.declared.decision.Decision.{Decision}
@@ -45,10 +47,12 @@ is_primary s = is_done (newest s).phase
 
 -- ---- one takeover log
 
--- from one control state to the next the phase does not fall, and past Following the seal stays
+-- From one control state to the next the phase does not fall, past Following the seal stays, and the history of the later one goes on from that
+-- of the earlier one.
 pub record GoesOn (before after : ControlState) : Type 0 where
   pub phase : phase_byte before.phase ≤ phase_byte after.phase
   pub seal : 1 < phase_byte before.phase → after.seal ≡ before.seal
+  pub history : HistoryGoesOn before.history after.history
 
 -- a control state has no seal while the log follows its source; from then on it has one, at or below the mark
 abbrev pub IsSealOf : ControlState → Type 0
@@ -60,7 +64,7 @@ PhasesRise state [] = Unit {0}
 PhasesRise state (next ∷ rest) = GoesOn state next × PhasesRise next rest
 
 -- What the newest control state says is true of the log, and what each one that a crash may leave says is true of the log up to its mark.
--- Phases never fall along them and there is one seal. In Primary no change waits for redo until a transaction in doubt is decided, unless
+-- Phases and histories never fall along them and there is one seal. In Primary no change waits for redo until a transaction in doubt is decided, unless
 -- the store is recovering.
 pub record AreTaken (log : List Record) (synced : ControlState) (since : List ControlState) (recovering : Bool) (waiting : ℕ) : Type 0 where
   pub now : IsTakenFrom log (last_state synced since)
@@ -108,9 +112,26 @@ pub record BreaksState (state : ControlState) (old new : Stored) : Type 0 where
   pub failed : old.failures < new.failures
   pub after : new ≡ record old { since = old.since ++ state ∷ []; broken = true; failures = new.failures; attempts = old.attempts + 1 }
 
--- the newest control state, sealed at the log's end, up to which the log is stable
+-- the node's history: that of the newest control state
+abbrev pub history_of : Stored → List ℕ
+history_of s = (newest s).history
+
+-- the log's end can be a seal: the history has room for it, and its last seal is not above it
+abbrev pub TakesSeal : Stored → Type 0
+TakesSeal s = Takes (history_of s) (end_of s.log)
+
+-- the newest control state, sealed at the log's end, up to which the log is stable and with which the history goes on
 abbrev pub sealed_state : Stored → ControlState
-sealed_state s = record (newest s) { phase = Sealed; mark = record { 0 = end_of s.log }; seal = record { 0 = end_of s.log } }
+sealed_state s = record (newest s) {
+  phase = Sealed;
+  mark = record { 0 = end_of s.log };
+  seal = record { 0 = end_of s.log };
+  history = history_of s ++ end_of s.log ∷ [];
+}
+
+-- the newest control state, with the history of another node
+abbrev pub adopted_state : Stored → List ℕ → ControlState
+adopted_state s history = record (newest s) { history = history }
 
 -- the newest control state, with the takeover done
 abbrev pub finished_state : Stored → ControlState

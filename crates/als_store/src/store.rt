@@ -39,6 +39,8 @@ mod committing;
 pub(crate) mod crashing;
 // A record is held, in all parts that it changes.
 mod holding;
+// The history of takeovers.
+mod histories;
 // Devices that were stopped are taken up again.
 mod opening;
 // Pages are lent for redo, written and synced.

@@ -42,6 +42,7 @@ impl<D: BlockDisk> Engine<D> {
             Step::CkptPublish => done(self.ckpt_publish()),
             Step::PublishView => done(self.publish_view(rt)),
             Step::Ready => done(self.ready(rt)),
+            Step::Adopt(history) => done(self.adopt(*history)),
             Step::Seal => done(self.seal()),
             Step::UndoOne => match self.undo_one() {
                 Ok(lsn) => Reply::Undone(lsn),

@@ -14,13 +14,15 @@ use als_record::Lsn;
 use als_view::a_view_goes_on;
 
 impl<D: BlockDisk> Engine<D> {
-    /// Seals the log: writes the control block with phase Sealed and with the log's end as its mark
-    /// and its seal, drops the partial record, and takes no more of the source. It makes one write
-    /// of a device, takes no memory and no room of the log.
+    /// Seals the log: writes the control block with phase Sealed, with the log's end as its mark
+    /// and its seal, and with the history that goes on with this seal, drops the partial record, and
+    /// takes no more of the source. It makes one write of a device, takes no memory and no room of
+    /// the log.
     ///
-    /// Stopped. Recovering: it is not ready yet. Sealed: the log was sealed before. LogBehind: it
-    /// is not synced to its end. Device: the write failed, and the engine has stopped. They come in
-    /// this order.
+    /// Stopped. Recovering: it is not ready yet. Sealed: the log was sealed before. EpochsSpent: the
+    /// history has room for no more seals. LogBehind: the log is not synced to its end, or ends
+    /// below the last seal of the history. Device: the write failed, and the engine has stopped. They
+    /// come in this order.
     pub fn seal(&mut self) -> Result<(), Fault>
         ensures seals { Seals self.old.machine result self.new.machine }
         ensures keeps { Keeps self.old.machine self.new.machine }
@@ -47,7 +49,14 @@ impl<D: BlockDisk> Engine<D> {
         if !self.store.is_following() {
             return Err(Fault::Sealed);
         }
+        let history = self.store.history();
+        if history.is_full() {
+            return Err(Fault::EpochsSpent);
+        }
         if self.store.synced().0 < self.store.end().0 {
+            return Err(Fault::LogBehind);
+        }
+        if self.store.end().0 < history.last().0 {
             return Err(Fault::LogBehind);
         }
         self.store.seal()?;

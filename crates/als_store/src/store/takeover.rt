@@ -21,7 +21,9 @@ ghost use Rattle.als_takeover.specs.Next.{first_of};
 ghost use Rattle.als_store.specs.declared.fault.Fault.TheVariants as fault;
 ghost use Rattle.als_store.specs.Takeover.{is_following, is_primary, is_drained};
 ghost use Rattle.als_store.specs.Takeover.{IsUnderTakeover, IsFinished, WritesState, BreaksState};
-ghost use Rattle.als_store.specs.Takeover.{sealed_state, finished_state, UndoesOne, NotUndone};
+ghost use Rattle.als_store.specs.Takeover.{TakesSeal, sealed_state, finished_state};
+ghost use Rattle.als_store.specs.Takeover.{UndoesOne, NotUndone};
+ghost use Rattle.als_epochs.specs.Histories.{Takes};
 ghost use Rattle.als_store.specs.Takeover.{HasRoomToUndo, HasRoomToResolve};
 ghost use Rattle.als_store.specs.Takeover.{ComesNext, Resolves, decision_body};
 
@@ -29,8 +31,9 @@ use super::{Store, admit, make_room, reserve_after, route_change};
 use crate::decision::Decision;
 use crate::fault::Fault;
 use als_analysis::OpenRow;
-use als_ckpt::Phase;
+use als_ckpt::{ControlState, Phase};
 use als_disk::BlockDisk;
+use als_epochs::History;
 use als_log::LocalLog;
 use als_pool::{change_can_follow, pool_ends_below};
 use als_record::{Body, Lsn, Record, RecordView, TransId, TransactionState, encoded_len};
@@ -163,6 +166,16 @@ fn append_made<D: BlockDisk>(
     }
 }
 
+/// The history of a control state, with one seal more.
+fn grown(newest: ControlState, seal: Lsn) -> History
+    requires { Takes newest.history seal.0 }
+    ensures { result ≡ newest.history ++ seal.0 ∷ [] }
+{
+    let mut history = newest.history;
+    history.push(seal);
+    history
+}
+
 impl<D: BlockDisk> Store<D> {
     /// The log still follows its source: it was not sealed.
     pub fn is_following(&self) -> bool
@@ -236,8 +249,8 @@ impl<D: BlockDisk> Store<D> {
     }
 
     /// Seals the log, which is synced up to its end: writes the control block with phase Sealed,
-    /// and with the log's end as its mark and its seal, by one write of the control device. From
-    /// then on the log takes only its own tail, and once the takeover has ended the decisions of
+    /// with the log's end as its mark and its seal, and with the history that goes on with this
+    /// seal, by one write of the control device. From then on the log takes only its own tail, and once the takeover has ended the decisions of
     /// `resolve`. What judging records needs is dropped. It takes no memory and no room of the log.
     ///
     /// Device: the device failed, and the state may have been written or not.
@@ -245,6 +258,7 @@ impl<D: BlockDisk> Store<D> {
         requires whole { self.old.stored.broken ≡ false }
         requires following { is_following self.old.stored ≡ true }
         requires synced { end_of self.old.stored.log ≤ self.old.stored.synced }
+        requires takes { TakesSeal self.old.stored }
         ensures ok { OnOk result (WritesState
             (sealed_state self.old.stored) self.old.stored self.new.stored) }
         ensures err { IfErr result (λ f. (f ≡ fault.Device)
@@ -252,10 +266,9 @@ impl<D: BlockDisk> Store<D> {
         ensures rises { (newest self.old.stored).mark.0 ≤ end_of self.old.stored.log }
     {
         let end = self.log.end();
-        // For the prover alone: what always holds of the control block.
-        let _ = self.control.newest();
+        let history = grown(self.control.newest(), end);
         self.validator.seal();
-        match self.control.write_phase(Phase::Sealed, end, end) {
+        match self.control.write_phase(Phase::Sealed, end, end, history) {
             Ok(()) => Ok(()),
             Err(_) => {
                 self.broken = true;
@@ -376,7 +389,7 @@ impl<D: BlockDisk> Store<D> {
         let newest = self.control.newest();
         match self
             .control
-            .write_phase(Phase::Primary, newest.mark, newest.seal)
+            .write_phase(Phase::Primary, newest.mark, newest.seal, newest.history)
         {
             Ok(()) => Ok(()),
             Err(_) => {

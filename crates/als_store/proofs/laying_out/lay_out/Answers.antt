@@ -11,5 +11,5 @@ returns-in-Err-create-clause-left g c =
       | inl old ↦ let same : zeros ≡ content =
           Contains-one (subst (λ (slot : Slot). Contains slot.candidates content) c.in-Ok.ensures.ok
           old) in inl (sym same)
-      | inr new ↦ inr (sym new)
+      | inr new ↦ inr (inl (sym new))
     ])

@@ -7,6 +7,7 @@ use Rattle.als_engine.proofs.StepLaws.{attempts_seal, attempts_not_undone, seals
 use Rattle.als_engine.proofs.StepLaws.{attempts_resolve, attempts_mark_write, attempts_publish}
 use Rattle.als_engine.proofs.StepLaws.{publishes_step}
 use Rattle.als_engine.proofs.StepLaws.{attempts_ready, attempts_resync, attempts_log_write}
+use Rattle.als_engine.proofs.StepLaws.{attempts_adopt, adopts_step}
 use Rattle.als_engine.proofs.engine.Engine.step.Goals as goal
 
 pub returns-in-Recall-clause-steps : goal.returns-in-Recall-clause-steps
@@ -52,6 +53,17 @@ pub returns-in-CkptBegin-clause-attempts : goal.returns-in-CkptBegin-clause-atte
 returns-in-CkptBegin-clause-attempts g c =
     attempts_begin c.args.self.now.machine c.ckpt_begin.new.self.machine c.ckpt_begin.result
     c.ckpt_begin.ensures.begins
+
+pub returns-in-Adopt-clause-attempts : goal.returns-in-Adopt-clause-attempts
+returns-in-Adopt-clause-attempts g c =
+    attempts_adopt c.args.self.now.machine c.adopt.new.self.machine c.in-Adopt.history
+    c.adopt.result c.adopt.ensures.adopts
+
+pub returns-in-Adopt-clause-steps : goal.returns-in-Adopt-clause-steps
+returns-in-Adopt-clause-steps g c =
+    rw (c.in-Adopt.is, c.done-in-Adopt.ensures)
+    (adopts_step c.args.self.now.machine c.adopt.new.self.machine c.in-Adopt.history
+    c.adopt.result c.adopt.ensures.adopts)
 
 pub returns-in-Seal-clause-attempts : goal.returns-in-Seal-clause-attempts
 returns-in-Seal-clause-attempts g c =

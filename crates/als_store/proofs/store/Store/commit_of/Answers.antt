@@ -1,10 +1,8 @@
-use Rattle.std.proofs.Common.{◌≡◌, true, refl, sym, subst, ap, ◌∙◌}
+use Rattle.std.proofs.Common.{◌≡◌, true, refl, sym, subst, ◌∙◌}
 use Rattle.std.proofs.lemmas.Bool.{true≢false}
-use Rattle.als_record.specs.declared.record.Record.{Record}
 use Rattle.als_record.specs.Shown.{shown}
 use Rattle.als_record.specs.Spelling.{IsRecord}
 use Rattle.als_record.specs.LogText.{end_of}
-use Rattle.als_record.specs.Transactions.{is_commit}
 use Rattle.als_store.specs.Spare.{Holding}
 use Rattle.als_store.specs.Takeover.{is_following}
 use Rattle.als_store.proofs.store.Store.commit_of.Goals as goal

@@ -1,8 +1,7 @@
-use Rattle.std.proofs.Common.{◌≡◌, ℕ, List, ◌∷◌, subst, ◌∙◌, arith}
-use Rattle.std.specs.Prelude.{map}
+use Rattle.std.proofs.Common.{ℕ, ◌∷◌, subst, ◌∙◌, arith}
 use Rattle.als_record.specs.LogText.{log_text}
 use Rattle.als_log.specs.Texts.{AllHaveText}
-use Rattle.als_ckpt.specs.Control.{control_block}
+use Rattle.als_ckpt.specs.Control.{AreBlocks}
 use Rattle.als_store.proofs.KeptLaws.{kept}
 use Rattle.als_store.proofs.LeavingLaws.{left_node}
 use Rattle.als_store.proofs.store.Store.into_disks.Goals as goal
@@ -32,8 +31,8 @@ returns-clause-stopped g c =
           s.log.written) h.log_pages c.into_disk.ensures.stored;
       before = c.into_disk.ensures.before;
       beyond = c.into_disk.ensures.beyond;
-      states = λ running. subst (λ (n : ℕ). (control 0).candidates
-          ≡ map (control_block n) (s.control.synced ∷ s.control.since))
+      states = λ running. subst (λ (n : ℕ). AreBlocks n (s.control.synced ∷ s.control.since)
+          (control 0).candidates)
           (h.marks.pages ∙ h.log_pages) (c.into_disk-2.ensures.all (h.sure running));
       pages = λ page lt. c.into_disk-3.ensures.slots page (omega (arith, lt, h.paged.count));
       log_blocks = c.into_disk.ensures.count;
