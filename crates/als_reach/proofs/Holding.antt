@@ -38,7 +38,7 @@ use Rattle.als_engine.specs.Publishing.{PublishesEnded}
 use Rattle.als_engine.specs.Readiness.{BecomesReady}
 use Rattle.als_engine.specs.Refusals.{refusal, feed_refusal, Does, first_of, lend_causes, give_causes}
 use Rattle.als_engine.specs.Runs.{Steps}
-use Rattle.als_engine.specs.Takeover.{SealsLog, Undoes, FinishesTakeover, ResolvesIt}
+use Rattle.als_engine.specs.Takeover.{AdoptsIt, SealsLog, Undoes, FinishesTakeover, ResolvesIt}
 use Rattle.als_reach.specs.Undoing.{undone_by, resolved_by}
 
 -- ---- a machine whose log is another one's, and a store's
@@ -327,6 +327,22 @@ seal old new (reply.Refused fault) s =
     none old new (does old new step.Seal (SealsLog old) (Err fault) s
     (λ c. changes old new _ c.1 (λ held e. after old.held held _ e.after refl)))
 
+adopt : (old new : Machine) (history : List ℕ) (answer : Reply)
+    → Steps old (step.Adopt history) answer new → HoldsBy old answer new
+adopt old new history (reply.Fed fed) s = absurd s
+adopt old new history (reply.FeedRefused refusal) s = absurd s
+adopt old new history reply.Done s =
+    none old new (does old new (step.Adopt history) (AdoptsIt history old) (Ok tt) s
+    (λ c. record {
+      log = ap (λ (m : Machine). m.held.log) c.after ∙ ap (λ (h : Stored). h.log) c.adopts.after;
+    }))
+adopt old new history (reply.Acknowledged lsn) s = absurd s
+adopt old new history (reply.Undone lsn) s = absurd s
+adopt old new history (reply.Resolved lsn) s = absurd s
+adopt old new history (reply.Refused fault) s =
+    none old new (does old new (step.Adopt history) (AdoptsIt history old) (Err fault) s
+    (λ c. changes old new _ c.1 (λ held e. after old.held held _ e.after refl)))
+
 finish : (old new : Machine) (answer : Reply) → Steps old step.Finish answer new
     → HoldsBy old answer new
 finish old new (reply.Fed fed) s = absurd s
@@ -445,6 +461,7 @@ undoes_next old new step.CkptBlock lsn s = absurd s
 undoes_next old new step.CkptPublish lsn s = absurd s
 undoes_next old new step.PublishView lsn s = absurd s
 undoes_next old new step.Ready lsn s = absurd s
+undoes_next old new (step.Adopt history) lsn s = absurd s
 undoes_next old new step.Seal lsn s = absurd s
 undoes_next old new step.Finish lsn s = absurd s
 undoes_next old new (step.Resolve trans verdict) lsn s = absurd s
@@ -497,6 +514,7 @@ holds old new step.CkptBlock answer sealed s = ckpt_block old new answer s
 holds old new step.CkptPublish answer sealed s = ckpt_publish old new answer s
 holds old new step.PublishView answer sealed s = publish_view old new answer s
 holds old new step.Ready answer sealed s = ready old new answer s
+holds old new (step.Adopt history) answer sealed s = adopt old new history answer s
 holds old new step.Seal answer sealed s = seal old new answer s
 holds old new step.Finish answer sealed s = finish old new answer s
 holds old new (step.Resolve trans verdict) answer sealed s = resolve old new trans verdict answer s

@@ -9,6 +9,7 @@ use Rattle.als_commits.specs.Counting.{ended_count}
 use Rattle.als_commits.proofs.Counting.{count-kept, ended_count-rises}
 use Rattle.als_ckpt.specs.declared.control_state.ControlState.{ControlState}
 use Rattle.als_store.specs.Stored.{acknowledged}
+use Rattle.als_epochs.specs.HistoryLaws.{GoesOn-refl, GoesOn-trans}
 use Rattle.als_store.specs.Takeover.{GoesOn}
 use Rattle.als_lease.specs.Lease.{Leased}
 use Rattle.als_engine.specs.declared.fault.Fault.{Fault}
@@ -90,12 +91,13 @@ from-start from start now e r = subst (λ (p : Option Machine). ReachesFrom p no
 -- ---- what is acknowledged of a takeover
 
 pub goes_on_same : (s : ControlState) → GoesOn s s
-goes_on_same s = record { phase = omega arith; seal = λ past. refl }
+goes_on_same s = record { phase = omega arith; seal = λ past. refl; history = GoesOn-refl s.history }
 
 pub goes_on_both : (a b c : ControlState) → GoesOn a b → GoesOn b c → GoesOn a c
 goes_on_both a b c p q = record {
   phase = omega (arith, p.phase, q.phase);
   seal = λ past. q.seal (omega (arith, p.phase, past)) ∙ p.seal past;
+  history = GoesOn-trans a.history b.history c.history p.history q.history;
 }
 
 -- ---- what readers may have been told

@@ -25,7 +25,7 @@ use Rattle.als_engine.specs.Events.{Resyncs, FlushesOne, PagesSync, LogWrites, L
 use Rattle.als_engine.specs.Leases.{Recalls, Lends, Gives}
 use Rattle.als_engine.specs.Publishing.{PublishesView}
 use Rattle.als_engine.specs.Readiness.{Readies}
-use Rattle.als_engine.specs.Takeover.{Seals, UndoesOneOf, ResolvesOf, Finishes}
+use Rattle.als_engine.specs.Takeover.{Adopts, Seals, UndoesOneOf, ResolvesOf, Finishes}
 use Rattle.als_reach.specs.Reaching.{Makes, MakesLend, MakesGive, Asks, ReachesFrom}
 use Rattle.als_reach.proofs.Reached.{from-event, from-lend, from-give, from-query}
 
@@ -101,6 +101,10 @@ undo_one from old new (Err fault) on acts = makes from old new step.UndoOne (rep
 pub resolve : (from : Option Machine) (old new : Machine) (trans : TransId) (verdict : Decision) (answer : Result Lsn Fault) → GoesOn from old new → ResolvesOf old trans verdict answer new → ReachesFrom from new
 resolve from old new trans verdict (Ok lsn) on acts = makes from old new (step.Resolve trans verdict) (reply.Resolved lsn) on acts
 resolve from old new trans verdict (Err fault) on acts = makes from old new (step.Resolve trans verdict) (reply.Refused fault) on acts
+
+pub adopt : (from : Option Machine) (old new : Machine) (history : List ℕ) (answer : Result (Unit {0}) Fault) → GoesOn from old new → Adopts old history answer new → ReachesFrom from new
+adopt from old new history (Ok tt) on acts = makes from old new (step.Adopt history) reply.Done on acts
+adopt from old new history (Err fault) on acts = makes from old new (step.Adopt history) (reply.Refused fault) on acts
 
 pub finish : (from : Option Machine) (old new : Machine) (answer : Result (Unit {0}) Fault) → GoesOn from old new → Finishes old answer new → ReachesFrom from new
 finish from old new (Ok tt) on acts = makes from old new step.Finish reply.Done on acts

@@ -32,6 +32,7 @@ pub struct Blanks {
     pub(crate) undo_one: Blank,
     pub(crate) finish: Blank,
     pub(crate) resolve: Blank,
+    pub(crate) adopt: Blank,
     pub(crate) floor: Blank,
 }
 
@@ -42,11 +43,11 @@ impl Model for Blanks {
     ghost Value = { Named };
 
     ghost view = { λ b. record {
-      names = b.feed.name ∷ b.resync.name ∷ b.lend.name ∷ b.give.name ∷ b.recall.name ∷ b.flush.name ∷ b.sync_pages.name ∷ b.log_write.name ∷ b.log_sync.name ∷ b.mark_write.name ∷ b.ctl_sync.name ∷ b.ckpt_begin.name ∷ b.ckpt_block.name ∷ b.ckpt_publish.name ∷ b.publish_view.name ∷ b.ready.name ∷ b.seal.name ∷ b.undo_one.name ∷ b.finish.name ∷ b.resolve.name ∷ b.floor.name ∷ [];
+      names = b.feed.name ∷ b.resync.name ∷ b.lend.name ∷ b.give.name ∷ b.recall.name ∷ b.flush.name ∷ b.sync_pages.name ∷ b.log_write.name ∷ b.log_sync.name ∷ b.mark_write.name ∷ b.ctl_sync.name ∷ b.ckpt_begin.name ∷ b.ckpt_block.name ∷ b.ckpt_publish.name ∷ b.publish_view.name ∷ b.ready.name ∷ b.seal.name ∷ b.undo_one.name ∷ b.finish.name ∷ b.resolve.name ∷ b.adopt.name ∷ b.floor.name ∷ [];
       parts = b.feed.parts;
     } };
 
-    ghost invariant = { λ b. (b.resync.parts ≡ b.feed.parts) × (b.lend.parts ≡ b.feed.parts) × (b.give.parts ≡ b.feed.parts) × (b.recall.parts ≡ b.feed.parts) × (b.flush.parts ≡ b.feed.parts) × (b.sync_pages.parts ≡ b.feed.parts) × (b.log_write.parts ≡ b.feed.parts) × (b.log_sync.parts ≡ b.feed.parts) × (b.mark_write.parts ≡ b.feed.parts) × (b.ctl_sync.parts ≡ b.feed.parts) × (b.ckpt_begin.parts ≡ b.feed.parts) × (b.ckpt_block.parts ≡ b.feed.parts) × (b.ckpt_publish.parts ≡ b.feed.parts) × (b.publish_view.parts ≡ b.feed.parts) × (b.ready.parts ≡ b.feed.parts) × (b.seal.parts ≡ b.feed.parts) × (b.undo_one.parts ≡ b.feed.parts) × (b.finish.parts ≡ b.feed.parts) × (b.resolve.parts ≡ b.feed.parts) × (b.floor.parts ≡ 1) };
+    ghost invariant = { λ b. (b.resync.parts ≡ b.feed.parts) × (b.lend.parts ≡ b.feed.parts) × (b.give.parts ≡ b.feed.parts) × (b.recall.parts ≡ b.feed.parts) × (b.flush.parts ≡ b.feed.parts) × (b.sync_pages.parts ≡ b.feed.parts) × (b.log_write.parts ≡ b.feed.parts) × (b.log_sync.parts ≡ b.feed.parts) × (b.mark_write.parts ≡ b.feed.parts) × (b.ctl_sync.parts ≡ b.feed.parts) × (b.ckpt_begin.parts ≡ b.feed.parts) × (b.ckpt_block.parts ≡ b.feed.parts) × (b.ckpt_publish.parts ≡ b.feed.parts) × (b.publish_view.parts ≡ b.feed.parts) × (b.ready.parts ≡ b.feed.parts) × (b.seal.parts ≡ b.feed.parts) × (b.undo_one.parts ≡ b.feed.parts) × (b.finish.parts ≡ b.feed.parts) × (b.resolve.parts ≡ b.feed.parts) × (b.adopt.parts ≡ b.feed.parts) × (b.floor.parts ≡ 1) };
 }
 
 // Written out: a derived drop is proved wherever blanks are dropped, this one only here.
@@ -73,6 +74,7 @@ impl Drop for Blanks {
             undo_one: _,
             finish: _,
             resolve: _,
+            adopt: _,
             floor: _,
         } = self;
     }
@@ -104,6 +106,7 @@ impl Blanks {
             undo_one: Blank::new(parts),
             finish: Blank::new(parts),
             resolve: Blank::new(parts),
+            adopt: Blank::new(parts),
             floor: Blank::new(1),
         }
     }
@@ -137,6 +140,7 @@ impl Blanks {
             undo_one,
             finish,
             resolve,
+            adopt,
             floor,
         } = self;
         let (feed, feed_part) = feed.open::<Of<L, 0>>();
@@ -159,6 +163,7 @@ impl Blanks {
         let (undo_one, undo_one_part) = undo_one.open::<Of<L, 17>>();
         let (finish, finish_part) = finish.open::<Of<L, 18>>();
         let (resolve, resolve_part) = resolve.open::<Of<L, 19>>();
+        let (adopt, adopt_part) = adopt.open::<Of<L, 20>>();
         let (floor, floor_part) = floor.open::<Floor<L>>();
         (
             Books {
@@ -182,6 +187,7 @@ impl Blanks {
                 undo_one,
                 finish,
                 resolve,
+                adopt,
             },
             Part {
                 feed: feed_part,
@@ -204,6 +210,7 @@ impl Blanks {
                 undo_one: undo_one_part,
                 finish: finish_part,
                 resolve: resolve_part,
+                adopt: adopt_part,
             },
             floor,
             Acknowledger::new(floor_part),

@@ -30,6 +30,7 @@ pub struct Books<L: Ledgers> {
     pub(crate) undo_one: Book<Of<L, 17>>,
     pub(crate) finish: Book<Of<L, 18>>,
     pub(crate) resolve: Book<Of<L, 19>>,
+    pub(crate) adopt: Book<Of<L, 20>>,
 }
 
 impl<L: Ledgers> Model for Books<L> {
@@ -37,7 +38,7 @@ impl<L: Ledgers> Model for Books<L> {
 
     ghost Value = { List ℕ };
 
-    ghost view = { λ b. b.feed.total ∷ b.resync.total ∷ b.lend.total ∷ b.give.total ∷ b.recall.total ∷ b.flush.total ∷ b.sync_pages.total ∷ b.log_write.total ∷ b.log_sync.total ∷ b.mark_write.total ∷ b.ctl_sync.total ∷ b.ckpt_begin.total ∷ b.ckpt_block.total ∷ b.ckpt_publish.total ∷ b.publish_view.total ∷ b.ready.total ∷ b.seal.total ∷ b.undo_one.total ∷ b.finish.total ∷ b.resolve.total ∷ [] };
+    ghost view = { λ b. b.feed.total ∷ b.resync.total ∷ b.lend.total ∷ b.give.total ∷ b.recall.total ∷ b.flush.total ∷ b.sync_pages.total ∷ b.log_write.total ∷ b.log_sync.total ∷ b.mark_write.total ∷ b.ctl_sync.total ∷ b.ckpt_begin.total ∷ b.ckpt_block.total ∷ b.ckpt_publish.total ∷ b.publish_view.total ∷ b.ready.total ∷ b.seal.total ∷ b.undo_one.total ∷ b.finish.total ∷ b.resolve.total ∷ b.adopt.total ∷ [] };
 }
 
 // Written out: a derived drop is proved wherever books are dropped, this one only here.
@@ -64,6 +65,7 @@ impl<L: Ledgers> Drop for Books<L> {
             undo_one: _,
             finish: _,
             resolve: _,
+            adopt: _,
         } = self;
     }
 }
@@ -96,6 +98,7 @@ impl<L: Ledgers> Books<L> {
             Event::UndoOne => self.undo_one.add(&mut part.undo_one, by),
             Event::Finish => self.finish.add(&mut part.finish, by),
             Event::Resolve => self.resolve.add(&mut part.resolve, by),
+            Event::Adopt => self.adopt.add(&mut part.adopt, by),
         }
     }
 
@@ -146,5 +149,6 @@ impl<L: Ledgers> Books<L> {
         self.undo_one.audit(&mut all.undo_one);
         self.finish.audit(&mut all.finish);
         self.resolve.audit(&mut all.resolve);
+        self.adopt.audit(&mut all.adopt);
     }
 }

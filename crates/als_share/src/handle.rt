@@ -4,7 +4,7 @@ use crate::acknowledger::Acknowledger;
 use crate::ledgers::Ledgers;
 use crate::shared::Shared;
 use crate::thread_share::Share;
-use als_engine::{Decision, Events, Fault, Fed, FeedFault, NotGiven, PageLease, Status};
+use als_engine::{Decision, Events, Fault, Fed, FeedFault, History, NotGiven, PageLease, Status};
 use als_page::Page;
 use als_record::{LoggedPage, Lsn, Record, TransId, TransactionRow};
 use als_view::Told;
@@ -159,6 +159,11 @@ impl<L: Ledgers, E: Events, R: Wait> Events for Handle<'_, L, E, R> {
         locked.resolve(&mut self.share, trans, verdict)
     }
 
+    fn adopt(&mut self, history: History) -> Result<(), Fault> {
+        let mut locked = self.shared.lock.lock(self.rt);
+        locked.adopt(&mut self.share, history)
+    }
+
     fn finish(&mut self) -> Result<(), Fault> {
         let mut locked = self.shared.lock.lock(self.rt);
         locked.finish(&mut self.share)
@@ -166,6 +171,10 @@ impl<L: Ledgers, E: Events, R: Wait> Events for Handle<'_, L, E, R> {
 
     fn status(&self) -> Status {
         self.shared.lock.lock(self.rt).engine.status()
+    }
+
+    fn history(&self) -> History {
+        self.shared.lock.lock(self.rt).engine.history()
     }
 
     fn table(&self, alloc: Global) -> Result<Vec<TransactionRow>, Fault> {

@@ -42,7 +42,7 @@ pub struct Floor<L> {
 }
 
 impl<L: Ledgers> Ledger for Floor<L> {
-    ghost name = { L.names 20 };
+    ghost name = { L.names 21 };
 
     ghost parts = { 1 };
 }

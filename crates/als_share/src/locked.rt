@@ -10,7 +10,7 @@ use crate::acknowledger::Acknowledger;
 use crate::books::Books;
 use crate::ledgers::{Floor, Ledgers};
 use crate::thread_share::Share;
-use als_engine::{Decision, Event, Events, Fault, Fed, FeedFault, NotGiven, PageLease};
+use als_engine::{Decision, Event, Events, Fault, Fed, FeedFault, History, NotGiven, PageLease};
 use als_page::Page;
 use als_record::{Lsn, Record, TransId};
 use als_view::Told;
@@ -404,6 +404,21 @@ impl<L: Ledgers, E: Events> Locked<L, E> {
         let answer = engine.resolve(trans, verdict);
         stands(engine);
         books.note(share, Event::Resolve, &answer);
+        answer
+    }
+
+    /// One `adopt`.
+    pub fn adopt(&mut self, share: &mut Share<L>, history: History) -> Result<(), Fault>
+        ensures { TellsOk event.Adopt result share.old share.new }
+    {
+        let Locked {
+            engine,
+            books,
+            floor: _,
+        } = self;
+        let answer = engine.adopt(history);
+        stands(engine);
+        books.note(share, Event::Adopt, &answer);
         answer
     }
 

@@ -29,6 +29,7 @@ pub struct Part<L: Ledgers> {
     pub(crate) undo_one: Share<Of<L, 17>>,
     pub(crate) finish: Share<Of<L, 18>>,
     pub(crate) resolve: Share<Of<L, 19>>,
+    pub(crate) adopt: Share<Of<L, 20>>,
 }
 
 impl<L: Ledgers> Model for Part<L> {
@@ -39,10 +40,10 @@ impl<L: Ledgers> Model for Part<L> {
 
     ghost view = { λ p. record {
       parts = p.feed.parts;
-      tally = p.feed.amount ∷ p.resync.amount ∷ p.lend.amount ∷ p.give.amount ∷ p.recall.amount ∷ p.flush.amount ∷ p.sync_pages.amount ∷ p.log_write.amount ∷ p.log_sync.amount ∷ p.mark_write.amount ∷ p.ctl_sync.amount ∷ p.ckpt_begin.amount ∷ p.ckpt_block.amount ∷ p.ckpt_publish.amount ∷ p.publish_view.amount ∷ p.ready.amount ∷ p.seal.amount ∷ p.undo_one.amount ∷ p.finish.amount ∷ p.resolve.amount ∷ [];
+      tally = p.feed.amount ∷ p.resync.amount ∷ p.lend.amount ∷ p.give.amount ∷ p.recall.amount ∷ p.flush.amount ∷ p.sync_pages.amount ∷ p.log_write.amount ∷ p.log_sync.amount ∷ p.mark_write.amount ∷ p.ctl_sync.amount ∷ p.ckpt_begin.amount ∷ p.ckpt_block.amount ∷ p.ckpt_publish.amount ∷ p.publish_view.amount ∷ p.ready.amount ∷ p.seal.amount ∷ p.undo_one.amount ∷ p.finish.amount ∷ p.resolve.amount ∷ p.adopt.amount ∷ [];
     } };
 
-    ghost invariant = { λ p. (p.resync.parts ≡ p.feed.parts) × (p.lend.parts ≡ p.feed.parts) × (p.give.parts ≡ p.feed.parts) × (p.recall.parts ≡ p.feed.parts) × (p.flush.parts ≡ p.feed.parts) × (p.sync_pages.parts ≡ p.feed.parts) × (p.log_write.parts ≡ p.feed.parts) × (p.log_sync.parts ≡ p.feed.parts) × (p.mark_write.parts ≡ p.feed.parts) × (p.ctl_sync.parts ≡ p.feed.parts) × (p.ckpt_begin.parts ≡ p.feed.parts) × (p.ckpt_block.parts ≡ p.feed.parts) × (p.ckpt_publish.parts ≡ p.feed.parts) × (p.publish_view.parts ≡ p.feed.parts) × (p.ready.parts ≡ p.feed.parts) × (p.seal.parts ≡ p.feed.parts) × (p.undo_one.parts ≡ p.feed.parts) × (p.finish.parts ≡ p.feed.parts) × (p.resolve.parts ≡ p.feed.parts) };
+    ghost invariant = { λ p. (p.resync.parts ≡ p.feed.parts) × (p.lend.parts ≡ p.feed.parts) × (p.give.parts ≡ p.feed.parts) × (p.recall.parts ≡ p.feed.parts) × (p.flush.parts ≡ p.feed.parts) × (p.sync_pages.parts ≡ p.feed.parts) × (p.log_write.parts ≡ p.feed.parts) × (p.log_sync.parts ≡ p.feed.parts) × (p.mark_write.parts ≡ p.feed.parts) × (p.ctl_sync.parts ≡ p.feed.parts) × (p.ckpt_begin.parts ≡ p.feed.parts) × (p.ckpt_block.parts ≡ p.feed.parts) × (p.ckpt_publish.parts ≡ p.feed.parts) × (p.publish_view.parts ≡ p.feed.parts) × (p.ready.parts ≡ p.feed.parts) × (p.seal.parts ≡ p.feed.parts) × (p.undo_one.parts ≡ p.feed.parts) × (p.finish.parts ≡ p.feed.parts) × (p.resolve.parts ≡ p.feed.parts) × (p.adopt.parts ≡ p.feed.parts) };
 }
 
 // Written out: a derived drop is proved wherever a part is dropped, this one only here.
@@ -69,6 +70,7 @@ impl<L: Ledgers> Drop for Part<L> {
             undo_one: _,
             finish: _,
             resolve: _,
+            adopt: _,
         } = self;
     }
 }
@@ -102,6 +104,7 @@ impl<L: Ledgers> Part<L> {
             undo_one: self.undo_one.split_off(1, 0),
             finish: self.finish.split_off(1, 0),
             resolve: self.resolve.split_off(1, 0),
+            adopt: self.adopt.split_off(1, 0),
         }
     }
 
@@ -131,6 +134,7 @@ impl<L: Ledgers> Part<L> {
             undo_one,
             finish,
             resolve,
+            adopt,
         } = other;
         self.feed.merge(feed);
         self.resync.merge(resync);
@@ -152,5 +156,6 @@ impl<L: Ledgers> Part<L> {
         self.undo_one.merge(undo_one);
         self.finish.merge(finish);
         self.resolve.merge(resolve);
+        self.adopt.merge(adopt);
     }
 }

@@ -25,4 +25,5 @@ returns-clause-same g c =
     (cons-same _ _ _ _ c.split_off-18.ensures.amount_left
     (cons-same _ _ _ _ c.split_off-19.ensures.amount_left
     (cons-same _ _ _ _ c.split_off-20.ensures.amount_left
-    refl))))))))))))))))))))
+    (cons-same _ _ _ _ c.split_off-21.ensures.amount_left
+    refl)))))))))))))))))))))

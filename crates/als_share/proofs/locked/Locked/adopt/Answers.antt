@@ -1,0 +1,17 @@
+use Rattle.std.proofs.Common.{◌∙◌}
+use Rattle.als_engine.specs.declared.event.Event.TheVariants as event
+use Rattle.als_share.proofs.Booked.{booked}
+use Rattle.als_share.proofs.Floors.{stays_low}
+use Rattle.als_share.proofs.Going as going
+use Rattle.als_share.proofs.locked.Locked.adopt.Goals as goal
+
+pub invariant_of-self : goal.invariant_of-self
+invariant_of-self g c = (
+  booked event.Adopt c.adopt-answer.result _ _ _ _ c.self.invariant.0 c.note.ensures.all c.adopt-answer.ensures.told,
+  (λ alone.
+      going.adopt g.L.Ledgers.start _ _ c.args.history c.adopt-answer.result
+      (record { reached = c.self.invariant.1 alone; keeps = c.adopt-answer.ensures.keeps alone; stands = c.stands.ensures alone })
+      (c.adopt-answer.ensures.adopts alone)),
+  c.adopt-answer.ensures.book ∙ c.self.invariant.2,
+  (λ alone. stays_low _ _ _ (c.self.invariant.3 alone) (c.adopt-answer.ensures.keeps alone)),
+)
