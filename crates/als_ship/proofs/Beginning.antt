@@ -1,29 +1,149 @@
--- Why a session was not begun.
-use Rattle.std.proofs.Common.{◌≡◌, ◌≤◌, ℕ, List, [], ◌++◌, length, take, Option, sym, ap, subst, ◌∙◌, arith}
+-- How a session begins, and why it does not.
+use Rattle.std.proofs.Common.{◌≡◌, ◌≢◌, ◌<◌, ◌≤◌, ◌-◌, ℕ, List, [], ◌++◌, length, take, Option, Ok, Err, refl, sym, ap, subst, ◌∙◌, inl, inr, arith}
+use Rattle.std.specs.Io.KnownBytes.{Consumes, Appends}
 use Rattle.als_record.specs.declared.header.LogHeader.{LogHeader}
+use Rattle.als_record.specs.declared.lsn.Lsn.{Lsn}
 use Rattle.als_record.specs.LogText.{header_bytes}
 use Rattle.als_record.proofs.HeaderLaws.{one_header}
+use Rattle.als_epochs.specs.Histories.{IsHistory}
+use Rattle.als_epochs.specs.declared.fault.Fault.{Fault as EpochFault}
+use Rattle.als_epochs.specs.declared.fault.Fault.TheVariants as judged
+use Rattle.als_epochs.specs.declared.step.Step.{Step}
+use Rattle.als_epochs.specs.Judging.{Judges}
+use Rattle.als_wire.specs.declared.tag.Tag.TheVariants as tag
+use Rattle.als_wire.specs.declared.fault.Fault.{Fault as WireFault}
+use Rattle.als_wire.specs.declared.fault.Fault.TheVariants as wire
+use Rattle.als_wire.specs.Frames.{resume_bytes, epochs_bytes}
+use Rattle.als_wire.specs.Reading.{FailsToRead, IsHeader}
+use Rattle.als_wire.specs.Sending.{Puts}
 use Rattle.als_ship.specs.declared.fault.Fault.{Fault}
-use Rattle.als_ship.specs.declared.fault.Fault.TheVariants.{BadHeader, Memory, Gap, BadFrame, Cut, Stream, Refused}
-use Rattle.als_ship.specs.Reading.{IsHeader}
-use Rattle.als_ship.specs.Wire.{FailsToBegin, FailsToServe}
+use Rattle.als_ship.specs.declared.fault.Fault.TheVariants.{BadHeader, Memory, Gap, BadFrame, Diverged, Cut, Stream, OtherEpoch, Refused}
+use Rattle.als_ship.specs.Faults.{of_wire, of_epochs}
+use Rattle.als_ship.specs.Wire.{FailsToAsk, FailsToServe, IsNotAdmitted, IsOfTheWay, IsMet, Pours, Ships}
+use Rattle.als_ship.specs.Meeting.{IsHeaderOf, MeetsOne, MeetsInVain}
+use Rattle.als_ship.proofs.Pieces.{puts_none, puts_all}
 
-begin_refused : (header : LogHeader) (end : ℕ) (f : Fault) (old new : Option (List ℕ)) → FailsToBegin header end f old new → FailsToServe header end f old
-begin_refused header end BadHeader old new fails = (new, fails)
-begin_refused header end Memory old new fails = tt
-begin_refused header end Gap old new fails = (new, fails)
-begin_refused header end BadFrame old new fails = tt
-begin_refused header end Cut old new fails = tt
-begin_refused header end Stream old new fails = tt
-begin_refused header end (Refused cause) old new fails = absurd fails
+-- ---- the header
 
 -- a text has one header
 pub same_header : (text : List ℕ) (h k : LogHeader) → take 16 text ≡ header_bytes h.pages → take 16 text ≡ header_bytes k.pages → h.pages ≤ 4096 → k.pages ≤ 4096 → h ≡ k
 same_header text h k first second low high =
     ap (λ (n : ℕ). record { pages = n }) (one_header h.pages k.pages [] [] (omega (arith, low)) (omega (arith, high)) (ap (λ (xs : List ℕ). xs ++ []) (sym first ∙ second))).0
 
-pub serve_refused : (text : List ℕ) (header own : LogHeader) (end : ℕ) (f : Fault) (old new : Option (List ℕ)) → take 16 text ≡ header_bytes own.pages → IsHeader own → take 16 text ≡ header_bytes header.pages → header.pages ≤ 4096 → end ≡ length text → FailsToBegin own end f old new
-    → FailsToServe header (length text) f old
-serve_refused text header own end f old new first range second small is fails =
-    subst (λ (n : ℕ). FailsToServe header n f old) is
-    (begin_refused header end f old new (subst (λ (h : LogHeader). FailsToBegin h end f old new) (same_header text own header first second range.1 small) fails))
+-- ---- a follower that is asked
+
+-- no Resume frame was read
+pub asks_in_vain : (header : LogHeader) (f : WireFault) (old new : Option (List ℕ)) → FailsToRead tag.Resume f old new → FailsToAsk header (of_wire f) old new
+asks_in_vain header wire.BadHeader old new fails = inl fails
+asks_in_vain header wire.Memory old new fails = cc fails.1.for_data
+asks_in_vain header wire.BadFrame old new fails = fails
+asks_in_vain header wire.Cut old new fails = tt
+asks_in_vain header wire.Stream old new fails = tt
+
+-- it has another header
+pub asks_another : (header theirs : LogHeader) (from : ℕ) (seals : List ℕ) (old new : Option (List ℕ)) → IsHeader theirs → theirs.pages ≢ header.pages → Consumes old new (resume_bytes from theirs.pages seals) → FailsToAsk header BadHeader old new
+asks_another header theirs from seals old new is other read = inr (from, theirs, seals, is, other, read)
+
+-- so it is not served
+pub serves_unasked : (header : LogHeader) (own : List ℕ) (end : ℕ) (f : Fault) (old new : Option (List ℕ)) → FailsToAsk header f old new → FailsToServe header own end f old
+serves_unasked header own end BadHeader old new fails = (new, fails)
+serves_unasked header own end BadFrame old new fails = tt
+serves_unasked header own end Cut old new fails = tt
+serves_unasked header own end Stream old new fails = tt
+serves_unasked header own end Memory old new fails = absurd fails
+serves_unasked header own end Gap old new fails = absurd fails
+serves_unasked header own end (Diverged seal) old new fails = absurd fails
+serves_unasked header own end (OtherEpoch epoch) old new fails = absurd fails
+serves_unasked header own end (Refused cause) old new fails = absurd fails
+
+-- ---- a follower that is judged
+
+-- the histories part
+pub admits_no_history : (theirs own : List ℕ) (from end : ℕ) (f : EpochFault) → Judges theirs own from (Err f) → IsNotAdmitted theirs own from end (of_epochs f)
+admits_no_history theirs own from end (judged.OtherEpoch epoch) judges = judges
+admits_no_history theirs own from end (judged.Diverged seal) judges = judges
+
+pub serves_not : (header : LogHeader) (theirs own : List ℕ) (from end : ℕ) (f : Fault) (old new : Option (List ℕ)) → IsHistory theirs → Consumes old new (resume_bytes from header.pages theirs) → IsNotAdmitted theirs own from end f → FailsToServe header own end f old
+serves_not header theirs own from end (OtherEpoch epoch) old new history read not = (new, (from, theirs, history, not, read))
+serves_not header theirs own from end (Diverged seal) old new history read not = (new, (from, theirs, history, not, read))
+serves_not header theirs own from end Gap old new history read not = (new, (from, theirs, history, not.0, not.1, not.2, read))
+serves_not header theirs own from end BadHeader old new history read not = absurd not
+serves_not header theirs own from end Memory old new history read not = absurd not
+serves_not header theirs own from end BadFrame old new history read not = absurd not
+serves_not header theirs own from end Cut old new history read not = absurd not
+serves_not header theirs own from end Stream old new history read not = absurd not
+serves_not header theirs own from end (Refused cause) old new history read not = absurd not
+
+-- ---- the way
+
+pub way_serves : (header : LogHeader) (own : List ℕ) (end : ℕ) (f : Fault) (old : Option (List ℕ)) → IsOfTheWay f → FailsToServe header own end f old
+way_serves header own end Memory old is = tt
+way_serves header own end BadFrame old is = tt
+way_serves header own end Cut old is = tt
+way_serves header own end Stream old is = tt
+way_serves header own end BadHeader old is = absurd is
+way_serves header own end Gap old is = absurd is
+way_serves header own end (Diverged seal) old is = absurd is
+way_serves header own end (OtherEpoch epoch) old is = absurd is
+way_serves header own end (Refused cause) old is = absurd is
+
+-- no answer was read
+pub way_answer : (f : WireFault) (old new : Option (List ℕ)) → FailsToRead tag.Acknowledged f old new → IsOfTheWay (of_wire f)
+way_answer wire.BadHeader old new fails = cc fails.1.for_resume
+way_answer wire.Memory old new fails = tt
+way_answer wire.BadFrame old new fails = tt
+way_answer wire.Cut old new fails = tt
+way_answer wire.Stream old new fails = tt
+
+pub way_stream : (f : WireFault) → f ≡ wire.Stream → IsOfTheWay (of_wire f)
+way_stream f is = subst (λ (x : WireFault). IsOfTheWay (of_wire x)) (sym is) tt
+
+pub way_of : (f : Fault) → f ≡ Stream → IsOfTheWay f
+way_of f is = subst IsOfTheWay (sym is) tt
+
+pub way_memory : (f : Fault) → f ≡ Memory → IsOfTheWay f
+way_memory f is = subst IsOfTheWay (sym is) tt
+
+-- ---- meeting
+
+pub header_of : (text : List ℕ) (header : LogHeader) → take 16 text ≡ header_bytes header.pages → IsHeader header → IsHeaderOf text header
+header_of text header begins range = record { begins = begins; range = range }
+
+-- it was not asked, or nothing of it was written yet
+pub vain_unasked : (text own : List ℕ) (header : LogHeader) (f : Fault) (old new written : Option (List ℕ)) → IsHeaderOf text header → FailsToAsk header f old new → MeetsInVain text own f old written written
+vain_unasked text own header f old new written is fails = (header, is, serves_unasked header own (length text) f old new fails, puts_none (epochs_bytes own) written)
+
+-- the own history was not written
+pub vain_untold : (text own : List ℕ) (header : LogHeader) (f : WireFault) (old written more : Option (List ℕ)) → IsHeaderOf text header → f ≡ wire.Stream → Puts (epochs_bytes own) written more → MeetsInVain text own (of_wire f) old written more
+vain_untold text own header f old written more is failed puts =
+    (header, is, way_serves header own (length text) (of_wire f) old (way_stream f failed), puts)
+
+-- it is not admitted
+pub vain_judged : (text own theirs : List ℕ) (header : LogHeader) (from end : ℕ) (f : Fault) (old new written more : Option (List ℕ)) → IsHeaderOf text header → end ≡ length text → IsHistory theirs → Consumes old new (resume_bytes from header.pages theirs)
+    → IsNotAdmitted theirs own from end f → Appends written more (epochs_bytes own) → MeetsInVain text own f old written more
+vain_judged text own theirs header from end f old new written more is whole history read not told =
+    (header, is, subst (λ (n : ℕ). FailsToServe header own n f old) whole (serves_not header theirs own from end f old new history read not), puts_all (epochs_bytes own) written more told)
+
+pub meets : (text own theirs : List ℕ) (header : LogHeader) (from end : ℕ) (step : Step) (old new written more : Option (List ℕ)) → IsHeaderOf text header → end ≡ length text → IsHistory theirs → Consumes old new (resume_bytes from header.pages theirs)
+    → Judges theirs own from (Ok step) → from ≤ end → Appends written more (epochs_bytes own) → MeetsOne text own from old new written more
+meets text own theirs header from end step old new written more is whole history read judges within told =
+    (header, is, record { theirs = theirs; history = history; step = step; judged = judges; within = omega (arith, within, whole); heard = read; told = told })
+
+-- ---- a whole session
+
+pub ships_all : (text own : List ℕ) (header : LogHeader) (from n : ℕ) (asked between behind old then new : Option (List ℕ)) (kept : Option Lsn) → take 16 text ≡ header_bytes header.pages → header.pages ≤ 4096 → MeetsOne text own from asked between old then
+    → Pours text (length own) from between behind then new kept → n ≡ length text - from → Ships text own header asked behind old new n kept
+ships_all text own header from n asked between behind old then new kept begins small (mine, is, met) pours count =
+    record {
+      from = from;
+      between = between;
+      then = then;
+      met = subst (λ (h : LogHeader). IsMet text own from h.pages asked between old then) (same_header text mine header is.begins begins is.range.1 small) met;
+      pours = pours;
+      count = count;
+    }
+
+-- and one that ended before any log byte
+pub served_in_vain : (text own : List ℕ) (header : LogHeader) (f : Fault) (asked old new : Option (List ℕ)) → take 16 text ≡ header_bytes header.pages → header.pages ≤ 4096 → MeetsInVain text own f asked old new → FailsToServe header own (length text) f asked
+served_in_vain text own header f asked old new begins small (mine, is, fails, puts) =
+    subst (λ (h : LogHeader). FailsToServe h own (length text) f asked) (same_header text mine header is.begins begins is.range.1 small) fails

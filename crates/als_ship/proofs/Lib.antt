@@ -1,11 +1,12 @@
-pub mod Failing
-pub mod Putting
-pub mod OneFrame
 pub mod Pieces
 pub mod SentParts
 pub mod Beginning
+pub mod EpochLaws
 pub mod LogForcing
+pub mod NodeLogs
 pub mod Fronts
+pub mod HistoryFronts
+pub mod Schedules
 pub mod Stopping
 pub mod Sessions
 pub mod Vouching

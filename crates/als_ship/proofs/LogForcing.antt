@@ -1,9 +1,12 @@
 -- What forces the log leaves its text as it was.
-use Rattle.std.proofs.Common.{◌≡◌, ◌≢◌, ℕ, zero, suc, Option, Some, None, Result, Ok, Err, refl, sym, ap, subst, ◌∙◌, inl, inr}
-use Rattle.std.specs.Prelude.{MatchOption}
+use Rattle.std.proofs.Common.{◌≡◌, ◌≢◌, ℕ, zero, suc, true, Option, Some, None, Result, Ok, Err, refl, sym, ap, subst, ◌∙◌, inl, inr}
+use Rattle.std.specs.Prelude.{MatchOption, ◌⊎◌}
 use Rattle.als_record.specs.declared.lsn.Lsn.{Lsn}
+use Rattle.als_ckpt.specs.declared.control_state.ControlState.{ControlState}
+use Rattle.als_ckpt.proofs.StateLaws.{last_state-push}
 use Rattle.als_store.specs.Stored.{Stored}
-use Rattle.als_store.specs.Events.{Breaks, WritesLog, SyncsLog, WritesMark, BreaksMark, SyncsControl}
+use Rattle.als_store.specs.Takeover.{history_of}
+use Rattle.als_store.specs.Events.{marked, Breaks, WritesLog, SyncsLog, WritesMark, BreaksMark, SyncsControl}
 use Rattle.als_engine.specs.declared.fault.Fault.{Fault as EngineFault}
 use Rattle.als_engine.specs.declared.fault.Fault.TheVariants.{NothingToDo}
 use Rattle.als_engine.specs.declared.step.Step.TheVariants as step
@@ -15,47 +18,68 @@ use Rattle.als_ship.specs.Follows.{SameText}
 use Rattle.als_ship.specs.Forcing.{Writes, WritesAll, Syncs, Forces, FailsToForce}
 
 pub same_refl : (m : Machine) → SameText m m
-same_refl m = record { pages = refl; log = refl; partial = refl }
+same_refl m = record { pages = refl; log = refl; partial = refl; history = refl; stopped = λ s. s }
 
 pub same_trans : (a b c : Machine) → SameText a b → SameText b c → SameText a c
-same_trans a b c p q = record { pages = q.pages ∙ p.pages; log = q.log ∙ p.log; partial = q.partial ∙ p.partial }
+same_trans a b c p q = record {
+  pages = q.pages ∙ p.pages;
+  log = q.log ∙ p.log;
+  partial = q.partial ∙ p.partial;
+  history = q.history ∙ p.history;
+  stopped = λ s. q.stopped (p.stopped s);
+}
 
 pub same_equal : (old new : Machine) → new ≡ old → SameText old new
 same_equal old new e = subst (λ (m : Machine). SameText old m) (sym e) (same_refl old)
 
 -- ---- the store
 
--- a store with the same log
+-- a store with the same log and the same history, which is broken still where it was
 abbrev pub SameLog : Stored → Stored → Type 0
-SameLog old new = (new.pages ≡ old.pages) × (new.log ≡ old.log)
+SameLog old new = (new.pages ≡ old.pages) × (new.log ≡ old.log) × (history_of new ≡ history_of old) × (old.broken ≡ true → new.broken ≡ true)
 
 pub same_changed : (old new : Machine) (event : Stored → Stored → Type 0) → ((h k : Stored) → event h k → SameLog h k) → Changes old event new → SameText old new
 same_changed old new event keeps c =
     let same = keeps old.held c.held c.becomes in
-    record { pages = ap (λ (m : Machine). m.held.pages) c.after ∙ same.0; log = ap (λ (m : Machine). m.held.log) c.after ∙ same.1; partial = ap (λ (m : Machine). m.partial) c.after }
+    record {
+      pages = ap (λ (m : Machine). m.held.pages) c.after ∙ same.0;
+      log = ap (λ (m : Machine). m.held.log) c.after ∙ same.1;
+      partial = ap (λ (m : Machine). m.partial) c.after;
+      history = ap (λ (m : Machine). history_of m.held) c.after ∙ same.2;
+      stopped = λ s. ap (λ (m : Machine). m.held.broken) c.after ∙ same.3 s;
+    }
 
 pub by_equation : (old new is : Stored) → new ≡ is → SameLog old is → SameLog old new
 by_equation old new is e same = subst (λ (s : Stored). SameLog old s) (sym e) same
 
 pub breaks_same : (old new : Stored) → Breaks old new → SameLog old new
-breaks_same old new b = by_equation old new _ b.after (refl, refl)
+breaks_same old new b = by_equation old new _ b.after (refl, refl, refl, λ s. refl)
 
 writes_same : (old new : Stored) → WritesLog old new → SameLog old new
-writes_same old new w = by_equation old new _ w.after (refl, refl)
+writes_same old new w = by_equation old new _ w.after (refl, refl, refl, λ s. s)
 
 syncs_same : (old new : Stored) → SyncsLog old new → SameLog old new
-syncs_same old new s = by_equation old new _ s.after (refl, refl)
+syncs_same old new s = by_equation old new _ s.after (refl, refl, refl, λ b. b)
+
+-- a mark moves in a control state of the same history
+marked_history : (old : Stored) (c : ControlState) → c ≡ marked old → c.history ≡ history_of old
+marked_history old c is = ap (λ (s : ControlState). s.history) is
 
 marks_same : (old new : Stored) → WritesMark old new → SameLog old new
-marks_same old new w = by_equation old new _ w.after (refl, refl)
+marks_same old new w = by_equation old new _ w.after (refl, refl, marked_history old _ (last_state-push old.control old.since (marked old)), λ s. s)
 
 breaks_mark_same : (old new : Stored) → BreaksMark old new → SameLog old new
-breaks_mark_same old new b = by_equation old new _ b.after (refl, refl)
+breaks_mark_same old new b = by_equation old new _ b.after (refl, refl, marked_history old _ (last_state-push old.control old.since (marked old)), λ s. refl)
 
 control_same : (lsn : Lsn) (old new : Stored) → SyncsControl old lsn new → SameLog old new
-control_same lsn old new s = by_equation old new _ s.after (refl, refl)
+control_same lsn old new s = by_equation old new _ s.after (refl, refl, refl, λ b. b)
 
 -- ---- the events, refused or not
+
+-- the event was refused, or no cause stood against it
+pub split_option : (cause : Option EngineFault) (A : Type 0) (B : EngineFault → Type 0) → MatchOption cause A B → ((cause ≡ None) × A) ⊎ ((f : EngineFault) × B f)
+split_option None A B acts = inl (refl, acts)
+split_option (Some f) A B refused = inr (f, refused)
 
 pub refused_or_acts : (cause : Option EngineFault) (A P : Type 0) (B : EngineFault → Type 0) → (A → P) → ((f : EngineFault) → B f → P) → MatchOption cause A B → P
 refused_or_acts None A P B acts refused does = acts does

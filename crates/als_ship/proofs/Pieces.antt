@@ -6,36 +6,22 @@ use Rattle.std.proofs.KnownBytes.{Appends-trans, Appends-nil, Consumes-trans, Co
 use Rattle.std.specs.List.{flat_map}
 use Rattle.std.proofs.lemmas.List.Concat.{flat_map-cons, flat_map-append}
 use Rattle.als_record.specs.declared.lsn.Lsn.{Lsn}
-use Rattle.als_record.specs.declared.header.LogHeader.{LogHeader}
-use Rattle.als_ship.specs.Frames.{data_bytes, acknowledged_bytes, answers_bytes, resume_bytes}
-use Rattle.als_ship.specs.Sending.{Puts}
-use Rattle.als_ship.specs.Wire.{bytes_at, pieces_bytes, ArePieces, joined, last_answer, Ships, ShipsPart}
+use Rattle.als_wire.specs.Frames.{data_bytes, acknowledged_bytes, answers_bytes}
+use Rattle.als_wire.specs.Sending.{Puts}
+use Rattle.als_ship.specs.Wire.{bytes_at, pieces_bytes, ArePieces, joined, last_answer, Pours, PoursPart}
 
 pub pieces_push : (text : List ℕ) (at to end : ℕ) (pieces : List (List ℕ)) (piece : List ℕ) → ArePieces text at pieces to → 0 < length piece → length piece ≤ 65536 → piece ≡ bytes_at text to (length piece) → to + length piece ≡ end
     → ArePieces text at (pieces ++ piece ∷ []) end
 pieces_push text at to end [] piece are some few is e = (some, few, subst (λ (k : ℕ). piece ≡ bytes_at text k (length piece)) (sym are) is, ap (λ (k : ℕ). k + length piece) are ∙ e)
 pieces_push text at to end (p ∷ pieces) piece are some few is e = (are.0, are.1, are.2, pieces_push text (at + length p) to end pieces piece are.3 some few is e)
 
-pub bytes_push : (text : List ℕ) (at to : ℕ) (pieces : List (List ℕ)) (piece : List ℕ) → ArePieces text at pieces to → pieces_bytes at (pieces ++ piece ∷ []) ≡ pieces_bytes at pieces ++ data_bytes to piece
-bytes_push text at to [] piece are = append-nil (data_bytes at piece) ∙ ap (λ (k : ℕ). data_bytes k piece) are
-bytes_push text at to (p ∷ pieces) piece are = ap (λ (xs : List ℕ). data_bytes at p ++ xs) (bytes_push text (at + length p) to pieces piece are.3) ∙ sym (append_assoc (data_bytes at p) (pieces_bytes (at + length p) pieces) (data_bytes to piece))
-
--- what was sent so far
-abbrev pub Sent : List ℕ → ℕ → ℕ → Option (List ℕ) → Option (List ℕ) → Type 0
-Sent text from at old new = (pieces : List (List ℕ)) × ArePieces text from pieces at × Appends old new (pieces_bytes from pieces)
+pub bytes_push : (text : List ℕ) (epoch at to : ℕ) (pieces : List (List ℕ)) (piece : List ℕ) → ArePieces text at pieces to → pieces_bytes epoch at (pieces ++ piece ∷ []) ≡ pieces_bytes epoch at pieces ++ data_bytes epoch to piece
+bytes_push text epoch at to [] piece are = append-nil (data_bytes epoch at piece) ∙ ap (λ (k : ℕ). data_bytes epoch k piece) are
+bytes_push text epoch at to (p ∷ pieces) piece are =
+    ap (λ (xs : List ℕ). data_bytes epoch at p ++ xs) (bytes_push text epoch (at + length p) to pieces piece are.3) ∙ sym (append_assoc (data_bytes epoch at p) (pieces_bytes epoch (at + length p) pieces) (data_bytes epoch to piece))
 
 long_enough : (text : List ℕ) (at len : ℕ) → at + len ≤ length text → length (bytes_at text at len) ≡ len
 long_enough text at len h = omega (arith, length-take len (drop at text), length-drop at text)
-
-pub one_more : (text : List ℕ) (from at len : ℕ) (old mid new : Option (List ℕ)) → Sent text from at old mid → 0 < len → len ≤ 65536 → at + len ≤ length text → Appends mid new (data_bytes at (bytes_at text at len)) → Sent text from (at + len) old new
-one_more text from at len old mid new sent some few inside more =
-    let (pieces, are, so_far) = sent in
-    let piece = bytes_at text at len in
-    let long : length piece ≡ len = long_enough text at len inside in (
-      pieces ++ piece ∷ [],
-      pieces_push text from at (at + len) pieces piece are (omega (arith, long, some)) (omega (arith, long, few)) (ap (λ (k : ℕ). bytes_at text at k) (sym long)) (ap (λ (k : ℕ). at + k) long),
-      subst (Appends old new) (sym (bytes_push text from at pieces piece are)) (Appends-trans old mid new (pieces_bytes from pieces) (data_bytes at piece) so_far more),
-    )
 
 -- ---- what was sent and answered so far
 
@@ -50,17 +36,17 @@ answers_push answers lsn =
     ∙ ap (λ (ys : List ℕ). answers_bytes answers ++ ys) (flat_map-cons (λ (a : Lsn). acknowledged_bytes a.0) lsn [] ∙ append-nil (acknowledged_bytes lsn.0))
 
 -- each piece was answered
-pub record Answered (text : List ℕ) (from at : ℕ) (old new asked behind : Option (List ℕ)) (kept : Option Lsn) : Type 0 where
+pub record Answered (text : List ℕ) (epoch from at : ℕ) (old new asked behind : Option (List ℕ)) (kept : Option Lsn) : Type 0 where
   pub pieces : List (List ℕ)
   pub answers : List Lsn
   pub are : ArePieces text from pieces at
-  pub sent : Appends old new (pieces_bytes from pieces)
+  pub sent : Appends old new (pieces_bytes epoch from pieces)
   pub each : length answers ≡ length pieces
   pub heard : Consumes asked behind (answers_bytes answers)
   pub last : kept ≡ last_answer answers
 
-pub answered_none : (text : List ℕ) (from : ℕ) (old asked : Option (List ℕ)) → Answered text from from old old asked asked None
-answered_none text from old asked = record { pieces = []; answers = []; are = refl; sent = Appends-nil old; each = refl; heard = Consumes-nil asked; last = refl }
+pub answered_none : (text : List ℕ) (epoch from : ℕ) (old asked : Option (List ℕ)) (kept : Option Lsn) → kept ≡ None → Answered text epoch from from old old asked asked kept
+answered_none text epoch from old asked kept none = record { pieces = []; answers = []; are = refl; sent = Appends-nil old; each = refl; heard = Consumes-nil asked; last = none }
 
 heard_more : (asked between behind : Option (List ℕ)) (answers : List Lsn) (lsn : Lsn) → Consumes asked between (answers_bytes answers) → Consumes between behind (acknowledged_bytes lsn.0) → Consumes asked behind (answers_bytes (answers ++ lsn ∷ []))
 heard_more asked between behind answers lsn so_far more =
@@ -69,64 +55,64 @@ heard_more asked between behind answers lsn so_far more =
 length_push : {X : Type 0} (xs : List X) (x : X) → length (xs ++ x ∷ []) ≡ suc (length xs)
 length_push xs x = omega (arith, length-append xs (x ∷ []))
 
-pub answered_more : (text : List ℕ) (from at len : ℕ) (old mid new asked between behind : Option (List ℕ)) (kept : Option Lsn) (lsn : Lsn)
-    → Answered text from at old mid asked between kept → 0 < len → len ≤ 65536 → at + len ≤ length text → Appends mid new (data_bytes at (bytes_at text at len)) → Consumes between behind (acknowledged_bytes lsn.0) → Answered text from (at + len) old new asked behind (Some lsn)
-answered_more text from at len old mid new asked between behind kept lsn so_far some few inside more answer =
+pub answered_more : (text : List ℕ) (epoch from at len : ℕ) (old mid new asked between behind : Option (List ℕ)) (kept : Option Lsn) (lsn : Lsn)
+    → Answered text epoch from at old mid asked between kept → 0 < len → len ≤ 65536 → at + len ≤ length text → Appends mid new (data_bytes epoch at (bytes_at text at len)) → Consumes between behind (acknowledged_bytes lsn.0)
+    → Answered text epoch from (at + len) old new asked behind (Some lsn)
+answered_more text epoch from at len old mid new asked between behind kept lsn so_far some few inside more answer =
     let piece = bytes_at text at len in
     let long : length piece ≡ len = long_enough text at len inside in
     record {
       pieces = so_far.pieces ++ piece ∷ [];
       answers = so_far.answers ++ lsn ∷ [];
       are = pieces_push text from at (at + len) so_far.pieces piece so_far.are (omega (arith, long, some)) (omega (arith, long, few)) (ap (λ (k : ℕ). bytes_at text at k) (sym long)) (ap (λ (k : ℕ). at + k) long);
-      sent = subst (Appends old new) (sym (bytes_push text from at so_far.pieces piece so_far.are)) (Appends-trans old mid new (pieces_bytes from so_far.pieces) (data_bytes at piece) so_far.sent more);
+      sent = subst (Appends old new) (sym (bytes_push text epoch from at so_far.pieces piece so_far.are)) (Appends-trans old mid new (pieces_bytes epoch from so_far.pieces) (data_bytes epoch at piece) so_far.sent more);
       each = length_push so_far.answers lsn ∙ ap suc so_far.each ∙ sym (length_push so_far.pieces piece);
       heard = heard_more asked between behind so_far.answers lsn so_far.heard answer;
       last = sym (last_push so_far.answers lsn);
     }
 
-pub answered_sent : (text : List ℕ) (from at : ℕ) (old new asked behind : Option (List ℕ)) (kept : Option Lsn) → Answered text from at old new asked behind kept → Sent text from at old new
-answered_sent text from at old new asked behind kept a = (a.pieces, a.are, a.sent)
-
 pub puts_all : (bytes : List ℕ) (old new : Option (List ℕ)) → Appends old new bytes → Puts bytes old new
 puts_all bytes old new all = (bytes, [], sym (append-nil bytes), all)
 
+pub puts_none : (bytes : List ℕ) (m : Option (List ℕ)) → Puts bytes m m
+puts_none bytes m = ([], bytes, refl, Appends-nil m)
+
 -- a front of the next frame, or all of it
-pub ships_part : (text : List ℕ) (from pages at len : ℕ) (old mid new before asked behind : Option (List ℕ)) (kept : Option Lsn) → Consumes before asked (resume_bytes from pages) → Answered text from at old mid asked behind kept → Puts (data_bytes at (bytes_at text at len)) mid new → ShipsPart text before old new kept
-ships_part text from pages at len old mid new before asked behind kept resume a more = record {
-  from = from;
-  pages = pages;
+pub pours_part : (text : List ℕ) (epoch from at len : ℕ) (old mid new asked behind : Option (List ℕ)) (kept : Option Lsn) → Answered text epoch from at old mid asked behind kept → Puts (data_bytes epoch at (bytes_at text at len)) mid new → PoursPart text epoch from asked old new kept
+pours_part text epoch from at len old mid new asked behind kept a more = record {
   at = at;
   len = len;
   pieces = a.pieces;
   answers = a.answers;
   behind = behind;
-  are = a.are;
   sent = mid;
+  are = a.are;
   told = a.sent;
   more = more;
   each = a.each;
-  heard = Consumes-trans before asked behind (resume_bytes from pages) (answers_bytes a.answers) resume a.heard;
+  heard = a.heard;
   last = a.last;
 }
 
+-- nothing was sent
+pub pours_none : (text : List ℕ) (epoch from : ℕ) (old asked : Option (List ℕ)) (kept : Option Lsn) → kept ≡ None → PoursPart text epoch from asked old old kept
+pours_none text epoch from old asked kept none =
+    pours_part text epoch from from 0 old old old asked asked kept (answered_none text epoch from old asked kept none) (puts_none (data_bytes epoch from (bytes_at text from 0)) old)
+
 -- all of it was sent, and the empty frame, and each frame answered
-pub ships_all : (text : List ℕ) (header own : LogHeader) (from end : ℕ) (old mid new before asked between behind : Option (List ℕ)) (kept : Option Lsn) (lsn : Lsn)
-    → own ≡ header → from ≤ length text → end ≡ length text → Consumes before asked (resume_bytes from own.pages) → Answered text from end old mid asked between kept → Appends mid new (data_bytes end []) → Consumes between behind (acknowledged_bytes lsn.0) → Ships text header before behind old new (end - from) (Some lsn)
-ships_all text header own from end old mid new before asked between behind kept lsn same within whole resume a closing answer =
-    let answers = a.answers ++ lsn ∷ [] in
-    record {
-      from = from;
-      pieces = a.pieces;
-      answers = answers;
-      within = within;
-      are = subst (ArePieces text from a.pieces) whole a.are;
-      sent = subst (λ (k : ℕ). Appends old new (pieces_bytes from a.pieces ++ data_bytes k [])) whole (Appends-trans old mid new (pieces_bytes from a.pieces) (data_bytes end []) a.sent closing);
-      each = length_push a.answers lsn ∙ ap suc a.each;
-      heard = subst (λ (h : LogHeader). Consumes before behind (resume_bytes from h.pages ++ answers_bytes answers)) same
-          (Consumes-trans before asked behind (resume_bytes from own.pages) (answers_bytes answers) resume (heard_more asked between behind a.answers lsn a.heard answer));
-      count = ap (λ (k : ℕ). k - from) whole;
-      last = sym (last_push a.answers lsn);
-    }
+pub pours_all : (text : List ℕ) (epoch from end : ℕ) (old mid new asked between behind : Option (List ℕ)) (kept : Option Lsn) (lsn : Lsn)
+    → end ≡ length text → Answered text epoch from end old mid asked between kept → Appends mid new (data_bytes epoch end []) → Consumes between behind (acknowledged_bytes lsn.0) → Pours text epoch from asked behind old new (Some lsn)
+pours_all text epoch from end old mid new asked between behind kept lsn whole a closing answer = record {
+  pieces = a.pieces;
+  answers = a.answers ++ lsn ∷ [];
+  sent = mid;
+  are = subst (ArePieces text from a.pieces) whole a.are;
+  told = a.sent;
+  closed = subst (λ (k : ℕ). Appends mid new (data_bytes epoch k [])) whole closing;
+  each = length_push a.answers lsn ∙ ap suc a.each;
+  heard = heard_more asked between behind a.answers lsn a.heard answer;
+  last = sym (last_push a.answers lsn);
+}
 
 -- the rest of a text from an offset on
 rest_is : (text : List ℕ) (at : ℕ) → bytes_at text at (length text - at) ≡ drop at text

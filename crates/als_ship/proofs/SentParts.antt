@@ -1,19 +1,36 @@
 -- What a shipper has sent, also where the session ends early.
-use Rattle.std.proofs.Common.{ℕ, List, [], Option, refl, subst, sym, append-nil}
-use Rattle.std.specs.Io.KnownBytes.{Appends}
-use Rattle.std.proofs.KnownBytes.{Appends-trans, Appends-nil}
-use Rattle.als_ship.specs.Frames.{data_bytes}
-use Rattle.als_ship.specs.Sending.{Puts}
-use Rattle.als_ship.specs.Wire.{bytes_at, pieces_bytes, SendsTrue}
-use Rattle.als_ship.proofs.Pieces.{Sent}
+use Rattle.std.proofs.Common.{◌≡◌, ℕ, List, [], length, Option, None, inl, inr}
+use Rattle.als_record.specs.declared.lsn.Lsn.{Lsn}
+use Rattle.als_wire.specs.Frames.{data_bytes, epochs_bytes}
+use Rattle.als_wire.specs.Sending.{Puts}
+use Rattle.als_ship.specs.Wire.{IsMet, Pours, PoursPart, EndsServing, SendsTrue}
+use Rattle.als_ship.proofs.Pieces.{puts_all}
 
--- nothing of the next frame was written
-pub sends_whole : (text : List ℕ) (from at : ℕ) (old new : Option (List ℕ)) → Sent text from at old new → SendsTrue text old new
-sends_whole text from at old new (pieces, are, sent) = (from, at, 0, pieces, [], data_bytes at (bytes_at text at 0), are, refl, subst (Appends old new) (sym (append-nil (pieces_bytes from pieces))) sent)
+-- the own history, and pieces behind it
+pub sends_part : (text own : List ℕ) (from pages : ℕ) (first asked old then new : Option (List ℕ)) (kept : Option Lsn) → IsMet text own from pages first asked old then → PoursPart text (length own) from asked then new kept → SendsTrue text own old new
+sends_part text own from pages first asked old then new kept met part =
+    inr (record { from = from; at = part.at; len = part.len; pieces = part.pieces; are = part.are; then = then; told = met.told; sent = part.sent; whole = part.told; more = part.more })
 
--- a front of it was
-pub sends_part : (text : List ℕ) (from at len : ℕ) (old mid new : Option (List ℕ)) → Sent text from at old mid → Puts (data_bytes at (bytes_at text at len)) mid new → SendsTrue text old new
-sends_part text from at len old mid new (pieces, are, sent) (front, rest, split, more) = (from, at, len, pieces, front, rest, are, split, Appends-trans old mid new (pieces_bytes from pieces) front sent more)
+-- the own history, all pieces and the empty frame
+pub sends_all : (text own : List ℕ) (from pages : ℕ) (first asked behind old then new : Option (List ℕ)) (kept : Option Lsn) → IsMet text own from pages first asked old then → Pours text (length own) from asked behind then new kept → SendsTrue text own old new
+sends_all text own from pages first asked behind old then new kept met all =
+    inr (record {
+      from = from;
+      at = length text;
+      len = 0;
+      pieces = all.pieces;
+      are = all.are;
+      then = then;
+      told = met.told;
+      sent = all.sent;
+      whole = all.told;
+      more = puts_all (data_bytes (length own) (length text) []) all.sent new all.closed;
+    })
 
-pub sends_nothing : (text : List ℕ) (m : Option (List ℕ)) → SendsTrue text m m
-sends_nothing text m = sends_whole text 0 0 m m ([], refl, Appends-nil m)
+-- a session that ended early
+pub ends_part : (text own : List ℕ) (from pages : ℕ) (first asked old then new : Option (List ℕ)) (kept : Option Lsn) → IsMet text own from pages first asked old then → PoursPart text (length own) from asked then new kept → EndsServing text own first old new kept
+ends_part text own from pages first asked old then new kept met part = inr (record { from = from; pages = pages; between = asked; then = then; met = met; part = part })
+
+-- one in which nothing was answered
+pub ends_none : (text own : List ℕ) (first old new : Option (List ℕ)) (kept : Option Lsn) → kept ≡ None → Puts (epochs_bytes own) old new → EndsServing text own first old new kept
+ends_none text own first old new kept none puts = inl (none, puts)

@@ -1,8 +1,8 @@
 pub mod Faults
-pub mod Frames
-pub mod Reading
-pub mod Sending
+pub mod Sourced
 pub mod Wire
+pub mod Meeting
+pub mod Epochs
 pub mod Follows
 pub mod Forcing
 pub mod Sessions

@@ -5,25 +5,31 @@ use Rattle.std.specs.Io.KnownBytes.{Consumes, Appends}
 use Rattle.als_record.specs.declared.lsn.Lsn.{Lsn}
 use Rattle.als_record.specs.declared.header.LogHeader.{LogHeader}
 use Rattle.als_record.specs.LogText.{end_of}
+use Rattle.als_epochs.specs.Histories.{IsHistory}
+use Rattle.als_store.specs.Takeover.{history_of}
 use Rattle.als_engine.specs.declared.fault.Fault.{Fault as EngineFault}
 use Rattle.als_engine.specs.Machine.{Machine}
+use Rattle.als_wire.specs.declared.frame.Frame.{Frame}
+use Rattle.als_wire.specs.Frames.{frame_bytes, epochs_bytes, acknowledged_bytes, answers_bytes, resume_bytes, is_last}
+use Rattle.als_wire.specs.Sending.{Puts}
 use Rattle.als_ship.specs.declared.fault.Fault.{Fault}
-use Rattle.als_ship.specs.declared.fault.Fault.TheVariants.{BadHeader, Memory, Gap, BadFrame, Cut, Stream, Refused}
-use Rattle.als_ship.specs.declared.frame.Frame.{Frame}
-use Rattle.als_ship.specs.Frames.{frame_bytes, acknowledged_bytes, answers_bytes, resume_bytes, is_last}
-use Rattle.als_ship.specs.Follows.{held_text, IsFront, IsTrueFrame, Handles, SameText, WasResynced}
+use Rattle.als_ship.specs.declared.fault.Fault.TheVariants.{BadHeader, Memory, Gap, BadFrame, Diverged, Cut, Stream, OtherEpoch, Refused}
+use Rattle.als_ship.specs.Epochs.{AreEpochs}
+use Rattle.als_ship.specs.Follows.{HoldsFront, IsTrueFrame, Handles, TakesUp, SameText, WasResynced}
 use Rattle.als_ship.specs.Forcing.{Forces, FailsToForce}
-use Rattle.als_ship.specs.Sending.{Puts}
 
 -- the bytes of frames, one behind the other
 abbrev pub frames_bytes : List Frame → List ℕ
 frames_bytes frames = flat_map frame_bytes frames
 
--- frames were read, and if they are true of a text of which the held text was a front, it still is one
+-- if frames are true of the texts of all epochs, and the standby's history and log were fronts of theirs, they still are
+abbrev pub KeepsOver : List Frame → Machine → Machine → Type 0
+KeepsOver frames old new =
+    (texts : ℕ → List ℕ) (seals : List ℕ) → AreEpochs texts seals → AllByRecursion (IsTrueFrame texts seals) frames → HoldsFront texts seals old → HoldsFront texts seals new
+
+-- frames were read, over which this holds
 abbrev pub KeepsFront : Type 0 → Option (List ℕ) → Option (List ℕ) → Machine → Machine → Type 0
-KeepsFront alone before behind old new =
-    (frames : List Frame) × Consumes before behind (frames_bytes frames)
-    × (alone → (text : List ℕ) → AllByRecursion (IsTrueFrame text) frames → IsFront (held_text old) text → IsFront (held_text new) text)
+KeepsFront alone before behind old new = (frames : List Frame) × Consumes before behind (frames_bytes frames) × (alone → KeepsOver frames old new)
 
 -- the frame was taken and the log forced, whose acknowledged LSN is then the answer; what else was done left the text
 pub record Turns (old : Machine) (frame : Frame) (answer : Lsn) (new : Machine) : Type 0 where
@@ -50,17 +56,33 @@ pub record TakesOne (alone : Type 0) (last : Bool) (old new : Machine) (before b
   pub is_last : last ≡ is_last frame
   pub turns : alone → Turns old frame answer new
 
--- a whole session: it asks from the end of the held log on, and answers each frame, up to one with no bytes
+-- it asked from the end of the held log on, with its own history
+pub record Asks (alone : Type 0) (old : Machine) (from : Lsn) (seals : List ℕ) : Type 0 where
+  pub end : alone → from.0 ≡ end_of old.held.log
+  pub own : alone → seals ≡ history_of old.held
+
+-- the source's history was read and taken up, before any other frame
+pub record Joins (alone : Type 0) (old new : Machine) (before behind : Option (List ℕ)) : Type 0 where
+  pub offered : List ℕ
+  pub history : IsHistory offered
+  pub read : Consumes before behind (epochs_bytes offered)
+  pub taken : alone → (position : Lsn) × TakesUp old offered (Ok position) new
+
+-- A whole session: it asks, takes up the source's history, and answers each frame, up to one with no bytes.
 pub record Follows (alone : Type 0) (header : LogHeader) (old new : Machine) (before behind written more : Option (List ℕ)) : Type 0 where
   pub from : Lsn
+  pub seals : List ℕ
+  pub asks : Asks alone old from seals
+  pub joined : Machine
+  pub between : Option (List ℕ)
+  pub joins : Joins alone old joined before between
   pub frames : List Frame
   pub last : Frame
   pub answers : List Lsn
   pub ends : is_last last ≡ true
-  pub read : Consumes before behind (frames_bytes (frames ++ last ∷ []))
-  pub told : Appends written more (resume_bytes from.0 header.pages ++ answers_bytes answers)
-  pub asked : alone → from.0 ≡ end_of old.held.log
-  pub session : alone → Session old (frames ++ last ∷ []) answers new
+  pub read : Consumes between behind (frames_bytes (frames ++ last ∷ []))
+  pub told : Appends written more (resume_bytes from.0 header.pages seals ++ answers_bytes answers)
+  pub session : alone → Session joined (frames ++ last ∷ []) answers new
 
 -- the frame was taken, and the log perhaps forced
 abbrev pub TakesUnanswered : Machine → Machine → Type 0
@@ -74,14 +96,17 @@ TakesRefused old fault new = (frame : Frame) × (Handles old frame (Err fault) n
 abbrev pub KeepsRefused : (EngineFault → Machine → Type 0) → Machine → EngineFault → Machine → Type 0
 KeepsRefused refuses old cause new = (frame : Frame) × (answer : Lsn) × Turns old frame answer new × refuses cause new
 
--- Why a session ended at a frame, and what that made of the standby: nothing after a gap, and where no frame was read.
+-- Why a session ended at a frame, and what that made of the standby: nothing where the frame is of another epoch or behind a gap, and
+-- where no frame was read.
 abbrev pub Stops : (EngineFault → Machine → Type 0) → Machine → Fault → Machine → Type 0
 Stops refuses old BadHeader new = ⊥
 Stops refuses old Memory new = new ≡ old
 Stops refuses old Gap new = (frame : Frame) × Handles old frame (Err Gap) new
 Stops refuses old BadFrame new = new ≡ old
+Stops refuses old (Diverged seal) new = ⊥
 Stops refuses old Cut new = new ≡ old
 Stops refuses old Stream new = (new ≡ old) ⊎ TakesUnanswered old new
+Stops refuses old (OtherEpoch epoch) new = (frame : Frame) × Handles old frame (Err (OtherEpoch epoch)) new
 Stops refuses old (Refused cause) new = TakesRefused old (Refused cause) new ⊎ KeepsRefused refuses old cause new
 
 -- What was told of the frame at which a session ended: nothing, or a front of its answer, where the frame was taken and the log
@@ -98,33 +123,66 @@ GivesUp old Stream new = WasResynced old new
 GivesUp old BadHeader new = new ≡ old
 GivesUp old Memory new = new ≡ old
 GivesUp old Gap new = new ≡ old
+GivesUp old (Diverged seal) new = new ≡ old
+GivesUp old (OtherEpoch epoch) new = new ≡ old
 GivesUp old (Refused cause) new = new ≡ old
 
 -- a session that did not get to ask: the writer failed, and a front of the Resume frame was written
 pub record AsksInVain (alone : Type 0) (header : LogHeader) (fault : Fault) (old new : Machine) (written more : Option (List ℕ)) : Type 0 where
   pub from : Lsn
+  pub seals : List ℕ
+  pub asks : Asks alone old from seals
   pub failed : fault ≡ Stream
-  pub told : Puts (resume_bytes from.0 header.pages) written more
-  pub asked : alone → from.0 ≡ end_of old.held.log
+  pub told : Puts (resume_bytes from.0 header.pages seals) written more
   pub same : alone → new ≡ old
 
--- A session that ended early: it asked from the end of the held log on, so many frames were taken and answered in order, and then
+-- Why the source's history was not taken up: no Epochs frame was read, which changes nothing; or its history is refused, or an event
+-- that takes it up.
+abbrev pub FailsToJoin : Machine → Fault → Machine → Type 0
+FailsToJoin old BadFrame new = new ≡ old
+FailsToJoin old Cut new = new ≡ old
+FailsToJoin old Stream new = new ≡ old
+FailsToJoin old (Refused cause) new = (offered : List ℕ) × IsHistory offered × TakesUp old offered (Err (Refused cause)) new
+FailsToJoin old BadHeader new = ⊥
+FailsToJoin old Memory new = ⊥
+FailsToJoin old Gap new = ⊥
+FailsToJoin old (Diverged seal) new = ⊥
+FailsToJoin old (OtherEpoch epoch) new = ⊥
+
+-- A session that asked, and ended before any frame of log bytes. Nothing but the Resume frame was written.
+pub record JoinsInVain (alone : Type 0) (header : LogHeader) (fault : Fault) (old new : Machine) (written more : Option (List ℕ)) : Type 0 where
+  pub from : Lsn
+  pub seals : List ℕ
+  pub asks : Asks alone old from seals
+  pub told : Appends written more (resume_bytes from.0 header.pages seals)
+  pub fails : alone → FailsToJoin old fault new
+
+-- A session that ended early: it asked and took up the source's history, so many frames were taken and answered in order, and then
 -- one was not, of whose answer a front may have been written. Nothing else was.
 pub record StopsEarly (alone : Type 0) (refuses : EngineFault → Machine → Type 0) (header : LogHeader) (fault : Fault) (old new : Machine) (before written more : Option (List ℕ)) : Type 0 where
   pub from : Lsn
+  pub seals : List ℕ
+  pub asks : Asks alone old from seals
+  pub joined : Machine
+  pub between : Option (List ℕ)
+  pub joins : Joins alone old joined before between
   pub frames : List Frame
   pub answers : List Lsn
   pub behind : Option (List ℕ)
-  pub read : Consumes before behind (frames_bytes frames)
+  pub read : Consumes between behind (frames_bytes frames)
   pub then : Option (List ℕ)
-  pub told : Appends written then (resume_bytes from.0 header.pages ++ answers_bytes answers)
+  pub told : Appends written then (resume_bytes from.0 header.pages seals ++ answers_bytes answers)
   pub taken : Machine
-  pub asked : alone → from.0 ≡ end_of old.held.log
-  pub session : alone → Session old frames answers taken
+  pub session : alone → Session joined frames answers taken
   pub stops : alone → Stops refuses taken fault new
   pub part : TellsPart alone taken new then more
+
+-- a session that ended before the follower gave up
+abbrev pub EndsAt : Type 0 → (EngineFault → Machine → Type 0) → LogHeader → Fault → Machine → Machine → Option (List ℕ) → Option (List ℕ) → Option (List ℕ) → Type 0
+EndsAt alone refuses header fault old new before written more =
+    AsksInVain alone header fault old new written more ⊎ (JoinsInVain alone header fault old new written more ⊎ StopsEarly alone refuses header fault old new before written more)
 
 -- and then the follower gave up
 abbrev pub EndsEarly : Type 0 → (EngineFault → Machine → Type 0) → LogHeader → Fault → Machine → Machine → Option (List ℕ) → Option (List ℕ) → Option (List ℕ) → Type 0
 EndsEarly alone refuses header fault old new before written more =
-    (stopped : Machine) × (AsksInVain alone header fault old stopped written more ⊎ StopsEarly alone refuses header fault old stopped before written more) × (alone → GivesUp stopped fault new)
+    (stopped : Machine) × EndsAt alone refuses header fault old stopped before written more × (alone → GivesUp stopped fault new)

@@ -3,8 +3,8 @@ use Rattle.std.specs.Prelude.{◌≤◌, ℕ, List, ◌++◌, Option}
 use Rattle.std.specs.List.{AllByRecursion}
 use Rattle.std.specs.Io.KnownBytes.{Appends}
 use Rattle.als_record.specs.declared.lsn.Lsn.{Lsn}
-use Rattle.als_ship.specs.Frames.{acknowledged_bytes, answers_bytes, resume_bytes}
-use Rattle.als_ship.specs.Sending.{Puts}
+use Rattle.als_wire.specs.Frames.{acknowledged_bytes, answers_bytes, resume_bytes}
+use Rattle.als_wire.specs.Sending.{Puts}
 
 -- each of these LSNs is at most the floor
 abbrev pub AreVouched : ℕ → List Lsn → Type 0
@@ -24,4 +24,4 @@ AnswersPart floor old new = (answer : Lsn) × (answer.0 ≤ floor) × Puts (ackn
 
 -- A Resume frame was written, and behind it Acknowledged frames, each of an LSN that is at most the floor; or a front of all that.
 abbrev pub TellsVouched : ℕ → Option (List ℕ) → Option (List ℕ) → Type 0
-TellsVouched floor old new = (from pages : ℕ) × (answers : List Lsn) × AreVouched floor answers × Puts (resume_bytes from pages ++ answers_bytes answers) old new
+TellsVouched floor old new = (from pages : ℕ) × (seals : List ℕ) × (answers : List Lsn) × AreVouched floor answers × Puts (resume_bytes from pages seals ++ answers_bytes answers) old new

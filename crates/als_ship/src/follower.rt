@@ -3,23 +3,21 @@ ghost use Rattle.std.specs.Prelude.{IfErr, OnOk, OnErr};
 ghost use Rattle.std.specs.Prelude.{Ok, Err};
 ghost use Rattle.als_engine.specs.declared.fault.Fault.{Fault as AnyFault};
 ghost use Rattle.als_ship.specs.declared.fault.Fault.TheVariants.{Refused};
-ghost use Rattle.als_ship.specs.declared.frame.Frame.TheVariants.{Data};
-ghost use Rattle.als_ship.specs.Frames.{IsPiece};
-ghost use Rattle.als_ship.specs.Follows.{held_text, position, IsFront, IsTrueFrame, FeedsRest};
-ghost use Rattle.als_ship.specs.Follows.{SameText, Takes, Handles, WasResynced};
-ghost use Rattle.als_ship.specs.Sessions.{KeepsFront, TakesOne, Follows, Stops, StopsEarly};
-ghost use Rattle.als_ship.specs.Sessions.{TellsPart, AsksInVain, GivesUp, EndsEarly};
+ghost use Rattle.als_ship.specs.Epochs.{AreEpochs};
+ghost use Rattle.als_ship.specs.Follows.{HoldsFront, IsTrueFrame, FeedsRest};
+ghost use Rattle.als_ship.specs.Follows.{position, SameText, Takes, Handles, WasResynced};
+ghost use Rattle.als_ship.specs.Sessions.{KeepsFront, TakesOne, Follows, Stops, EndsAt};
+ghost use Rattle.als_ship.specs.Sessions.{TellsPart, GivesUp, EndsEarly};
 ghost use Rattle.als_ship.specs.Vouching.{AnswersOne, AnswersPart, TellsVouched};
 
 use crate::fault::Fault;
 use crate::forcing::force_by;
-use crate::frame::{Frame, is_piece};
-use crate::tag::Tag;
+use crate::joining::{join, take_up};
 use crate::upkeep::{NoUpkeep, Upkeep};
-use crate::writing::{write_acknowledged, write_resume};
 use als_engine::Events;
 use als_record::{LogHeader, Lsn};
 use als_vouch::{Direct, Voucher};
+use als_wire::{Frame, Tag, is_head, write_acknowledged, write_resume};
 use std::alloc::Global;
 use std::io::{Read, Write};
 use std::marker::Model;
@@ -49,30 +47,34 @@ impl Follower {
         Follower { header }
     }
 
-    /// Takes one frame, and answers the position after it: what is past the position is fed.
+    /// Takes one frame, and answers the position after it: of its own epoch's bytes, what is past
+    /// the position is fed; another history is adopted, and the control block synced.
     ///
-    /// BadFrame: it is none for a follower, or it has more than 65,536 bytes or ends past the
-    /// greatest offset; `resync` was called. Gap: it begins past the position, and nothing has
-    /// changed. Else the refusal of the feed; what that admitted is held.
-    #[tactic(auto, using(crate::proofs::Fronts::handles_front))]
+    /// BadFrame: it is none for a follower, or its epoch is above 32, or it has more than 65,536
+    /// bytes or ends past the greatest offset; `resync` was called. OtherEpoch: it is of another
+    /// epoch. Gap: it begins past the position. After these two nothing has changed. Else the
+    /// refusal of an event; what a feed admitted is held.
+    #[tactic(auto, using(crate::proofs::Schedules::handles_front))]
     pub fn frame<E: Events>(&self, events: &mut E, frame: Frame) -> Result<Lsn, Fault>
         ensures handles { E.alone → Handles (E.machine events.old) frame result
             (E.machine events.new) }
-        // Over true frames the held text stays a front of the source's.
-        ensures front { (text : List ℕ) → E.alone → IsTrueFrame text frame
-            → IsFront (held_text (E.machine events.old)) text
-            → IsFront (held_text (E.machine events.new)) text }
+        // Over true frames of all epochs the held text stays a front of its epoch's.
+        ensures front { E.alone → (texts : ℕ → List ℕ) (seals : List ℕ) → AreEpochs texts seals
+            → IsTrueFrame texts seals frame → HoldsFront texts seals (E.machine events.old)
+            → HoldsFront texts seals (E.machine events.new) }
     {
         handle(events, frame)
     }
 
-    /// Follows one session: it asks for what is behind the held log, takes each frame, forces the
-    /// log and acknowledges, up to a frame with no bytes.
+    /// Follows one session: it asks for what is behind the held log, takes up the source's history,
+    /// takes each frame, forces the log and acknowledges, up to a frame with no bytes.
     ///
-    /// BadFrame: another frame came than a Data frame that may come. Cut: the stream ended. Stream:
-    /// it failed, or a session has more than 1,000,000 frames. After these three `resync` was
-    /// called. Gap: a frame begins past the position, and it has changed nothing. Memory: there was
-    /// none for a frame's bytes. Else the refusal of an event; what a feed admitted is held.
+    /// BadFrame: another frame came than the one that may come. Cut: the stream ended. Stream: it
+    /// failed, or a session has more than 1,000,000 frames. After these three `resync` was called.
+    /// OtherEpoch: a frame is of another epoch. Gap: a frame begins past the position. After these
+    /// two the frame has changed nothing. Memory: there was none for a frame's bytes. Else the
+    /// refusal of an event: of an adoption OtherEpoch or Diverged, where the source's history does
+    /// not go on from the own one, or goes on below the end; what a feed admitted is held.
     pub fn follow<E: Events, R: Read, W: Write>(
         &self,
         alloc: Global,
@@ -87,7 +89,7 @@ impl Follower {
         ensures fails { IfErr result (λ f. EndsEarly E.alone (λ _ _. ⊥) self.now f
             (E.machine events.old) (E.machine events.new) (R.remaining reader.old)
             (W.contents writer.old) (W.contents writer.new)) }
-        // Over true frames the held text stays a front of the source's.
+        // Over true frames of all epochs the held text stays a front of its epoch's.
         ensures front { (behind : Option (List ℕ))
             × KeepsFront E.alone (R.remaining reader.old) behind (E.machine events.old)
             (E.machine events.new) }
@@ -114,7 +116,7 @@ impl Follower {
         ensures fails { IfErr result (λ f. EndsEarly E.alone U.refuses self.now f
             (E.machine events.old) (E.machine events.new) (R.remaining reader.old)
             (W.contents writer.old) (W.contents writer.new)) }
-        // Over true frames the held text stays a front of the source's.
+        // Over true frames of all epochs the held text stays a front of its epoch's.
         ensures front { (behind : Option (List ℕ))
             × KeepsFront E.alone (R.remaining reader.old) behind (E.machine events.old)
             (E.machine events.new) }
@@ -142,11 +144,17 @@ fn give_up<E: Events>(events: &mut E, fault: Fault)
         Fault::BadFrame => resync(events),
         Fault::Cut => resync(events),
         Fault::Stream => resync(events),
-        Fault::BadHeader | Fault::Memory | Fault::Gap | Fault::Refused(_) => {}
+        Fault::BadHeader
+        | Fault::Memory
+        | Fault::Gap
+        | Fault::Diverged { seal: _ }
+        | Fault::OtherEpoch { epoch: _ }
+        | Fault::Refused(_) => {}
     }
 }
 
-/// Asks for what is behind the held log, and takes frames to the end of the source.
+/// Asks for what is behind the held log, takes up the source's history, and takes frames to the end
+/// of the source.
 fn session<E: Events, V: Voucher<E>, U: Upkeep, R: Read, W: Write>(
     alloc: Global,
     header: LogHeader,
@@ -159,10 +167,9 @@ fn session<E: Events, V: Voucher<E>, U: Upkeep, R: Read, W: Write>(
     ensures done { OnOk result (Follows E.alone header (E.machine events.old) (E.machine events.new)
         (R.remaining reader.old)
         (R.remaining reader.new) (W.contents writer.old) (W.contents writer.new)) }
-    ensures fails { IfErr result (λ f. AsksInVain E.alone header f (E.machine events.old)
-        (E.machine events.new) (W.contents writer.old) (W.contents writer.new)
-        ⊎ StopsEarly E.alone U.refuses header f (E.machine events.old) (E.machine events.new)
-        (R.remaining reader.old) (W.contents writer.old) (W.contents writer.new)) }
+    ensures fails { IfErr result (λ f. EndsAt E.alone U.refuses header f (E.machine events.old)
+        (E.machine events.new) (R.remaining reader.old) (W.contents writer.old)
+        (W.contents writer.new)) }
     ensures front { (behind : Option (List ℕ))
         × KeepsFront E.alone (R.remaining reader.old) behind (E.machine events.old)
         (E.machine events.new) }
@@ -171,8 +178,10 @@ fn session<E: Events, V: Voucher<E>, U: Upkeep, R: Read, W: Write>(
     ensures rises { V.floor voucher.old ≤ V.floor voucher.new }
 {
     let from = events.status().end;
-    write_resume(writer, from, header)?;
-    for _ in 0..FRAME_LIMIT {
+    let own = events.history();
+    write_resume(writer, from, header, &own)?;
+    join(events, reader)?;
+    for _ in 1..FRAME_LIMIT {
         let last = turn(alloc, events, voucher, upkeep, reader, writer)?;
         if last {
             return Ok(());
@@ -233,15 +242,24 @@ fn handle<E: Events>(events: &mut E, frame: Frame) -> Result<Lsn, Fault>
     ensures { E.alone → Handles (E.machine events.old) frame result (E.machine events.new) }
 {
     match frame {
-        Frame::Data { offset, bytes } => take(events, offset, bytes.as_slice()),
+        Frame::Data {
+            epoch,
+            offset,
+            bytes,
+        } => take(events, epoch, offset, bytes.as_slice()),
         Frame::Acknowledged(_) => {
             resync(events);
             Err(Fault::BadFrame)
         }
-        Frame::Resume { from: _, header: _ } => {
+        Frame::Resume {
+            from: _,
+            header: _,
+            history: _,
+        } => {
             resync(events);
             Err(Fault::BadFrame)
         }
+        Frame::Epochs(history) => take_up(events, history),
     }
 }
 
@@ -252,14 +270,17 @@ fn resync<E: Events>(events: &mut E)
     let _ = events.resync();
 }
 
-/// Takes bytes that stand at an offset, and answers the position after them.
-fn take<E: Events>(events: &mut E, offset: u64, bytes: &[u8]) -> Result<Lsn, Fault>
-    ensures { E.alone → Takes (E.machine events.old) offset bytes.now result
+/// Takes bytes of an epoch that stand at an offset, and answers the position after them.
+fn take<E: Events>(events: &mut E, epoch: u32, offset: u64, bytes: &[u8]) -> Result<Lsn, Fault>
+    ensures { E.alone → Takes (E.machine events.old) epoch offset bytes.now result
         (E.machine events.new) }
 {
-    if !is_piece(offset, bytes.len()) {
+    if !is_head(epoch, offset, bytes.len()) {
         resync(events);
         return Err(Fault::BadFrame);
+    }
+    if epoch != events.history().epoch() {
+        return Err(Fault::OtherEpoch { epoch });
     }
     let at = position(events);
     if offset > at {
@@ -273,7 +294,7 @@ fn take<E: Events>(events: &mut E, offset: u64, bytes: &[u8]) -> Result<Lsn, Fau
 }
 
 /// The offset of the next byte that is wanted.
-fn position<E: Events>(events: &E) -> u64
+pub(crate) fn position<E: Events>(events: &E) -> u64
     ensures { E.alone → result ≡ position (E.machine events.now) }
 {
     let status = events.status();

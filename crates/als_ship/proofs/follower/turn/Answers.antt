@@ -1,8 +1,8 @@
-use Rattle.als_ship.proofs.Fronts.{handles_front}
+use Rattle.als_ship.proofs.Schedules.{handles_front}
 use Rattle.als_ship.proofs.LogForcing.{same_refl, same_trans}
 use Rattle.als_ship.proofs.Sessions.{keeps_nothing, keeps_handled, tells_nothing, turned, tells_part}
 use Rattle.std.proofs.lemmas.Result.{err_from_is_err_and}
-use Rattle.als_ship.proofs.Stopping.{stops_handled, stops_forced, stops_told, stops_kept}
+use Rattle.als_ship.proofs.Stopping.{stops_read, stops_handled, stops_forced, stops_told, stops_kept}
 use Rattle.als_ship.proofs.Vouching.{answers_nothing, answers_begun}
 use Rattle.als_ship.proofs.follower.turn.Goals as goal
 
@@ -17,7 +17,7 @@ returns-in_err-handle-clause-front g c =
     let mid = g.E.Events.machine c.handle.new.events in (
       g.R.Read.remaining c.read.new.reader,
       keeps_handled g.E.Events.alone (g.R.Read.remaining c.args.reader.now) (g.R.Read.remaining c.read.new.reader) old mid mid c.in_ok-frame.frame c.in_ok-frame.ensures.found.2
-          (λ a text true front. handles_front old mid c.in_ok-frame.frame c.handle.result text (c.handle.ensures a) true front) (λ a. same_refl mid),
+          (λ a texts seals epochs holds h. handles_front texts seals old mid c.in_ok-frame.frame c.handle.result epochs (c.handle.ensures a) holds h) (λ a. same_refl mid),
     )
 
 pub returns-in_err-lsn-clause-front : goal.returns-in_err-lsn-clause-front
@@ -26,7 +26,7 @@ returns-in_err-lsn-clause-front g c =
     let mid = g.E.Events.machine c.handle.new.events in (
       g.R.Read.remaining c.read.new.reader,
       keeps_handled g.E.Events.alone (g.R.Read.remaining c.args.reader.now) (g.R.Read.remaining c.read.new.reader) old mid (g.E.Events.machine c.force_by.new.events) c.in_ok-frame.frame c.in_ok-frame.ensures.found.2
-          (λ a text true front. handles_front old mid c.in_ok-frame.frame c.handle.result text (c.handle.ensures a) true front) c.force_by.ensures.same,
+          (λ a texts seals epochs holds h. handles_front texts seals old mid c.in_ok-frame.frame c.handle.result epochs (c.handle.ensures a) holds h) c.force_by.ensures.same,
     )
 
 pub returns-in_err-write_acknowledged-clause-front : goal.returns-in_err-write_acknowledged-clause-front
@@ -35,7 +35,7 @@ returns-in_err-write_acknowledged-clause-front g c =
     let mid = g.E.Events.machine c.handle.new.events in (
       g.R.Read.remaining c.read.new.reader,
       keeps_handled g.E.Events.alone (g.R.Read.remaining c.args.reader.now) (g.R.Read.remaining c.read.new.reader) old mid (g.E.Events.machine c.force_by.new.events) c.in_ok-frame.frame c.in_ok-frame.ensures.found.2
-          (λ a text true front. handles_front old mid c.in_ok-frame.frame c.handle.result text (c.handle.ensures a) true front) c.force_by.ensures.same,
+          (λ a texts seals epochs holds h. handles_front texts seals old mid c.in_ok-frame.frame c.handle.result epochs (c.handle.ensures a) holds h) c.force_by.ensures.same,
     )
 
 pub returns-in_err-keep_up-clause-front : goal.returns-in_err-keep_up-clause-front
@@ -46,7 +46,7 @@ returns-in_err-keep_up-clause-front g c =
     let new = g.E.Events.machine c.keep_up.new.events in (
       g.R.Read.remaining c.read.new.reader,
       keeps_handled g.E.Events.alone (g.R.Read.remaining c.args.reader.now) (g.R.Read.remaining c.read.new.reader) old mid new c.in_ok-frame.frame c.in_ok-frame.ensures.found.2
-          (λ a text true front. handles_front old mid c.in_ok-frame.frame c.handle.result text (c.handle.ensures a) true front) (λ a. same_trans mid forced new (c.force_by.ensures.same a) (c.keep_up.ensures.same a)),
+          (λ a texts seals epochs holds h. handles_front texts seals old mid c.in_ok-frame.frame c.handle.result epochs (c.handle.ensures a) holds h) (λ a. same_trans mid forced new (c.force_by.ensures.same a) (c.keep_up.ensures.same a)),
     )
 
 pub returns-clause-front : goal.returns-clause-front
@@ -57,8 +57,14 @@ returns-clause-front g c =
     let new = g.E.Events.machine c.keep_up.new.events in (
       g.R.Read.remaining c.read.new.reader,
       keeps_handled g.E.Events.alone (g.R.Read.remaining c.args.reader.now) (g.R.Read.remaining c.read.new.reader) old mid new c.in_ok-frame.frame c.in_ok-frame.ensures.found.2
-          (λ a text true front. handles_front old mid c.in_ok-frame.frame c.handle.result text (c.handle.ensures a) true front) (λ a. same_trans mid forced new (c.force_by.ensures.same a) (c.keep_up.ensures.same a)),
+          (λ a texts seals epochs holds h. handles_front texts seals old mid c.in_ok-frame.frame c.handle.result epochs (c.handle.ensures a) holds h) (λ a. same_trans mid forced new (c.force_by.ensures.same a) (c.keep_up.ensures.same a)),
     )
+
+pub returns-in_err-frame-clause-fails : goal.returns-in_err-frame-clause-fails
+returns-in_err-frame-clause-fails g c =
+    let old = g.E.Events.machine c.args.events.now in
+    let found = λ (a : g.E.Events.alone). stops_read g.U.Upkeep.refuses old c.in_err-frame.field-0.0 (g.R.Read.remaining c.args.reader.now) (g.R.Read.remaining c.read.new.reader) c.in_err-frame.ensures.fails in
+    let p = err_from_is_err_and c.from_residual.result c.from_residual.ensures.1 in rw (p.1, p.2) found
 
 pub returns-in_err-handle-clause-fails : goal.returns-in_err-handle-clause-fails
 returns-in_err-handle-clause-fails g c =

@@ -1,0 +1,4 @@
+pub mod Faults
+pub mod Frames
+pub mod Reading
+pub mod Sending
