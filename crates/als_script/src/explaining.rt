@@ -128,7 +128,7 @@ fn wanted_at(part: &'static str) -> Wanted {
     match part {
         "P" | "T" => number("", 32),
         "S" | "PICK" => number("", 8),
-        "A" | "B" | "K" | "V" | "W" | "NEXT" => number("", 64),
+        "A" | "B" | "K" | "V" | "W" | "NEXT" | "SEAL" => number("", 64),
         "BEFORE" | "AFTER" => Wanted::Image,
         "pages=B" => number("pages=", 64),
         "log=B" => number("log=", 64),

@@ -17,7 +17,7 @@ pub const RECORD_FORMS: [&str; 8] = [
 ];
 
 /// The lines of steps, and those that ask for what is there.
-pub const STEP_FORMS: [&str; 40] = [
+pub const STEP_FORMS: [&str; 42] = [
     "feed A B",
     "resync",
     "lend P W",
@@ -37,6 +37,7 @@ pub const STEP_FORMS: [&str; 40] = [
     "ckpt-publish",
     "publish",
     "ready",
+    "adopt SEAL ..",
     "seal",
     "undo",
     "finish",
@@ -58,4 +59,5 @@ pub const STEP_FORMS: [&str; 40] = [
     "show page P",
     "show db",
     "show log A",
+    "show epochs",
 ];

@@ -14,6 +14,8 @@ pub enum ShowLine {
     Database,
     /// `show log A`: the held log records from an LSN on.
     Log { from: u64 },
+    /// The history of takeovers.
+    Epochs,
 }
 
 impl ShowLine {
@@ -31,6 +33,7 @@ impl ShowLine {
                 page: words.number()?,
             },
             "db" => ShowLine::Database,
+            "epochs" => ShowLine::Epochs,
             "log" => ShowLine::Log {
                 from: words.number()?,
             },

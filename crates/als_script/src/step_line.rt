@@ -1,4 +1,6 @@
 use crate::words::Words;
+use als_epochs::History;
+use als_record::Lsn;
 
 /// A line of one step.
 #[derive(Clone, Copy)]
@@ -26,6 +28,8 @@ pub enum StepLine {
     /// `publish`
     PublishView,
     Ready,
+    /// `adopt SEAL ..`: the history of another node.
+    Adopt(History),
     Seal,
     /// `undo`
     UndoOne,
@@ -49,6 +53,7 @@ impl StepLine {
             "flush" => StepLine::Flush {
                 page: words.number()?,
             },
+            "adopt" => StepLine::Adopt(history(&mut words)?),
             "resolve" => StepLine::Resolve {
                 trans: words.number()?,
                 is_commit: is_commit(words.next()?)?,
@@ -78,6 +83,23 @@ impl StepLine {
             _ => None,
         }
     }
+}
+
+/// The history of the seals that are left, one at least; None where they are more than 32, or one is
+/// below the one before it.
+fn history(words: &mut Words) -> Option<History> {
+    let mut history = History::empty();
+    for _ in 0..words.count() {
+        let seal = Lsn(words.number()?);
+        if !history.takes(seal) {
+            return None;
+        }
+        history.push(seal);
+    }
+    if history.epoch() == 0 {
+        return None;
+    }
+    Some(history)
 }
 
 /// Whether a word decides for a commit; None where it is no decision.

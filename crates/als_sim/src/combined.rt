@@ -6,12 +6,19 @@ use als_world::{World, WorldReply, WorldStep};
 use std::alloc::Global;
 use std::sync::Wait;
 
+/// What follows the writes of the log where it is acknowledged.
+const STEPS_BEHIND_THE_LOG: [WorldStep; 3] = [
+    WorldStep::Event(Step::LogSync),
+    WorldStep::Event(Step::MarkWrite),
+    WorldStep::Event(Step::ControlSync),
+];
+
 /// Makes all that is held certain to survive a crash: writes and syncs the log, and then the
 /// control block. Answers what is acknowledged, or the first refusal that is not passed over, after
 /// which it stops.
 pub fn force<R: Wait>(alloc: Global, rt: &R, world: World<Disk>) -> (World<Disk>, Reply) {
     let (mut world, mut reply) = write_log(alloc, rt, world);
-    for step in [Step::LogSync, Step::MarkWrite, Step::ControlSync] {
+    for step in &STEPS_BEHIND_THE_LOG {
         if is_refusal(&reply) {
             break;
         }
@@ -27,7 +34,7 @@ fn write_log<R: Wait>(alloc: Global, rt: &R, world: World<Disk>) -> (World<Disk>
     let mut world = world;
     // There is no block past that of the log's end.
     for _ in 0..=end_of(&world).0 / BLOCK_LEN as u64 {
-        let (after, reply) = one_event(alloc, rt, world, Step::LogWrite);
+        let (after, reply) = one_event(alloc, rt, world, &WorldStep::Event(Step::LogWrite));
         world = after;
         if reply != Reply::Done {
             return (world, reply);
@@ -84,7 +91,7 @@ fn redo_page<R: Wait>(
     world: World<Disk>,
     page: u32,
 ) -> (World<Disk>, Reply) {
-    let (world, reply) = one_step(alloc, rt, world, WorldStep::Lend(page, 0));
+    let (world, reply) = one_step(alloc, rt, world, &WorldStep::Lend(page, 0));
     let batch = match reply {
         WorldReply::Lent { batch, .. } => batch,
         reply => return (world, answer(reply)),
@@ -93,7 +100,7 @@ fn redo_page<R: Wait>(
     if is_refusal(&reply) {
         return (world, reply);
     }
-    let (world, reply) = one_step(alloc, rt, world, WorldStep::Give(0));
+    let (world, reply) = one_step(alloc, rt, world, &WorldStep::Give(0));
     (world, answer(reply))
 }
 
@@ -106,7 +113,7 @@ fn redo_lease<R: Wait>(
 ) -> (World<Disk>, Reply) {
     let mut world = world;
     for _ in 0..batch {
-        let (after, reply) = one_step(alloc, rt, world, WorldStep::Redo(0));
+        let (after, reply) = one_step(alloc, rt, world, &WorldStep::Redo(0));
         world = after;
         let reply = answer(reply);
         if reply != Reply::Done {
@@ -190,7 +197,7 @@ fn state(world: &World<Disk>) -> State {
 /// Ends the recovery, where it was not ended.
 fn ready<R: Wait>(alloc: Global, rt: &R, world: World<Disk>) -> (World<Disk>, Reply) {
     match state(&world) {
-        State::Recovering => one_event(alloc, rt, world, Step::Ready),
+        State::Recovering => one_event(alloc, rt, world, &WorldStep::Event(Step::Ready)),
         _ => (world, Reply::Done),
     }
 }
@@ -199,7 +206,7 @@ fn ready<R: Wait>(alloc: Global, rt: &R, world: World<Disk>) -> (World<Disk>, Re
 fn seal<R: Wait>(alloc: Global, rt: &R, world: World<Disk>) -> (World<Disk>, Reply) {
     match state(&world) {
         State::Recovering | State::Following | State::Refusing { .. } => {
-            step_and_sync(alloc, rt, world, Step::Seal)
+            step_and_sync(alloc, rt, world, &WorldStep::Event(Step::Seal))
         }
         State::Sealed | State::Primary | State::Stopped => (world, Reply::Done),
     }
@@ -211,7 +218,7 @@ fn undo<R: Wait>(alloc: Global, rt: &R, world: World<Disk>) -> (World<Disk>, Rep
     // A tail has at most two records for each one of the log, and each of these takes 28 bytes and
     // more.
     for _ in 0..end_of(&world).0 {
-        let (after, reply) = one_event(alloc, rt, world, Step::UndoOne);
+        let (after, reply) = one_event(alloc, rt, world, &WorldStep::Event(Step::UndoOne));
         world = after;
         match reply {
             Reply::Undone(_) => {}
@@ -225,7 +232,7 @@ fn undo<R: Wait>(alloc: Global, rt: &R, world: World<Disk>) -> (World<Disk>, Rep
 fn finish<R: Wait>(alloc: Global, rt: &R, world: World<Disk>) -> (World<Disk>, Reply) {
     match state(&world) {
         State::Primary => (world, Reply::Done),
-        _ => step_and_sync(alloc, rt, world, Step::Finish),
+        _ => step_and_sync(alloc, rt, world, &WorldStep::Event(Step::Finish)),
     }
 }
 
@@ -234,13 +241,13 @@ fn step_and_sync<R: Wait>(
     alloc: Global,
     rt: &R,
     world: World<Disk>,
-    step: Step,
+    step: &WorldStep,
 ) -> (World<Disk>, Reply) {
     let (world, reply) = one_event(alloc, rt, world, step);
     if is_refusal(&reply) {
         return (world, reply);
     }
-    one_event(alloc, rt, world, Step::ControlSync)
+    one_event(alloc, rt, world, &WorldStep::Event(Step::ControlSync))
 }
 
 /// Whether a reply ends a combined line: a step that had nothing to do is passed over.

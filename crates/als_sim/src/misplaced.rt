@@ -21,7 +21,7 @@ impl Misplaced {
     /// `before` and `after` are what the standby tells on both sides of it.
     pub(crate) fn of(
         number: u64,
-        line: StepLine,
+        line: &StepLine,
         before: Option<Status>,
         after: Option<Status>,
     ) -> Option<Misplaced>
@@ -30,6 +30,7 @@ impl Misplaced {
         let StepLine::Feed { from, .. } = line else {
             return None;
         };
+        let from = *from;
         let before = before?;
         let (end, partial) = (before.end.0, before.partial as u64);
         let goes_on = end <= from && from - end == partial;

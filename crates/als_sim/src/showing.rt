@@ -2,7 +2,7 @@ use crate::disk::Disk;
 use crate::stepping::end_of;
 use als_analysis::OpenRow;
 use als_disk::BlockDisk;
-use als_engine::{Engine, Fault, State, Status};
+use als_engine::{Engine, Fault, History, State, Status};
 use als_page::Page;
 use als_record::{FIRST_LSN, Lsn, SLOT_COUNT, encoded_len};
 use als_script::{ShownImage, ShownRecord, ShownRow};
@@ -49,6 +49,18 @@ pub fn table<W: Write>(output: &mut W, table: &[OpenRow]) -> io::Result<()> {
         writeln!(output, "{}", ShownRow(&open.row()))?;
     }
     Ok(())
+}
+
+/// `show epochs`.
+pub fn epochs<W: Write>(output: &mut W, history: History) -> io::Result<()> {
+    write!(output, "epoch {}", history.epoch())?;
+    if history.epoch() > 0 {
+        write!(output, " seals")?;
+    }
+    for seal in history.seals() {
+        write!(output, " {seal}")?;
+    }
+    writeln!(output)
 }
 
 /// `show dirty`: in rising page.

@@ -94,8 +94,8 @@ impl Simulation {
         match Line::parse(line).ok_or(Failure::BadLine(number))? {
             Line::Record(record) => simulation.text.push(&record)?,
             Line::Step(step) => return simulation.step(rt, number, step, output),
-            Line::Lease(lease) => return simulation.world_step(rt, lease_step(lease), output),
-            Line::Read(read) => return simulation.world_step(rt, read_step(read), output),
+            Line::Lease(lease) => return simulation.world_step(rt, &lease_step(lease), output),
+            Line::Read(read) => return simulation.world_step(rt, &read_step(read), output),
             Line::Crash(crash) => return simulation.crash(rt, crash, output),
             Line::Combined(combined) => return simulation.combined(rt, combined, output),
             Line::Fail(fail) => {
@@ -153,11 +153,13 @@ impl Simulation {
             blocks,
             misplaced,
         } = self;
-        let step = step_of(line, text.bytes()).ok_or(Failure::BadLine(number))?;
+        let Some(step) = step_of(line, text.bytes()) else {
+            return Err(Failure::BadLine(number));
+        };
         let before = status_of(&world);
-        let (world, reply) = one_event(alloc, rt, world, step);
+        let (world, reply) = one_event(alloc, rt, world, &step);
         printing::reply(output, &reply, end_of(&world))?;
-        let misplaced = misplaced.or(Misplaced::of(number, line, before, status_of(&world)));
+        let misplaced = misplaced.or(Misplaced::of(number, &line, before, status_of(&world)));
         Ok(Simulation {
             alloc,
             world,
@@ -175,14 +177,14 @@ impl Simulation {
         output: &mut W,
     ) -> Result<Simulation, Failure> {
         let picks = line.picks(self.alloc, self.blocks as usize)?;
-        self.world_step(rt, WorldStep::Crash(picks.as_slice()), output)
+        self.world_step(rt, &WorldStep::Crash(picks.as_slice()), output)
     }
 
     /// A step that is no event of the engine.
     fn world_step<R: Wait, W: Write>(
         self,
         rt: &R,
-        step: WorldStep,
+        step: &WorldStep,
         output: &mut W,
     ) -> Result<Simulation, Failure> {
         let Simulation {
@@ -267,6 +269,7 @@ impl Simulation {
                 ShowLine::Page { page } => {
                     listed(output, showing::page(alloc, &mut world, page))?
                 }
+                ShowLine::Epochs => showing::epochs(output, engine.history())?,
                 ShowLine::Database => listed(output, showing::database(alloc, &mut world))?,
                 ShowLine::Log { from } => listed(output, showing::log(alloc, &mut world, from))?,
             },

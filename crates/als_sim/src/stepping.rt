@@ -4,11 +4,12 @@ use als_record::{Lsn, TransId};
 use als_script::{LeaseLine, StepLine};
 use als_world::{World, WorldReply, WorldStep, run};
 use std::alloc::Global;
+use std::slice;
 use std::sync::Wait;
 
 /// The event of a line; None where it names bytes that the text has not.
-pub fn step_of(line: StepLine, text: &[u8]) -> Option<Step<'_>> {
-    Some(match line {
+pub fn step_of(line: StepLine, text: &[u8]) -> Option<WorldStep<'_>> {
+    Some(WorldStep::Event(match line {
         StepLine::Feed { from, to } => {
             let from = usize::try_from(from).ok()?;
             let to = usize::try_from(to).ok()?;
@@ -27,11 +28,12 @@ pub fn step_of(line: StepLine, text: &[u8]) -> Option<Step<'_>> {
         StepLine::CkptPublish => Step::CkptPublish,
         StepLine::PublishView => Step::PublishView,
         StepLine::Ready => Step::Ready,
+        StepLine::Adopt(history) => Step::Adopt(history),
         StepLine::Seal => Step::Seal,
         StepLine::UndoOne => Step::UndoOne,
         StepLine::Finish => Step::Finish,
         StepLine::Resolve { trans, is_commit } => Step::Resolve(TransId(trans), verdict(is_commit)),
-    })
+    }))
 }
 
 /// What becomes of a transaction in doubt.
@@ -60,10 +62,9 @@ pub fn one_step<R: Wait>(
     alloc: Global,
     rt: &R,
     world: World<Disk>,
-    step: WorldStep,
+    step: &WorldStep,
 ) -> (World<Disk>, WorldReply) {
-    let steps = [step];
-    match run(alloc, rt, world, &steps) {
+    match run(alloc, rt, world, slice::from_ref(step)) {
         Ok((world, mut replies)) => {
             let reply = replies.pop();
             (world, reply.unwrap_or(WorldReply::Refused(Fault::Memory)))
@@ -77,21 +78,21 @@ pub fn one_event<R: Wait>(
     alloc: Global,
     rt: &R,
     world: World<Disk>,
-    event: Step,
+    event: &WorldStep,
 ) -> (World<Disk>, Reply) {
-    let (world, reply) = one_step(alloc, rt, world, WorldStep::Event(event));
+    let (world, reply) = one_step(alloc, rt, world, event);
     let reply = match reply {
         WorldReply::Event(reply) => reply,
-        WorldReply::Refused(fault) => refused(&event, fault),
+        WorldReply::Refused(fault) => refused(event, fault),
         _ => Reply::Done, // No event is answered so.
     };
     (world, reply)
 }
 
 /// An event's reply where nothing of it was done.
-fn refused(event: &Step, fault: Fault) -> Reply {
+fn refused(event: &WorldStep, fault: Fault) -> Reply {
     match event {
-        Step::Feed(_) => Reply::FeedRefused(FeedFault {
+        WorldStep::Event(Step::Feed(_)) => Reply::FeedRefused(FeedFault {
             taken: 0,
             records: 0,
             fault,
