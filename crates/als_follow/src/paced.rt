@@ -1,7 +1,7 @@
 ghost use Rattle.std.specs.Prelude.{◌≡◌};
 
 use crate::desk::Desk;
-use als_engine::{Decision, Events, Fault, Fed, FeedFault, NotGiven, PageLease, Status};
+use als_engine::{Decision, Events, Fault, Fed, FeedFault, History, NotGiven, PageLease, Status};
 use als_page::Page;
 use als_record::{LoggedPage, Lsn, Record, TransId, TransactionRow};
 use als_view::Told;
@@ -125,6 +125,10 @@ impl<E: Events, R: Wait> Events for Paced<'_, E, R> {
         self.events.resolve(trans, verdict)
     }
 
+    fn adopt(&mut self, history: History) -> Result<(), Fault> {
+        self.events.adopt(history)
+    }
+
     fn finish(&mut self) -> Result<(), Fault> {
         self.events.finish()
     }
@@ -133,6 +137,10 @@ impl<E: Events, R: Wait> Events for Paced<'_, E, R> {
         let status = self.events.status();
         self.desk.tell_pending(status.pending as u64);
         status
+    }
+
+    fn history(&self) -> History {
+        self.events.history()
     }
 
     fn table(&self, alloc: Global) -> Result<Vec<TransactionRow>, Fault> {

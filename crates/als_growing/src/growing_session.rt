@@ -1,4 +1,5 @@
 use crate::growing_log::GrowingLog;
+use als_epochs::{History, judge};
 use als_record::Lsn;
 use als_ship::{Fault, Frame, PIECE_LIMIT, Tag};
 use std::alloc::Global;
@@ -47,8 +48,8 @@ impl Sent {
     }
 }
 
-/// Serves one follower: the log from where it goes on. At the end of the file it waits for it to grow,
-/// with a beat each so many naps. Without a beat the session ends there.
+/// Serves one follower: the log from where it goes on, which is of the first epoch. At the end of the
+/// file it waits for it to grow, with a beat each so many naps. Without a beat the session ends there.
 ///
 /// As `als_ship::Shipper::serve` says. Stream: the file shrank too.
 pub(crate) fn serve_growing<C: Clock, R: Read, W: Write>(
@@ -60,17 +61,7 @@ pub(crate) fn serve_growing<C: Clock, R: Read, W: Write>(
     writer: &mut W,
     sent: &mut Sent,
 ) -> Result<(), Fault> {
-    let Frame::Resume { from, header } = Frame::read(alloc, reader, Tag::Resume)? else {
-        return Err(Fault::BadFrame);
-    };
-    if header.pages != log.header().pages {
-        return Err(Fault::BadHeader);
-    }
-    if from.0 > log.end()? {
-        return Err(Fault::Gap);
-    }
-    sent.begun = true;
-    let mut at = from.0;
+    let mut at = meet(alloc, log, reader, writer, sent)?;
     // It is answered at once, also where there is nothing new for it.
     if beat.is_some() && at > 0 {
         send(alloc, log, at - 1, 1, reader, writer, sent)?;
@@ -91,6 +82,36 @@ pub(crate) fn serve_growing<C: Clock, R: Read, W: Write>(
     Err(Fault::Stream)
 }
 
+/// Reads where the follower goes on and its history, and tells it that of the file: no takeover was
+/// before it.
+fn meet<R: Read, W: Write>(
+    alloc: Global,
+    log: &mut GrowingLog,
+    reader: &mut R,
+    writer: &mut W,
+    sent: &mut Sent,
+) -> Result<u64, Fault> {
+    let Frame::Resume {
+        from,
+        header,
+        history,
+    } = Frame::read(alloc, reader, Tag::Resume)?
+    else {
+        return Err(Fault::BadFrame);
+    };
+    if header.pages != log.header().pages {
+        return Err(Fault::BadHeader);
+    }
+    sent.begun = true;
+    let own = History::empty();
+    Frame::Epochs(own).write(writer)?;
+    judge(&history, &own, from)?;
+    if from.0 > log.end()? {
+        return Err(Fault::Gap);
+    }
+    Ok(from.0)
+}
+
 /// Sends so many bytes from an offset on, and reads the answer. None of them end the session.
 fn send<R: Read, W: Write>(
     alloc: Global,
@@ -106,7 +127,11 @@ fn send<R: Read, W: Write>(
     if at > u64::MAX - len {
         return Err(Fault::Stream);
     }
-    let frame = Frame::Data { offset: at, bytes };
+    let frame = Frame::Data {
+        epoch: 0,
+        offset: at,
+        bytes,
+    };
     frame.write(writer)?;
     match Frame::read(alloc, reader, Tag::Acknowledged)? {
         Frame::Acknowledged(lsn) => {

@@ -2,7 +2,7 @@ use crate::fault::Fault;
 use crate::log_text::{Database, database_of};
 use crate::restarting::restarted;
 use als_ckpt::Phase;
-use als_engine::Events;
+use als_engine::{Events, History};
 use als_folder::Folder;
 use als_script::ShownRow;
 use std::alloc::Global;
@@ -13,7 +13,8 @@ use std::sync::Wait;
 
 /// Prints what the standby of a folder holds: its phase, its page count, where its log ends and up
 /// to where that is acknowledged, where its checkpoint stands and how many bytes of log lie behind
-/// it; and then each unended transaction, as `show table` does. The folder is only read.
+/// it; the seals of the takeovers before it, if there are any, as `show epochs` does; and then each
+/// unended transaction, as `show table` does. The folder is only read.
 ///
 /// Folder: the folder or a file of it failed, or another program has it. Stream: the output failed.
 /// Memory: there was none for a copy of it. BadHeader, BadControl, Log, Standby: a restart would
@@ -28,30 +29,45 @@ pub fn status<R: AllocGlobal + Files<File = File> + Wait, O: Write>(
     let database = database_of(rt.alloc(), &files)?;
     let (engine, readers) = restarted(rt, &files, database)?;
     drop(readers);
-    tell(rt.alloc(), database, &engine, output)
+    tell(rt.alloc(), &database, &engine, output)
 }
 
 /// Prints the state of a standby and its open transactions.
 fn tell<E: Events, O: Write>(
     alloc: Global,
-    database: Database,
+    database: &Database,
     events: &E,
     output: &mut O,
 ) -> Result<(), Fault> {
     let rows = events.table(alloc)?;
     let status = events.status();
-    let Database { pages, state } = database;
-    let (end, acknowledged, position) = (status.end.0, status.acknowledged.0, state.position.0);
+    let pages = database.pages;
+    let (end, acknowledged) = (status.end.0, status.acknowledged.0);
+    let position = database.state.position.0;
     let behind = acknowledged.saturating_sub(position.max(FIRST));
     writeln!(
         output,
         "phase={} pages={pages} end={end} ack={acknowledged} checkpoint={position} behind={behind} transactions={}",
-        name_of(state.phase),
+        name_of(database.state.phase),
         rows.len()
     )?;
+    seals(&events.history(), output)?;
     for row in rows.iter() {
         writeln!(output, "{}", ShownRow(row))?;
     }
+    Ok(())
+}
+
+/// Prints the epoch and its seals, where a takeover was before.
+fn seals<O: Write>(history: &History, output: &mut O) -> Result<(), Fault> {
+    if history.epoch() == 0 {
+        return Ok(());
+    }
+    write!(output, "epoch {} seals", history.epoch())?;
+    for seal in history.seals() {
+        write!(output, " {seal}")?;
+    }
+    writeln!(output)?;
     Ok(())
 }
 

@@ -42,7 +42,7 @@ grows_more a b c p q = record {
 -- ---- the records of a tail
 
 reads_same : (old new : Stored) → FailsToRead old new → SameLog old new
-reads_same old new f = by_equation old new _ f.after (refl, refl)
+reads_same old new f = by_equation old new _ f.after (refl, refl, refl, λ b. b)
 
 undo_acts : (old new : Machine) (result : Result Lsn Fault) → Undoes old result new → GrowsOn old new
 undo_acts old new (Ok lsn) u = record {

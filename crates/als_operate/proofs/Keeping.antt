@@ -1,10 +1,13 @@
 -- What the upkeep of a standby leaves of its log: all of it.
 use Rattle.std.proofs.Common.{◌≡◌, ℕ, Option, Some, None, Result, Ok, Err, refl, sym, ap, subst, ◌∙◌, inl, inr}
 use Rattle.std.specs.Prelude.{IsSomeAnd}
+use Rattle.als_ckpt.specs.declared.control_state.ControlState.{ControlState}
 use Rattle.als_ckpt.specs.Regions.{Begun}
+use Rattle.als_ckpt.proofs.StateLaws.{last_state-push}
 use Rattle.als_store.specs.Stored.{Stored}
+use Rattle.als_store.specs.Takeover.{history_of}
 use Rattle.als_store.specs.Events.{Breaks, FlushesPage, BreaksFlush, SyncsDevice, BreaksSync}
-use Rattle.als_store.specs.CheckpointEvents.{BeginsCheckpoint, WritesBlock, Publishes, BreaksPublish}
+use Rattle.als_store.specs.CheckpointEvents.{BeginsCheckpoint, WritesBlock, Publishes, BreaksPublish, with_checkpoint}
 use Rattle.als_engine.specs.declared.fault.Fault.{Fault}
 use Rattle.als_engine.specs.declared.step.Step.TheVariants as step
 use Rattle.als_engine.specs.Machine.{Machine}
@@ -17,12 +20,24 @@ use Rattle.als_ship.specs.Follows.{SameText}
 use Rattle.als_ship.proofs.LogForcing.{SameLog, refused_or_acts, same_equal, same_changed, by_equation, breaks_same}
 
 pub redoes_same : (old new : Machine) → OnlyRedoes old new → SameText old new
-redoes_same old new r = record { pages = ap (λ (m : Machine). m.held.pages) r; log = ap (λ (m : Machine). m.held.log) r; partial = ap (λ (m : Machine). m.partial) r }
+redoes_same old new r = record {
+  pages = ap (λ (m : Machine). m.held.pages) r;
+  log = ap (λ (m : Machine). m.held.log) r;
+  partial = ap (λ (m : Machine). m.partial) r;
+  history = ap (λ (m : Machine). history_of m.held) r;
+  stopped = λ s. ap (λ (m : Machine). m.held.broken) r ∙ s;
+}
 
 -- ---- the view
 
 publishes_acts : (old new : Machine) (result : Result (Unit {0}) Fault) → PublishesEnded old result new → SameText old new
-publishes_acts old new (Ok done) acts = record { pages = ap (λ (m : Machine). m.held.pages) acts.1; log = ap (λ (m : Machine). m.held.log) acts.1; partial = ap (λ (m : Machine). m.partial) acts.1 }
+publishes_acts old new (Ok done) acts = record {
+  pages = ap (λ (m : Machine). m.held.pages) acts.1;
+  log = ap (λ (m : Machine). m.held.log) acts.1;
+  partial = ap (λ (m : Machine). m.partial) acts.1;
+  history = ap (λ (m : Machine). history_of m.held) acts.1;
+  stopped = λ s. ap (λ (m : Machine). m.held.broken) acts.1 ∙ s;
+}
 publishes_acts old new (Err fault) acts = same_equal old new acts.1
 
 pub publish_same : (old new : Machine) (result : Result (Unit {0}) Fault) → PublishesView old result new → SameText old new
@@ -31,10 +46,10 @@ publish_same old new result e = refused_or_acts (refusal old step.PublishView) (
 -- ---- the pages
 
 flushes_same : (page : ℕ) (old new : Stored) → FlushesPage old page new → SameLog old new
-flushes_same page old new f = by_equation old new _ f.after (refl, refl)
+flushes_same page old new f = by_equation old new _ f.after (refl, refl, refl, λ b. b)
 
 breaks_flush_same : (page : ℕ) (old new : Stored) → BreaksFlush old page new → SameLog old new
-breaks_flush_same page old new f = by_equation old new _ f.after (refl, refl)
+breaks_flush_same page old new f = by_equation old new _ f.after (refl, refl, refl, λ b. refl)
 
 flush_acts : (page : ℕ) (old new : Machine) (result : Result (Unit {0}) Fault) → WritesPage old page result new → SameText old new
 flush_acts page old new (Ok done) acts = same_changed old new (λ held after. FlushesPage held page after) (flushes_same page) acts
@@ -44,10 +59,10 @@ pub flush_same : (page : ℕ) (old new : Machine) (result : Result (Unit {0}) Fa
 flush_same page old new result e = refused_or_acts (refusal old (step.Flush page)) (WritesPage old page result new) (SameText old new) (λ f. (result ≡ Err f) × (new ≡ old)) (flush_acts page old new result) (λ f same. same_equal old new same.1) e
 
 syncs_device_same : (old new : Stored) → SyncsDevice old new → SameLog old new
-syncs_device_same old new s = by_equation old new _ s.after (refl, refl)
+syncs_device_same old new s = by_equation old new _ s.after (refl, refl, refl, λ b. b)
 
 breaks_sync_same : (old new : Stored) → BreaksSync old new → SameLog old new
-breaks_sync_same old new s = by_equation old new _ s.after (refl, refl)
+breaks_sync_same old new s = by_equation old new _ s.after (refl, refl, refl, λ b. refl)
 
 sync_acts : (old new : Machine) (result : Result (Unit {0}) Fault) → SyncsAllPages old result new → SameText old new
 sync_acts old new (Ok done) acts = same_changed old new SyncsDevice syncs_device_same acts
@@ -59,7 +74,7 @@ sync_same old new result e = refused_or_acts (refusal old step.SyncPages) (Syncs
 -- ---- checkpoints
 
 begins_same : (old new : Stored) → BeginsCheckpoint old new → SameLog old new
-begins_same old new b = by_equation old new _ b.after (refl, refl)
+begins_same old new b = by_equation old new _ b.after (refl, refl, refl, λ b. b)
 
 begin_acts : (old new : Machine) (result : Result (Unit {0}) Fault) → Begins old result new → SameText old new
 begin_acts old new (Ok done) acts = same_changed old new BeginsCheckpoint begins_same acts
@@ -69,7 +84,7 @@ pub ckpt_begin_same : (old new : Machine) (result : Result (Unit {0}) Fault) →
 ckpt_begin_same old new result e = refused_or_acts (refusal old step.CkptBegin) (Begins old result new) (SameText old new) (λ f. (result ≡ Err f) × (new ≡ old)) (begin_acts old new result) (λ f same. same_equal old new same.1) e
 
 writes_block_same : (old new : Stored) → WritesBlock old new → SameLog old new
-writes_block_same old new w = by_equation old new _ w.after (refl, refl)
+writes_block_same old new w = by_equation old new _ w.after (refl, refl, refl, λ b. b)
 
 block_acts : (old new : Machine) (result : Result (Unit {0}) Fault) → WritesNext old result new → SameText old new
 block_acts old new (Ok done) acts = same_changed old new WritesBlock writes_block_same acts
@@ -80,11 +95,11 @@ ckpt_block_same old new result e = refused_or_acts (refusal old step.CkptBlock) 
 
 publishes_same : (begun : Option Begun) (old new : Stored) → IsSomeAnd begun (λ b. Publishes old b new) → SameLog old new
 publishes_same None old new p = absurd p
-publishes_same (Some b) old new p = by_equation old new _ p.after (refl, refl)
+publishes_same (Some b) old new p = by_equation old new _ p.after (refl, refl, ap (λ (c : ControlState). c.history) (last_state-push old.control old.since (with_checkpoint old b)), λ s. s)
 
 breaks_publish_same : (begun : Option Begun) (old new : Stored) → IsSomeAnd begun (λ b. BreaksPublish old b new) → SameLog old new
 breaks_publish_same None old new p = absurd p
-breaks_publish_same (Some b) old new p = by_equation old new _ p.after (refl, refl)
+breaks_publish_same (Some b) old new p = by_equation old new _ p.after (refl, refl, ap (λ (c : ControlState). c.history) (last_state-push old.control old.since (with_checkpoint old b)), λ s. refl)
 
 publish_acts : (old new : Machine) (result : Result (Unit {0}) Fault) → PublishesNext old result new → SameText old new
 publish_acts old new (Ok done) acts = same_changed old new (λ held after. IsSomeAnd held.begun (λ b. Publishes held b after)) (λ held after. publishes_same held.begun held after) acts

@@ -11,14 +11,14 @@ use Rattle.als_operate.specs.Visits.{Visit, ShipsLast, ShipsTo}
 abbrev pub sent_line : ℕ → List ℕ
 sent_line n = codes "sent=" ++ decimal n ++ 10 ∷ []
 
--- a session has sent all of the text from where the follower goes on, and the line that was printed tells how many bytes that were
-abbrev pub Tells : List ℕ → LogHeader → (asked behind old new printed after : Option (List ℕ)) → Type 0
-Tells text header asked behind old new printed after = (n : ℕ) × (kept : Option Lsn) × Ships text header asked behind old new n kept × Appends printed after (sent_line n)
+-- a session has told the history and sent all of the text from where the follower goes on, and the line that was printed tells how many bytes that were
+abbrev pub Tells : List ℕ → List ℕ → LogHeader → (asked behind old new printed after : Option (List ℕ)) → Type 0
+Tells text seals header asked behind old new printed after = (n : ℕ) × (kept : Option Lsn) × Ships text seals header asked behind old new n kept × Appends printed after (sent_line n)
 
 -- the next who came was sent all of the text from where it goes on, and the line that was printed tells how many bytes that were
-abbrev pub TellsLast : List ℕ → LogHeader → List Visit → List Visit → (printed after : Option (List ℕ)) → Type 0
-TellsLast text header old new printed after = (n : ℕ) × (kept : Option Lsn) × ShipsLast text header old new n kept × Appends printed after (sent_line n)
+abbrev pub TellsLast : List ℕ → List ℕ → LogHeader → List Visit → List Visit → (printed after : Option (List ℕ)) → Type 0
+TellsLast text seals header old new printed after = (n : ℕ) × (kept : Option Lsn) × ShipsLast text seals header old new n kept × Appends printed after (sent_line n)
 
 -- the same of the last who came, where those before it were passed over
-abbrev pub TellsTo : List ℕ → LogHeader → List Visit → List Visit → (printed after : Option (List ℕ)) → Type 0
-TellsTo text header old new printed after = (n : ℕ) × (kept : Option Lsn) × ShipsTo text header old new n kept × Appends printed after (sent_line n)
+abbrev pub TellsTo : List ℕ → List ℕ → LogHeader → List Visit → List Visit → (printed after : Option (List ℕ)) → Type 0
+TellsTo text seals header old new printed after = (n : ℕ) × (kept : Option Lsn) × ShipsTo text seals header old new n kept × Appends printed after (sent_line n)

@@ -14,6 +14,8 @@ mod history;
 mod callers;
 // A session as the sending end, and what it prints.
 mod shipping;
+// The log of a node as what is shipped.
+mod node_command;
 // One checkpoint.
 mod checkpointing;
 // The pages and a checkpoint onto the devices.
@@ -47,6 +49,7 @@ pub use deciding::decide;
 pub use fault::Fault;
 pub use following::follow;
 pub use meeting::{Meetings, Untold};
+pub use node_command::{NodeShipping, ship_node};
 pub use resolve_command::{Verdict, resolve};
 pub use settling::settle;
 pub use shipping::{Shipping, serve, serve_next, ship};

@@ -40,8 +40,9 @@ pub struct Shipping<'a> {
 /// and then prints `sent=N`, the log bytes that it sent. Nothing of the text is checked but its
 /// header. Who comes and asks for nothing is passed over.
 ///
-/// Session BadHeader: the file begins with no header, or the follower has another one. Session Gap:
-/// the follower holds more than there is. Session BadFrame, Cut, Stream: what came was no frame,
+/// Session BadHeader: the file begins with no header, or the follower has another one. Session
+/// OtherEpoch: a takeover was before the follower. Session Gap: it holds more than there is. Session
+/// BadFrame, Cut, Stream: what came was no frame,
 /// the follower went away, the network failed or was silent too long. Stream: the file, the address
 /// or the output failed, or the file has more than `LOG_LIMIT` bytes. Memory: there was none for
 /// the file.
@@ -77,19 +78,20 @@ pub fn serve_next<S: Source, T: Read + Write + Drop, V: Visitors<T>, M: Meetings
     // before it; the line tells how much that was.
     ensures sent { (header : LogHeader) → take 16 (S.text source.old) ≡ header_bytes header.pages
         → header.pages ≤ 4096
-        → OnOk result (TellsTo (S.text source.old) header (V.met visitors.old)
+        → OnOk result (TellsTo (S.text source.old) (S.seals source.old) header (V.met visitors.old)
         (V.met visitors.new) (O.contents output.old) (O.contents output.new)) }
     // A line is all that is printed.
     ensures told { OnOk result ((n : ℕ) × Appends (O.contents output.old) (O.contents output.new)
         (sent_line n)) }
     // Whatever ends it, what was sent are true frames of the source, to the last who came alone.
-    ensures true_frames { SendsTrueTo (S.text source.old) (V.met visitors.old)
+    ensures true_frames { SendsTrueTo (S.text source.old) (S.seals source.old) (V.met visitors.old)
         (V.met visitors.new) }
     // No frame is sent before the one in front of it was answered.
     ensures answered { IfErr result (λ f. (cause : AnyFault) → f ≡ Session cause
-        → (kept : Option Lsn) × EndsServingTo (S.text source.old) (V.met visitors.old)
+        → (kept : Option Lsn) × EndsServingTo (S.text source.old) (S.seals source.old) (V.met visitors.old)
         (V.met visitors.new) kept) }
     ensures same { S.text source.new ≡ S.text source.old }
+    ensures kept { S.seals source.new ≡ S.seals source.old }
 {
     for _ in 0..u64::MAX {
         let has_asked = receive(alloc, source, visitors, meetings, output)?;
@@ -111,7 +113,7 @@ fn receive<S: Source, T: Read + Write + Drop, V: Visitors<T>, M: Meetings, O: Wr
 ) -> Result<bool, Fault>
     ensures sent { (header : LogHeader) → take 16 (S.text source.old) ≡ header_bytes header.pages
         → header.pages ≤ 4096
-        → IfOk result (λ asked. asked ≡ true → TellsLast (S.text source.old) header
+        → IfOk result (λ asked. asked ≡ true → TellsLast (S.text source.old) (S.seals source.old) header
         (V.met visitors.old) (V.met visitors.new) (O.contents output.old)
         (O.contents output.new)) }
     ensures told { IfOk result (λ asked. asked ≡ true → (n : ℕ)
@@ -120,11 +122,12 @@ fn receive<S: Source, T: Read + Write + Drop, V: Visitors<T>, M: Meetings, O: Wr
         → PassesLast (V.met visitors.old) (V.met visitors.new)
         × (O.contents output.new ≡ O.contents output.old)) }
     ensures true_frames { (V.met visitors.new ≡ V.met visitors.old)
-        ⊎ SendsLast (S.text source.old) (V.met visitors.old) (V.met visitors.new) }
+        ⊎ SendsLast (S.text source.old) (S.seals source.old) (V.met visitors.old) (V.met visitors.new) }
     ensures answered { IfErr result (λ f. (cause : AnyFault) → f ≡ Session cause
-        → (kept : Option Lsn) × EndsLast (S.text source.old) (V.met visitors.old)
+        → (kept : Option Lsn) × EndsLast (S.text source.old) (S.seals source.old) (V.met visitors.old)
         (V.met visitors.new) kept) }
     ensures same { S.text source.new ≡ S.text source.old }
+    ensures kept { S.seals source.new ≡ S.seals source.old }
 {
     let (mut reader, mut writer) = visitors.next()?;
     let mut shipper = Shipper::new();
@@ -179,7 +182,7 @@ pub fn serve<S: Source, R: Read, W: Write, O: Write>(
     // was.
     ensures sent { (header : LogHeader) → take 16 (S.text source.old) ≡ header_bytes header.pages
         → header.pages ≤ 4096
-        → OnOk result (Tells (S.text source.old) header (R.remaining reader.old)
+        → OnOk result (Tells (S.text source.old) (S.seals source.old) header (R.remaining reader.old)
         (R.remaining reader.new) (W.contents writer.old) (W.contents writer.new)
         (O.contents output.old) (O.contents output.new)) }
     // A line is all that is printed.
@@ -189,16 +192,17 @@ pub fn serve<S: Source, R: Read, W: Write, O: Write>(
     ensures quiet { IfErr result (λ f. (cause : AnyFault) → f ≡ Session cause
         → O.contents output.new ≡ O.contents output.old) }
     // Whatever ends it, what was sent are true frames of the source.
-    ensures true_frames { SendsTrue (S.text source.old) (W.contents writer.old)
+    ensures true_frames { SendsTrue (S.text source.old) (S.seals source.old) (W.contents writer.old)
         (W.contents writer.new) }
     // No frame is sent before the one in front of it was answered; the last answer is kept.
     ensures answered { IfErr result (λ f. (cause : AnyFault) → f ≡ Session cause
-        → EndsServing (S.text source.old) (R.remaining reader.old) (W.contents writer.old)
+        → EndsServing (S.text source.old) (S.seals source.old) (R.remaining reader.old) (W.contents writer.old)
         (W.contents writer.new) shipper.new.acknowledged) }
     // Who asked for nothing was sent nothing.
     ensures begun { shipper.new.begun ≡ false → Appends (W.contents writer.old)
         (W.contents writer.new) [] }
     ensures same { S.text source.new ≡ S.text source.old }
+    ensures kept { S.seals source.new ≡ S.seals source.old }
 {
     let sent = shipper.serve(alloc, source, reader, writer)?;
     match tell_sent(sent, output) {

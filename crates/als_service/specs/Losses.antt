@@ -10,8 +10,10 @@ IsLostSession session.BadHeader = ⊥
 IsLostSession session.Memory = ⊥
 IsLostSession session.Gap = ⊥
 IsLostSession session.BadFrame = ⊥
+IsLostSession (session.Diverged seal) = ⊥
 IsLostSession session.Cut = Unit {0}
 IsLostSession session.Stream = Unit {0}
+IsLostSession (session.OtherEpoch epoch) = ⊥
 IsLostSession (session.Refused cause) = ⊥
 
 -- so it did, or nobody answered

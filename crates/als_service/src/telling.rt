@@ -3,6 +3,7 @@ ghost use Rattle.std.specs.Prelude.{◌≡◌};
 use als_engine::{
     Decision, Events, Fault, Fed, FeedFault, NotGiven, PageLease, State as EngineState, Status,
 };
+use als_epochs::History;
 use als_page::Page;
 use als_record::{LoggedPage, Lsn, Record, TransId, TransactionRow};
 use als_share::Counts;
@@ -140,6 +141,10 @@ impl<E: Events> Events for Telling<'_, E> {
         self.events.resolve(trans, verdict)
     }
 
+    fn adopt(&mut self, history: History) -> Result<(), Fault> {
+        self.events.adopt(history)
+    }
+
     fn finish(&mut self) -> Result<(), Fault> {
         self.events.finish()
     }
@@ -148,6 +153,10 @@ impl<E: Events> Events for Telling<'_, E> {
         let status = self.events.status();
         tell(self.board, &status);
         status
+    }
+
+    fn history(&self) -> History {
+        self.events.history()
     }
 
     fn table(&self, alloc: Global) -> Result<Vec<TransactionRow>, Fault> {

@@ -12,4 +12,4 @@ returns-in-Ok-clause-sent g c = λ header begins few asked.
     let after = g.T.Write.contents c.serve-served.new.writer in
     let printed = g.O.Write.contents c.args.output.now in
     let line = g.O.Write.contents c.serve-served.new.output in
-    tells_last (g.S.Source.text c.args.source.now) header wanted behind told after printed line start came gone c.in_ok-reader.ensures.comes c.part.ensures.goes (c.in-Ok.ensures.sent header begins few)
+    tells_last (g.S.Source.text c.args.source.now) (g.S.Source.seals c.args.source.now) header wanted behind told after printed line start came gone c.in_ok-reader.ensures.comes c.part.ensures.goes (c.in-Ok.ensures.sent header begins few)

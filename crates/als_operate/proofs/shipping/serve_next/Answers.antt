@@ -6,7 +6,7 @@ use Rattle.als_operate.proofs.Visiting.{passes_none, passes_more, served, told_l
 use Rattle.als_operate.proofs.shipping.serve_next.Goals as goal
 
 pub loop-init : goal.loop-init
-loop-init g c = record { over = passes_none (g.V.Visitors.met c.args.visitors.now); quiet = refl; same = refl }
+loop-init g c = record { over = passes_none (g.V.Visitors.met c.args.visitors.now); quiet = refl; same = refl; kept = refl }
 
 pub loop-preserved : goal.loop-preserved
 loop-preserved g c =
@@ -18,19 +18,22 @@ loop-preserved g c =
       over = passes_more start mid new c.loop.invariant.over passed.0;
       quiet = passed.1 ∙ c.loop.invariant.quiet;
       same = c.receive.ensures.same ∙ c.loop.invariant.same;
+      kept = c.receive.ensures.kept ∙ c.loop.invariant.kept;
     }
 
 pub returns-then-has_asked-clause-sent : goal.returns-then-has_asked-clause-sent
 returns-then-has_asked-clause-sent g c = λ header begins few.
     let text = g.S.Source.text c.args.source.now in
     let now = g.S.Source.text c.loop.source in
+    let seals = g.S.Source.seals c.args.source.now in
+    let own = g.S.Source.seals c.loop.source in
     let start = g.V.Visitors.met c.args.visitors.now in
     let mid = g.V.Visitors.met c.loop.visitors in
     let new = g.V.Visitors.met c.receive.new.visitors in
     let printed = g.O.Write.contents c.args.output.now in
     let so_far = g.O.Write.contents c.loop.output in
     let after = g.O.Write.contents c.receive.new.output in
-    served text now header start mid new printed so_far after c.loop.invariant.same c.loop.invariant.quiet c.loop.invariant.over (λ first low. c.in_ok-has_asked.ensures.sent header first low c.if-has_asked.true) begins few
+    served text now seals own header start mid new printed so_far after c.loop.invariant.same c.loop.invariant.kept c.loop.invariant.quiet c.loop.invariant.over (λ first low. c.in_ok-has_asked.ensures.sent header first low c.if-has_asked.true) begins few
 
 pub returns-then-has_asked-clause-told : goal.returns-then-has_asked-clause-told
 returns-then-has_asked-clause-told g c =
@@ -38,11 +41,11 @@ returns-then-has_asked-clause-told g c =
 
 pub returns-then-has_asked-clause-true_frames : goal.returns-then-has_asked-clause-true_frames
 returns-then-has_asked-clause-true_frames g c =
-    sends_true (g.S.Source.text c.args.source.now) (g.S.Source.text c.loop.source) (g.V.Visitors.met c.args.visitors.now) (g.V.Visitors.met c.loop.visitors) (g.V.Visitors.met c.receive.new.visitors) c.loop.invariant.same c.loop.invariant.over c.receive.ensures.true_frames
+    sends_true (g.S.Source.text c.args.source.now) (g.S.Source.text c.loop.source) (g.S.Source.seals c.args.source.now) (g.S.Source.seals c.loop.source) (g.V.Visitors.met c.args.visitors.now) (g.V.Visitors.met c.loop.visitors) (g.V.Visitors.met c.receive.new.visitors) c.loop.invariant.same c.loop.invariant.kept c.loop.invariant.over c.receive.ensures.true_frames
 
 pub returns-in_err-has_asked-clause-true_frames : goal.returns-in_err-has_asked-clause-true_frames
 returns-in_err-has_asked-clause-true_frames g c =
-    sends_true (g.S.Source.text c.args.source.now) (g.S.Source.text c.loop.source) (g.V.Visitors.met c.args.visitors.now) (g.V.Visitors.met c.loop.visitors) (g.V.Visitors.met c.receive.new.visitors) c.loop.invariant.same c.loop.invariant.over c.receive.ensures.true_frames
+    sends_true (g.S.Source.text c.args.source.now) (g.S.Source.text c.loop.source) (g.S.Source.seals c.args.source.now) (g.S.Source.seals c.loop.source) (g.V.Visitors.met c.args.visitors.now) (g.V.Visitors.met c.loop.visitors) (g.V.Visitors.met c.receive.new.visitors) c.loop.invariant.same c.loop.invariant.kept c.loop.invariant.over c.receive.ensures.true_frames
 
 pub returns-clause-true_frames : goal.returns-clause-true_frames
 returns-clause-true_frames g c = (g.V.Visitors.met c.loop.visitors, c.loop.invariant.over, inl refl)
@@ -51,8 +54,10 @@ pub returns-in_err-has_asked-clause-answered : goal.returns-in_err-has_asked-cla
 returns-in_err-has_asked-clause-answered g c =
     let text = g.S.Source.text c.args.source.now in
     let now = g.S.Source.text c.loop.source in
+    let seals = g.S.Source.seals c.args.source.now in
+    let own = g.S.Source.seals c.loop.source in
     let start = g.V.Visitors.met c.args.visitors.now in
     let mid = g.V.Visitors.met c.loop.visitors in
     let new = g.V.Visitors.met c.receive.new.visitors in
-    let found = λ (cause : AnyFault) (is : c.in_err-has_asked.field-0.0 ≡ Session cause). ends_serving text now start mid new c.loop.invariant.same c.loop.invariant.over (c.in_err-has_asked.ensures.answered cause is) in
+    let found = λ (cause : AnyFault) (is : c.in_err-has_asked.field-0.0 ≡ Session cause). ends_serving text now seals own start mid new c.loop.invariant.same c.loop.invariant.kept c.loop.invariant.over (c.in_err-has_asked.ensures.answered cause is) in
     let p = err_from_is_err_and c.from_residual.result c.from_residual.ensures.1 in rw (p.1, p.2) found

@@ -7,4 +7,5 @@ invariant-loop g l = record {
   over : PassesOver (g.V.Visitors.met l.fn.visitors) (g.V.Visitors.met l.visitors);
   quiet : g.O.Write.contents l.output ≡ g.O.Write.contents l.fn.output;
   same : g.S.Source.text l.source ≡ g.S.Source.text l.fn.source;
+  kept : g.S.Source.seals l.source ≡ g.S.Source.seals l.fn.source;
 }
