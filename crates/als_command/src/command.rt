@@ -19,6 +19,13 @@ pub enum Command<'a> {
         follow: bool,
         explain: bool,
     },
+    /// The log of a folder's node to one follower.
+    ShipNode {
+        dir: &'a str,
+        listen: &'a str,
+        timeout: u64,
+        explain: bool,
+    },
     /// One session as the standby of a folder, or one after another.
     Standby {
         dir: &'a str,

@@ -35,10 +35,15 @@ pub(crate) const LINES: [Line; 10] = [
         about: texts::SHIP_ABOUT,
         help: texts::SHIP_HELP,
         words: &[
-            Word::Text {
+            Word::Free {
                 name: "log",
                 value: "FILE",
                 help: "The log text that is served",
+            },
+            Word::Free {
+                name: "dir",
+                value: "DIR",
+                help: "The folder of a node whose log is served",
             },
             Word::Text {
                 name: "listen",
@@ -56,7 +61,7 @@ pub(crate) const LINES: [Line; 10] = [
             },
             EXPLAIN,
         ],
-        choice: &[],
+        choice: &["log", "dir"],
     },
     Line {
         name: "standby",

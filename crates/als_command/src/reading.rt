@@ -88,13 +88,30 @@ fn asked<'a>(name: &str, matches: &ArgMatches<'a>) -> Option<Command<'a>> {
 }
 
 fn ship<'a>(matches: &ArgMatches<'a>) -> Option<Command<'a>> {
-    Some(Command::Ship {
-        log: matches.get_str("log")?,
-        listen: matches.get_str("listen")?,
-        timeout: matches.get_one("timeout").unwrap_or(TIMEOUT),
-        keep: matches.get_flag("keep"),
-        follow: matches.get_flag("follow"),
-        explain: matches.get_flag("explain"),
+    let listen = matches.get_str("listen")?;
+    let timeout = matches.get_one("timeout").unwrap_or(TIMEOUT);
+    let keep = matches.get_flag("keep");
+    let follow = matches.get_flag("follow");
+    let explain = matches.get_flag("explain");
+    let Some(dir) = matches.get_str("dir") else {
+        return Some(Command::Ship {
+            log: matches.get_str("log")?,
+            listen,
+            timeout,
+            keep,
+            follow,
+            explain,
+        });
+    };
+    // A node's log does not grow meanwhile: --keep and --follow are of a file.
+    if keep || follow {
+        return None;
+    }
+    Some(Command::ShipNode {
+        dir,
+        listen,
+        timeout,
+        explain,
     })
 }
 

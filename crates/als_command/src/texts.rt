@@ -58,6 +58,8 @@ text, and
   ready                   end the recovery that a crash began
   publish, read P S       show readers what is acknowledged; what the published
                           commits left at slot S of page P
+  adopt SEAL ..           go on with the history of another node, whose
+                          takeovers were sealed there
   seal, undo, finish      seal the log, hold the next record of its tail, end
                           the takeover
   resolve T commit|rollback
@@ -66,7 +68,7 @@ text, and
                           finish
   fail log|control|pages K
                           make the K-th next call of that device fail
-  show status|table|dirty|db, show page P, show log A
+  show status|table|dirty|db|epochs, show page P, show log A
 Writes standard output: for each line that is no record line what it answers.
 
 Example:
@@ -76,7 +78,7 @@ Exit statuses: 0 done (a refused step is a line `refused N Name`, and the script
 goes on), 2 a fault of the command line or `line N: bad line`, 3 a refused world
 line or `als: refused N Name`.";
 
-pub const SHIP_ABOUT: &str = "Serves a log file to one follower";
+pub const SHIP_ABOUT: &str = "Serves a log file, or a node's log, to one follower";
 
 pub const SHIP_HELP: &str =
     "Reads FILE whole, at most 2,147,483,648 bytes: a log text as `als make` writes it, of
@@ -89,6 +91,9 @@ acknowledged the log: no crash of it loses what is below.
 With --keep it serves one follower after another, for ever, a line for each session that came
 to the end; what ends a session early is said on standard error. With --follow a session waits
 at the end of FILE for it to grow; 44 where it shrank. With either FILE is read piece by piece.
+With --dir in place of --log it serves the log of the node in the folder DIR, as far as no crash
+can lose it, and tells the node's history: the takeovers before it. --keep and --follow are of
+FILE alone.
 
 Example:
   printf 'pages 4\\nu 1 0 0 - aa\\ncommit 1\\nend 1\\n' | als make > primary.log
@@ -97,11 +102,14 @@ Example:
 Exit statuses: 0 done, 2 a fault of the command line, 3 `als: refused N Name`:
   1   FILE has no header, or the follower has another database
   32  there was no memory for FILE
-  40  the follower holds more than FILE has
+  40  the follower holds more than there is
   41  what came is no frame of a follower
+  42  the follower's log goes past the seal with which the history goes on
   43  the follower went away before the end
   44  FILE, ADDR, the network or standard output failed, FILE is too long, or the
-      follower was silent for longer than SECONDS";
+      follower was silent for longer than SECONDS
+  48  the follower's history is no front of the one that is served
+  With --dir also the faults of the files.";
 
 pub const STANDBY_ABOUT: &str = "Follows a primary's log as the standby of a folder";
 
@@ -142,7 +150,9 @@ Exit statuses: 0 done, 2 a fault of the command line, 3 `als: refused N Name`:
       With --keep: 1, where it does so before it has sent anything of its log, to DIR with
       an empty database: then its log has another number of pages than N
   44  nobody serves at ADDR, the network or standard output failed, or the primary was
-      silent for longer than SECONDS: run it again";
+      silent for longer than SECONDS: run it again
+  42  the log in DIR goes past the takeover of the node that serves: the two parted there
+  48  the takeovers of that node do not go on from those of DIR";
 
 pub const TAKEOVER_ABOUT: &str = "Makes a primary of the standby of a folder";
 

@@ -6,7 +6,7 @@ use crate::meeting_lines::MeetingLines;
 use crate::redo_lines::RedoLines;
 use crate::refusal::Refusal;
 use crate::terminals::Terminals;
-use crate::troubles;
+use crate::{partings, troubles};
 use als_command::Command;
 use als_drive::Progress;
 use als_engine::Decision;
@@ -15,7 +15,9 @@ use als_folder::Trouble;
 use als_follow::standby as standby_with_workers;
 use als_growing::{Lasting, ship_on};
 use als_inspect::{Wanted, dump, get, status, verify};
-use als_operate::{Following, Shipping, Verdict, resolve, ship, standby, takeover};
+use als_operate::{
+    Following, NodeShipping, Shipping, Verdict, resolve, ship, ship_node, standby, takeover,
+};
 use als_record::{Key, Lsn, TransId};
 use als_service::{Service, standby as serve_standby};
 use std::fs;
@@ -70,6 +72,10 @@ pub fn operate<
                     if let Some(trouble) = refusal.trouble {
                         explain(rt, path, trouble, errors);
                     }
+                    if matches!(command, Command::Standby { .. }) {
+                        // Where it can't be said, the status has to do.
+                        let _ = partings::tell(errors, path, refusal.kind);
+                    }
                     Ok(status)
                 }
             }
@@ -119,6 +125,20 @@ fn attempt<
             } else {
                 ship(rt, shipping, &mut lines, output)?
             }
+        }
+        Command::ShipNode {
+            dir,
+            listen,
+            timeout,
+            explain,
+        } => {
+            let shipping = NodeShipping {
+                dir,
+                listen,
+                timeout,
+            };
+            let mut lines = MeetingLines::new(errors, seen || explain);
+            ship_node(rt, shipping, &mut lines, output)?
         }
         Command::Standby {
             dir,
@@ -291,6 +311,7 @@ fn wanted(from: u64, trans: Option<u32>, page: Option<u32>) -> Wanted {
 fn told_of(command: Command<'_>, seen: bool) -> Option<&str> {
     let (path, explain) = match command {
         Command::Make { .. } | Command::Sim { .. } | Command::Ship { .. } => return None,
+        Command::ShipNode { dir, explain, .. } => (dir, explain),
         Command::Standby { dir, explain, .. } => (dir, explain),
         Command::Takeover { dir, explain } => (dir, explain),
         Command::Resolve { dir, explain, .. } => (dir, explain),

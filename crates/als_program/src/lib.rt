@@ -11,6 +11,8 @@ mod refusal;
 mod troubles;
 // How a long redo goes on.
 mod redo_lines;
+// A standby whose log parted from its primary's.
+mod partings;
 // Whom a shipper meets.
 mod meeting_lines;
 // Why the program ends without having done what it was asked.

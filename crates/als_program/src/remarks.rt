@@ -112,7 +112,7 @@ fn bad_line<W: Write>(
         Some(wrong) => writeln!(errors, "als: line {number}: {wrong}"),
         None => writeln!(
             errors,
-            "als: line {number}: a number is out of its range: `feed A B` ends in the log text of the record lines above, `show page P` names a page of the database, and `fail` counts from 1"
+            "als: line {number}: a number is out of its range: `feed A B` ends in the log text of the record lines above, `show page P` names a page of the database, `adopt` has at most 32 seals of which none is below the one before it, and `fail` counts from 1"
         ),
     }
 }

@@ -1,0 +1,19 @@
+use als_fault::FaultKind;
+use std::io;
+use std::io::Write;
+
+/// Says in words that a standby's log or history is not that of the node which it was to follow, and
+/// what an operator does then.
+pub fn tell<W: Write>(errors: &mut W, path: &str, kind: FaultKind) -> io::Result<()> {
+    match kind {
+        FaultKind::Diverged { seal } => writeln!(
+            errors,
+            "als: {path}: the two logs parted at offset {seal}: the node that serves goes on from a takeover that was sealed there, and this log goes past it. What it holds past {seal} is not in that node's log: keep the folder as long as that is wanted, and follow with an empty one"
+        ),
+        FaultKind::OtherEpoch { epoch } => writeln!(
+            errors,
+            "als: {path}: the node that serves has epoch {epoch}, and its takeovers do not go on from those that this one knows. Follow the node that took over last, or keep this folder and follow with an empty one"
+        ),
+        _ => Ok(()),
+    }
+}
