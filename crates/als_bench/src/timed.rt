@@ -1,5 +1,5 @@
 use crate::split::{Split, add};
-use als_engine::{Decision, Events, Fault, Fed, FeedFault, NotGiven, Status};
+use als_engine::{Decision, Events, Fault, Fed, FeedFault, History, NotGiven, Status};
 use als_lease::PageLease;
 use als_page::Page;
 use als_record::{LoggedPage, Lsn, Record, TransId, TransactionRow};
@@ -190,12 +190,20 @@ impl<R: Clock, E: Events> Events for Timed<'_, R, E> {
         self.events.resolve(trans, verdict)
     }
 
+    fn adopt(&mut self, history: History) -> Result<(), Fault> {
+        self.events.adopt(history)
+    }
+
     fn finish(&mut self) -> Result<(), Fault> {
         self.events.finish()
     }
 
     fn status(&self) -> Status {
         self.events.status()
+    }
+
+    fn history(&self) -> History {
+        self.events.history()
     }
 
     fn table(&self, alloc: Global) -> Result<Vec<TransactionRow>, Fault> {

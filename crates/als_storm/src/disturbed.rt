@@ -128,10 +128,10 @@ fn session<R: Threads + Wait + Sync>(
 }
 
 /// The last acknowledged offset that was told; 0: none was. An answer has a tag and eight bytes, and
-/// the request in front has 25.
+/// the request in front has 29.
 pub fn last_answer(told: &[u8]) -> u64 {
     match told {
-        [_, .., 0x41, a, b, c, d, e, f, g, h] if told.len() > 25 => {
+        [_, .., 0x41, a, b, c, d, e, f, g, h] if told.len() > 29 => {
             u64::from_be_bytes([*a, *b, *c, *d, *e, *f, *g, *h])
         }
         _ => 0,

@@ -20,9 +20,10 @@ const STREAM: usize = 100_000;
 /// The numbers of faults, 0 for none.
 const FAULTS: usize = 64;
 
-/// Faults by which such a session may end: those of records, states and limits, and of frames.
-const ENDINGS: [u32; 24] = [
-    0, 2, 3, 4, 5, 6, 7, 8, 9, 10, 11, 12, 13, 14, 15, 16, 20, 21, 29, 31, 36, 40, 41, 43,
+/// Faults by which such a session may end: those of records, states and limits, of frames and
+/// of histories.
+const ENDINGS: [u32; 26] = [
+    0, 2, 3, 4, 5, 6, 7, 8, 9, 10, 11, 12, 13, 14, 15, 16, 20, 21, 29, 31, 36, 40, 41, 42, 43, 48,
 ];
 
 /// Follows so many sessions of random frames. Prints how many ended by which fault.

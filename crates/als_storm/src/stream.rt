@@ -4,8 +4,8 @@ use als_bench_logs::Dice;
 /// The most bytes that a frame may have.
 const LIMIT: u32 = 65_536;
 
-/// The bytes of random frames: true ones from about a position on, others, and then bytes that are
-/// flipped or cut off.
+/// The bytes of a history, which is mostly that of no takeover, and of random frames: true ones from
+/// about a position on, others, and then bytes that are flipped or cut off.
 pub fn roll_stream(
     dice: &mut Dice,
     text: &[u8],
@@ -13,8 +13,9 @@ pub fn roll_stream(
     stream: &mut Vec<u8>,
 ) -> Result<(), Trouble> {
     let mut position = end;
+    put_history(dice, stream)?;
     if dice.below(100) == 0 {
-        put_head(stream, position, LIMIT)?;
+        put_head(stream, 0, position, LIMIT)?;
         put_noise(dice, LIMIT, stream)?;
     }
     for _ in 0..1 + dice.below(6) {
@@ -23,7 +24,7 @@ pub fn roll_stream(
             6 => put_any(dice, stream)?,
             7 => put_long(dice, stream)?,
             8 => put_noise(dice, 40, stream)?,
-            _ => put_head(stream, position, 0)?,
+            _ => put_head(stream, 0, position, 0)?,
         }
     }
     if dice.below(4) == 0 {
@@ -36,9 +37,27 @@ pub fn roll_stream(
     Ok(())
 }
 
+/// A history: in one of ten streams one with seals.
+fn put_history(dice: &mut Dice, stream: &mut Vec<u8>) -> Result<(), Trouble> {
+    let epoch = if dice.below(10) == 0 {
+        dice.below(36)
+    } else {
+        0
+    };
+    stream.push(b'E')?;
+    stream.extend_from_slice(&epoch.to_be_bytes())?;
+    let mut seal: u64 = 0;
+    for _ in 0..epoch {
+        seal = seal.saturating_add(u64::from(dice.below(6_000)));
+        stream.extend_from_slice(&seal.to_be_bytes())?;
+    }
+    Ok(())
+}
+
 /// The head of a Data frame.
-fn put_head(stream: &mut Vec<u8>, offset: u64, len: u32) -> Result<(), Trouble> {
-    stream.push(b'D')?;
+fn put_head(stream: &mut Vec<u8>, epoch: u32, offset: u64, len: u32) -> Result<(), Trouble> {
+    stream.push(b'F')?;
+    stream.extend_from_slice(&epoch.to_be_bytes())?;
     stream.extend_from_slice(&offset.to_be_bytes())?;
     stream.extend_from_slice(&len.to_be_bytes())?;
     Ok(())
@@ -59,16 +78,21 @@ fn put_true(
     let from = position.saturating_sub(u64::from(back)).max(16);
     let to = from.saturating_add(u64::from(dice.below(600)));
     let bytes = text.get(from as usize..to as usize).unwrap_or(&[]);
-    put_head(stream, from, length_of(bytes))?;
+    put_head(stream, 0, from, length_of(bytes))?;
     stream.extend_from_slice(bytes)?;
     Ok(position.max(from.saturating_add(bytes.len() as u64)))
 }
 
-/// A Data frame of any offset and length, with some bytes.
+/// A Data frame of any offset and length, in one of three cases of any epoch, with some bytes.
 fn put_any(dice: &mut Dice, stream: &mut Vec<u8>) -> Result<(), Trouble> {
     let len = dice.below(300);
     let offset = roll_offset(dice);
-    put_head(stream, offset, len)?;
+    let epoch = if dice.below(3) == 0 {
+        dice.below(36)
+    } else {
+        0
+    };
+    put_head(stream, epoch, offset, len)?;
     put_noise(dice, len, stream)
 }
 
@@ -76,7 +100,7 @@ fn put_any(dice: &mut Dice, stream: &mut Vec<u8>) -> Result<(), Trouble> {
 fn put_long(dice: &mut Dice, stream: &mut Vec<u8>) -> Result<(), Trouble> {
     let len = LIMIT + 1 + dice.below(1_000);
     let offset = roll_offset(dice);
-    put_head(stream, offset, len)
+    put_head(stream, 0, offset, len)
 }
 
 /// Some offset, small or great.

@@ -1,9 +1,10 @@
-ghost use Rattle.std.specs.Prelude.{◌≡◌, ◌<◌, ◌≤◌, ◌+◌, ℕ, IfOk, IfSome};
+ghost use Rattle.std.specs.Prelude.{◌≡◌, ◌<◌, ◌≤◌, ◌+◌, ◌∷◌, [], ℕ, IfOk, IfSome};
 ghost use Rattle.als_disk.specs.Slot.{IsSettled};
 ghost use Rattle.als_ckpt.specs.Control.{first_state, new_control};
 
 use als_ckpt::{Control, ControlState, Fault, Phase, Refused, Region, clear, read_state};
 use als_disk::{BlockDisk, DeviceError, FailingDisk, Fuse, MemDisk, Restart};
+use als_epochs::History;
 use als_record::Lsn;
 use std::alloc::Global;
 use std::process::Abort;
@@ -23,7 +24,8 @@ fn disk_of(alloc: Global, block: &[u8; 512]) -> Result<MemDisk, DeviceError>
     Ok(disk)
 }
 
-/// A block of four pages: sealed at 150, a checkpoint at 100 in the first region, stable up to 200.
+/// A block of four pages, of version 1: sealed at 150, a checkpoint at 100 in the first region,
+/// stable up to 200.
 fn sealed_block() -> [u8; 512] {
     let mut block = [0; 512];
     block[..10].copy_from_slice(b"ALSCTL01\0\x01");
@@ -46,6 +48,30 @@ fn read_with(alloc: Global, edits: &[(u16, u8)]) -> Result<ControlState, Fault> 
     }
     let mut disk = disk_of(alloc, &block)?;
     read_state(&mut disk, 4, 4096)
+}
+
+/// The same of the block of version 2: its history has the one seal.
+fn read_now_with(alloc: Global, edits: &[(u16, u8)]) -> Result<ControlState, Fault> {
+    let mut block = sealed_block();
+    block[9] = 2;
+    block[43] = 1;
+    block[55] = 150;
+    for &(at, byte) in edits {
+        if let Some(place) = block.get_mut(at as usize) {
+            *place = byte;
+        }
+    }
+    let mut disk = disk_of(alloc, &block)?;
+    read_state(&mut disk, 4, 4096)
+}
+
+/// The history with one seal.
+fn sealed_once(seal: Lsn) -> History
+    ensures { result ≡ seal.0 ∷ [] }
+{
+    let mut history = History::empty();
+    history.push(seal);
+    history
 }
 
 /// The control block of a new database of four pages, over a log of 4,096 bytes. `None`: the device
@@ -76,25 +102,31 @@ fn the_block_of_a_new_database(rt: HostRuntime) -> Result<(), Fail> {
     let mut block = [7; 512];
     disk.read(0, &mut block)?;
     let (front, rest) = block.split_at(24);
-    assert!(rt; front == b"ALSCTL01\0\x01\x01\0\0\0\0\x04\0\0\0\0\0\0\0\x10".as_slice());
+    assert!(rt; front == b"ALSCTL01\0\x02\x01\0\0\0\0\x04\0\0\0\0\0\0\0\x10".as_slice());
     assert!(rt; rest == [0; 488].as_slice());
     Ok(())
 }
 
-#[test]
-fn reads_what_the_format_admits(rt: HostRuntime) -> Result<(), Fail> {
-    let state = ControlState {
+/// What both sealed blocks say.
+fn sealed_state() -> ControlState {
+    ControlState {
         phase: Phase::Sealed,
         published: Some(Region::First),
         mark: Lsn(200),
         position: Lsn(100),
         seal: Lsn(150),
-    };
-    assert!(rt; read_with(rt.alloc(), &[]) == Ok(state));
+        history: sealed_once(Lsn(150)),
+    }
+}
+
+#[test]
+fn reads_what_the_format_admits(rt: HostRuntime) -> Result<(), Fail> {
+    assert!(rt; read_with(rt.alloc(), &[]) == Ok(sealed_state()));
+    assert!(rt; read_now_with(rt.alloc(), &[]) == Ok(sealed_state()));
     let primary = ControlState {
         phase: Phase::Primary,
         published: Some(Region::Second),
-        ..state
+        ..sealed_state()
     };
     assert!(rt; read_with(rt.alloc(), &[(10, 3), (11, 2)]) == Ok(primary));
     // the mark at the log's end, and the least and greatest position and seal
@@ -111,6 +143,57 @@ fn reads_what_the_format_admits(rt: HostRuntime) -> Result<(), Fail> {
     Ok(())
 }
 
+/// What is read from a block with these bytes in front, over a log of 4,096 bytes.
+fn read_front(alloc: Global, front: &[u8; 40]) -> Result<ControlState, Fault> {
+    let mut block = [0; 512];
+    block[..40].copy_from_slice(front);
+    let mut disk = disk_of(alloc, &block)?;
+    read_state(&mut disk, 4, 4096)
+}
+
+// Three blocks that the build before histories wrote, for four pages and a log of eight blocks: at
+// the end of a session of `als standby`; in an `als takeover` that was killed at its first write of
+// the log; and at the end of one. als_tests_store has the whole devices, in `store/older.rt`.
+#[test]
+fn reads_the_blocks_of_the_build_before(rt: HostRuntime) {
+    let following = ControlState {
+        phase: Phase::Following,
+        published: Some(Region::First),
+        mark: Lsn(144),
+        position: Lsn(144),
+        seal: Lsn(0),
+        history: History::empty(),
+    };
+    let sealed = ControlState {
+        phase: Phase::Sealed,
+        seal: Lsn(144),
+        history: sealed_once(Lsn(144)),
+        ..following
+    };
+    let primary = ControlState {
+        phase: Phase::Primary,
+        mark: Lsn(214),
+        ..sealed
+    };
+    let rows = [
+        (
+            b"ALSCTL01\0\x01\x01\x01\0\0\0\x04\0\0\0\0\0\0\0\x90\0\0\0\0\0\0\0\x90\0\0\0\0\0\0\0\0",
+            following,
+        ),
+        (
+            b"ALSCTL01\0\x01\x02\x01\0\0\0\x04\0\0\0\0\0\0\0\x90\0\0\0\0\0\0\0\x90\0\0\0\0\0\0\0\x90",
+            sealed,
+        ),
+        (
+            b"ALSCTL01\0\x01\x03\x01\0\0\0\x04\0\0\0\0\0\0\0\xd6\0\0\0\0\0\0\0\x90\0\0\0\0\0\0\0\x90",
+            primary,
+        ),
+    ];
+    for (front, state) in rows {
+        assert!(rt; read_front(rt.alloc(), front) == Ok(state));
+    }
+}
+
 /// With other bytes at some places the sealed block is refused.
 fn expect_refused(rt: &impl Abort, alloc: Global, what: &str, edits: &[(u16, u8)]) {
     assert!(rt; read_with(alloc, edits) == Err(Fault::BadControl), "{what}");
@@ -120,7 +203,7 @@ fn expect_refused(rt: &impl Abort, alloc: Global, what: &str, edits: &[(u16, u8)
 fn refuses_what_is_no_control_block(rt: HostRuntime) {
     let rows: [(&str, &[(u16, u8)]); 17] = [
         ("another text", &[(7, 50)]),
-        ("another version", &[(9, 2)]),
+        ("another version", &[(9, 3)]),
         ("no phase", &[(10, 0), (39, 0)]),
         ("a phase above 3", &[(10, 4)]),
         ("a region above 2", &[(11, 3)]),
@@ -142,6 +225,50 @@ fn refuses_what_is_no_control_block(rt: HostRuntime) {
     ];
     for (what, edits) in rows {
         expect_refused(&rt, rt.alloc(), what, edits);
+    }
+}
+
+/// With other bytes at some places the sealed block of version 2 is refused.
+fn expect_refused_now(rt: &impl Abort, alloc: Global, what: &str, edits: &[(u16, u8)]) {
+    assert!(rt;
+        read_now_with(alloc, edits) == Err(Fault::BadControl),
+        "{what}"
+    );
+}
+
+#[test]
+fn refuses_what_is_no_history(rt: HostRuntime) {
+    let rows: [(&str, &[(u16, u8)]); 12] = [
+        ("no version", &[(9, 0)]),
+        ("version 1 with a history", &[(9, 1)]),
+        ("an epoch above 32", &[(43, 33)]),
+        ("an epoch far above 32", &[(40, 1)]),
+        ("a byte behind the epoch", &[(44, 1)]),
+        ("the last byte before the seals", &[(47, 1)]),
+        ("a seal below 16", &[(43, 2), (55, 15), (63, 150)]),
+        (
+            "a seal below the one before it",
+            &[(43, 2), (55, 151), (63, 150)],
+        ),
+        ("an unused seal", &[(63, 160)]),
+        ("another last seal", &[(43, 2), (63, 151)]),
+        ("a byte behind the seals", &[(304, 1)]),
+        ("the last byte", &[(511, 1)]),
+    ];
+    for (what, edits) in rows {
+        expect_refused_now(&rt, rt.alloc(), what, edits);
+    }
+}
+
+#[test]
+fn reads_histories(rt: HostRuntime) {
+    // sealed twice, also at one LSN, and following what was sealed past the log's end
+    for edits in [
+        [(43, 2), (55, 16), (63, 150), (10, 2)],
+        [(43, 2), (55, 150), (63, 150), (10, 3)],
+        [(10, 1), (39, 0), (54, 1), (55, 0)],
+    ] {
+        assert!(rt; read_now_with(rt.alloc(), &edits).is_ok());
     }
 }
 
@@ -180,7 +307,7 @@ fn life(disk: FailingDisk<MemDisk>) -> Result<Lsn, Fault>
     let mut control = Control::create(disk, 4, 4096).map_err(fault_of)?;
     control.write_mark(Lsn(100))?;
     control.sync()?;
-    control.write_phase(Phase::Sealed, Lsn(200), Lsn(200))?;
+    control.write_phase(Phase::Sealed, Lsn(200), Lsn(200), sealed_once(Lsn(200)))?;
     control.sync()?;
     let (mut disk, _) = crashed(control, &[]);
     let state = read_state(&mut disk, 4, 4096)?;

@@ -11,8 +11,9 @@ use std::process::Abort;
 use std::sync::Wait;
 use std::thread::Threads;
 
-/// The stream ends within the tenth frame. A frame's head has 13 bytes.
-const CUT: usize = 9 * (13 + FRAME) + 1000;
+/// The stream ends within the tenth frame. A frame's head has 17 bytes, and the history in front of them
+/// 5.
+const CUT: usize = 5 + 9 * (17 + FRAME) + 1000;
 
 /// A session that is cut, and one that goes on where it ended, with so many workers each. `None`:
 /// they ended otherwise, as where allocation fails.

@@ -38,7 +38,7 @@ const REFUSED_WORLDS: [&str; 11] = [
 ];
 
 /// Lines that are none of the language.
-const BAD_LINES: [&str; 84] = [
+const BAD_LINES: [&str; 91] = [
     " ",
     "nothing",
     "COMMIT 1",
@@ -117,6 +117,13 @@ const BAD_LINES: [&str; 84] = [
     "resolve 1 end",
     "resolve 4294967296 commit",
     "resolve 1 commit 1",
+    "adopt",
+    "adopt ",
+    "adopt x",
+    "adopt 130 108",
+    "adopt 108 18446744073709551616",
+    "adopt 9 9 9 9 9 9 9 9 9 9 9 9 9 9 9 9 9 9 9 9 9 9 9 9 9 9 9 9 9 9 9 9 9",
+    "show epochs 1",
     "read 0 0 0",
     "show",
     "show page",

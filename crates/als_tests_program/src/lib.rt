@@ -76,6 +76,9 @@ mod following;
 // Sessions of ends that go on, and what ends them all the same.
 #[cfg(test)]
 mod going_on;
+// A takeover of one of two standbys, and what the others do then.
+#[cfg(test)]
+mod three_nodes;
 // The files of a standby's folder.
 #[cfg(test)]
 mod folder;

@@ -1,4 +1,6 @@
-use als_engine::{Answer, Event, Fault, Fed, FeedFault, NotGiven, PageLease, State, Status};
+use als_engine::{
+    Answer, Event, Fault, Fed, FeedFault, History, NotGiven, PageLease, State, Status,
+};
 use als_page::Page;
 use als_record::{Body, Image, LoggedPage, Lsn, Record, TransactionRow};
 use als_view::Fault as ReaderFault;
@@ -149,6 +151,12 @@ impl Answers {
     /// A page's number, or none.
     pub(crate) fn page_id(&mut self, page: Option<u32>) {
         self.note(page.map_or(NONE, u64::from));
+    }
+
+    /// A history: its epoch, and its last seal.
+    pub(crate) fn history(&mut self, history: History) {
+        self.note(u64::from(history.epoch()));
+        self.note(history.last().0);
     }
 
     /// A row of the dirty page table, or none.

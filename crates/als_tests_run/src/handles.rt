@@ -12,7 +12,7 @@ use std::marker::Brand;
 use std::sync::Wait;
 
 /// How many events a standby has.
-const EVENTS: u32 = 20;
+const EVENTS: u32 = 21;
 
 /// A scene over an engine that is shared, by a handle. The engine comes back.
 fn play_shared<L: Ledgers, E: Counts + Drop, R: Wait>(

@@ -4,7 +4,7 @@ ghost use Rattle.als_view.specs.Views.{book_of};
 use crate::answers::Answers;
 use crate::spelled::Spelled;
 use crate::standbys::TEXT;
-use als_engine::{Decision, Event, Events, PageLease, Reader};
+use als_engine::{Decision, Event, Events, History, PageLease, Reader};
 use als_record::{Key, Lsn, TransId};
 use std::alloc::Global;
 use std::sync::Wait;
@@ -90,6 +90,7 @@ fn play_whole<E: Events, R: Wait>(
     read(events, reader, answers, NEW_KEY);
     write_pages(events, answers);
     checkpoint(events, answers);
+    adopt(events, answers);
     seal(events, answers);
     undo(events, answers);
     finish(events, answers);
@@ -265,6 +266,27 @@ fn checkpoint<E: Events>(events: &mut E, answers: &mut Answers)
     answers.lsn(Event::ControlSync, events.ctl_sync());
     answers.unit(Event::CkptPublish, events.ckpt_publish());
     answers.unit(Event::CkptPublish, events.ckpt_publish());
+}
+
+/// The history of one takeover.
+fn history_at(seal: Lsn) -> History {
+    let mut history = History::empty();
+    if history.takes(seal) {
+        history.push(seal);
+    }
+    history
+}
+
+/// The history of another node is adopted.
+fn adopt<E: Events>(events: &mut E, answers: &mut Answers)
+    ensures { E.book events.new ≡ E.book events.old }
+{
+    answers.history(events.history());
+    answers.unit(Event::Adopt, events.adopt(history_at(Lsn(371))));
+    answers.unit(Event::Adopt, events.adopt(history_at(Lsn(372))));
+    answers.unit(Event::Adopt, events.adopt(history_at(Lsn(372))));
+    answers.unit(Event::Adopt, events.adopt(history_at(Lsn(373))));
+    answers.history(events.history());
 }
 
 /// The log is sealed.

@@ -17,21 +17,23 @@ pub const TEXT: [u8; 108] = [
     0, 0, 0, 0, 0, 80, 0, 0, 0, 0, 0, 0, 0, 52, 0, 0, 0, 1,
 ];
 
-/// What a follower of that log tells: a Resume frame from 16 on, and two Acknowledged frames of
-/// 108.
-pub const TOLD: [u8; 43] = [
-    0x52, 0, 0, 0, 0, 0, 0, 0, 16, 65, 76, 83, 76, 79, 71, 48, 49, 0, 0, 0, 4, 0, 0, 0, 0, //
+/// What a follower of that log tells: a Resume frame from 16 on, of epoch 0, and two Acknowledged
+/// frames of 108.
+pub const TOLD: [u8; 47] = [
+    0x51, 0, 0, 0, 0, 0, 0, 0, 16, 65, 76, 83, 76, 79, 71, 48, 49, 0, 0, 0, 4, 0, 0, 0, 0, 0, 0, 0,
+    0, //
     0x41, 0, 0, 0, 0, 0, 0, 0, 108, //
     0x41, 0, 0, 0, 0, 0, 0, 0, 108,
 ];
 
-/// What a shipper of that log sends to a follower that holds nothing: the Data frame of the bytes
-/// from 16 to 108, and the last one, which has none.
-pub const SENT: [u8; 118] = [
-    68, 0, 0, 0, 0, 0, 0, 0, 16, 0, 0, 0, 92, 0, 0, 0, 36, 1, 0, 0, 0, 0, 0, 0, 0, 0, 0, 0, 16, 0,
-    0, 0, 0, 0, 0, 0, 0, 0, 0, 0, 1, 0, 0, 0, 0, 0, 255, 1, 170, 0, 0, 0, 28, 3, 0, 0, 0, 0, 0, 0,
-    0, 0, 0, 0, 52, 0, 0, 0, 0, 0, 0, 0, 16, 0, 0, 0, 1, 0, 0, 0, 28, 5, 0, 0, 0, 0, 0, 0, 0, 0, 0,
-    0, 80, 0, 0, 0, 0, 0, 0, 0, 52, 0, 0, 0, 1, 68, 0, 0, 0, 0, 0, 0, 0, 108, 0, 0, 0, 0,
+/// What a shipper of that log sends to a follower that holds nothing: the Epochs frame of no seals,
+/// the Data frame of the bytes from 16 to 108, and the last one, which has none.
+pub const SENT: [u8; 131] = [
+    69, 0, 0, 0, 0, 70, 0, 0, 0, 0, 0, 0, 0, 0, 0, 0, 0, 16, 0, 0, 0, 92, 0, 0, 0, 36, 1, 0, 0, 0,
+    0, 0, 0, 0, 0, 0, 0, 16, 0, 0, 0, 0, 0, 0, 0, 0, 0, 0, 0, 1, 0, 0, 0, 0, 0, 255, 1, 170, 0, 0,
+    0, 28, 3, 0, 0, 0, 0, 0, 0, 0, 0, 0, 0, 52, 0, 0, 0, 0, 0, 0, 0, 16, 0, 0, 0, 1, 0, 0, 0, 28,
+    5, 0, 0, 0, 0, 0, 0, 0, 0, 0, 0, 80, 0, 0, 0, 0, 0, 0, 0, 52, 0, 0, 0, 1, 70, 0, 0, 0, 0, 0, 0,
+    0, 0, 0, 0, 0, 108, 0, 0, 0, 0,
 ];
 
 /// A standby of four pages.

@@ -3,6 +3,10 @@ ghost use Rattle.als_record.specs.Spelling.{IsRecord, spelling};
 
 // A transaction in doubt is decided.
 mod deciding;
+// The history of another node is adopted.
+mod histories;
+// Devices that were made before there were histories.
+mod older;
 // What refuses redo, a write and a sync, in order.
 mod refusals;
 // A store that was stopped is opened again.
@@ -176,6 +180,8 @@ fn seal<D: BlockDisk + Drop>(rt: &impl Abort, store: &mut Store<D>) -> Result<()
     assert!(rt; !store.is_broken());
     assert!(rt; store.is_following());
     assert!(rt; store.end().0 <= store.synced().0);
+    let history = store.history();
+    assert!(rt; history.takes(store.end()));
     store.seal()
 }
 
