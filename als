@@ -89,10 +89,13 @@ help_page() {
             ;;
         ship)
             text SHIP_ABOUT
-            printf '\nUsage: als ship [OPTIONS] --log <FILE> --listen <ADDR>\n\nOptions:\n'
+            printf '\nUsage: als ship [OPTIONS] --listen <ADDR> <--log <FILE>|--dir <DIR>>\n\nOptions:\n'
             option_row ship 17 log FILE
+            option_row ship 17 dir DIR
             option_row ship 17 listen ADDR
             option_row ship 17 timeout SECONDS
+            flag_row ship 17 keep
+            flag_row ship 17 follow
             explain_row 17
             help_row 17
             text SHIP_HELP
