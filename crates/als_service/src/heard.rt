@@ -5,8 +5,8 @@ use std::io;
 use std::io::Read;
 use std::time::Clock;
 
-/// What a primary sends. A board is told that something comes, and when it last did. A connection
-/// alone says nothing: the system accepts it also for a primary that is frozen.
+/// What a primary sends. The board records that something came, and when it last did. A connection
+/// alone proves nothing: the system accepts it also for a primary that is frozen.
 pub(crate) struct Heard<'a, I, C> {
     stream: I,
     board: &'a Board,

@@ -9,7 +9,7 @@ const SHORT: u64 = 100;
 /// The longest one.
 const LONG: u64 = 5_000;
 
-/// A person is told of a pause once in so many seconds at most.
+/// A pause is reported at most once in this many seconds.
 const TOLD: u64 = 60;
 
 /// How long is waited before the primary is asked again, and when that was last told.
@@ -53,7 +53,7 @@ impl Pause {
         millis
     }
 
-    /// Whether it is to be told now. A clock that can't be read tells nothing.
+    /// Whether this pause is to be reported. It is not where the clock can't be read.
     pub fn is_told<C: Clock>(&mut self, clock: &C) -> bool {
         let Ok(now) = clock.monotonic() else {
             return false;

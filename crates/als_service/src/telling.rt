@@ -12,8 +12,8 @@ use als_view::Told;
 use std::alloc::Global;
 use std::sync::Wait;
 
-/// The same events. Each status that is asked for is told to a board, from which those read it who
-/// answer others. It makes no event of its own.
+/// The same events. Each status that is asked for is also stored on a board, which the threads that
+/// answer requests read. It makes no event of its own.
 pub struct Telling<'a, E> {
     board: &'a Board,
     events: E,
@@ -43,7 +43,7 @@ impl<'a, E: Events> Telling<'a, E> {
     }
 }
 
-/// Tells the board what the events tell of themselves. Whether somebody sends, they do not know.
+/// Stores a status on the board. Whether a primary sends is not part of a status.
 fn tell(board: &Board, status: &Status) {
     board.set_log(status.end, status.acknowledged);
     board.set_redo(status.pending as u64, status.leases as u64);

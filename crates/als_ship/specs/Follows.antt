@@ -75,8 +75,11 @@ IsOwnHead old epoch offset len = IsHead epoch offset len × (epoch ≡ epoch_of 
 -- What a Data frame makes of a standby, and what is answered: its bytes below the position are dropped without a look, and the rest
 -- is fed. A frame that may not come is followed by a resync; one of another epoch, and then one behind a gap, change nothing.
 abbrev pub Takes : Machine → ℕ → ℕ → List ℕ → Result Lsn Fault → Machine → Type 0
-Takes old epoch offset bytes (Ok lsn) new = IsOwnHead old epoch offset (length bytes) × (offset ≤ position old) × (lsn.0 ≡ position new) × FeedsRest old (drop (position old - offset) bytes) (Ok tt) new
-Takes old epoch offset bytes (Err (Refused fault)) new = IsOwnHead old epoch offset (length bytes) × (offset ≤ position old) × FeedsRest old (drop (position old - offset) bytes) (Err fault) new
+Takes old epoch offset bytes (Ok lsn) new =
+    IsOwnHead old epoch offset (length bytes) × (offset ≤ position old) × (lsn.0 ≡ position new)
+      × FeedsRest old (drop (position old - offset) bytes) (Ok tt) new
+Takes old epoch offset bytes (Err (Refused fault)) new =
+    IsOwnHead old epoch offset (length bytes) × (offset ≤ position old) × FeedsRest old (drop (position old - offset) bytes) (Err fault) new
 Takes old epoch offset bytes (Err BadFrame) new = (IsHead epoch offset (length bytes) → ⊥) × WasResynced old new
 Takes old epoch offset bytes (Err (OtherEpoch other)) new = IsHead epoch offset (length bytes) × (epoch ≢ epoch_of old) × (other ≡ epoch) × (new ≡ old)
 Takes old epoch offset bytes (Err Gap) new = IsOwnHead old epoch offset (length bytes) × (position old < offset) × (new ≡ old)
@@ -92,12 +95,14 @@ AdoptsSynced old history new = (adopted : Machine) × (mark : Lsn) × Adopts old
 
 -- it was not: the adoption was refused, or the sync behind it
 abbrev pub NotAdopted : Machine → List ℕ → EngineFault → Machine → Type 0
-NotAdopted old history fault new = Adopts old history (Err fault) new ⊎ ((adopted : Machine) × Adopts old history (Ok tt) adopted × ControlSyncs adopted (Err fault) new)
+NotAdopted old history fault new =
+    Adopts old history (Err fault) new ⊎ ((adopted : Machine) × Adopts old history (Ok tt) adopted × ControlSyncs adopted (Err fault) new)
 
 -- What an Epochs frame makes of a standby, and what is answered: where the history is its own, nothing is done; else it is adopted,
 -- and the control block synced, or one of these is refused.
 abbrev pub TakesUp : Machine → List ℕ → Result Lsn Fault → Machine → Type 0
-TakesUp old history (Ok lsn) new = (lsn.0 ≡ position new) × (((history ≡ history_of old.held) × (new ≡ old)) ⊎ ((history ≢ history_of old.held) × AdoptsSynced old history new))
+TakesUp old history (Ok lsn) new =
+    (lsn.0 ≡ position new) × (((history ≡ history_of old.held) × (new ≡ old)) ⊎ ((history ≢ history_of old.held) × AdoptsSynced old history new))
 TakesUp old history (Err (Refused fault)) new = (history ≢ history_of old.held) × NotAdopted old history fault new
 TakesUp old history (Err BadHeader) new = ⊥
 TakesUp old history (Err Memory) new = ⊥

@@ -25,7 +25,8 @@ frames_bytes frames = flat_map frame_bytes frames
 -- if frames are true of the texts of all epochs, and the standby's history and log were fronts of theirs, they still are
 abbrev pub KeepsOver : List Frame → Machine → Machine → Type 0
 KeepsOver frames old new =
-    (texts : ℕ → List ℕ) (seals : List ℕ) → AreEpochs texts seals → AllByRecursion (IsTrueFrame texts seals) frames → HoldsFront texts seals old → HoldsFront texts seals new
+    (texts : ℕ → List ℕ) (seals : List ℕ) → AreEpochs texts seals → AllByRecursion (IsTrueFrame texts seals) frames → HoldsFront texts seals old
+          → HoldsFront texts seals new
 
 -- frames were read, over which this holds
 abbrev pub KeepsFront : Type 0 → Option (List ℕ) → Option (List ℕ) → Machine → Machine → Type 0
@@ -90,7 +91,8 @@ TakesUnanswered old new = (frame : Frame) × (lsn : Lsn) × (mid : Machine) × H
 
 -- the frame was refused, or the force that followed it
 abbrev pub TakesRefused : Machine → Fault → Machine → Type 0
-TakesRefused old fault new = (frame : Frame) × (Handles old frame (Err fault) new ⊎ ((lsn : Lsn) × (mid : Machine) × Handles old frame (Ok lsn) mid × SameText mid new × FailsToForce fault new))
+TakesRefused old fault new =
+    (frame : Frame) × (Handles old frame (Err fault) new ⊎ ((lsn : Lsn) × (mid : Machine) × Handles old frame (Ok lsn) mid × SameText mid new × FailsToForce fault new))
 
 -- the frame was taken and its answer told, and then the upkeep was refused
 abbrev pub KeepsRefused : (EngineFault → Machine → Type 0) → Machine → EngineFault → Machine → Type 0

@@ -24,4 +24,6 @@ AnswersPart floor old new = (answer : Lsn) × (answer.0 ≤ floor) × Puts (ackn
 
 -- A Resume frame was written, and behind it Acknowledged frames, each of an LSN that is at most the floor; or a front of all that.
 abbrev pub TellsVouched : ℕ → Option (List ℕ) → Option (List ℕ) → Type 0
-TellsVouched floor old new = (from pages : ℕ) × (seals : List ℕ) × (answers : List Lsn) × AreVouched floor answers × Puts (resume_bytes from pages seals ++ answers_bytes answers) old new
+TellsVouched floor old new =
+    (from pages : ℕ) × (seals : List ℕ) × (answers : List Lsn) × AreVouched floor answers
+      × Puts (resume_bytes from pages seals ++ answers_bytes answers) old new

@@ -27,7 +27,8 @@ pieces_bytes epoch at (piece ∷ pieces) = data_bytes epoch at piece ++ pieces_b
 -- the pieces follow one another in the text from this offset to that one, each of 1 to 65,536 bytes
 abbrev pub ArePieces : List ℕ → ℕ → List (List ℕ) → ℕ → Type 0
 ArePieces text at [] end = at ≡ end
-ArePieces text at (piece ∷ pieces) end = (0 < length piece) × (length piece ≤ 65536) × (piece ≡ bytes_at text at (length piece)) × ArePieces text (at + length piece) pieces end
+ArePieces text at (piece ∷ pieces) end =
+    (0 < length piece) × (length piece ≤ 65536) × (piece ≡ bytes_at text at (length piece)) × ArePieces text (at + length piece) pieces end
 
 -- pieces joined
 abbrev pub joined : List (List ℕ) → List ℕ
@@ -127,22 +128,26 @@ SendsTrue text own old new = Puts (epochs_bytes own) old new ⊎ SendsPieces tex
 -- a whole Resume frame with another header
 abbrev pub HasOtherHeader : LogHeader → Option (List ℕ) → Option (List ℕ) → Type 0
 HasOtherHeader header old new =
-    (from : ℕ) × (theirs : LogHeader) × (seals : List ℕ) × IsHeader theirs × (theirs.pages ≢ header.pages) × Consumes old new (resume_bytes from theirs.pages seals)
+    (from : ℕ) × (theirs : LogHeader) × (seals : List ℕ) × IsHeader theirs × (theirs.pages ≢ header.pages)
+          × Consumes old new (resume_bytes from theirs.pages seals)
 
 -- a whole Resume frame of a follower whose history is no front of the own one, which has this epoch
 abbrev pub HasOtherEpoch : LogHeader → List ℕ → ℕ → Option (List ℕ) → Option (List ℕ) → Type 0
 HasOtherEpoch header own epoch old new =
-    (from : ℕ) × (seals : List ℕ) × IsHistory seals × Judges seals own from (Err (judged.OtherEpoch epoch)) × Consumes old new (resume_bytes from header.pages seals)
+    (from : ℕ) × (seals : List ℕ) × IsHistory seals × Judges seals own from (Err (judged.OtherEpoch epoch))
+          × Consumes old new (resume_bytes from header.pages seals)
 
 -- a whole Resume frame that goes on past this seal, the first of the own ones that the follower lacks
 abbrev pub HasDiverged : LogHeader → List ℕ → Lsn → Option (List ℕ) → Option (List ℕ) → Type 0
 HasDiverged header own seal old new =
-    (from : ℕ) × (seals : List ℕ) × IsHistory seals × Judges seals own from (Err (judged.Diverged seal)) × Consumes old new (resume_bytes from header.pages seals)
+    (from : ℕ) × (seals : List ℕ) × IsHistory seals × Judges seals own from (Err (judged.Diverged seal))
+          × Consumes old new (resume_bytes from header.pages seals)
 
 -- a whole Resume frame of a follower whose history is not refused, and that goes on past the end
 abbrev pub IsPastEnd : LogHeader → List ℕ → ℕ → Option (List ℕ) → Option (List ℕ) → Type 0
 IsPastEnd header own end old new =
-    (from : ℕ) × (seals : List ℕ) × IsHistory seals × (step : Step) × Judges seals own from (Ok step) × (end < from) × Consumes old new (resume_bytes from header.pages seals)
+    (from : ℕ) × (seals : List ℕ) × IsHistory seals × (step : Step) × Judges seals own from (Ok step) × (end < from)
+          × Consumes old new (resume_bytes from header.pages seals)
 
 -- Why a follower was not asked: its header is damaged or another one, this is no Resume frame, or the stream ended or failed.
 abbrev pub FailsToAsk : LogHeader → Fault → Option (List ℕ) → Option (List ℕ) → Type 0
@@ -183,7 +188,8 @@ IsOfTheWay (Refused cause) = ⊥
 -- Why a session was not served to its end. The first cause is found before anything is sent, the next three once the own history was
 -- told, in this order. A growth may be refused, a frame may be none that may come, and the stream or the source may fail.
 abbrev pub FailsToServe : LogHeader → List ℕ → ℕ → Fault → Option (List ℕ) → Type 0
-FailsToServe header own end BadHeader asked = (behind : Option (List ℕ)) × (FailsToRead tag.Resume wire.BadHeader asked behind ⊎ HasOtherHeader header asked behind)
+FailsToServe header own end BadHeader asked =
+    (behind : Option (List ℕ)) × (FailsToRead tag.Resume wire.BadHeader asked behind ⊎ HasOtherHeader header asked behind)
 FailsToServe header own end (OtherEpoch epoch) asked = (behind : Option (List ℕ)) × HasOtherEpoch header own epoch asked behind
 FailsToServe header own end (Diverged seal) asked = (behind : Option (List ℕ)) × HasDiverged header own seal asked behind
 FailsToServe header own end Gap asked = (behind : Option (List ℕ)) × IsPastEnd header own end asked behind

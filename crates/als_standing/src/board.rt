@@ -70,7 +70,7 @@ fn second<C: Clock>(clock: &C) -> Option<u64> {
     Some(clock.monotonic().ok()?.as_secs())
 }
 
-/// A board beside the clock by which the age of its last frame is told.
+/// A board, and the clock that measures the age of its last frame.
 #[derive(Drop)]
 pub struct Watch<C: Clock> {
     board: Arc<Board, Global>,
@@ -78,7 +78,7 @@ pub struct Watch<C: Clock> {
 }
 
 impl<C: Clock> Watch<C> {
-    /// The board is told from by this clock, which is the one of `note_frame`.
+    /// Reads the board by this clock, which is the one of `note_frame`.
     pub fn new(board: Arc<Board, Global>, clock: C) -> Watch<C> {
         Watch { board, clock }
     }

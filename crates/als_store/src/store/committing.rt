@@ -37,7 +37,7 @@ fn writes_of(alloc: Global, updates: &[Record]) -> Result<Vec<(Key, Image)>, All
     Ok(writes)
 }
 
-/// A fault of the log, as it is told here.
+/// The store's fault for a fault of the log.
 fn fault_of(fault: LogFault) -> Fault
     ensures { result ≡ of_log fault }
 {
