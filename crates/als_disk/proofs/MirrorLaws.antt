@@ -42,11 +42,11 @@ module _ (old new : Trail) (i : ℕ) (block : List ℕ) where
     newest-apart k apart = if_apart k i block (newest_in old k) (newest_in new k) (lasts k) apart
 
     -- the block's piece, with room for each of its blocks, takes the block
-    pub HoldNewest-write : (pieces : List (List (List ℕ))) (piece : List (List ℕ)) (p at : ℕ) → i ≡ p * 128 + at → at < 128
+    pub HoldNewest-write : (first : ℕ) (pieces : List (List (List ℕ))) (piece : List (List ℕ)) (p at : ℕ) → i ≡ p * 128 + at → at < 128
         → p < length pieces → length piece ≡ 128
         → ((a : ℕ) → content_at piece a ≡ content_at (piece_in pieces p) a)
-        → HoldNewest pieces old → HoldNewest (slice_set pieces p (slice_set piece at block)) new
-    HoldNewest-write pieces piece p at place within some room same holds q a below = elim (cases_eq q p) [
+        → HoldNewest first pieces old → HoldNewest first (slice_set pieces p (slice_set piece at block)) new
+    HoldNewest-write first pieces piece p at place within some room same holds q a kept below = elim (cases_eq q p) [
       | inl here ↦
           let lookup : piece_in (slice_set pieces p (slice_set piece at block)) q ≡ slice_set piece at block
           = subst (λ (n : ℕ). piece_in (slice_set pieces p (slice_set piece at block)) n ≡ slice_set piece at block) (sym here) (get_or-set_same pieces p (slice_set piece at block) [] some) in
@@ -58,24 +58,50 @@ module _ (old new : Trail) (i : ℕ) (block : List ℕ) where
             | inr other_at ↦
                 get_or-set_other piece at a block zeros other_at ∙ same a
                 ∙ ap (λ (n : ℕ). content_at (piece_in pieces n) a) (sym here)
-                ∙ holds q a below
+                ∙ holds q a kept below
                 ∙ sym (newest-apart (q * 128 + a) (λ is. other_at (omega (arith, is, here, place))))
           ]
       | inr other ↦
           ap (λ (x : List (List ℕ)). content_at x a) (get_or-set_other pieces p q (slice_set piece at block) [] other)
-          ∙ holds q a below
+          ∙ holds q a kept below
           ∙ sym (newest-apart (q * 128 + a) (λ is. other (omega (arith, is, place, below, within))))
     ]
 
+    -- a block of a piece that is forgotten is in none that is kept
+    pub HoldNewest-forgotten : (first : ℕ) (pieces : List (List (List ℕ))) → i / 128 < first → HoldNewest first pieces old → HoldNewest first pieces new
+    HoldNewest-forgotten first pieces forgotten holds q a kept below =
+        holds q a kept below ∙ sym (newest-apart (q * 128 + a) (λ is. absurd (omega (arith, is, forgotten, kept, below))))
+
+-- a piece that is emptied keeps no block, and the others are as they were
+module _ (pieces left : List (List (List ℕ))) (p q : ℕ) (emptied : left ≡ slice_set pieces p []) where
+  pub piece_in-emptied : p < length pieces → q ≡ p → piece_in left q ≡ []
+  piece_in-emptied some here =
+      let none : List (List ℕ) = [] in
+      ap (λ (xs : List (List (List ℕ))). piece_in xs q) emptied
+      ∙ subst (λ (n : ℕ). piece_in (slice_set pieces p none) n ≡ none) (sym here) (get_or-set_same pieces p none none some)
+
+  pub piece_in-others : q ≢ p → piece_in left q ≡ piece_in pieces q
+  piece_in-others apart =
+      let none : List (List ℕ) = [] in
+      ap (λ (xs : List (List (List ℕ))). piece_in xs q) emptied ∙ get_or-set_other pieces p q none none apart
+
+-- fewer pieces are kept, each with what it held
+pub HoldNewest-fewer : (first next : ℕ) (pieces left : List (List (List ℕ))) (old new : Trail) → first ≤ next
+    → ((p : ℕ) → next ≤ p → piece_in left p ≡ piece_in pieces p)
+    → ((k : ℕ) → newest_in new k ≡ newest_in old k)
+    → HoldNewest first pieces old → HoldNewest next left new
+HoldNewest-fewer first next pieces left old new le same lasts holds p at kept below =
+    ap (λ (x : List (List ℕ)). content_at x at) (same p kept) ∙ holds p at (omega (arith, le, kept)) below ∙ sym (lasts (p * 128 + at))
+
 -- a piece with room for each of its blocks holds what it held
-pub HoldNewest-same : (pieces : List (List (List ℕ))) (piece : List (List ℕ)) (p : ℕ) (trail : Trail) → p < length pieces
+pub HoldNewest-same : (first : ℕ) (pieces : List (List (List ℕ))) (piece : List (List ℕ)) (p : ℕ) (trail : Trail) → p < length pieces
     → ((a : ℕ) → content_at piece a ≡ content_at (piece_in pieces p) a)
-    → HoldNewest pieces trail → HoldNewest (slice_set pieces p piece) trail
-HoldNewest-same pieces piece p trail some same holds q a below = elim (cases_eq q p) [
+    → HoldNewest first pieces trail → HoldNewest first (slice_set pieces p piece) trail
+HoldNewest-same first pieces piece p trail some same holds q a kept below = elim (cases_eq q p) [
   | inl here ↦
       let lookup : piece_in (slice_set pieces p piece) q ≡ piece = subst (λ (n : ℕ). piece_in (slice_set pieces p piece) n ≡ piece) (sym here) (get_or-set_same pieces p piece [] some) in
-      ap (λ (x : List (List ℕ)). content_at x a) lookup ∙ same a ∙ ap (λ (n : ℕ). content_at (piece_in pieces n) a) (sym here) ∙ holds q a below
-  | inr other ↦ ap (λ (x : List (List ℕ)). content_at x a) (get_or-set_other pieces p q piece [] other) ∙ holds q a below
+      ap (λ (x : List (List ℕ)). content_at x a) lookup ∙ same a ∙ ap (λ (n : ℕ). content_at (piece_in pieces n) a) (sym here) ∙ holds q a kept below
+  | inr other ↦ ap (λ (x : List (List ℕ)). content_at x a) (get_or-set_other pieces p q piece [] other) ∙ holds q a kept below
 ]
 
 -- a sync leaves of each block its last content, which is that of a block
@@ -98,9 +124,9 @@ content-empty n p at = let none : List (List ℕ) = [] in elim (cases_lt p n) [
   | inr above ↦ ap (λ (x : List (List ℕ)). content_at x at) (get_or_past (replicate n []) p [] (omega (arith, length-replicate n none, above)))
 ]
 
-pub HoldNewest-empty : (n : ℕ) → HoldNewest (replicate n []) Start
+pub HoldNewest-empty : (n : ℕ) → HoldNewest 0 (replicate n []) Start
 unfolding newest_in
-HoldNewest-empty n p at below = content-empty n p at
+HoldNewest-empty n p at kept below = content-empty n p at
 
 pub contents-empty : HoldsBlocks (slot_in Start)
 unfolding slot_in

@@ -1,5 +1,5 @@
 -- The blocks of a file, in pieces of 128, which are made at the first block that is not zeros.
-use Rattle.std.specs.Prelude.{◌≡◌, ◌⊎◌, ◌<◌, ◌+◌, ◌*◌, ℕ, List, [], length, slice_index_or}
+use Rattle.std.specs.Prelude.{◌≡◌, ◌⊎◌, ◌<◌, ◌≤◌, ◌+◌, ◌*◌, ℕ, List, [], length, slice_index_or}
 use Rattle.als_disk.specs.Store.{zeros}
 use Rattle.als_disk.specs.declared.trail.Trail.{Trail}
 use Rattle.als_disk.specs.Trail.{newest_in}
@@ -16,6 +16,7 @@ content_at piece at = slice_index_or piece at zeros
 abbrev pub piece_in : List (List (List ℕ)) → ℕ → List (List ℕ)
 piece_in pieces p = slice_index_or pieces p []
 
--- the pieces hold the last content written to each block
-abbrev pub HoldNewest : List (List (List ℕ)) → Trail → Type 0
-HoldNewest pieces trail = (p at : ℕ) → at < 128 → content_at (piece_in pieces p) at ≡ newest_in trail (p * 128 + at)
+-- the pieces from the first one on that is kept hold the last content written to each block
+abbrev pub HoldNewest : ℕ → List (List (List ℕ)) → Trail → Type 0
+HoldNewest first pieces trail =
+    (p at : ℕ) → first ≤ p → at < 128 → content_at (piece_in pieces p) at ≡ newest_in trail (p * 128 + at)

@@ -7,13 +7,14 @@
 //!    synced; the sync that follows brings to the disk what was read.
 //! 2. A write goes to the mirror and then to the file, a sync to the file and then to the mirror.
 //! 3. Once the file has failed, each call fails, and the first error is kept.
+//! 4. A device that forgets old blocks (`forget_old`) fails a read of one, and goes on.
 //!
 //! One premise is left, which no clause can say: the next opening reads in each block one of the
 //! candidates of this run. The calls are generic, so that a test records them and their order.
 ghost use Rattle.std.specs.Prelude.{◌≡◌, ◌<◌, ◌+◌, ◌*◌, ◌^◌, ℕ, IfOk};
 ghost use Rattle.als_disk.specs.Count.{number};
 ghost use Rattle.als_disk.specs.Mirror.{mirror_blocks, mirror_slot};
-ghost use Rattle.als_disk.specs.Slot.{only, IsSettled};
+ghost use Rattle.als_disk.specs.Slot.{only, IsSettled, SameBlocks};
 ghost use Rattle.als_disk.specs.Store.{zeros};
 
 use crate::count::Count;
@@ -131,6 +132,29 @@ impl<F: OpenFile + FileExt + Drop> FileDisk<F> {
         })
     }
 
+    /// From now on each sync forgets blocks that lie far below the highest one that was written, and
+    /// gives their memory back: the piece of 64 KiB of that block stays, and so many in front of it.
+    /// A read of a block that is forgotten fails, and nothing else does.
+    ///
+    /// For a device that is written in rising order and not read again, as a log that is followed.
+    pub fn forget_old(&mut self, pieces: u64)
+        ensures slots { SameBlocks (⟦<FileDisk<F> as BlockDisk>⟧.slot self.old)
+            (⟦<FileDisk<F> as BlockDisk>⟧.slot self.new) }
+        ensures count { ⟦<FileDisk<F> as BlockDisk>⟧.block_count self.new
+            ≡ ⟦<FileDisk<F> as BlockDisk>⟧.block_count self.old }
+        ensures failures { ⟦<FileDisk<F> as BlockDisk>⟧.failures self.new
+            ≡ ⟦<FileDisk<F> as BlockDisk>⟧.failures self.old }
+        ensures attempts { ⟦<FileDisk<F> as BlockDisk>⟧.attempts self.new
+            ≡ ⟦<FileDisk<F> as BlockDisk>⟧.attempts self.old }
+    {
+        self.mirror.keep_newest(pieces);
+    }
+
+    /// How many pieces of 64 KiB it keeps in memory.
+    pub fn kept_pieces(&self) -> usize {
+        self.mirror.kept_pieces()
+    }
+
     /// Notes that the file has failed: each call fails from now on.
     fn break_off(&mut self, error: io::Error)
         ensures mirror { self.new.mirror ≡ self.old.mirror }
@@ -167,8 +191,16 @@ impl<F: OpenFile + FileExt + Drop> BlockDisk for FileDisk<F> {
             self.failed.step();
             return Err(DeviceError);
         }
-        *into = self.mirror.read(i);
-        Ok(())
+        match self.mirror.read(i) {
+            Ok(block) => {
+                *into = block;
+                Ok(())
+            }
+            Err(DeviceError) => {
+                self.failed.step();
+                Err(DeviceError)
+            }
+        }
     }
 
     fn write(&mut self, i: u64, block: &[u8; 512]) -> Result<(), DeviceError> {

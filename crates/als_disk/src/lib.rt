@@ -9,6 +9,8 @@ mod block_disk;
 mod restart;
 // a count that never wraps
 mod count;
+// the content of a block, in a box
+mod content;
 // what was written to a block since the last sync
 mod unsynced;
 // the contents that a device in memory keeps
@@ -30,6 +32,8 @@ mod pieces;
 mod trail;
 // 64 KiB of a file
 mod piece;
+// how much of a file stays in memory
+mod keeps;
 // what a device over a file keeps in memory
 mod mirror;
 // the contents of a file, read once

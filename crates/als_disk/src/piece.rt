@@ -1,4 +1,4 @@
-ghost use Rattle.std.specs.Prelude.{◌≡◌, ◌<◌, ℕ, [], length, replicate, slice_set, IfOk, OnOk};
+ghost use Rattle.std.specs.Prelude.{◌≡◌, ◌<◌, ◌==◌, ℕ, [], length, replicate, slice_set, IfOk, OnOk};
 ghost use Rattle.als_disk.specs.Pieces.{content_at};
 ghost use Rattle.als_disk.specs.Store.{zeros};
 
@@ -40,6 +40,13 @@ impl Piece {
         Piece {
             blocks: Vec::new(alloc),
         }
+    }
+
+    /// Whether it takes no memory: each of its blocks is zeros.
+    pub(crate) fn is_zeros(&self) -> bool
+        ensures { result ≡ (length self.now == 0) }
+    {
+        self.blocks.is_empty()
     }
 
     /// The content of a block.

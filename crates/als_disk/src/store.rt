@@ -9,22 +9,23 @@ ghost use Rattle.als_disk.specs.Store.{synced_content, slot_with, slot_of, newes
 ghost use Rattle.als_disk.specs.Store.{IsInRange};
 ghost use Rattle.als_disk.specs.Unsynced.{contents};
 
+use crate::content::Content;
 use crate::unsynced::Unsynced;
 use std::alloc::{AllocError, Global};
 use std::collections::BTreeMap;
 
-pub(crate) type Synced = BTreeMap<u64, [u8; 512]>;
+pub(crate) type Synced = BTreeMap<u64, Content>;
 
 pub(crate) type Writes = BTreeMap<u64, Unsynced>;
 
 /// Makes room for the next synced content of a block, which then takes no memory.
-fn keep(synced: &mut Synced, i: u64) -> Result<(), AllocError>
+fn keep(alloc: Global, synced: &mut Synced, i: u64) -> Result<(), AllocError>
     ensures ok { OnOk result (ContainsKey nat_cmp synced.new i) }
     ensures kept { (k : ℕ) → ContainsKey nat_cmp synced.old k → ContainsKey nat_cmp synced.new k }
     ensures same { (k : ℕ) → synced_content synced.new k ≡ synced_content synced.old k }
 {
     if !synced.contains_key(&i) {
-        synced.insert(i, [0; 512])?;
+        synced.insert(i, Content::zeros(alloc)?)?;
     }
     Ok(())
 }
@@ -36,7 +37,7 @@ fn replace(synced: &mut Synced, i: u64, content: [u8; 512])
         ≡ (if k == i then Some content else get nat_cmp synced.old k) }
 {
     if let Some(block) = synced.get_mut(&i) {
-        *block = content;
+        block.set(&content);
     }
 }
 
@@ -55,7 +56,7 @@ fn note(alloc: Global, unsynced: &mut Writes, i: u64, block: &[u8; 512]) -> Resu
     match unsynced.get_mut(&i) {
         Some(writes) => writes.push(block),
         None => {
-            unsynced.insert(i, Unsynced::new(alloc, block))?;
+            unsynced.insert(i, Unsynced::new(alloc, block)?)?;
             Ok(())
         }
     }
@@ -80,18 +81,28 @@ pub(crate) fn put(
     ensures in_range { (blocks : ℕ) → i < blocks → IsInRange unsynced.old blocks
         → IsInRange unsynced.new blocks }
 {
-    keep(synced, i)?;
+    keep(alloc, synced, i)?;
     note(alloc, unsynced, i, block)
 }
 
-/// The newest content of a block.
+/// The content of a block at the last sync.
 #[tactic(auto, unfolding(crate::specs::Store::zeros))]
+fn synced_block(synced: &Synced, i: u64) -> [u8; 512]
+    ensures { result ≡ synced_content synced.now i }
+{
+    match synced.get(&i) {
+        Some(content) => content.block(),
+        None => [0; 512],
+    }
+}
+
+/// The newest content of a block.
 pub(crate) fn newest(synced: &Synced, unsynced: &Writes, i: u64) -> [u8; 512]
     ensures { result ≡ newest_of synced.now unsynced.now i }
 {
     match unsynced.get(&i) {
-        Some(writes) => writes.last,
-        None => synced.get(&i).copied().unwrap_or([0; 512]),
+        Some(writes) => writes.last.block(),
+        None => synced_block(synced, i),
     }
 }
 
@@ -103,7 +114,7 @@ pub(crate) fn settle(synced: &mut Synced, unsynced: &mut Writes)
     ensures empty { IsEmpty unsynced.new }
 {
     while let Some((i, writes)) = unsynced.pop_first() {
-        replace(synced, i, writes.last);
+        replace(synced, i, writes.last.block());
     }
 }
 

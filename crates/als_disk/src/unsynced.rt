@@ -1,27 +1,28 @@
-ghost use Rattle.std.specs.Prelude.{◌≡◌, ℕ, List, [], ◌∷◌, ◌++◌, unwrap_or, OnOk, OnErr};
+ghost use Rattle.std.specs.Prelude.{◌≡◌, ℕ, List, [], ◌∷◌, ◌++◌, unwrap_or, IfOk, OnOk, OnErr};
 ghost use Rattle.std.specs.Prelude.{option_map};
 ghost use Rattle.als_disk.specs.Crash.{picked};
 
+use crate::content::Content;
 use std::alloc::{AllocError, Global};
 
 /// The contents that a block was given since the last sync: one at least.
 #[derive(Drop)]
 pub(crate) struct Unsynced {
     pub(crate) earlier: Vec<[u8; 512]>,
-    pub(crate) last: [u8; 512],
+    pub(crate) last: Content,
 }
 
 impl Unsynced {
     ghost use Rattle.als_disk.specs.Unsynced.{contents};
 
-    /// One content. It takes no memory.
-    pub(crate) fn new(alloc: Global, block: &[u8; 512]) -> Unsynced
-        ensures { contents result ≡ block.now ∷ [] }
+    /// One content.
+    pub(crate) fn new(alloc: Global, block: &[u8; 512]) -> Result<Unsynced, AllocError>
+        ensures { IfOk result (λ writes. contents writes ≡ block.now ∷ []) }
     {
-        Unsynced {
+        Ok(Unsynced {
             earlier: Vec::new(alloc),
-            last: *block,
-        }
+            last: Content::new(alloc, block)?,
+        })
     }
 
     pub(crate) fn push(&mut self, block: &[u8; 512]) -> Result<(), AllocError>
@@ -30,8 +31,8 @@ impl Unsynced {
         ensures err { OnErr result (contents self.new ≡ contents self.old) }
         ensures err_last { OnErr result (self.new.last ≡ self.old.last) }
     {
-        self.earlier.push(self.last)?;
-        self.last = *block;
+        self.earlier.push(self.last.block())?;
+        self.last.set(block);
         Ok(())
     }
 
@@ -41,6 +42,9 @@ impl Unsynced {
             ≡ picked (synced ∷ contents self.now) pick }
     {
         let at = usize::from(pick).checked_sub(1)?;
-        Some(*self.earlier.get(at).unwrap_or(&self.last))
+        match self.earlier.get(at) {
+            Some(content) => Some(*content),
+            None => Some(self.last.block()),
+        }
     }
 }

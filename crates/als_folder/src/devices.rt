@@ -1,6 +1,8 @@
 ghost use Rattle.std.specs.Prelude.{◌≡◌, ◌<◌, ◌*◌, ◌^◌, IfOk};
+ghost use Rattle.als_disk.specs.Slot.{SameBlocks};
 
 use crate::lengths::Sizes;
+use crate::limit::FOLLOWED_PIECES;
 use als_disk::{BlockDisk, FileDisk};
 use std::fs::{File, OpenFile};
 use std::io;
@@ -28,6 +30,19 @@ impl<F: OpenFile + FileExt + Drop> Devices<F> {
             control: self.control.blocks(),
             pages: self.pages.blocks(),
         }
+    }
+
+    /// Lets the log's device forget old blocks, for a program that follows: it does not read them
+    /// again. Of the log, `FOLLOWED_PIECES` pieces behind its end stay in memory once it is synced.
+    pub fn forget_old_log(&mut self)
+        ensures log { SameBlocks (⟦<FileDisk<F> as BlockDisk>⟧.slot self.old.log)
+            (⟦<FileDisk<F> as BlockDisk>⟧.slot self.new.log) }
+        ensures log_size { ⟦<FileDisk<F> as BlockDisk>⟧.block_count self.new.log
+            ≡ ⟦<FileDisk<F> as BlockDisk>⟧.block_count self.old.log }
+        ensures control { self.new.control ≡ self.old.control }
+        ensures pages { self.new.pages ≡ self.old.pages }
+    {
+        self.log.forget_old(FOLLOWED_PIECES);
     }
 
     /// The log's device, the control block's and the pages'.

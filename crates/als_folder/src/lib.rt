@@ -9,7 +9,7 @@ mod trouble;
 mod refusal;
 // Why a folder is refused.
 mod fault;
-// How long a log may be.
+// How long a log may be, and how much of it stays in memory.
 mod limit;
 // How large its devices are.
 mod lengths;
@@ -28,7 +28,7 @@ pub use devices::{DeviceFiles, Devices};
 pub use fault::Fault;
 pub use folder::Folder;
 pub use lengths::Sizes;
-pub use limit::LOG_LIMIT;
+pub use limit::{FOLLOWED_PIECES, LOG_LIMIT};
 pub use part::Part;
 pub use refusal::trouble_of;
 pub use trouble::{Trouble, Wrong};

@@ -21,7 +21,8 @@ pub(crate) fn start<R: AllocGlobal + Files<File = File> + Wait>(
     log_blocks: u64,
 ) -> Result<(Engine<FileDisk>, Vec<Reader>), Fault> {
     if folder.is_kept(rt)? {
-        let devices = folder.open(rt)?;
+        let mut devices = folder.open(rt)?;
+        devices.forget_old_log();
         open(rt, devices, config)
     } else {
         begin(rt, folder, config, log_blocks)
@@ -111,7 +112,8 @@ fn begin<R: AllocGlobal + Files<File = File> + Wait>(
         control: CONTROL_BLOCKS,
         pages: config.pages,
     };
-    let devices = folder.lay_out(rt, sizes)?;
+    let mut devices = folder.lay_out(rt, sizes)?;
+    devices.forget_old_log();
     let made = made_or_fault(Engine::format(rt.alloc(), rt, disks(devices), config))?;
     folder.keep(rt)?;
     Ok(made)

@@ -22,7 +22,8 @@ pub fn start<R: AllocGlobal + Files<File = File> + Wait>(
     log_blocks: u64,
 ) -> Result<Engine<FileDisk>, Fault> {
     if folder.is_kept(rt)? {
-        let devices = folder.open(rt)?;
+        let mut devices = folder.open(rt)?;
+        devices.forget_old_log();
         open(rt, devices, config)
     } else {
         begin(rt, folder, config, log_blocks)
@@ -151,7 +152,8 @@ fn begin<R: AllocGlobal + Files<File = File> + Wait>(
         control: CONTROL_BLOCKS,
         pages: config.pages,
     };
-    let devices = folder.lay_out(rt, sizes)?;
+    let mut devices = folder.lay_out(rt, sizes)?;
+    devices.forget_old_log();
     let engine = engine_or_fault(Engine::format(rt.alloc(), rt, disks(devices), config))?;
     folder.keep(rt)?;
     Ok(engine)

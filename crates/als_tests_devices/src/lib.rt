@@ -17,6 +17,9 @@ mod disk;
 // als_disk: what a device calls its file for.
 #[cfg(test)]
 mod file_calls;
+// als_disk: what a device keeps in memory.
+#[cfg(test)]
+mod forgetting;
 // als_frames.
 #[cfg(test)]
 mod frames;

@@ -9,23 +9,21 @@ use Rattle.als_disk.proofs.Maps.{ContainsKey-pop, TakesFirst-pop, slot_of-empty,
 use Rattle.als_disk.proofs.Picks.{TakesFirst, picked_content-rest, used_with_rest}
 use Rattle.als_disk.proofs.store.settle_by.Goals as goal
 
--- the block that is popped takes the first of the picks that are left
-taken : (c : goal.After-drop-writes) → TakesFirst (slot_of c.loop-i.synced c.loop-i.unsynced) c.loop-i.left.now c.in-Some.i (slot_of c.settle_one.new.synced c.pop_first.new.self)
-taken c =
-    let left = c.settle_one.ensures.picked ∙ ap (picked (synced_content c.loop-i.synced c.in-Some.i ∷ contents c.in-Some.writes)) c.first_pick-pick.ensures.pick in
-    TakesFirst-pop c.loop-i.synced c.settle_one.new.synced c.loop-i.unsynced c.pop_first.new.self c.in-Some.i c.in-Some.writes c.loop-i.left.now
-    c.in-Some.ensures.value c.in-Some.ensures.least c.in-Some.ensures.updates left c.settle_one.ensures.others
-
 pub loop-i-preserved : goal.loop-i-preserved
 loop-i-preserved c =
     let stays = λ (k : ℕ). ContainsKey-pop c.loop-i.unsynced c.pop_first.new.self c.in-Some.i k c.in-Some.ensures.updates in
+    let left = c.settle_one.ensures.picked ∙ ap (picked (synced_content c.loop-i.synced c.in-Some.i ∷ contents c.in-Some.writes)) c.first_pick-pick.ensures.pick in
+    -- the block that is popped takes the first of the picks that are left
+    let taken : TakesFirst (slot_of c.loop-i.synced c.loop-i.unsynced) c.loop-i.left.now c.in-Some.i (slot_of c.settle_one.new.synced c.pop_first.new.self)
+    = TakesFirst-pop c.loop-i.synced c.settle_one.new.synced c.loop-i.unsynced c.pop_first.new.self c.in-Some.i c.in-Some.writes c.loop-i.left.now
+    c.in-Some.ensures.value c.in-Some.ensures.least c.in-Some.ensures.updates left c.settle_one.ensures.others in
     record {
-      picked = λ k. rw c.first_pick-pick.ensures.others (picked_content-rest _ _ c.loop-i.left.now c.in-Some.i (taken c) k ∙ c.loop-i.invariant.picked k);
+      picked = λ k. rw c.first_pick-pick.ensures.others (picked_content-rest _ _ c.loop-i.left.now c.in-Some.i taken k ∙ c.loop-i.invariant.picked k);
       room = λ k has. c.settle_one.ensures.kept k (c.loop-i.invariant.room k (stays k has));
       in_range = λ blocks in_range k has. c.loop-i.invariant.in_range blocks in_range k (stays k has);
       used = λ blocks in_range.
           let below = c.loop-i.invariant.in_range blocks in_range c.in-Some.i (ap is_some c.in-Some.ensures.value) in
-          rw c.first_pick-pick.ensures.others (omega (arith, used_with_rest _ _ c.loop-i.left.now c.in-Some.i (taken c) blocks below, c.loop-i.invariant.used blocks in_range));
+          rw c.first_pick-pick.ensures.others (omega (arith, used_with_rest _ _ c.loop-i.left.now c.in-Some.i taken blocks below, c.loop-i.invariant.used blocks in_range));
       shorter = rw c.first_pick-pick.ensures.others (omega (arith, length-drop 1 c.loop-i.left.now, c.loop-i.invariant.shorter));
     }
 

@@ -13,5 +13,5 @@ returns c =
     let some : i / 128 < length m.pieces.items = omega (arith, m.enough, c.requires) in
     c.block.ensures
     ∙ ap (λ (piece : List (List ℕ)). content_at piece (i % 128)) (c.index.ensures ∙ get_or_default m.pieces.items (i / 128) c.index.result.now [] some)
-    ∙ m.newest (i / 128) (i % 128) below
+    ∙ m.newest (i / 128) (i % 128) c.if-at-self.false below
     ∙ ap (λ (n : ℕ). newest_in m.trail.value n) whole

@@ -9,7 +9,7 @@ use Rattle.als_disk.proofs.mirror.Mirror.zeros.Goals as goal
 pub invariant_of-result : goal.invariant_of-result
 invariant_of-result c = record {
   enough = c.in_ok-empty_pieces.ensures.enough;
-  newest = subst (λ (t : Trail). HoldNewest c.in_ok-empty_pieces.field-0.items t) (sym c.of.ensures) c.in_ok-empty_pieces.ensures.zeros;
+  newest = subst (λ (t : Trail). HoldNewest 0 c.in_ok-empty_pieces.field-0.items t) (sym c.of.ensures) c.in_ok-empty_pieces.ensures.zeros;
   contents = subst (λ (t : Trail). HoldsBlocks (slot_in t)) (sym c.of.ensures) contents-empty;
 }
 

@@ -13,4 +13,4 @@ returns-clause-enough c =
     omega (arith, all, c.loop-test.false, c.div_ceil-count.ensures, (div_ceil_times c.args.blocks 128 (omega arith)).0)
 
 pub returns-clause-zeros : goal.returns-clause-zeros
-returns-clause-zeros c = subst (λ (xs : List (List (List ℕ))). HoldNewest xs Start) (sym c.loop.invariant) (HoldNewest-empty c.loop.counter)
+returns-clause-zeros c = subst (λ (xs : List (List (List ℕ))). HoldNewest 0 xs Start) (sym c.loop.invariant) (HoldNewest-empty c.loop.counter)
