@@ -1,4 +1,5 @@
 pub mod Committing
 pub mod Counting
 pub mod Fronts
+pub mod Sharing
 pub mod Waiting

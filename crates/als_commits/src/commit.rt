@@ -1,4 +1,5 @@
-use als_record::{Image, Key, Lsn, TransId};
+use crate::writes::Writes;
+use als_record::{Lsn, TransId};
 use std::marker::Model;
 
 /// A committed transaction: the LSN of its commit record, and its surviving writes in order.
@@ -6,19 +7,13 @@ use std::marker::Model;
 pub struct Commit {
     pub trans: TransId,
     pub lsn: Lsn,
-    pub writes: Vec<(Key, Image)>,
+    pub writes: Writes,
 }
 
 impl Model for Commit {
-    ghost use Rattle.std.specs.Prelude.{map};
     ghost use Rattle.als_record.specs.Commits.{Commit};
-    ghost use Rattle.als_commits.specs.Committing.{write_of};
 
     ghost Value = { Commit };
 
-    ghost view = { λ c. record {
-      trans = c.trans;
-      lsn = c.lsn;
-      writes = map write_of c.writes.items;
-    } };
+    ghost view = { λ c. record { trans = c.trans; lsn = c.lsn; writes = c.writes } };
 }

@@ -5,11 +5,22 @@
 mod commit;
 // The commit that a record makes.
 mod committing;
+// Writes that are gathered for a commit.
+mod gathered_writes;
 // What holds of the commits of every log.
 mod laws;
+// Writes that several commits share.
+mod shared_writes;
 // The queue of commits.
 mod waiting;
+// A key and the image that it gets.
+mod write;
+// What a commit writes.
+mod writes;
 
 pub use commit::Commit;
+pub use gathered_writes::GatheredWrites;
 pub use laws::{all_commits_end, commits_are_few, commits_have_fronts, counts_stay};
 pub use waiting::Waiting;
+pub use write::Write;
+pub use writes::Writes;

@@ -1,5 +1,5 @@
 use crate::made::image;
-use als_commits::{Commit, Waiting};
+use als_commits::{Commit, GatheredWrites, Waiting};
 use als_record::{BodyView, Image, ImageView, KeptUpdate, Key, Lsn, RecordView, TransId};
 use std::alloc::Global;
 use std::process::Abort;
@@ -10,12 +10,12 @@ fn key(page: u32, slot: u8) -> Key {
 
 // A commit of one write, none where allocation fails.
 fn commit_of(alloc: Global, lsn: u64, at: Key, value: Option<u8>) -> Option<Commit> {
-    let mut writes = Vec::with_capacity(alloc, 1).ok()?;
-    writes.push((at, image(value))).ok()?;
+    let mut gathered = GatheredWrites::with_room(alloc, 1).ok()?;
+    gathered.add(at, &ImageView::of(&image(value))).ok()?;
     Some(Commit {
         trans: TransId(1),
         lsn: Lsn(lsn),
-        writes,
+        writes: gathered.share().ok()?,
     })
 }
 
@@ -82,8 +82,8 @@ fn is_made(rt: &impl Abort, alloc: Global) -> Option<()> {
     let left = survivors(alloc)?;
     let made = Commit::of(alloc, TransId(3), Lsn(152), left.as_slice()).ok()?;
     assert!(rt; (made.trans.0, made.lsn.0, made.writes.len()) == (3, 152, 2));
-    for (at, after) in made.writes {
-        assert!(rt; after.is_some() == (at.slot == 0));
+    for write in made.writes.as_slice() {
+        assert!(rt; write.after.image().is_some() == (write.key.slot == 0));
     }
     Some(())
 }

@@ -210,10 +210,10 @@ fn two_commits(alloc: Global) -> Option<Waiting> {
 fn expect_next(rt: &impl Abort, waiting: &mut Waiting, lsn: u64, byte: u8) -> Option<()> {
     let commit = waiting.pop()?;
     assert!(rt; (commit.lsn.0, commit.writes.len()) == (lsn, 1));
-    for (key, after) in commit.writes {
-        assert!(rt; (key.page, key.slot) == (0, 0));
-        let first = match &after {
-            Some(value) => value.as_slice().first().copied(),
+    for write in commit.writes.as_slice() {
+        assert!(rt; (write.key.page, write.key.slot) == (0, 0));
+        let first = match write.after.shown().bytes {
+            Some(value) => value.first().copied(),
             None => None,
         };
         assert!(rt; first == Some(byte));

@@ -1,9 +1,8 @@
-ghost use Rattle.std.specs.Prelude.{◌≡◌, [], fold, map, IfOk};
-ghost use Rattle.als_commits.specs.Committing.{write_of};
+ghost use Rattle.std.specs.Prelude.{◌≡◌, [], fold, IfOk};
 ghost use Rattle.als_view.specs.Images.{AreImagesAfter, place_of, written, written_by};
 
-use als_commits::Commit;
-use als_record::{Image, ImageView, KeptImage, Key, SLOT_COUNT};
+use als_commits::{Commit, Write};
+use als_record::{KeptImage, Key, SLOT_COUNT};
 use std::alloc::{AllocError, Global};
 
 /// Where the image of a key is.
@@ -26,22 +25,21 @@ pub(crate) fn unwritten(alloc: Global, pages: u32) -> Result<Vec<KeptImage>, All
 }
 
 /// Gives a key its image. A key outside the database has none.
-fn write(images: &mut Vec<KeptImage>, key: Key, after: &Image)
-    ensures { images.new.items
-        ≡ written images.old.items (record { key = key; after = after.now }) }
+fn write_one(images: &mut Vec<KeptImage>, write: &Write)
+    ensures { images.new.items ≡ written images.old.items write.now }
 {
-    let at = place(key);
-    if (key.slot as usize) < SLOT_COUNT && at < images.len() {
-        images[at] = KeptImage::of(&ImageView::of(after));
+    let at = place(write.key);
+    if (write.key.slot as usize) < SLOT_COUNT && at < images.len() {
+        images[at] = write.after;
     }
 }
 
 /// Gives the keys that a commit writes their images, in order.
-pub(crate) fn write_all(images: &mut Vec<KeptImage>, writes: &[(Key, Image)])
-    ensures { images.new.items ≡ fold written images.old.items (map write_of writes.now) }
+pub(crate) fn write_all(images: &mut Vec<KeptImage>, writes: &[Write])
+    ensures { images.new.items ≡ fold written images.old.items writes.now }
 {
     for w in writes {
-        write(images, w.0, &w.1);
+        write_one(images, w);
     }
 }
 

@@ -144,7 +144,7 @@ impl Absorb<Change> for ViewCopy {
     fn absorb_first(&mut self, operation: &Change, _other: &ViewCopy) -> Result<(), AllocError> {
         match operation {
             Change::Add(commit) => {
-                let copy = commit.copy(self.alloc)?;
+                let copy = commit.copy()?;
                 self.list.reserve(1)?;
                 self.add(copy);
             }

@@ -1,5 +1,5 @@
 ghost use Rattle.std.specs.Prelude.{◌≡◌, ℕ, [], ◌∷◌, ◌++◌, None, option_to_list, true, false};
-ghost use Rattle.std.specs.Prelude.{IsTrue, IsOk, OnOk, IfOk, IfErr, map, if◌then◌else◌};
+ghost use Rattle.std.specs.Prelude.{IsTrue, IsOk, OnOk, IfOk, IfErr, if◌then◌else◌};
 ghost use Rattle.als_record.specs.declared.record.Body.TheVariants.{Commit as CommitBody};
 ghost use Rattle.als_record.specs.Spelling.{IsRecord};
 ghost use Rattle.als_record.specs.LogText.{end_of};
@@ -9,31 +9,32 @@ ghost use Rattle.als_record.specs.Transactions.{is_commit, is_in_doubt, is_unend
 ghost use Rattle.als_record.specs.Commits.{commits_of};
 ghost use Rattle.als_record.specs.Validity.{first_bad, is_valid};
 ghost use Rattle.als_validator.specs.Validated.{IsValidatorOf};
-ghost use Rattle.als_commits.specs.Committing.{write_of, writes_in};
+ghost use Rattle.als_commits.specs.Committing.{writes_in};
 ghost use Rattle.als_store.specs.Faults.{of_log};
 ghost use Rattle.als_store.specs.Takeover.{is_following, CannotCollect, NotCollected};
 ghost use Rattle.als_store.specs.declared.fault.Fault.TheVariants as fault;
 
 use super::Store;
 use crate::fault::Fault;
-use als_commits::Commit;
+use als_commits::{Commit, GatheredWrites, Writes};
 use als_disk::BlockDisk;
 use als_log::{Fault as LogFault, LocalLog};
-use als_record::{Body, Image, ImageView, Key, Record, RecordView, TransId};
+use als_record::{Body, ImageView, Record, RecordView, TransId};
 use als_takeover::survivors;
 use als_validator::Validator;
 use std::alloc::{AllocError, Global};
 
 /// What updates write, in order.
-fn writes_of(alloc: Global, updates: &[Record]) -> Result<Vec<(Key, Image)>, AllocError>
-    ensures { IfOk result (λ writes. map write_of writes.items ≡ writes_in updates.now) }
+fn writes_of(alloc: Global, updates: &[Record]) -> Result<Writes, AllocError>
+    ensures { IfOk result (λ writes. writes ≡ writes_in updates.now) }
 {
-    let mut writes = Vec::with_capacity(alloc, updates.len())?;
+    let mut gathered = GatheredWrites::with_room(alloc, updates.len())?;
     for update in updates {
         if let Body::Update { key, after, .. } = &update.body {
-            writes.push((*key, ImageView::of(after).to_image()))?;
+            gathered.add(*key, &ImageView::of(after))?;
         }
     }
+    let writes = gathered.share()?;
     Ok(writes)
 }
 

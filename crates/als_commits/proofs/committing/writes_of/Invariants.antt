@@ -1,7 +1,0 @@
-use Rattle.std.proofs.Common.{◌≡◌, ◌++◌, drop, map}
-use Rattle.als_commits.specs.Committing.{write_of}
-use Rattle.als_commits.specs.Committing.{writes_in}
-use Rattle.als_commits.proofs.committing.writes_of.Given as goal
-
-abbrev pub invariant-loop-update : goal.invariant-loop-update
-invariant-loop-update l = map write_of l.writes.items ++ writes_in (drop l.update-index l.updates) ≡ writes_in l.updates

@@ -1,0 +1,6 @@
+use Rattle.std.proofs.Common.{◌≡◌, ◌++◌, drop}
+use Rattle.als_commits.specs.Committing.{writes_in}
+use Rattle.als_commits.proofs.writes.gather.Given as goal
+
+abbrev pub invariant-loop-update : goal.invariant-loop-update
+invariant-loop-update l = l.writes ++ writes_in (drop l.update-index l.updates) ≡ writes_in l.updates

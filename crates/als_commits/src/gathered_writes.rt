@@ -1,0 +1,65 @@
+ghost use Rattle.std.specs.Prelude.{◌≡◌, [], ◌∷◌, ◌++◌, IfOk, OnOk};
+ghost use Rattle.als_record.specs.Shown.{shown_image};
+
+use crate::shared_writes::SharedWrites;
+use crate::write::Write;
+use crate::writes::Writes;
+use als_record::{ImageView, KeptImage, Key};
+use std::alloc::{AllocError, Global};
+use std::marker::Model;
+
+/// Writes that are gathered one after another, for a commit.
+pub struct GatheredWrites {
+    alloc: Global,
+    writes: Vec<Write>,
+}
+
+// Written out: a derived drop is proved wherever writes are gathered, this one only here.
+impl Drop for GatheredWrites {
+    fn drop(self) {
+        let GatheredWrites { alloc: _, writes } = self;
+        drop(writes);
+    }
+}
+
+impl Model for GatheredWrites {
+    ghost use Rattle.std.specs.Prelude.{List};
+    ghost use Rattle.als_record.specs.Commits.{Write};
+
+    ghost Value = { List Write };
+
+    ghost view = { λ g. g.writes.items };
+}
+
+impl GatheredWrites {
+    /// No writes, and memory for just so many.
+    pub fn with_room(alloc: Global, count: usize) -> Result<GatheredWrites, AllocError>
+        ensures { IfOk result (λ g. g ≡ []) }
+    {
+        Ok(GatheredWrites {
+            alloc,
+            writes: Vec::with_capacity(alloc, count)?,
+        })
+    }
+
+    /// One more write: a key and what it gets.
+    pub fn add(&mut self, key: Key, after: &ImageView<'_>) -> Result<(), AllocError>
+        ensures { OnOk result (self.new
+            ≡ self.old ++ record { key = key; after = shown_image after.now } ∷ []) }
+    {
+        self.writes.push(Write {
+            key,
+            after: KeptImage::of(after),
+        })?;
+        Ok(())
+    }
+
+    /// What was gathered, for a commit.
+    pub fn share(self) -> Result<Writes, AllocError>
+        ensures { IfOk result (λ w. w ≡ self) }
+    {
+        let GatheredWrites { alloc, writes } = self;
+        let shared = SharedWrites::of(alloc, writes)?;
+        Ok(Writes::of_shared(shared))
+    }
+}
