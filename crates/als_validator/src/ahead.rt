@@ -27,16 +27,20 @@ fn key(bytes: &[u8], at: usize) -> Key
     }
 }
 
+/// Where the key stands in a record of this type. One that writes no key has other bytes there:
+/// they are taken for a key, so that no jump waits for the type.
+fn key_at(kind: u8) -> usize
+    ensures { result ≤ 36 }
+{
+    if kind == 2 { 36 } else { 28 }
+}
+
 /// A word of what is kept of the key that the record at the front of these bytes seems to write, 0
-/// where it writes none.
+/// where there is no such key.
 fn glance(keys: &[KeyState], front: &[u8]) -> u64
     requires { 42 ≤ length front.now }
 {
-    let at = match front[4] {
-        1 => place(key(front, 28)),
-        2 => place(key(front, 36)),
-        _ => return 0,
-    };
+    let at = place(key(front, key_at(front[4])));
     if at >= keys.len() {
         return 0;
     }
