@@ -5,7 +5,7 @@ use crate::keys::place;
 use als_record::Key;
 
 /// How many records are looked at in one go: the waits for what is kept of their keys then overlap.
-const RECORDS_AHEAD: usize = 64;
+const RECORDS_AHEAD: usize = 32;
 
 /// The bytes of a record up to the end of its key, whatever it is.
 const FRONT_LEN: usize = 42;

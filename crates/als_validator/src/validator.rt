@@ -214,7 +214,7 @@ impl Validator {
     }
 
     /// Reads what is kept of the keys that the next records seem to write, so that it is at hand
-    /// when they are judged. It answers how many bytes these records seem to have: 64 records at
+    /// when they are judged. It answers how many bytes these records seem to have: 32 records at
     /// most, 0 where there is none, or where the log is sealed. The bytes may be any, and nothing
     /// is judged. It takes no memory.
     #[inline(never)]
