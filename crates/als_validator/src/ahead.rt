@@ -5,7 +5,7 @@ use crate::keys::place;
 use als_record::Key;
 
 /// How many records are looked at in one go: the waits for what is kept of their keys then overlap.
-const RECORDS_AHEAD: u32 = 32;
+const RECORDS_AHEAD: usize = 32;
 
 /// The bytes of a record up to the end of its key, whatever it is.
 const FRONT_LEN: usize = 42;
@@ -27,37 +27,61 @@ fn key(bytes: &[u8], at: usize) -> Key
     }
 }
 
-/// A word of what is kept of the key that the record at the front of these bytes seems to write, 0
-/// where it writes none.
-fn glance(keys: &[KeyState], front: &[u8]) -> u64
-    requires { 42 ≤ length front.now }
+/// Where the key stands in a record of this type. One that writes no key has other bytes there:
+/// they are taken for a key, so that no jump waits for the type.
+fn key_at(kind: u8) -> usize
+    ensures { result ≤ 36 }
 {
-    let at = match front[4] {
-        1 => place(key(front, 28)),
-        2 => place(key(front, 36)),
-        _ => return 0,
-    };
-    if at >= keys.len() {
-        return 0;
-    }
-    keys[at].word()
+    if kind == 2 { 36 } else { 28 }
 }
 
-/// Reads a word of what is kept of each key that the records at the front of these bytes seem to
-/// write, and answers how many bytes these records seem to have, and the words together, which say
-/// nothing. The bytes may be any.
-pub(crate) fn glance_ahead(keys: &[KeyState], bytes: &[u8]) -> (usize, u64) {
+/// Where the key is kept that the record at the front of these bytes seems to write.
+fn place_ahead(front: &[u8]) -> usize
+    requires { 42 ≤ length front.now }
+{
+    place(key(front, key_at(front[4])))
+}
+
+/// Finds where the keys are kept that the records at the front of these bytes seem to write, and
+/// answers how many bytes these records seem to have.
+fn find_ahead(bytes: &[u8], places: &mut [usize; RECORDS_AHEAD]) -> usize {
     let mut from = 0usize;
-    let mut seen = 0u64;
-    for _ in 0..RECORDS_AHEAD {
+    for to in places.iter_mut() {
         let Some(front) = bytes.get(from..) else {
             break;
         };
         if front.len() < FRONT_LEN {
             break;
         }
-        seen ^= glance(keys, front);
+        *to = place_ahead(front);
         from = from.saturating_add(word(front, 0) as usize);
     }
-    (from, seen)
+    from
+}
+
+/// A word of what is kept at this place, 0 where there is no such place.
+fn glance(keys: &[KeyState], at: usize) -> u64 {
+    if at >= keys.len() {
+        return 0;
+    }
+    keys[at].word()
+}
+
+/// The words of what is kept at these places together. The loop is short, so that many of its reads
+/// wait at the same time.
+fn glance_at(keys: &[KeyState], places: &[usize; RECORDS_AHEAD]) -> u64 {
+    let mut seen = 0u64;
+    for at in places.iter() {
+        seen ^= glance(keys, *at);
+    }
+    seen
+}
+
+/// Reads a word of what is kept of each key that the records at the front of these bytes seem to
+/// write, and answers how many bytes these records seem to have, and the words together, which say
+/// nothing. The bytes may be any.
+pub(crate) fn glance_ahead(keys: &[KeyState], bytes: &[u8]) -> (usize, u64) {
+    let mut places = [0usize; RECORDS_AHEAD];
+    let len = find_ahead(bytes, &mut places);
+    (len, glance_at(keys, &places))
 }

@@ -28,10 +28,10 @@ impl KeyState {
         }
     }
 
-    /// A word that is made of the front of what is kept and of the image, and says nothing: who
-    /// asks for it has both at hand.
+    /// A word that is made of the front of what is kept and of the eighth byte of the value, and says
+    /// nothing: who asks for it has both at hand, and with them all that a short value needs.
     pub(crate) fn word(&self) -> u64 {
-        self.count ^ u64::from(self.image.first())
+        self.count ^ u64::from(self.image.rest()[7])
     }
 
     /// A transaction that may write the key updates it.
