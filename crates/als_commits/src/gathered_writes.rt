@@ -1,17 +1,17 @@
 ghost use Rattle.std.specs.Prelude.{◌≡◌, [], ◌∷◌, ◌++◌, IfOk, OnOk};
 ghost use Rattle.als_record.specs.Shown.{shown_image};
 
+use crate::packed_writes::PackedWrites;
 use crate::shared_writes::SharedWrites;
-use crate::write::Write;
 use crate::writes::Writes;
-use als_record::{ImageView, KeptImage, Key};
+use als_record::{ImageView, Key};
 use std::alloc::{AllocError, Global};
 use std::marker::Model;
 
 /// Writes that are gathered one after another, for a commit.
 pub struct GatheredWrites {
     alloc: Global,
-    writes: Vec<Write>,
+    writes: PackedWrites,
 }
 
 // Written out: a derived drop is proved wherever writes are gathered, this one only here.
@@ -28,7 +28,7 @@ impl Model for GatheredWrites {
 
     ghost Value = { List Write };
 
-    ghost view = { λ g. g.writes.items };
+    ghost view = { λ g. g.writes };
 }
 
 impl GatheredWrites {
@@ -38,7 +38,7 @@ impl GatheredWrites {
     {
         Ok(GatheredWrites {
             alloc,
-            writes: Vec::with_capacity(alloc, count)?,
+            writes: PackedWrites::with_room(alloc, count)?,
         })
     }
 
@@ -47,10 +47,7 @@ impl GatheredWrites {
         ensures { OnOk result (self.new
             ≡ self.old ++ record { key = key; after = shown_image after.now } ∷ []) }
     {
-        self.writes.push(Write {
-            key,
-            after: KeptImage::of(after),
-        })?;
+        self.writes.add(key, after)?;
         Ok(())
     }
 
@@ -58,7 +55,8 @@ impl GatheredWrites {
     pub fn share(self) -> Result<Writes, AllocError>
         ensures { IfOk result (λ w. w ≡ self) }
     {
-        let GatheredWrites { alloc, writes } = self;
+        let GatheredWrites { alloc, mut writes } = self;
+        writes.shrink();
         let shared = SharedWrites::of(alloc, writes)?;
         Ok(Writes::of_shared(shared))
     }

@@ -1,9 +1,10 @@
 ghost use Rattle.std.specs.Prelude.{◌≡◌, ◌==◌, [], length, IfOk, IsOk};
 ghost use Rattle.als_commits.specs.Committing.{writes_in};
+ghost use Rattle.als_commits.specs.Left.{writes_left};
 
 use crate::gathered_writes::GatheredWrites;
 use crate::shared_writes::SharedWrites;
-use crate::write::Write;
+use crate::writes_left::WritesLeft;
 use als_record::{BodyView, KeptUpdate};
 use std::alloc::{AllocError, Global};
 use std::marker::Model;
@@ -66,13 +67,13 @@ impl Writes {
         }
     }
 
-    /// The writes where they lie.
-    pub fn as_slice(&self) -> &[Write]
-        ensures { result.now ≡ self.now }
+    /// The writes, to be read one after another.
+    pub fn left(&self) -> WritesLeft<'_>
+        ensures { writes_left result ≡ self.now }
     {
         match &self.kept {
-            None => &[],
-            Some(shared) => shared.as_slice(),
+            None => WritesLeft::none(),
+            Some(shared) => shared.left(),
         }
     }
 
@@ -80,14 +81,17 @@ impl Writes {
     pub fn len(&self) -> usize
         ensures { result ≡ length self.now }
     {
-        self.as_slice().len()
+        match &self.kept {
+            None => 0,
+            Some(shared) => shared.len(),
+        }
     }
 
     /// Are there none?
     pub fn is_empty(&self) -> bool
         ensures { result ≡ (length self.now == 0) }
     {
-        self.as_slice().is_empty()
+        self.len() == 0
     }
 }
 
