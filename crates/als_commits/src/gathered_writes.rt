@@ -32,13 +32,24 @@ impl Model for GatheredWrites {
 }
 
 impl GatheredWrites {
-    /// No writes, and memory for just so many.
+    /// No writes, and memory for so many.
     pub fn with_room(alloc: Global, count: usize) -> Result<GatheredWrites, AllocError>
+        ensures { IfOk result (λ g. g ≡ []) }
+    {
+        GatheredWrites::with_just(alloc, count, count)
+    }
+
+    /// No writes, and memory for just so many, whose values have so many bytes together.
+    pub(crate) fn with_just(
+        alloc: Global,
+        count: usize,
+        bytes: usize,
+    ) -> Result<GatheredWrites, AllocError>
         ensures { IfOk result (λ g. g ≡ []) }
     {
         Ok(GatheredWrites {
             alloc,
-            writes: PackedWrites::with_room(alloc, count)?,
+            writes: PackedWrites::with_room(alloc, count, bytes)?,
         })
     }
 

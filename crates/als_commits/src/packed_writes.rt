@@ -68,13 +68,17 @@ impl PackedWrites {
     ghost use Rattle.std.specs.Prelude.{length, IfOk};
     ghost use Rattle.als_commits.specs.Left.{writes_left};
 
-    /// No writes, and memory for just so many heads.
-    pub(crate) fn with_room(alloc: Global, count: usize) -> Result<PackedWrites, AllocError>
+    /// No writes, and memory for just so many heads and bytes of values.
+    pub(crate) fn with_room(
+        alloc: Global,
+        count: usize,
+        bytes: usize,
+    ) -> Result<PackedWrites, AllocError>
         ensures { IfOk result (λ p. p ≡ []) }
     {
         Ok(PackedWrites {
             heads: Vec::with_capacity(alloc, count)?,
-            values: Vec::with_capacity(alloc, count)?,
+            values: Vec::with_capacity(alloc, bytes)?,
         })
     }
 

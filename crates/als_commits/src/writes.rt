@@ -95,11 +95,22 @@ impl Writes {
     }
 }
 
+/// How many bytes the values have that updates write. It sizes memory alone.
+fn bytes_written(updates: &[KeptUpdate]) -> usize {
+    let mut bytes = 0usize;
+    for update in updates {
+        if let BodyView::Update { after, .. } = &update.view().body {
+            bytes = bytes.saturating_add(after.len());
+        }
+    }
+    bytes
+}
+
 /// What updates write, in order, in memory of just their size.
 fn gather(alloc: Global, updates: &[KeptUpdate]) -> Result<GatheredWrites, AllocError>
     ensures { IfOk result (λ writes. writes ≡ writes_in updates.now) }
 {
-    let mut writes = GatheredWrites::with_room(alloc, updates.len())?;
+    let mut writes = GatheredWrites::with_just(alloc, updates.len(), bytes_written(updates))?;
     for update in updates {
         if let BodyView::Update { key, after, .. } = &update.view().body {
             writes.add(*key, after)?;
