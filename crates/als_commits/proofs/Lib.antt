@@ -1,4 +1,5 @@
 pub mod CommitFronts
 pub mod Counting
+pub mod Packing
 pub mod Queue
 pub mod Rising

@@ -1,17 +1,17 @@
 ghost use Rattle.std.specs.Prelude.{◌≡◌, [], ◌∷◌, ◌++◌, IfOk, OnOk};
 ghost use Rattle.als_record.specs.Shown.{shown_image};
 
+use crate::packed_writes::PackedWrites;
 use crate::shared_writes::SharedWrites;
-use crate::write::Write;
 use crate::writes::Writes;
-use als_record::{ImageView, KeptImage, Key};
+use als_record::{ImageView, Key};
 use std::alloc::{AllocError, Global};
 use std::marker::Model;
 
 /// Writes that are gathered one after another, for a commit.
 pub struct GatheredWrites {
     alloc: Global,
-    writes: Vec<Write>,
+    writes: PackedWrites,
 }
 
 // Written out: a derived drop is proved wherever writes are gathered, this one only here.
@@ -28,17 +28,28 @@ impl Model for GatheredWrites {
 
     ghost Value = { List Write };
 
-    ghost view = { λ g. g.writes.items };
+    ghost view = { λ g. g.writes };
 }
 
 impl GatheredWrites {
-    /// No writes, and memory for just so many.
+    /// No writes, and memory for so many.
     pub fn with_room(alloc: Global, count: usize) -> Result<GatheredWrites, AllocError>
+        ensures { IfOk result (λ g. g ≡ []) }
+    {
+        GatheredWrites::with_just(alloc, count, count)
+    }
+
+    /// No writes, and memory for just so many, whose values have so many bytes together.
+    pub(crate) fn with_just(
+        alloc: Global,
+        count: usize,
+        bytes: usize,
+    ) -> Result<GatheredWrites, AllocError>
         ensures { IfOk result (λ g. g ≡ []) }
     {
         Ok(GatheredWrites {
             alloc,
-            writes: Vec::with_capacity(alloc, count)?,
+            writes: PackedWrites::with_room(alloc, count, bytes)?,
         })
     }
 
@@ -47,10 +58,7 @@ impl GatheredWrites {
         ensures { OnOk result (self.new
             ≡ self.old ++ record { key = key; after = shown_image after.now } ∷ []) }
     {
-        self.writes.push(Write {
-            key,
-            after: KeptImage::of(after),
-        })?;
+        self.writes.add(key, after)?;
         Ok(())
     }
 
@@ -58,7 +66,8 @@ impl GatheredWrites {
     pub fn share(self) -> Result<Writes, AllocError>
         ensures { IfOk result (λ w. w ≡ self) }
     {
-        let GatheredWrites { alloc, writes } = self;
+        let GatheredWrites { alloc, mut writes } = self;
+        writes.shrink();
         let shared = SharedWrites::of(alloc, writes)?;
         Ok(Writes::of_shared(shared))
     }

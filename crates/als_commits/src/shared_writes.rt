@@ -1,11 +1,12 @@
-use crate::write::Write;
+use crate::packed_writes::PackedWrites;
+use crate::writes_left::WritesLeft;
 use std::alloc::{AllocError, Global};
 use std::marker::Model;
 use std::sync::Arc;
 
 /// Writes that several commits share, in any threads.
 pub(crate) struct SharedWrites {
-    writes: Arc<Vec<Write>>,
+    writes: Arc<PackedWrites>,
 }
 
 // Written out: a derived drop is proved wherever writes are dropped, this one only here.
@@ -23,15 +24,16 @@ impl Model for SharedWrites {
 
     ghost Value = { List Write };
 
-    ghost view = { λ s. (arc_value s.writes).items };
+    ghost view = { λ s. arc_value s.writes };
 }
 
 impl SharedWrites {
-    ghost use Rattle.std.specs.Prelude.{◌≡◌, IfOk};
+    ghost use Rattle.std.specs.Prelude.{◌≡◌, length, IfOk};
+    ghost use Rattle.als_commits.specs.Left.{writes_left};
 
     /// These writes, for one commit at first.
-    pub(crate) fn of(alloc: Global, writes: Vec<Write>) -> Result<SharedWrites, AllocError>
-        ensures { IfOk result (λ s. s ≡ writes.items) }
+    pub(crate) fn of(alloc: Global, writes: PackedWrites) -> Result<SharedWrites, AllocError>
+        ensures { IfOk result (λ s. s ≡ writes) }
     {
         Ok(SharedWrites {
             writes: Arc::new(alloc, writes)?,
@@ -47,10 +49,17 @@ impl SharedWrites {
         })
     }
 
-    /// The writes where they lie.
-    pub(crate) fn as_slice(&self) -> &[Write]
-        ensures { result.now ≡ self.now }
+    /// The writes, to be read one after another.
+    pub(crate) fn left(&self) -> WritesLeft<'_>
+        ensures { writes_left result ≡ self.now }
     {
-        self.writes.as_slice()
+        self.writes.left()
+    }
+
+    /// How many writes these are.
+    pub(crate) fn len(&self) -> usize
+        ensures { result ≡ length self.now }
+    {
+        self.writes.len()
     }
 }

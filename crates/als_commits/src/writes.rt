@@ -1,9 +1,10 @@
 ghost use Rattle.std.specs.Prelude.{◌≡◌, ◌==◌, [], length, IfOk, IsOk};
 ghost use Rattle.als_commits.specs.Committing.{writes_in};
+ghost use Rattle.als_commits.specs.Left.{writes_left};
 
 use crate::gathered_writes::GatheredWrites;
 use crate::shared_writes::SharedWrites;
-use crate::write::Write;
+use crate::writes_left::WritesLeft;
 use als_record::{BodyView, KeptUpdate};
 use std::alloc::{AllocError, Global};
 use std::marker::Model;
@@ -66,13 +67,13 @@ impl Writes {
         }
     }
 
-    /// The writes where they lie.
-    pub fn as_slice(&self) -> &[Write]
-        ensures { result.now ≡ self.now }
+    /// The writes, to be read one after another.
+    pub fn left(&self) -> WritesLeft<'_>
+        ensures { writes_left result ≡ self.now }
     {
         match &self.kept {
-            None => &[],
-            Some(shared) => shared.as_slice(),
+            None => WritesLeft::none(),
+            Some(shared) => shared.left(),
         }
     }
 
@@ -80,22 +81,36 @@ impl Writes {
     pub fn len(&self) -> usize
         ensures { result ≡ length self.now }
     {
-        self.as_slice().len()
+        match &self.kept {
+            None => 0,
+            Some(shared) => shared.len(),
+        }
     }
 
     /// Are there none?
     pub fn is_empty(&self) -> bool
         ensures { result ≡ (length self.now == 0) }
     {
-        self.as_slice().is_empty()
+        self.len() == 0
     }
+}
+
+/// How many bytes the values have that updates write. It sizes memory alone.
+fn bytes_written(updates: &[KeptUpdate]) -> usize {
+    let mut bytes = 0usize;
+    for update in updates {
+        if let BodyView::Update { after, .. } = &update.view().body {
+            bytes = bytes.saturating_add(after.len());
+        }
+    }
+    bytes
 }
 
 /// What updates write, in order, in memory of just their size.
 fn gather(alloc: Global, updates: &[KeptUpdate]) -> Result<GatheredWrites, AllocError>
     ensures { IfOk result (λ writes. writes ≡ writes_in updates.now) }
 {
-    let mut writes = GatheredWrites::with_room(alloc, updates.len())?;
+    let mut writes = GatheredWrites::with_just(alloc, updates.len(), bytes_written(updates))?;
     for update in updates {
         if let BodyView::Update { key, after, .. } = &update.view().body {
             writes.add(*key, after)?;

@@ -82,7 +82,9 @@ fn is_made(rt: &impl Abort, alloc: Global) -> Option<()> {
     let left = survivors(alloc)?;
     let made = Commit::of(alloc, TransId(3), Lsn(152), left.as_slice()).ok()?;
     assert!(rt; (made.trans.0, made.lsn.0, made.writes.len()) == (3, 152, 2));
-    for write in made.writes.as_slice() {
+    let mut writes = made.writes.left();
+    for _ in 0..made.writes.len() {
+        let write = writes.next()?;
         assert!(rt; write.after.image().is_some() == (write.key.slot == 0));
     }
     Some(())

@@ -210,7 +210,9 @@ fn two_commits(alloc: Global) -> Option<Waiting> {
 fn expect_next(rt: &impl Abort, waiting: &mut Waiting, lsn: u64, byte: u8) -> Option<()> {
     let commit = waiting.pop()?;
     assert!(rt; (commit.lsn.0, commit.writes.len()) == (lsn, 1));
-    for write in commit.writes.as_slice() {
+    let mut writes = commit.writes.left();
+    for _ in 0..commit.writes.len() {
+        let write = writes.next()?;
         assert!(rt; (write.key.page, write.key.slot) == (0, 0));
         let first = match write.after.shown().bytes {
             Some(value) => value.first().copied(),

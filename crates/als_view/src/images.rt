@@ -1,7 +1,7 @@
 ghost use Rattle.std.specs.Prelude.{◌≡◌, [], fold, IfOk};
 ghost use Rattle.als_view.specs.Images.{AreImagesAfter, place_of, written, written_by};
 
-use als_commits::{Commit, Write};
+use als_commits::{Commit, Write, Writes};
 use als_record::{KeptImage, Key, SLOT_COUNT};
 use std::alloc::{AllocError, Global};
 
@@ -35,11 +35,14 @@ fn write_one(images: &mut Vec<KeptImage>, write: &Write)
 }
 
 /// Gives the keys that a commit writes their images, in order.
-pub(crate) fn write_all(images: &mut Vec<KeptImage>, writes: &[Write])
+pub(crate) fn write_all(images: &mut Vec<KeptImage>, writes: &Writes)
     ensures { images.new.items ≡ fold written images.old.items writes.now }
 {
-    for w in writes {
-        write_one(images, w);
+    let mut left = writes.left();
+    for _ in 0..writes.len() {
+        if let Some(write) = left.next() {
+            write_one(images, &write);
+        }
     }
 }
 
@@ -47,5 +50,5 @@ pub(crate) fn write_all(images: &mut Vec<KeptImage>, writes: &[Write])
 pub(crate) fn write_commit(images: &mut Vec<KeptImage>, commit: &Commit)
     ensures { images.new.items ≡ written_by images.old.items commit.now }
 {
-    write_all(images, commit.writes.as_slice());
+    write_all(images, &commit.writes);
 }
