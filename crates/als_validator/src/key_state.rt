@@ -28,10 +28,10 @@ impl KeyState {
         }
     }
 
-    /// A word that is made of the front of what is kept and of the eighth byte of the value, and says
-    /// nothing: who asks for it has both at hand, and with them all that a short value needs.
+    /// A word that is made of the front of what is kept and of its last byte, and says nothing: who
+    /// asks for it has both at hand, and with them all that is read and written of the key.
     pub(crate) fn word(&self) -> u64 {
-        self.count ^ u64::from(self.image.rest()[7])
+        self.count ^ u64::from(self.image.rest()[30])
     }
 
     /// A transaction that may write the key updates it.
