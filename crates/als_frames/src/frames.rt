@@ -39,6 +39,7 @@ ghost use Rattle.als_frames.specs.Outcomes.{RefusesReading, Writes, RefusesWrite
 
 use crate::fault::Fault;
 use crate::frame::Frame;
+use crate::hints::Hints;
 use crate::lent::Lent;
 use crate::lsns::Lsns;
 use crate::unformatted::Unformatted;
@@ -62,6 +63,8 @@ pub struct Frames<D: BlockDisk> {
     pages: u32,
     most: usize,
     frames: IndexMap<u32, Frame>,
+    // Where the frame of each page may stand among them.
+    hints: Hints,
     // How many of them, in their order, were written since the last sync, and how many are not
     // free.
     zones: Zones,
@@ -83,6 +86,7 @@ impl<D: BlockDisk + Drop> Drop for Frames<D> {
             pages: _,
             most: _,
             frames,
+            hints,
             zones: _,
             room: _,
             hand: _,
@@ -91,6 +95,7 @@ impl<D: BlockDisk + Drop> Drop for Frames<D> {
         } = self;
         drop(disk);
         drop(frames);
+        drop(hints);
     }
 }
 
@@ -166,6 +171,7 @@ impl<D: BlockDisk> Frames<D> {
             pages,
             most,
             frames: IndexMap::new(alloc),
+            hints: Hints::new(alloc),
             zones: Zones {
                 written: 0,
                 dirty: 0,
@@ -187,7 +193,7 @@ impl<D: BlockDisk> Frames<D> {
             → AreFramesOf log synced below self.now.paged
             → state_of p.now ≡ page_at log page (state_of p.now).lsn) }
     {
-        let frame = self.frames.get(&page)?;
+        let frame = table::find(&self.frames, &self.hints, page)?;
         Some(frame.page())
     }
 
@@ -200,7 +206,7 @@ impl<D: BlockDisk> Frames<D> {
         ensures synced { option_map (λ l. l.synced.0) result
             ≡ option_map (λ f. f.synced) (frame_of self.now.paged page) }
     {
-        let frame = self.frames.get(&page)?;
+        let frame = table::find(&self.frames, &self.hints, page)?;
         Some(frame.lsns())
     }
 
@@ -216,7 +222,7 @@ impl<D: BlockDisk> Frames<D> {
     pub fn is_resident(&self, page: u32) -> bool
         ensures { IsTrue result ↔ IsSome (frame_of self.now.paged page) }
     {
-        self.frames.contains_key(&page)
+        table::find(&self.frames, &self.hints, page).is_some()
     }
 
     /// Reads a page that has no frame, for `put`, and changes no frame. `end` is the end of the
@@ -257,6 +263,7 @@ impl<D: BlockDisk> Frames<D> {
         ensures reserved { 0 < self.old.spare → IsOk result }
     {
         self.frames.reserve(1)?;
+        let _ = self.hints.reserve(self.pages);
         self.room = self.room.max(1);
         Ok(())
     }
@@ -329,7 +336,7 @@ impl<D: BlockDisk> Frames<D> {
     pub fn lent_of(&self, page: u32) -> Option<Lent>
         ensures { result ≡ lent_of self.now.paged page }
     {
-        let frame = self.frames.get(&page)?;
+        let frame = table::find(&self.frames, &self.hints, page)?;
         frame.lent()
     }
 
@@ -431,6 +438,7 @@ impl<D: BlockDisk> Frames<D> {
             pages: _,
             most: _,
             frames,
+            hints,
             zones: _,
             room: _,
             hand: _,
@@ -438,6 +446,7 @@ impl<D: BlockDisk> Frames<D> {
             leases: _,
         } = self;
         drop(frames);
+        drop(hints);
         disk
     }
 
@@ -472,7 +481,15 @@ impl<D: BlockDisk> Frames<D> {
         match table::place(&self.frames, self.zones, self.most, self.hand) {
             Ok(place) => {
                 let frame = Frame::of(found);
-                table::put(&mut self.frames, self.zones, self.most, place, page, frame);
+                table::put(
+                    &mut self.frames,
+                    &mut self.hints,
+                    self.zones,
+                    self.most,
+                    place,
+                    page,
+                    frame,
+                );
                 self.room -= 1;
                 self.hand = self.hand.saturating_add(1);
             }
@@ -485,7 +502,13 @@ impl<D: BlockDisk> Frames<D> {
         ensures lends { Lends self.old.paged self.new.paged page lent }
         ensures spare { self.new.spare ≡ self.old.spare }
     {
-        table::lend(&mut self.frames, &mut self.zones, page, lent);
+        table::lend(
+            &mut self.frames,
+            &mut self.hints,
+            &mut self.zones,
+            page,
+            lent,
+        );
         self.leases += 1;
     }
 
@@ -495,7 +518,13 @@ impl<D: BlockDisk> Frames<D> {
         ensures takes_back { TakesBack self.old.paged self.new.paged page (state_of found.now) }
         ensures spare { self.new.spare ≡ self.old.spare }
     {
-        table::take_back(&mut self.frames, &mut self.zones, page, found);
+        table::take_back(
+            &mut self.frames,
+            &mut self.hints,
+            &mut self.zones,
+            page,
+            found,
+        );
         self.leases -= 1;
     }
 
@@ -504,7 +533,7 @@ impl<D: BlockDisk> Frames<D> {
         ensures recalls { Recalls self.old.paged self.new.paged page }
         ensures spare { self.new.spare ≡ self.old.spare }
     {
-        table::recall(&mut self.frames, &mut self.zones, page);
+        table::recall(&mut self.frames, &mut self.hints, &mut self.zones, page);
         self.leases -= 1;
     }
 
@@ -513,7 +542,7 @@ impl<D: BlockDisk> Frames<D> {
         ensures spare { self.new.spare ≡ self.old.spare }
         ensures err { IfErr result (λ e. RefusesWrite e self.old.paged self.new.paged page) }
     {
-        let Some(frame) = self.frames.get(&page) else {
+        let Some(frame) = table::find(&self.frames, &self.hints, page) else {
             return Err(Fault::NothingToDo);
         };
         if frame.is_written() {
@@ -521,7 +550,7 @@ impl<D: BlockDisk> Frames<D> {
         }
         match blocks::write_page(&mut self.disk, frame.page()) {
             Ok(()) => {
-                table::note_written(&mut self.frames, &mut self.zones, page);
+                table::note_written(&mut self.frames, &mut self.hints, &mut self.zones, page);
                 Ok(())
             }
             Err(_) => {
@@ -538,7 +567,7 @@ impl<D: BlockDisk> Frames<D> {
         ensures err { OnErr result (SyncFails self.old.paged self.new.paged) }
     {
         self.disk.sync()?;
-        table::note_synced(&mut self.frames, &mut self.zones);
+        table::note_synced(&mut self.frames, &mut self.hints, &mut self.zones);
         Ok(())
     }
 

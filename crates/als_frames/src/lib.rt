@@ -11,6 +11,8 @@ mod lent;
 mod frame;
 // In which order the frames stand.
 mod zones;
+// Where the frames may stand.
+mod hints;
 // The frames by their pages.
 mod table;
 // Pages on the device.

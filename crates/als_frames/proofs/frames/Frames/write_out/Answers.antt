@@ -15,7 +15,7 @@ pub invariant_of-self : goal.invariant_of-self
 invariant_of-self g c =
     let s = c.self.inside in
     let frame = c.in-Some.frame.now in
-    let resident : lookup (nat_eq c.args.page) s.frames.entries ≡ Some frame = sym c.in-Some.ensures.value in
+    let resident : lookup (nat_eq c.args.page) s.frames.entries ≡ Some frame = sym c.in-Some.ensures in
     let numbered = c.self.invariant.kept.numbered c.args.page frame resident in
     let puts = c.note_written.ensures.puts frame resident in
     record {
@@ -34,7 +34,7 @@ returns-in-Ok-clause-ok g c =
     let page = c.page.result.now in
     let old : Paged = paged s.pages s.most s.frames.entries (slots_from 0 s.pages slot) (g.D.BlockDisk.block_count s.disk) (g.D.BlockDisk.failures s.disk) (g.D.BlockDisk.attempts s.disk) s.sure in
     let new : Paged = paged s.pages s.most c.note_written.new.frames.entries (slots_from 0 s.pages (g.D.BlockDisk.slot disk)) (g.D.BlockDisk.block_count disk) (g.D.BlockDisk.failures disk) (g.D.BlockDisk.attempts disk) s.sure in
-    let resident : frame_of old c.args.page ≡ Some frame = sym c.in-Some.ensures.value in
+    let resident : frame_of old c.args.page ≡ Some frame = sym c.in-Some.ensures in
     let numbered = c.self.invariant.kept.numbered c.args.page frame resident in
     let is : id_of page ≡ c.args.page = c.page.ensures.number ∙ numbered.0 in
     let block = block_of c.args.page frame.content in
@@ -58,7 +58,7 @@ returns-in-Err-clause-err g c =
     let page = c.page.result.now in
     let old : Paged = paged s.pages s.most s.frames.entries (slots_from 0 s.pages slot) (g.D.BlockDisk.block_count s.disk) (g.D.BlockDisk.failures s.disk) (g.D.BlockDisk.attempts s.disk) s.sure in
     let new : Paged = paged s.pages s.most s.frames.entries (slots_from 0 s.pages (g.D.BlockDisk.slot disk)) (g.D.BlockDisk.block_count disk) (g.D.BlockDisk.failures disk) (g.D.BlockDisk.attempts disk) false in
-    let resident : frame_of old c.args.page ≡ Some frame = sym c.in-Some.ensures.value in
+    let resident : frame_of old c.args.page ≡ Some frame = sym c.in-Some.ensures in
     let numbered = c.self.invariant.kept.numbered c.args.page frame resident in
     let is : id_of page ≡ c.args.page = c.page.ensures.number ∙ numbered.0 in
     let block = block_of c.args.page frame.content in
