@@ -1,5 +1,6 @@
 mod FrontLaws
 mod JudgeLaws
+mod LengthLaws
 mod ReadingLaws
 mod ScanLaws
 mod TextLaws

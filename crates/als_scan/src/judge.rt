@@ -1,8 +1,9 @@
-ghost use Rattle.std.specs.Prelude.{◌≡◌, ◌≢◌, ℕ, ◌<◌, ◌+◌, ◌^◌, true, false, List, [], ◌∷◌, ◌++◌, length};
+ghost use Rattle.std.specs.Prelude.{◌≡◌, ◌≢◌, ℕ, ◌<◌, ◌≤◌, ◌+◌, ◌^◌, true, false, List, [], ◌∷◌, ◌++◌, length};
 ghost use Rattle.std.specs.Prelude.{None, Ok, OnOk, OnErr, IfOk, IfErr};
 ghost use Rattle.als_record.specs.declared.record.Record.{Record as AnyRecord};
 ghost use Rattle.als_record.specs.Spelling.{IsRecord};
 ghost use Rattle.als_record.specs.LogText.{end_of};
+ghost use Rattle.als_record.specs.Reading.{word_at};
 ghost use Rattle.als_record.specs.Shown.{shown};
 ghost use Rattle.als_record.specs.Validity.{IsValidLog, first_bad};
 ghost use Rattle.als_validator.specs.Validated.{IsValidatorOf, judges};
@@ -14,7 +15,7 @@ ghost use Rattle.als_scan.specs.Judged.{IsCauseAt};
 use crate::fault::Fault;
 use als_log::History;
 use als_receiver::Receiver;
-use als_record::{Lsn, RECORD_LIMIT, Record, RecordView};
+use als_record::{HEAD_LEN, Lsn, RECORD_LIMIT, Record, RecordView};
 use als_validator::Validator;
 use std::alloc::Global;
 use std::marker::Model;
@@ -54,6 +55,17 @@ impl Drop for Judge {
         drop(validator);
         drop(history);
     }
+}
+
+/// The number in four bytes at a place.
+#[inline]
+fn word(bytes: &[u8], at: usize) -> u32
+    requires { at + 4 ≤ length bytes.now }
+    ensures { result ≡ word_at at bytes.now }
+{
+    let (_, rest) = bytes.split_at(at);
+    let (field, _) = rest.split_at(4);
+    u32::from_be_bytes([field[0], field[1], field[2], field[3]])
 }
 
 /// Lets a validator take the record that is seen, where it may follow the log, and copies it.
@@ -123,6 +135,19 @@ impl Judge {
         ensures { result ≡ false → reading_of self.now ≢ Ok None }
     {
         self.receiver.partial() < RECORD_LIMIT
+    }
+
+    /// Whether as many bytes have come as the next record says that it has. If so, it wants no more.
+    #[inline]
+    pub(crate) fn is_whole(&self) -> bool
+        ensures { result ≡ true → reading_of self.now ≢ Ok None }
+    {
+        let kept = self.receiver.partial();
+        if kept < HEAD_LEN {
+            return false;
+        }
+        let size = word(self.receiver.front(kept), 0) as usize;
+        size <= kept
     }
 
     /// Takes the next bytes.

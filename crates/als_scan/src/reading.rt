@@ -82,8 +82,8 @@ fn read_more<D: BlockDisk>(disk: &mut D, judge: &mut Judge, mark: u64) -> Result
     Ok(())
 }
 
-/// Reads on until as many bytes have come as the longest record has, or all below a mark: none is
-/// looked at for it.
+/// Where the next record is not whole, reads on until as many bytes have come as the longest record
+/// has, or all below a mark. So most records want no read, and few bytes are moved.
 #[inline]
 pub(crate) fn fill<D: BlockDisk>(disk: &mut D, judge: &mut Judge, mark: u64) -> Result<(), Fault>
     requires few { D.block_count disk.old ≤ 4194304 }
@@ -101,6 +101,9 @@ pub(crate) fn fill<D: BlockDisk>(disk: &mut D, judge: &mut Judge, mark: u64) -> 
     ensures count { D.block_count disk.new ≡ D.block_count disk.old }
     ensures attempts { D.attempts disk.new ≡ D.attempts disk.old }
 {
+    if judge.is_whole() {
+        return Ok(());
+    }
     while judge.position() < mark && judge.is_short() {
         read_more(disk, judge, mark)?;
     }
