@@ -1,4 +1,4 @@
 use Rattle.als_operate.proofs.opening.start.Goals as goal
 
-pub open-requires : goal.open-requires
-open-requires g c = rw c.forget_old_log.ensures.control c.in_ok-devices.ensures.control
+pub open-requires-then-branch : goal.open-requires-then-branch
+open-requires-then-branch g c = rw c.forget_old_log.ensures.control c.in_ok-devices.ensures.control
