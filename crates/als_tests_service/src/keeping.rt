@@ -1,6 +1,6 @@
 use crate::scripted::{End, Scripted, Told};
 use als_bench_logs::{FIRST, Primary};
-use als_disk::{FailingDisk, Fuse, MemDisk};
+use als_disk::MemDisk;
 use als_engine::{CONTROL_BLOCKS, Config, Disks, Engine, Events};
 use als_operate::Fault;
 use als_service::{Kept, Pace, keep_following};
@@ -42,24 +42,18 @@ const CONFIG: Config = Config {
     readers: 1,
 };
 
-/// A device in memory, with nothing in it. `None`: allocation failed.
-fn disk(alloc: Global, blocks: u64) -> Option<FailingDisk<MemDisk>> {
-    let fuse = Fuse::new(alloc).ok()?;
-    Some(FailingDisk::new(MemDisk::new(alloc, blocks), fuse))
-}
-
-/// Devices in memory, with nothing in them. `None`: allocation failed.
-fn disks(alloc: Global) -> Option<Disks<FailingDisk<MemDisk>>> {
-    Some(Disks {
-        log: disk(alloc, 1024)?,
-        control: disk(alloc, CONTROL_BLOCKS)?,
-        pages: disk(alloc, u64::from(PAGES))?,
-    })
+/// Devices in memory, with nothing in them.
+fn disks(alloc: Global) -> Disks<MemDisk> {
+    Disks {
+        log: MemDisk::new(alloc, 1024),
+        control: MemDisk::new(alloc, CONTROL_BLOCKS),
+        pages: MemDisk::new(alloc, u64::from(PAGES)),
+    }
 }
 
 /// A standby over new devices. `None`: allocation failed.
-fn standby<R: Wait>(rt: &R, alloc: Global) -> Option<Engine<FailingDisk<MemDisk>>> {
-    let (engine, readers) = Engine::format(alloc, rt, disks(alloc)?, CONFIG).ok()?;
+fn standby<R: Wait>(rt: &R, alloc: Global) -> Option<Engine<MemDisk>> {
+    let (engine, readers) = Engine::format(alloc, rt, disks(alloc), CONFIG).ok()?;
     drop(readers);
     Some(engine)
 }
