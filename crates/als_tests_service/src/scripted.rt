@@ -11,6 +11,7 @@ pub struct End {
 }
 
 impl Drop for End {
+    #[inline(never)]
     fn drop(self) {
         let End { bytes, at: _, told } = self;
         drop(bytes);
@@ -26,6 +27,7 @@ impl End {
 }
 
 impl Read for End {
+    #[inline(never)]
     fn read(&mut self, into: &mut [u8]) -> io::Result<usize> {
         let Some(mut rest) = self.bytes.as_slice().get(self.at..) else {
             return Ok(0);
@@ -37,6 +39,7 @@ impl Read for End {
 }
 
 impl Write for End {
+    #[inline(never)]
     fn write(&mut self, bytes: &[u8]) -> io::Result<usize> {
         self.told.write(bytes)
     }
@@ -53,6 +56,7 @@ pub struct Scripted<S> {
 }
 
 impl<S: Drop> Drop for Scripted<S> {
+    #[inline(never)]
     fn drop(self) {
         let Scripted { ready, met } = self;
         drop(ready);
@@ -74,6 +78,7 @@ impl<S: Read + Write + Drop> Primaries<S> for Scripted<S> {
 
     ghost met = { λ scripted. sessions_of S.contents scripted.met };
 
+    #[inline(never)]
     fn next(&mut self) -> io::Result<(S, S)> {
         match self.ready.pop() {
             Some(Some((reader, writer))) => {
@@ -84,6 +89,7 @@ impl<S: Read + Write + Drop> Primaries<S> for Scripted<S> {
         }
     }
 
+    #[inline(never)]
     fn part(&mut self, reader: S, writer: S) {
         self.met.end(&writer);
         drop(reader);
@@ -98,6 +104,7 @@ pub struct Told {
 }
 
 impl Outages for Told {
+    #[inline(never)]
     fn outage(&mut self, fault: Option<Fault>, millis: u64) {
         self.last = Some((fault, millis));
     }
