@@ -77,7 +77,7 @@ IsOwnHead old epoch offset len = IsHead epoch offset len × (epoch ≡ epoch_of 
 abbrev pub Takes : Machine → ℕ → ℕ → List ℕ → Result Lsn Fault → Machine → Type 0
 Takes old epoch offset bytes (Ok lsn) new =
     IsOwnHead old epoch offset (length bytes) × (offset ≤ position old) × (lsn.0 ≡ position new)
-      × FeedsRest old (drop (position old - offset) bytes) (Ok tt) new
+    × FeedsRest old (drop (position old - offset) bytes) (Ok tt) new
 Takes old epoch offset bytes (Err (Refused fault)) new =
     IsOwnHead old epoch offset (length bytes) × (offset ≤ position old) × FeedsRest old (drop (position old - offset) bytes) (Err fault) new
 Takes old epoch offset bytes (Err BadFrame) new = (IsHead epoch offset (length bytes) → ⊥) × WasResynced old new

@@ -26,7 +26,7 @@ frames_bytes frames = flat_map frame_bytes frames
 abbrev pub KeepsOver : List Frame → Machine → Machine → Type 0
 KeepsOver frames old new =
     (texts : ℕ → List ℕ) (seals : List ℕ) → AreEpochs texts seals → AllByRecursion (IsTrueFrame texts seals) frames → HoldsFront texts seals old
-          → HoldsFront texts seals new
+    → HoldsFront texts seals new
 
 -- frames were read, over which this holds
 abbrev pub KeepsFront : Type 0 → Option (List ℕ) → Option (List ℕ) → Machine → Machine → Type 0

@@ -26,4 +26,4 @@ AnswersPart floor old new = (answer : Lsn) × (answer.0 ≤ floor) × Puts (ackn
 abbrev pub TellsVouched : ℕ → Option (List ℕ) → Option (List ℕ) → Type 0
 TellsVouched floor old new =
     (from pages : ℕ) × (seals : List ℕ) × (answers : List Lsn) × AreVouched floor answers
-      × Puts (resume_bytes from pages seals ++ answers_bytes answers) old new
+    × Puts (resume_bytes from pages seals ++ answers_bytes answers) old new

@@ -129,25 +129,25 @@ SendsTrue text own old new = Puts (epochs_bytes own) old new ⊎ SendsPieces tex
 abbrev pub HasOtherHeader : LogHeader → Option (List ℕ) → Option (List ℕ) → Type 0
 HasOtherHeader header old new =
     (from : ℕ) × (theirs : LogHeader) × (seals : List ℕ) × IsHeader theirs × (theirs.pages ≢ header.pages)
-          × Consumes old new (resume_bytes from theirs.pages seals)
+    × Consumes old new (resume_bytes from theirs.pages seals)
 
 -- a whole Resume frame of a follower whose history is no front of the own one, which has this epoch
 abbrev pub HasOtherEpoch : LogHeader → List ℕ → ℕ → Option (List ℕ) → Option (List ℕ) → Type 0
 HasOtherEpoch header own epoch old new =
     (from : ℕ) × (seals : List ℕ) × IsHistory seals × Judges seals own from (Err (judged.OtherEpoch epoch))
-          × Consumes old new (resume_bytes from header.pages seals)
+    × Consumes old new (resume_bytes from header.pages seals)
 
 -- a whole Resume frame that goes on past this seal, the first of the own ones that the follower lacks
 abbrev pub HasDiverged : LogHeader → List ℕ → Lsn → Option (List ℕ) → Option (List ℕ) → Type 0
 HasDiverged header own seal old new =
     (from : ℕ) × (seals : List ℕ) × IsHistory seals × Judges seals own from (Err (judged.Diverged seal))
-          × Consumes old new (resume_bytes from header.pages seals)
+    × Consumes old new (resume_bytes from header.pages seals)
 
 -- a whole Resume frame of a follower whose history is not refused, and that goes on past the end
 abbrev pub IsPastEnd : LogHeader → List ℕ → ℕ → Option (List ℕ) → Option (List ℕ) → Type 0
 IsPastEnd header own end old new =
     (from : ℕ) × (seals : List ℕ) × IsHistory seals × (step : Step) × Judges seals own from (Ok step) × (end < from)
-          × Consumes old new (resume_bytes from header.pages seals)
+    × Consumes old new (resume_bytes from header.pages seals)
 
 -- Why a follower was not asked: its header is damaged or another one, this is no Resume frame, or the stream ended or failed.
 abbrev pub FailsToAsk : LogHeader → Fault → Option (List ℕ) → Option (List ℕ) → Type 0
