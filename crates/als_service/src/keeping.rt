@@ -128,6 +128,8 @@ fn wait<C: Clock, N: Outages>(clock: &C, pause: &mut Pause, why: Option<Fault>, 
 
 /// Connects to the primary and follows one session. None: a thread could not be started, or allocation
 /// failed, and no frame was asked for.
+// What calls it stays small: clang does not come to an end over both in one function.
+#[inline(never)]
 #[tactic(auto, using(crate::proofs::Chains::reaches_self, crate::proofs::Vouched::vouches_last))]
 fn follow_next<
     E: Counts + Send + Drop,

@@ -1,0 +1,204 @@
+use crate::scripted::{End, Scripted, Told};
+use als_bench_logs::{FIRST, Primary};
+use als_disk::MemDisk;
+use als_engine::{CONTROL_BLOCKS, Config, Disks, Engine, Events};
+use als_operate::Fault;
+use als_service::{Kept, Pace, keep_following};
+use als_share::Counts;
+use als_ship::Fault as SessionFault;
+use als_standing::{Board, Report, Standing, State, Watch};
+use std::alloc::Global;
+use std::process::Abort;
+use std::sync::{Arc, Wait};
+use std::test::*;
+use std::thread::Threads;
+use std::time::Clock;
+
+/// Pages of the database.
+const PAGES: u32 = 16;
+
+/// The log bytes of a frame.
+const FRAME: usize = 8192;
+
+/// The log has at least this many bytes.
+const LENGTH: usize = 6 * FRAME;
+
+/// The first stream ends within the third frame. A frame has 17 bytes before those of the log, and the history 5.
+const CUT: usize = 5 + 2 * (17 + FRAME) + 1000;
+
+/// With two workers, and a checkpoint after each frame.
+const PACE: Pace = Pace {
+    workers: 2,
+    each: FRAME as u64,
+};
+
+/// What is no frame.
+const NO_FRAME: &[u8] = b"nothing that is a frame";
+
+const CONFIG: Config = Config {
+    pages: PAGES as u64,
+    frames: PAGES as u64,
+    pending: 100_000,
+    readers: 1,
+};
+
+/// Devices in memory, with nothing in them.
+fn disks(alloc: Global) -> Disks<MemDisk> {
+    Disks {
+        log: MemDisk::new(alloc, 1024),
+        control: MemDisk::new(alloc, CONTROL_BLOCKS),
+        pages: MemDisk::new(alloc, u64::from(PAGES)),
+    }
+}
+
+/// A standby over new devices. `None`: allocation failed.
+fn standby<R: Wait>(rt: &R, alloc: Global) -> Option<Engine<MemDisk>> {
+    let (engine, readers) = Engine::format(alloc, rt, disks(alloc), CONFIG).ok()?;
+    drop(readers);
+    Some(engine)
+}
+
+/// The frames of a log, and where it ends.
+#[derive(Drop)]
+struct Sent {
+    frames: Vec<u8>,
+    end: u64,
+}
+
+/// What a primary sends of its log. `None`: allocation failed.
+fn sent_by_a_primary(alloc: Global) -> Option<Sent> {
+    let primary = Primary::new(alloc, PAGES, LENGTH, PAGES).ok()?;
+    let text = primary.write(LENGTH).ok()?;
+    let frames = als_bench_logs::frames(alloc, text.as_slice(), FIRST, FRAME).ok()?;
+    let end = text.len() as u64;
+    Some(Sent { frames, end })
+}
+
+/// A connection that sends these bytes. `None`: allocation failed.
+fn sends(alloc: Global, bytes: &[u8]) -> Option<(End, End)> {
+    let mut sent = Vec::new(alloc);
+    sent.extend_from_slice(bytes).ok()?;
+    let reader = End::new(sent, Vec::new(alloc));
+    let writer = End::new(Vec::new(alloc), Vec::new(alloc));
+    Some((reader, writer))
+}
+
+/// Connections: one that is cut, none, one that goes to the end of the log, and one that sends no
+/// frames. The last one first. `None`: allocation failed.
+fn connections(alloc: Global, sent: &[u8]) -> Option<Scripted<End>> {
+    let mut ready = Vec::new(alloc);
+    ready.push(Some(sends(alloc, NO_FRAME)?)).ok()?;
+    ready.push(Some(sends(alloc, sent)?)).ok()?;
+    ready.push(None).ok()?;
+    ready.push(Some(sends(alloc, sent.get(..CUT)?)?)).ok()?;
+    Some(Scripted::new(ready))
+}
+
+/// A connection over which nothing comes, and one that sends no frames. The last one first. `None`:
+/// allocation failed.
+fn hang_up(alloc: Global) -> Option<Scripted<End>> {
+    let mut ready = Vec::new(alloc);
+    ready.push(Some(sends(alloc, NO_FRAME)?)).ok()?;
+    ready.push(Some(sends(alloc, b"")?)).ok()?;
+    Some(Scripted::new(ready))
+}
+
+/// Whether a log with this end is held, acknowledged, redone and written.
+fn holds<E: Events>(events: &E, end: u64) -> bool {
+    let status = events.status();
+    status.end.0 == end
+        && status.acknowledged.0 == end
+        && status.pending == 0
+        && events.dirty(0).is_none()
+}
+
+/// Whether it was told that something came.
+fn is_heard(report: Report) -> bool {
+    report.state == State::Following && report.silence.is_some()
+}
+
+/// Follows connections of which some are lost. `None`: it ended otherwise, as where allocation fails.
+fn goes_on<E: Counts + Send + Drop, R: Threads + Wait + Sync + Clock + Clone + Drop + Abort>(
+    rt: &R,
+    alloc: Global,
+    engine: E,
+) -> Option<()> {
+    let sent = sent_by_a_primary(alloc)?;
+    let mut primaries = connections(alloc, sent.frames.as_slice())?;
+    let board = Arc::new(alloc, Board::new()).ok()?;
+    let watch = Watch::new(Arc::try_clone(&board).ok()?, rt.clone().ok()?);
+    let mut told = Told { last: None };
+    let Kept { events, ended } = keep_following(
+        rt,
+        alloc,
+        engine,
+        PACE,
+        &mut primaries,
+        &board,
+        &mut told,
+    );
+    if ended != Fault::Session(SessionFault::BadFrame) {
+        return None;
+    }
+    assert!(rt; holds(&events, sent.end));
+    assert!(rt; told.last == Some((Some(Fault::Stream), 100)));
+    assert!(rt; is_heard(watch.report()));
+    Some(())
+}
+
+/// Is hung up on with an empty database. `None`: it ended otherwise, as where allocation fails.
+fn is_turned_away<E: Counts + Send + Drop, R: Threads + Wait + Sync + Clock + Clone + Drop + Abort>(
+    rt: &R,
+    alloc: Global,
+    engine: E,
+) -> Option<()> {
+    let mut primaries = hang_up(alloc)?;
+    let board = Board::new();
+    let mut told = Told { last: None };
+    let Kept { events, ended } = keep_following(
+        rt,
+        alloc,
+        engine,
+        PACE,
+        &mut primaries,
+        &board,
+        &mut told,
+    );
+    drop(events);
+    if ended != Fault::Session(SessionFault::BadHeader) {
+        return None;
+    }
+    assert!(rt; told.last.is_none());
+    Some(())
+}
+
+/// Follows such connections over devices in memory.
+fn goes_on_in_memory<R: Threads + Wait + Sync + Clock + Clone + Drop + Abort>(
+    rt: &R,
+    alloc: Global,
+) -> Option<()> {
+    goes_on(rt, alloc, standby(rt, alloc)?)
+}
+
+#[test]
+fn a_lost_connection_is_followed_by_the_next(rt: HostRuntime) {
+    let alloc = rt.alloc();
+    assert!(rt; goes_on_in_memory(&rt, alloc).is_some() || goes_on_in_memory(&rt, alloc).is_some());
+}
+
+/// Is hung up on with an empty database in memory.
+fn is_turned_away_in_memory<R: Threads + Wait + Sync + Clock + Clone + Drop + Abort>(
+    rt: &R,
+    alloc: Global,
+) -> Option<()> {
+    is_turned_away(rt, alloc, standby(rt, alloc)?)
+}
+
+#[test]
+fn a_primary_that_hangs_up_on_an_empty_database_ends_it(rt: HostRuntime) {
+    let alloc = rt.alloc();
+    assert!(rt;
+        is_turned_away_in_memory(&rt, alloc).is_some()
+            || is_turned_away_in_memory(&rt, alloc).is_some()
+    );
+}

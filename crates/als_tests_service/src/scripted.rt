@@ -1,0 +1,111 @@
+use als_operate::Fault;
+use als_service::{Met, Outages, Primaries};
+use std::io;
+use std::io::{ErrorKind, Read, Write};
+
+/// One end of a stream in memory: what is read of it, and what is written to it.
+pub struct End {
+    bytes: Vec<u8>,
+    at: usize,
+    told: Vec<u8>,
+}
+
+impl Drop for End {
+    #[inline(never)]
+    fn drop(self) {
+        let End { bytes, at: _, told } = self;
+        drop(bytes);
+        drop(told);
+    }
+}
+
+impl End {
+    /// Nothing was read of these bytes, and nothing written.
+    pub fn new(bytes: Vec<u8>, told: Vec<u8>) -> End {
+        End { bytes, at: 0, told }
+    }
+}
+
+impl Read for End {
+    #[inline(never)]
+    fn read(&mut self, into: &mut [u8]) -> io::Result<usize> {
+        let Some(mut rest) = self.bytes.as_slice().get(self.at..) else {
+            return Ok(0);
+        };
+        let count = rest.read(into)?;
+        self.at = self.at.saturating_add(count);
+        Ok(count)
+    }
+}
+
+impl Write for End {
+    #[inline(never)]
+    fn write(&mut self, bytes: &[u8]) -> io::Result<usize> {
+        self.told.write(bytes)
+    }
+
+    fn flush(&mut self) -> io::Result<()> {
+        Ok(())
+    }
+}
+
+/// Connections that are given beforehand, the last one first. None: nobody answers.
+pub struct Scripted<S> {
+    ready: Vec<Option<(S, S)>>,
+    met: Met<S>,
+}
+
+impl<S: Drop> Drop for Scripted<S> {
+    #[inline(never)]
+    fn drop(self) {
+        let Scripted { ready, met } = self;
+        drop(ready);
+        drop(met);
+    }
+}
+
+impl<S> Scripted<S> {
+    pub fn new(ready: Vec<Option<(S, S)>>) -> Scripted<S> {
+        Scripted {
+            ready,
+            met: Met::Nobody,
+        }
+    }
+}
+
+impl<S: Read + Write + Drop> Primaries<S> for Scripted<S> {
+    ghost use Rattle.als_service.specs.Met.{sessions_of};
+
+    ghost met = { λ scripted. sessions_of S.contents scripted.met };
+
+    #[inline(never)]
+    fn next(&mut self) -> io::Result<(S, S)> {
+        match self.ready.pop() {
+            Some(Some((reader, writer))) => {
+                self.met.begin(&writer);
+                Ok((reader, writer))
+            }
+            Some(None) | None => Err(ErrorKind::ConnectionRefused.into()),
+        }
+    }
+
+    #[inline(never)]
+    fn part(&mut self, reader: S, writer: S) {
+        self.met.end(&writer);
+        drop(reader);
+        drop(writer);
+    }
+}
+
+/// The outages that were told, and the last of them.
+#[derive(Drop)]
+pub struct Told {
+    pub last: Option<(Option<Fault>, u64)>,
+}
+
+impl Outages for Told {
+    #[inline(never)]
+    fn outage(&mut self, fault: Option<Fault>, millis: u64) {
+        self.last = Some((fault, millis));
+    }
+}
