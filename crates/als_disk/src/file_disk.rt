@@ -5,7 +5,10 @@
 //! 1. `open` reads the file once, piece by piece, and writes each piece back that is not all zeros.
 //!    After a failed sync a file system may show bytes that are not on the disk, and take them for
 //!    synced; the sync that follows brings to the disk what was read.
-//! 2. A write goes to the mirror and then to the file, a sync to the file and then to the mirror.
+//! 2. A write goes to the mirror. Blocks that are written in a row wait, and go to the file by one
+//!    write where the row or its piece of 64 KiB ends, or at the sync. A sync hands over what waits,
+//!    syncs the file, and then settles the mirror. So a write that the file refuses may be answered
+//!    by a later call.
 //! 3. Once the file has failed, each call fails, and the first error is kept.
 //! 4. A device that forgets old blocks (`forget_old`) fails a read of one, and goes on.
 //!
@@ -19,8 +22,10 @@ ghost use Rattle.als_disk.specs.Store.{zeros};
 
 use crate::count::Count;
 use crate::mirror::Mirror;
+use crate::piece::PIECE_BLOCKS;
 use crate::pieces::write_zeros;
 use crate::reading::mirror_of;
+use crate::run::Run;
 use crate::{BlockDisk, DeviceError, FirstError};
 use std::alloc::Global;
 use std::fs::{File, OpenFile, OpenOptions};
@@ -33,6 +38,8 @@ use std::rt::Files;
 pub struct FileDisk<F = File> {
     file: F,
     mirror: Mirror,
+    /// What the mirror has and the file has not.
+    run: Run,
     first_error: FirstError,
     broken: bool,
     failed: Count,
@@ -46,6 +53,7 @@ impl<F: Drop> Drop for FileDisk<F> {
         let FileDisk {
             file,
             mirror,
+            run: _,
             first_error,
             broken: _,
             failed: _,
@@ -88,6 +96,7 @@ impl<F: OpenFile + FileExt + Drop> FileDisk<F> {
         Ok(FileDisk {
             file,
             mirror,
+            run: Run::NONE,
             first_error,
             broken: false,
             failed: Count::Zero,
@@ -125,6 +134,7 @@ impl<F: OpenFile + FileExt + Drop> FileDisk<F> {
         Ok(FileDisk {
             file,
             mirror,
+            run: Run::NONE,
             first_error,
             broken: false,
             failed: Count::Zero,
@@ -153,6 +163,56 @@ impl<F: OpenFile + FileExt + Drop> FileDisk<F> {
     /// How many pieces of 64 KiB it keeps in memory.
     pub fn kept_pieces(&self) -> usize {
         self.mirror.kept_pieces()
+    }
+
+    /// Hands the blocks that wait to the file, by one write.
+    fn hand_over(&mut self) -> io::Result<()>
+        ensures mirror { self.new.mirror ≡ self.old.mirror }
+        ensures failed { self.new.failed ≡ self.old.failed }
+        ensures attempted { self.new.attempted ≡ self.old.attempted }
+    {
+        let Run { from, to } = self.run;
+        if from < to {
+            let Some(bytes) = self.mirror.bytes(from, to - from) else {
+                return Err(io::ErrorKind::InvalidInput.into());
+            };
+            self.file.write_all_at(bytes, from.saturating_mul(512))?;
+            self.run = Run::NONE;
+        }
+        Ok(())
+    }
+
+    /// Hands the blocks that wait to the file, unless this one goes on with them in their piece.
+    fn end_run(&mut self, i: u64) -> io::Result<()>
+        ensures mirror { self.new.mirror ≡ self.old.mirror }
+        ensures failed { self.new.failed ≡ self.old.failed }
+        ensures attempted { self.new.attempted ≡ self.old.attempted }
+    {
+        if i != self.run.to || i % PIECE_BLOCKS == 0 {
+            self.hand_over()?;
+        }
+        Ok(())
+    }
+
+    /// Lets a block that the mirror has wait for the file. One that the mirror does not keep goes to
+    /// the file at once.
+    fn take(&mut self, i: u64, block: &[u8; 512]) -> io::Result<()>
+        ensures mirror { self.new.mirror ≡ self.old.mirror }
+        ensures failed { self.new.failed ≡ self.old.failed }
+        ensures attempted { self.new.attempted ≡ self.old.attempted }
+    {
+        if !self.mirror.keeps(i) {
+            return self.file.write_all_at(block, i.saturating_mul(512));
+        }
+        if self.run.from < self.run.to {
+            self.run.to = i.saturating_add(1);
+        } else {
+            self.run = Run {
+                from: i,
+                to: i.saturating_add(1),
+            };
+        }
+        Ok(())
     }
 
     /// Notes that the file has failed: each call fails from now on.
@@ -209,11 +269,15 @@ impl<F: OpenFile + FileExt + Drop> BlockDisk for FileDisk<F> {
             self.failed.step();
             return Err(DeviceError);
         }
+        if let Err(error) = self.end_run(i) {
+            self.break_off(error);
+            return Err(DeviceError);
+        }
         if self.mirror.write(i, block).is_err() {
             self.failed.step();
             return Err(DeviceError);
         }
-        match self.file.write_all_at(block, i * 512) {
+        match self.take(i, block) {
             Ok(()) => Ok(()),
             Err(error) => {
                 self.break_off(error);
@@ -226,6 +290,10 @@ impl<F: OpenFile + FileExt + Drop> BlockDisk for FileDisk<F> {
         self.attempted.step();
         if self.broken {
             self.failed.step();
+            return Err(DeviceError);
+        }
+        if let Err(error) = self.hand_over() {
+            self.break_off(error);
             return Err(DeviceError);
         }
         match self.file.sync_data() {

@@ -38,6 +38,8 @@ mod keeps;
 mod mirror;
 // the contents of a file, read once
 mod reading;
+// blocks that wait for a file
+mod run;
 // a device over a file
 mod file_disk;
 

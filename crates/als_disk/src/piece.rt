@@ -60,6 +60,13 @@ impl Piece {
         }
     }
 
+    /// The bytes of so many blocks from one on, where it has them.
+    pub(crate) fn bytes(&self, at: usize, count: usize) -> Option<&[u8]> {
+        let end = at.checked_add(count)?;
+        let blocks = self.blocks.get(at..end)?;
+        Some(blocks.as_flattened())
+    }
+
     /// Makes room for each block, so that `set` takes no memory. No content changes.
     pub(crate) fn make_room(&mut self, alloc: Global) -> Result<(), AllocError>
         ensures ok { OnOk result (length self.new ≡ 128) }

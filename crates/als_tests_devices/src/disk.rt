@@ -297,13 +297,13 @@ fn expect_two_blocks<D: BlockDisk>(rt: &impl Abort, disk: &mut D) {
     assert!(rt; firsts(disk) == Ok([0, 1, 2]));
 }
 
-/// A file keeps what was written, synced or not, until it is opened again. `None`: memory was
-/// refused.
+/// A file keeps what was written and synced until it is opened again. `None`: allocation failed.
 fn keeps_in_a_file<R: Abort + AllocGlobal + Files<File = File>>(rt: &R) -> Option<()> {
     let path = "device.blk";
     let none = FirstError::new(rt.alloc()).ok()?;
     let mut disk = FileDisk::create(rt, path, 3, none.clone().ok()?).ok()?;
     takes_two_blocks(rt, &mut disk)?;
+    disk.sync().ok()?;
     drop(disk);
     // What is there is never made anew.
     assert!(rt; FileDisk::create(rt, path, 3, none.clone().ok()?).is_err());
@@ -329,18 +329,19 @@ fn expect_no_write<D: BlockDisk>(rt: &impl Abort, disk: &mut D)
     assert!(rt; disk.write(0, &filled(1)) == Err(DeviceError));
 }
 
-/// A device of one block that takes no write fails each call from its first write on. `None`:
-/// allocation failed for the write, and the device has not failed.
+/// A device of one block whose file takes no write fails each call from the sync behind its first
+/// write on. `None`: allocation failed for the write, and the device has not failed.
 fn fails_from_its_first_write<D: BlockDisk>(rt: &impl Abort, disk: &mut D) -> Option<()> {
     assert!(rt; disk.blocks() == 1);
     expect_first(rt, disk, 0, 0);
     assert!(rt; disk.sync() == Ok(()));
-    expect_no_write(rt, disk);
+    disk.write(0, &filled(1)).ok()?;
+    expect_no_sync(rt, disk);
     if first(disk, 0).is_ok() {
         return None;
     }
-    expect_no_sync(rt, disk);
     expect_no_write(rt, disk);
+    expect_no_sync(rt, disk);
     Some(())
 }
 

@@ -136,19 +136,21 @@ fn an_opening_writes_back_what_it_read(rt: HostRuntime) {
     assert!(rt; opens_in_pieces(&rt, alloc).is_some() || opens_in_pieces(&rt, alloc).is_some());
 }
 
-/// A write reaches the file, at the block's place, and a sync syncs it. `None`: allocation failed.
+/// Blocks that are written in a row reach the file by one write at the first one's place, once a sync
+/// asks for it, and the sync follows. `None`: allocation failed.
 fn reaches_the_file<D: BlockDisk>(rt: &impl Abort, disk: &mut D, seen: &Seen) -> Option<()> {
     assert!(rt; disk.blocks() == 3);
     let _ = seen.calls();
-    disk.write(2, &[9; 512]).ok()?;
-    assert!(rt; seen.calls() == WRITE);
-    assert!(rt; seen.offset() == 1024 && seen.byte() == 9);
+    disk.write(1, &[9; 512]).ok()?;
+    assert!(rt; disk.blocks() == 3);
+    disk.write(2, &[8; 512]).ok()?;
     let mut block = [0; 512];
     assert!(rt; disk.blocks() == 3);
     disk.read(2, &mut block).ok()?;
-    assert!(rt; block[0] == 9 && seen.calls() == 0);
+    assert!(rt; block[0] == 8 && seen.calls() == 0);
     assert!(rt; disk.sync() == Ok(()));
-    assert!(rt; seen.calls() == SYNC_DATA);
+    assert!(rt; seen.calls() == 8 * WRITE + SYNC_DATA);
+    assert!(rt; seen.offset() == 512 && seen.byte() == 9);
     Some(())
 }
 

@@ -52,6 +52,17 @@ impl Mirror {
         self.pieces.iter().filter(|piece| !piece.is_zeros()).count()
     }
 
+    /// Whether a block lies in a piece that is kept.
+    pub(crate) fn keeps(&self, i: u64) -> bool {
+        self.first <= i / PIECE_BLOCKS
+    }
+
+    /// The last contents of so many blocks of one piece, from one on, where it is kept.
+    pub(crate) fn bytes(&self, from: u64, count: u64) -> Option<&[u8]> {
+        let piece = self.pieces.get((from / PIECE_BLOCKS) as usize)?;
+        piece.bytes((from % PIECE_BLOCKS) as usize, count as usize)
+    }
+
     /// The last content of a block. It fails where the block is forgotten.
     pub(crate) fn read(&self, i: u64) -> Result<[u8; 512], DeviceError>
         requires { i < mirror_blocks self.now }
