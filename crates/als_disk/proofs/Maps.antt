@@ -1,5 +1,5 @@
--- What a change of the two maps of a device in memory does to its blocks.
-use Rattle.std.proofs.Common.{◌≡◌, ◌≢◌, ℕ, List, [], ◌∷◌, Some, None, true, false, is_some, slice_index, Option, IsSome, length-append, refl, sym, ◌∙◌, ap, arith}
+-- What a change of what a device in memory keeps does to its blocks.
+use Rattle.std.proofs.Common.{◌≡◌, ◌≢◌, ℕ, zero, suc, List, [], ◌∷◌, ◌++◌, Some, None, true, false, slice_index, Option, IsSome, length-append, refl, sym, ◌∙◌, ap, arith}
 use Rattle.std.proofs.lemmas.Grind.{common_steps}
 use Rattle.std.proofs.lemmas.Bool.{false≢true}
 use Rattle.std.proofs.lemmas.Map.Keys.{le_from_not_gt}
@@ -12,9 +12,12 @@ use Rattle.als_disk.specs.Store.{synced_content, slot_with, slot_of, zeros}
 use Rattle.als_disk.specs.Unsynced.{contents}
 use Rattle.als_disk.proofs.Picks.{TakesFirst, choices_below-none, picked-no_choice}
 
--- zeros kept for a block of which nothing was kept change nothing
-pub synced_content-zeros : (m n : BTreeMap ℕ (List ℕ)) (i : ℕ) → false ≡ is_some (get nat_cmp m i) → Updates nat_cmp m n i (Some zeros) → (k : ℕ) → synced_content n k ≡ synced_content m k
-synced_content-zeros m n i none updates k = grind (arith, common_steps, updates.0 k)
+-- zeros kept for one more block change nothing
+pub synced_content-push : (xs : List (List ℕ)) (k : ℕ) → synced_content (xs ++ zeros ∷ []) k ≡ synced_content xs k
+synced_content-push [] zero = refl
+synced_content-push [] (suc k) = refl
+synced_content-push (x ∷ xs) zero = refl
+synced_content-push (x ∷ xs) (suc k) = synced_content-push xs k
 
 -- a block that was written since the last sync has a choice
 has_choice-unsynced : (content : List ℕ) (w : Unsynced) → has_choice (slot_with content (Some w)) ≡ true
@@ -32,7 +35,7 @@ none_from_not_some (Some x) not_some = absurd (not_some refl)
 pub ContainsKey-pop : (u v : BTreeMap ℕ Unsynced) (i k : ℕ) → Updates nat_cmp u v i None → ContainsKey nat_cmp v k → ContainsKey nat_cmp u k
 ContainsKey-pop u v i k updates has = grind (arith, common_steps, updates.0 k)
 
-module _ (s t : BTreeMap ℕ (List ℕ)) (u v : BTreeMap ℕ Unsynced) (i : ℕ) (w : Unsynced) (picks : List ℕ) where
+module _ (s t : List (List ℕ)) (u v : BTreeMap ℕ Unsynced) (i : ℕ) (w : Unsynced) (picks : List ℕ) where
   -- block i, the first of the blocks written since the last sync, takes the first pick
   pub TakesFirst-pop : get nat_cmp u i ≡ Some w → IsLowerBound nat_cmp u i → Updates nat_cmp u v i None
       → synced_content t i ≡ picked (synced_content s i ∷ contents w) (slice_index picks 0)
@@ -54,7 +57,7 @@ module _ (s t : BTreeMap ℕ (List ℕ)) (u v : BTreeMap ℕ Unsynced) (i : ℕ)
         ∙ ap (λ content. slot_with content (get nat_cmp u k)) (others k apart);
   }
 
-module _ (s : BTreeMap ℕ (List ℕ)) (u : BTreeMap ℕ Unsynced) (empty : u.entries ≡ []) where
+module _ (s : List (List ℕ)) (u : BTreeMap ℕ Unsynced) (empty : u.entries ≡ []) where
   -- with nothing written since the last sync, each block is as it was synced
   pub slot_of-empty : (k : ℕ) → slot_of s u k ≡ only (synced_content s k)
   slot_of-empty k = rw empty refl

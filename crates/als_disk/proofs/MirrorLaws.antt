@@ -1,10 +1,10 @@
 -- What a write and a sync make of a mirror.
-use Rattle.std.proofs.Common.{◌≡◌, ◌≢◌, ◌<◌, ◌≤◌, ◌+◌, ◌*◌, ◌/◌, ◌%◌, ℕ, nat_eq, Bool, true, false, List, [], length, replicate, slice_index_or, slice_set, refl, sym, ◌∙◌, ap, subst, inl, inr, arith, if◌then◌else◌}
+use Rattle.std.proofs.Common.{◌≡◌, ◌≢◌, ◌<◌, ◌≤◌, ◌+◌, ◌*◌, ◌/◌, ℕ, nat_eq, Bool, List, [], length, replicate, slice_set, refl, sym, ◌∙◌, ap, subst, inl, inr, arith, if◌then◌else◌}
 use Rattle.std.proofs.lemmas.Bool.{cases_eq, cases_lt, eq-eqb}
 use Rattle.std.proofs.lemmas.Bool.Decides.{eqb_tells}
 use Rattle.std.proofs.lemmas.List.{get_or-set_same, get_or-set_other, get_or-replicate, get_or_past, length-replicate}
 use Rattle.std.specs.Prelude.{Contains}
-use Rattle.als_disk.specs.Slot.{Slot, only, written, IsBlock, HoldsBlocks, GivesCandidates, SameBlocksBut}
+use Rattle.als_disk.specs.Slot.{Slot, only, written, IsBlock, HoldsBlocks, SameBlocksBut}
 use Rattle.als_disk.specs.SlotLaws.{Contains-one}
 use Rattle.als_disk.specs.Pieces.{content_at, piece_in, HoldNewest}
 use Rattle.als_disk.specs.Store.{zeros}

@@ -1,5 +1,5 @@
 -- What a device in memory keeps: the contents of the last sync, and what was written since.
-use Rattle.std.specs.Prelude.{◌≡◌, ◌<◌, ℕ, List, [], ◌∷◌, replicate, Contains, Option, Some, None, unwrap_or}
+use Rattle.std.specs.Prelude.{◌≡◌, ◌<◌, ℕ, List, [], ◌∷◌, replicate, length, slice_index_or, Contains, Option, Some, None}
 use Rattle.std.proofs.Common.{arith, refl, subst, sym, ap, ◌∙◌}
 use Rattle.std.proofs.lemmas.List.Elements.{Contains-push}
 use Rattle.std.specs.Ordering.{nat_cmp}
@@ -14,8 +14,8 @@ unfoldable pub zeros : List ℕ
 zeros = replicate 512 0
 
 -- the content of a block at the last sync: zeros, if none is kept
-abbrev pub synced_content : BTreeMap ℕ (List ℕ) → ℕ → List ℕ
-synced_content synced k = unwrap_or (get nat_cmp synced k) zeros
+abbrev pub synced_content : List (List ℕ) → ℕ → List ℕ
+synced_content synced k = slice_index_or synced k zeros
 
 -- a block with this synced content, and with what was written since
 abbrev pub slot_with : List ℕ → Option Unsynced → Slot
@@ -23,7 +23,7 @@ slot_with content None = only content
 slot_with content (Some writes) = record { candidates = content ∷ contents writes; readable = writes.last ∷ [] }
 
 -- what stands in each block
-abbrev pub slot_of : BTreeMap ℕ (List ℕ) → BTreeMap ℕ Unsynced → ℕ → Slot
+abbrev pub slot_of : List (List ℕ) → BTreeMap ℕ Unsynced → ℕ → Slot
 slot_of synced unsynced k = slot_with (synced_content synced k) (get nat_cmp unsynced k)
 
 -- the newest of a synced content and what was written since
@@ -32,12 +32,12 @@ newest content None = content
 newest content (Some writes) = writes.last
 
 -- the newest content of each block
-abbrev pub newest_of : BTreeMap ℕ (List ℕ) → BTreeMap ℕ Unsynced → ℕ → List ℕ
+abbrev pub newest_of : List (List ℕ) → BTreeMap ℕ Unsynced → ℕ → List ℕ
 newest_of synced unsynced k = newest (synced_content synced k) (get nat_cmp unsynced k)
 
 -- each block that was written since the last sync has room for its next synced content
-abbrev pub HasRoom : BTreeMap ℕ (List ℕ) → BTreeMap ℕ Unsynced → Type 0
-HasRoom synced unsynced = (k : ℕ) → ContainsKey nat_cmp unsynced k → ContainsKey nat_cmp synced k
+abbrev pub HasRoom : List (List ℕ) → BTreeMap ℕ Unsynced → Type 0
+HasRoom synced unsynced = (k : ℕ) → ContainsKey nat_cmp unsynced k → k < length synced
 
 -- each block that was written since the last sync is below this number
 abbrev pub IsInRange : BTreeMap ℕ Unsynced → ℕ → Type 0
@@ -52,7 +52,7 @@ pub readable_is_newest : (content : List ℕ) (writes : Option Unsynced) → (sl
 readable_is_newest content None = refl
 readable_is_newest content (Some writes) = refl
 
-pub slot_of-gives_candidates : (synced : BTreeMap ℕ (List ℕ)) (unsynced : BTreeMap ℕ Unsynced) → GivesCandidates (slot_of synced unsynced)
+pub slot_of-gives_candidates : (synced : List (List ℕ)) (unsynced : BTreeMap ℕ Unsynced) → GivesCandidates (slot_of synced unsynced)
 slot_of-gives_candidates synced unsynced = record {
   gives = λ k. rw (readable_is_newest (synced_content synced k) (get nat_cmp unsynced k)) (omega arith);
   candidates = λ k content has.
@@ -61,13 +61,13 @@ slot_of-gives_candidates synced unsynced = record {
 }
 
 -- a settled block keeps the newest content, and that was the readable one
-pub newest-readable : (synced : BTreeMap ℕ (List ℕ)) (unsynced : BTreeMap ℕ Unsynced) (k : ℕ) → Contains (slot_of synced unsynced k).readable (newest_of synced unsynced k)
+pub newest-readable : (synced : List (List ℕ)) (unsynced : BTreeMap ℕ Unsynced) (k : ℕ) → Contains (slot_of synced unsynced k).readable (newest_of synced unsynced k)
 newest-readable synced unsynced k = rw (readable_is_newest (synced_content synced k) (get nat_cmp unsynced k)) (0, omega arith, refl)
 
-pub only_newest-readable : (synced : BTreeMap ℕ (List ℕ)) (unsynced : BTreeMap ℕ Unsynced) (k : ℕ) (new : Slot) → KeepsReadable (slot_of synced unsynced k) new → new ≡ only (newest_of synced unsynced k)
+pub only_newest-readable : (synced : List (List ℕ)) (unsynced : BTreeMap ℕ Unsynced) (k : ℕ) (new : Slot) → KeepsReadable (slot_of synced unsynced k) new → new ≡ only (newest_of synced unsynced k)
 only_newest-readable synced unsynced k new keeps =
     let one : Contains (newest_of synced unsynced k ∷ []) keeps.content = subst (λ (xs : List (List ℕ)). Contains xs keeps.content) (readable_is_newest (synced_content synced k) (get nat_cmp unsynced k)) keeps.was_readable in
     keeps.left ∙ ap only (sym (Contains-one one))
 
-pub KeepsReadable-newest : (synced : BTreeMap ℕ (List ℕ)) (unsynced : BTreeMap ℕ Unsynced) (k : ℕ) (new : Slot) → new ≡ only (newest_of synced unsynced k) → KeepsReadable (slot_of synced unsynced k) new
+pub KeepsReadable-newest : (synced : List (List ℕ)) (unsynced : BTreeMap ℕ Unsynced) (k : ℕ) (new : Slot) → new ≡ only (newest_of synced unsynced k) → KeepsReadable (slot_of synced unsynced k) new
 KeepsReadable-newest synced unsynced k new left = record { content = newest_of synced unsynced k; was_readable = newest-readable synced unsynced k; left = left }

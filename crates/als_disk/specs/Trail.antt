@@ -1,5 +1,5 @@
 -- What the writes and the syncs of a device make of its blocks.
-use Rattle.std.specs.Prelude.{◌≡◌, ◌<◌, nat_eq, ℕ, Bool, true, false, List, [], ◌∷◌, Contains, if◌then◌else◌}
+use Rattle.std.specs.Prelude.{◌≡◌, nat_eq, ℕ, Bool, true, false, List, [], ◌∷◌, Contains, if◌then◌else◌}
 use Rattle.std.proofs.Common.{arith, refl, subst}
 use Rattle.std.proofs.lemmas.List.Elements.{Contains-push}
 use Rattle.als_disk.specs.declared.trail.Trail.{Trail}

@@ -1,10 +1,9 @@
 ghost use Rattle.std.specs.Prelude.{◌≡◌, IfOk};
-ghost use Rattle.als_disk.specs.Store.{zeros};
 
 use std::alloc::{AllocError, Global};
 use std::marker::Model;
 
-/// The content of a block, in a box: a map that keeps it moves eight bytes, and not 512.
+/// The content of a block, in a box: what keeps it moves eight bytes, and not 512.
 pub(crate) struct Content {
     bytes: Box<[u8; 512]>,
 }
@@ -32,14 +31,6 @@ impl Content {
         Ok(Content {
             bytes: Box::new(alloc, *block)?,
         })
-    }
-
-    /// The content of a block of zeros.
-    #[tactic(auto, unfolding(crate::specs::Store::zeros))]
-    pub(crate) fn zeros(alloc: Global) -> Result<Content, AllocError>
-        ensures { IfOk result (λ content. content ≡ zeros) }
-    {
-        Content::new(alloc, &[0; 512])
     }
 
     /// Its bytes.

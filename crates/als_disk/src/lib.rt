@@ -11,6 +11,10 @@ mod restart;
 mod count;
 // the content of a block, in a box
 mod content;
+// the content of a block at the last sync
+mod kept;
+// the contents of the last sync
+mod synced;
 // what was written to a block since the last sync
 mod unsynced;
 // the contents that a device in memory keeps

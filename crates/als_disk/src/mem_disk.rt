@@ -5,7 +5,8 @@ ghost use Rattle.als_disk.specs.Store.{zeros, slot_of, HasRoom, IsInRange};
 ghost use Rattle.als_disk.specs.Store.{slot_of-gives_candidates};
 
 use crate::count::Count;
-use crate::store::{self, Synced, Writes};
+use crate::store::{self, Writes};
+use crate::synced::Synced;
 use crate::{BlockDisk, DeviceError, Restart};
 use std::alloc::{AllocError, Global};
 use std::collections::BTreeMap;
@@ -51,7 +52,7 @@ impl MemDisk {
         MemDisk {
             alloc,
             blocks,
-            synced: BTreeMap::new(alloc),
+            synced: Synced::zeros(alloc),
             unsynced: BTreeMap::new(alloc),
             failed: Count::Zero,
             attempted: Count::Zero,

@@ -1,6 +1,6 @@
-// The contents that a device in memory keeps, as two maps: of the last sync, and since.
-ghost use Rattle.std.specs.Prelude.{◌≡◌, ◌≢◌, ◌<◌, ◌==◌, ◌∷◌, ℕ, List, Some, length, drop, min};
-ghost use Rattle.std.specs.Prelude.{slice_index, if◌then◌else◌, OnOk, OnErr};
+// The contents that a device in memory keeps: of the last sync, by block, and since then in a map.
+ghost use Rattle.std.specs.Prelude.{◌≡◌, ◌≢◌, ◌<◌, ◌∷◌, ℕ, List, length, drop, min};
+ghost use Rattle.std.specs.Prelude.{slice_index, OnOk, OnErr};
 ghost use Rattle.std.specs.Ordering.{nat_cmp};
 ghost use Rattle.std.specs.BTreeMap.{get, ContainsKey, IsEmpty};
 ghost use Rattle.als_disk.specs.Crash.{LeavesPicked, choices_below, picked};
@@ -10,35 +10,21 @@ ghost use Rattle.als_disk.specs.Store.{IsInRange};
 ghost use Rattle.als_disk.specs.Unsynced.{contents};
 
 use crate::content::Content;
+use crate::synced::Synced;
 use crate::unsynced::Unsynced;
 use std::alloc::{AllocError, Global};
 use std::collections::BTreeMap;
 
-pub(crate) type Synced = BTreeMap<u64, Content>;
-
 pub(crate) type Writes = BTreeMap<u64, Unsynced>;
 
-/// Makes room for the next synced content of a block, which then takes no memory.
-fn keep(alloc: Global, synced: &mut Synced, i: u64) -> Result<(), AllocError>
-    ensures ok { OnOk result (ContainsKey nat_cmp synced.new i) }
-    ensures kept { (k : ℕ) → ContainsKey nat_cmp synced.old k → ContainsKey nat_cmp synced.new k }
-    ensures same { (k : ℕ) → synced_content synced.new k ≡ synced_content synced.old k }
+/// Makes a content the synced one of a block.
+fn replace(synced: &mut Synced, i: u64, content: Content)
+    requires { i < length synced.old }
+    ensures content { synced_content synced.new i ≡ content }
+    ensures others { (k : ℕ) → k ≢ i → synced_content synced.new k ≡ synced_content synced.old k }
+    ensures kept { length synced.new ≡ length synced.old }
 {
-    if !synced.contains_key(&i) {
-        synced.insert(i, Content::zeros(alloc)?)?;
-    }
-    Ok(())
-}
-
-/// Puts another content in the place of one that is kept.
-fn replace(synced: &mut Synced, i: u64, content: [u8; 512])
-    requires { ContainsKey nat_cmp synced.old i }
-    ensures { (k : ℕ) → get nat_cmp synced.new k
-        ≡ (if k == i then Some content else get nat_cmp synced.old k) }
-{
-    if let Some(block) = synced.get_mut(&i) {
-        block.set(&content);
-    }
+    synced.set(i, content);
 }
 
 /// Adds a content to what was written to a block.
@@ -81,19 +67,8 @@ pub(crate) fn put(
     ensures in_range { (blocks : ℕ) → i < blocks → IsInRange unsynced.old blocks
         → IsInRange unsynced.new blocks }
 {
-    keep(alloc, synced, i)?;
+    synced.make_room(i)?;
     note(alloc, unsynced, i, block)
-}
-
-/// The content of a block at the last sync.
-#[tactic(auto, unfolding(crate::specs::Store::zeros))]
-fn synced_block(synced: &Synced, i: u64) -> [u8; 512]
-    ensures { result ≡ synced_content synced.now i }
-{
-    match synced.get(&i) {
-        Some(content) => content.block(),
-        None => [0; 512],
-    }
 }
 
 /// The newest content of a block.
@@ -102,7 +77,7 @@ pub(crate) fn newest(synced: &Synced, unsynced: &Writes, i: u64) -> [u8; 512]
 {
     match unsynced.get(&i) {
         Some(writes) => writes.last.block(),
-        None => synced_block(synced, i),
+        None => synced.block(i),
     }
 }
 
@@ -114,7 +89,7 @@ pub(crate) fn settle(synced: &mut Synced, unsynced: &mut Writes)
     ensures empty { IsEmpty unsynced.new }
 {
     while let Some((i, writes)) = unsynced.pop_first() {
-        replace(synced, i, writes.last.block());
+        replace(synced, i, writes.into_last());
     }
 }
 
@@ -130,14 +105,14 @@ fn first_pick(picks: &[u8]) -> (u8, &[u8])
 }
 
 /// Makes one candidate of a block the synced one.
-fn settle_one(synced: &mut Synced, i: u64, writes: &Unsynced, pick: u8)
-    requires { ContainsKey nat_cmp synced.old i }
+fn settle_one(synced: &mut Synced, i: u64, writes: Unsynced, pick: u8)
+    requires { i < length synced.old }
     ensures picked { synced_content synced.new i
-        ≡ picked (synced_content synced.old i ∷ contents writes.now) pick }
+        ≡ picked (synced_content synced.old i ∷ contents writes) pick }
     ensures others { (k : ℕ) → k ≢ i → synced_content synced.new k ≡ synced_content synced.old k }
-    ensures kept { (k : ℕ) → ContainsKey nat_cmp synced.old k → ContainsKey nat_cmp synced.new k }
+    ensures kept { length synced.new ≡ length synced.old }
 {
-    if let Some(content) = writes.pick(pick) {
+    if let Some(content) = writes.into_pick(pick) {
         replace(synced, i, content);
     }
 }
@@ -154,7 +129,7 @@ pub(crate) fn settle_by(synced: &mut Synced, unsynced: &mut Writes, picks: &[u8]
     let mut left = picks;
     while let Some((i, writes)) = unsynced.pop_first() {
         let (pick, others) = first_pick(left);
-        settle_one(synced, i, &writes, pick);
+        settle_one(synced, i, writes, pick);
         left = others;
     }
     picks.len() - left.len()

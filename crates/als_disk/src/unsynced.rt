@@ -36,15 +36,24 @@ impl Unsynced {
         Ok(())
     }
 
-    /// The content that a crash leaves by this pick, or `None` for the one from before them.
-    pub(crate) fn pick(&self, pick: u8) -> Option<[u8; 512]>
-        ensures { (synced : List ℕ) → unwrap_or result synced
-            ≡ picked (synced ∷ contents self.now) pick }
+    /// The last one.
+    pub(crate) fn into_last(self) -> Content
+        ensures { result ≡ self.last }
     {
+        let Unsynced { earlier: _, last } = self;
+        last
+    }
+
+    /// The content that a crash leaves by this pick, or `None` for the one from before them.
+    pub(crate) fn into_pick(self, pick: u8) -> Option<Content>
+        ensures { (synced : List ℕ) → unwrap_or result synced
+            ≡ picked (synced ∷ contents self) pick }
+    {
+        let Unsynced { earlier, mut last } = self;
         let at = usize::from(pick).checked_sub(1)?;
-        match self.earlier.get(at) {
-            Some(content) => Some(*content),
-            None => Some(self.last.block()),
+        if let Some(content) = earlier.get(at) {
+            last.set(content);
         }
+        Some(last)
     }
 }

@@ -1,4 +1,4 @@
-use Rattle.std.proofs.Common.{◌≡◌, ◌∙◌, ◌+◌, ◌++◌, ◌∷◌, [], List, ℕ, ap, replicate}
+use Rattle.std.proofs.Common.{◌∙◌, ◌++◌, ◌∷◌, [], List, ℕ, ap}
 use Rattle.std.proofs.lemmas.List.{replicate-append-replicate}
 use Rattle.als_disk.specs.Store.{zeros}
 use Rattle.als_disk.proofs.piece.zero_blocks.Goals as goal

@@ -1,4 +1,4 @@
-use Rattle.std.proofs.Common.{◌≡◌, ◌-◌, ◌≤◌, ℕ}
+use Rattle.std.proofs.Common.{◌≡◌, ◌-◌, ◌≤◌}
 use Rattle.std.specs.Prelude.{vec_len}
 use Rattle.als_disk.specs.Mirror.{mirror_blocks}
 use Rattle.als_disk.proofs.reading.mirror_of.Given as goal

@@ -19,7 +19,7 @@ loop-i-preserved c =
     c.in-Some.ensures.value c.in-Some.ensures.least c.in-Some.ensures.updates left c.settle_one.ensures.others in
     record {
       picked = λ k. rw c.first_pick-pick.ensures.others (picked_content-rest _ _ c.loop-i.left.now c.in-Some.i taken k ∙ c.loop-i.invariant.picked k);
-      room = λ k has. c.settle_one.ensures.kept k (c.loop-i.invariant.room k (stays k has));
+      room = λ k has. omega (arith, c.settle_one.ensures.kept, c.loop-i.invariant.room k (stays k has));
       in_range = λ blocks in_range k has. c.loop-i.invariant.in_range blocks in_range k (stays k has);
       used = λ blocks in_range.
           let below = c.loop-i.invariant.in_range blocks in_range c.in-Some.i (ap is_some c.in-Some.ensures.value) in

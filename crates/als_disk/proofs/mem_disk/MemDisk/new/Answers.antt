@@ -8,9 +8,9 @@ use Rattle.als_disk.proofs.mem_disk.MemDisk.new.Goals as goal
 
 pub invariant_of-result : goal.invariant_of-result
 invariant_of-result c = record {
-  room = λ k has. absurd (ContainsKey-empty c.new-2.result c.new-2.ensures.empty k has);
-  in_range = λ k has. absurd (ContainsKey-empty c.new-2.result c.new-2.ensures.empty k has);
+  room = λ k has. absurd (ContainsKey-empty c.new.result c.new.ensures.empty k has);
+  in_range = λ k has. absurd (ContainsKey-empty c.new.result c.new.ensures.empty k has);
   contents = λ k content has.
-      let zeros_only = slot_of-empty c.new.result c.new-2.result c.new-2.ensures.empty k in
-      subst (λ (x : List ℕ). IsBlock x) (Contains-one (subst (λ (s : Slot). Contains s.candidates content) zeros_only has)) (rw c.new.ensures.empty IsBlock-zeros);
+      let zeros_only = slot_of-empty c.zeros.result c.new.result c.new.ensures.empty k in
+      subst (λ (x : List ℕ). IsBlock x) (Contains-one (subst (λ (s : Slot). Contains s.candidates content) zeros_only has)) (rw c.zeros.ensures IsBlock-zeros);
 }

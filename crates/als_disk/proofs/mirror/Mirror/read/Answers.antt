@@ -1,6 +1,6 @@
-use Rattle.std.proofs.Common.{◌∙◌, ◌≡◌, ◌+◌, ◌*◌, ◌/◌, ◌%◌, ◌<◌, ◌≤◌, ℕ, List, [], ap, arith, length}
+use Rattle.std.proofs.Common.{◌∙◌, ◌≡◌, ◌+◌, ◌*◌, ◌/◌, ◌%◌, ◌<◌, ℕ, List, [], ap, arith, length}
 use Rattle.std.proofs.lemmas.List.{get_or_default}
-use Rattle.als_disk.specs.Pieces.{content_at, piece_in}
+use Rattle.als_disk.specs.Pieces.{content_at}
 use Rattle.als_disk.specs.Trail.{newest_in}
 use Rattle.als_disk.proofs.mirror.Mirror.read.Goals as goal
 

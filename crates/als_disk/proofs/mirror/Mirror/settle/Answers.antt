@@ -1,4 +1,3 @@
-use Rattle.std.proofs.Common.{◌∙◌, sym, ◌+◌, ◌*◌}
 use Rattle.als_disk.specs.Trail.{KeepsReadable-last}
 use Rattle.als_disk.proofs.MirrorLaws.{contents-sync, HoldNewest-fewer}
 use Rattle.als_disk.proofs.mirror.Mirror.settle.Goals as goal

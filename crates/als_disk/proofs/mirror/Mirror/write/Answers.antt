@@ -1,7 +1,7 @@
-use Rattle.std.proofs.Common.{◌≡◌, ◌∙◌, ◌+◌, ◌*◌, ◌/◌, ◌%◌, ◌<◌, ◌≤◌, ℕ, List, [], sym, ap, subst, length, slice_set, arith}
+use Rattle.std.proofs.Common.{◌≡◌, ◌∙◌, ◌+◌, ◌*◌, ◌/◌, ◌%◌, ◌<◌, ℕ, List, [], sym, ap, subst, length, slice_set, arith}
 use Rattle.std.proofs.lemmas.List.{get_or_default}
 use Rattle.als_disk.specs.Pieces.{content_at, piece_in, HoldNewest}
-use Rattle.als_disk.proofs.MirrorLaws.{HoldNewest-write, HoldNewest-same, HoldNewest-forgotten, contents-write, slot-here, slot-others}
+use Rattle.als_disk.proofs.MirrorLaws.{HoldNewest-write, HoldNewest-forgotten, contents-write}
 use Rattle.als_disk.proofs.mirror.Mirror.write.Goals as goal
 
 pub invariant_of-self-2-clause-newest : goal.invariant_of-self-2-clause-newest

@@ -1,6 +1,6 @@
-use Rattle.std.proofs.Common.{◌≡◌, ◌∙◌, ℕ, sym, subst, ap, refl}
+use Rattle.std.proofs.Common.{◌∙◌, sym, subst, ap}
 use Rattle.als_disk.specs.declared.trail.Trail.{Trail}
-use Rattle.als_disk.specs.Slot.{HoldsBlocks, only}
+use Rattle.als_disk.specs.Slot.{HoldsBlocks}
 use Rattle.als_disk.specs.Pieces.{HoldNewest}
 use Rattle.als_disk.specs.Trail.{slot_in}
 use Rattle.als_disk.proofs.MirrorLaws.{contents-empty, slot-start}

@@ -1,4 +1,4 @@
-use Rattle.std.proofs.Common.{◌≡◌, ◌≤◌, ◌*◌, sym, subst, ap, ◌∙◌, length, replicate, List, ℕ, [], arith}
+use Rattle.std.proofs.Common.{◌≡◌, sym, subst, ap, ◌∙◌, length, List, ℕ, [], arith}
 use Rattle.std.proofs.lemmas.Grind.{div_ceil_times}
 use Rattle.std.proofs.lemmas.List.{length-replicate}
 use Rattle.als_disk.specs.declared.trail.Trail.TheVariants.{Start}

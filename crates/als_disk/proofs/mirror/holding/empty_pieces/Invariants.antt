@@ -1,4 +1,4 @@
-use Rattle.std.proofs.Common.{◌≡◌, replicate, List, ℕ, []}
+use Rattle.std.proofs.Common.{◌≡◌, replicate, []}
 use Rattle.als_disk.proofs.mirror.holding.empty_pieces.Given as goal
 
 abbrev pub invariant-loop : goal.invariant-loop

@@ -1,6 +1,5 @@
-use Rattle.std.proofs.Common.{◌≡◌, ◌≢◌, ◌<◌, ◌≤◌, ◌∙◌, ◌+◌, ℕ, List, length, ap, arith, inl, inr}
+use Rattle.std.proofs.Common.{◌≢◌, ◌<◌, ◌∙◌, length, arith, inl, inr}
 use Rattle.std.proofs.lemmas.Bool.{cases_eq}
-use Rattle.als_disk.specs.Pieces.{piece_in}
 use Rattle.als_disk.proofs.MirrorLaws.{piece_in-emptied, piece_in-others}
 use Rattle.als_disk.proofs.mirror.holding.release.Goals as goal
 
