@@ -1,7 +1,9 @@
-ghost use Rattle.std.specs.Prelude.{◌≡◌, ◌≤◌, ◌+◌, ◌%◌, ◌^◌};
+ghost use Rattle.std.specs.Prelude.{◌≡◌, ◌≤◌, ◌+◌, ◌%◌, ◌^◌, true};
 ghost use Rattle.als_record.specs.declared.transaction_state.TransactionState.TheVariants.{Active};
 ghost use Rattle.als_record.specs.Spelling.{image_len};
 ghost use Rattle.als_record.specs.Shown.{shown, shown_body, shown_image};
+ghost use Rattle.als_record.specs.Transactions.{is_update};
+ghost use Rattle.als_record.specs.Images.{image_before};
 ghost use Rattle.als_record.specs.Table.{row_after, state_after, fresh_row};
 ghost use Rattle.als_analysis.specs.Open.{bytes_after, undo_owed, owed, owed_after};
 ghost use Rattle.als_analysis.specs.Open.{fresh_open, open_after};
@@ -43,11 +45,15 @@ fn undo_bytes_after(undo_bytes: u64, body: &BodyView<'_>) -> u64
 fn owed_in(state: TransactionState, undo_bytes: u64) -> u64
     ensures { result ≡ (28 + undo_owed state undo_bytes) % 2 ^ 64 }
 {
-    match state {
-        TransactionState::Committed => 28,
-        TransactionState::Prepared => undo_bytes.wrapping_add(56),
-        TransactionState::Active | TransactionState::RollingBack => undo_bytes.wrapping_add(28),
-    }
+    let undo = match state {
+        TransactionState::Committed => 0,
+        _ => undo_bytes,
+    };
+    let fixed = match state {
+        TransactionState::Prepared => 56,
+        _ => 28,
+    };
+    undo.wrapping_add(fixed)
 }
 
 /// The bytes that may be appended for a transaction of which this is the first record, and not its
@@ -129,6 +135,19 @@ impl OpenRow {
             next_state(self.row.state, body),
             undo_bytes_after(self.undo_bytes, body),
         )
+    }
+
+    /// Notes an update of the transaction, which has this before image.
+    #[inline(always)]
+    pub(crate) fn update(&mut self, logged: &RecordView<'_>, before: &ImageView<'_>)
+        requires kind { is_update (shown_body logged.now.body) ≡ true }
+        requires before { image_before (shown_body logged.now.body) ≡ shown_image before.now }
+        ensures { self.new ≡ open_after self.old (shown logged.now) }
+    {
+        self.row.last = logged.lsn;
+        self.row.undo_next = logged.lsn;
+        self.left = self.left.wrapping_add(1);
+        self.undo_bytes = self.undo_bytes.wrapping_add(compensation_len(before));
     }
 
     /// Notes one more record of the transaction.

@@ -4,11 +4,14 @@ ghost use Rattle.std.specs.Prelude.{IsOk, ◌↔◌, MatchOption};
 ghost use Rattle.std.specs.List.{remove, All};
 ghost use Rattle.als_record.specs.declared.record.Record.{Record};
 ghost use Rattle.als_record.specs.declared.transaction_row.TransactionRow.{TransactionRow};
-ghost use Rattle.als_record.specs.Transactions.{is_transactional, is_end, is_among, is_unended};
-ghost use Rattle.als_record.specs.Shown.{shown, shown_body};
+ghost use Rattle.als_record.specs.Transactions.{is_transactional, is_end, is_update, is_among};
+ghost use Rattle.als_record.specs.Transactions.{is_unended};
+ghost use Rattle.als_record.specs.Images.{image_before};
+ghost use Rattle.als_record.specs.Shown.{shown, shown_body, shown_image};
 ghost use Rattle.als_record.specs.Table.{table_of, row_after, fresh_row};
 ghost use Rattle.als_record.specs.LogText.{end_of};
 ghost use Rattle.als_record.specs.Tail.{reserve_of};
+ghost use Rattle.als_record.specs.Validity.{may_follow};
 ghost use Rattle.als_analysis.specs.Open.{count_after, bytes_after, rows_of, left_of};
 ghost use Rattle.als_analysis.specs.Kept.{IsRising, IsPlace, numbers};
 ghost use Rattle.als_analysis.specs.Noted.{IsTableOf, IsOpenOf, StandsAt, WithRecord, GoesOn};
@@ -16,7 +19,7 @@ ghost use Rattle.als_analysis.specs.Noted.{undo_next_in};
 
 use crate::fault::Fault;
 use crate::open_row::{OpenRow, owed_anew};
-use als_record::{BodyView, Lsn, RecordView, TRANSACTION_LIMIT, TransId};
+use als_record::{BodyView, ImageView, Lsn, RecordView, TRANSACTION_LIMIT, TransId};
 use std::alloc::Global;
 use std::marker::Model;
 
@@ -351,6 +354,26 @@ impl TransTable {
     {
         self.put(logged);
         Ok(())
+    }
+
+    /// Notes an update, which has this before image, of the transaction at this place: of the table
+    /// of a log it makes the table of the log with that update, where the update may follow. It does
+    /// what `note` does of it, asks for no kind and looks for no row.
+    #[inline(always)]
+    pub fn note_update(&mut self, at: usize, logged: &RecordView<'_>, before: &ImageView<'_>)
+        requires within { at < length self.old.rows }
+        requires kind { is_update (shown_body logged.now.body) ≡ true }
+        requires before { image_before (shown_body logged.now.body) ≡ shown_image before.now }
+        ensures { (log : List Record) → IsTableOf self.old log
+            → IsTrue (may_follow log (shown logged.now))
+            → StandsAt log logged.now.trans.0 at
+            → IsTableOf self.new (log ++ (shown logged.now) ∷ []) }
+    {
+        let entry = &mut self.entries[at];
+        let had = entry.owed();
+        entry.update(logged, before);
+        let has = entry.owed();
+        self.reserve = self.reserve.wrapping_sub(had).wrapping_add(has);
     }
 
     /// The rows of the transaction table in rising TransID, each with the number of the updates that

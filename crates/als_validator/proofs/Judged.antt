@@ -1,5 +1,5 @@
 -- What judging needs, where it is kept.
-use Rattle.std.proofs.Common.{◌≡◌, ℕ, List, Some, subst}
+use Rattle.std.proofs.Common.{ℕ, List, Some, subst}
 use Rattle.std.proofs.lemmas.Option.{same_Some}
 use Rattle.als_record.specs.declared.record.Record.{Record}
 use Rattle.als_validator.specs.declared.judging.Judging.{Judging}

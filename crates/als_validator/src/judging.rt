@@ -1,7 +1,8 @@
 ghost use Rattle.std.specs.Prelude.{◌≡◌, ◌<◌, ℕ, List, [], ◌∷◌, ◌++◌, None, true, false};
 ghost use Rattle.std.specs.Prelude.{vec_len, vec_capacity, OnOk, OnErr, IfOk, IfErr, IsOk, MatchOption};
+ghost use Rattle.als_record.specs.declared.record.Body.{Body as AnyBody};
 ghost use Rattle.als_record.specs.declared.record.Record.{Record};
-ghost use Rattle.als_record.specs.Shown.{shown};
+ghost use Rattle.als_record.specs.Shown.{shown, shown_body, shown_image};
 ghost use Rattle.als_record.specs.Spelling.{IsRecord};
 ghost use Rattle.als_record.specs.Transactions.{is_unended, greatest_trans};
 ghost use Rattle.als_record.specs.Validity.{first_bad, open_checkpoint, IsValidLog};
@@ -19,11 +20,11 @@ use crate::causes::{
 };
 use crate::fault::Fault;
 use crate::key_state::KeyState;
-use crate::keys::{note_change, unwritten_keys};
+use crate::keys::{note_change, note_update, unwritten_keys};
 use crate::past::past_of;
 use crate::survivors::Survivors;
 use als_analysis::TransTable;
-use als_record::{BodyView, Cause, KeptUpdate, Lsn, RecordView, TransId};
+use als_record::{BodyView, Cause, ImageView, KeptUpdate, Key, Lsn, RecordView, TransId};
 use std::alloc::Global;
 
 /// What is kept of a valid log to judge records and for nothing else: the surviving updates, what
@@ -167,6 +168,29 @@ impl Judging {
         self.survivors.note(place, logged);
         note_change(self.keys.as_mut_slice(), logged);
         note_commit(&mut self.committed, logged);
+    }
+
+    /// Notes an update that may follow the log, which has this key and these images: what is kept
+    /// is that of the log with it. The row of its transaction stands at this place.
+    #[inline(always)]
+    pub(crate) fn note_update(
+        &mut self,
+        at: usize,
+        logged: &RecordView<'_>,
+        key: Key,
+        before: &ImageView<'_>,
+        after: &ImageView<'_>,
+    )
+        requires room { MayNote self.old }
+        requires shows { shown_body logged.now.body
+            ≡ AnyBody.Update key (shown_image before.now) (shown_image after.now) }
+        ensures { (pages : ℕ) (log : List Record) → IsJudgingOf pages self.old log
+            → IsValidLog pages (log ++ (shown logged.now) ∷ [])
+            → StandsAt log logged.now.trans.0 at
+            → IsJudgingOf pages self.new (log ++ (shown logged.now) ∷ []) }
+    {
+        self.survivors.note_update(at, logged, key, before, after);
+        note_update(self.keys.as_mut_slice(), logged, key, after);
     }
 
     /// Reads what is kept of the keys that the records at the front of these bytes seem to write.

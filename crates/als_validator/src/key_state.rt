@@ -35,6 +35,7 @@ impl KeyState {
     }
 
     /// A transaction that may write the key updates it.
+    #[inline(always)]
     pub(crate) fn update(&mut self, trans: TransId, after: &ImageView<'_>)
         ensures image { self.new.image ≡ shown_image after.now }
         ensures holder { self.new.holder ≡ trans }

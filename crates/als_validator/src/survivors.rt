@@ -2,16 +2,17 @@ ghost use Rattle.std.specs.Prelude.{◌≡◌, ℕ, ◌<◌, true, false, List, 
 ghost use Rattle.std.specs.Prelude.{vec_capacity, slice_index_or, slice_set, OnOk, OnErr, IsOk, IsTrue};
 ghost use Rattle.std.specs.Prelude.{MatchOption};
 ghost use Rattle.std.specs.List.{remove, All};
+ghost use Rattle.als_record.specs.declared.record.Body.{Body as AnyBody};
 ghost use Rattle.als_record.specs.declared.record.Record.{Record};
 ghost use Rattle.als_record.specs.Transactions.{is_transactional, is_unended};
-ghost use Rattle.als_record.specs.Shown.{shown, shown_body};
+ghost use Rattle.als_record.specs.Shown.{shown, shown_body, shown_image};
 ghost use Rattle.als_record.specs.Validity.{may_follow};
 ghost use Rattle.als_analysis.specs.Noted.{StandsAt};
 ghost use Rattle.als_validator.specs.Lists.{left_after, MakesRoom, AreSurvivorsOf};
 
 use crate::causes::{is_end_record, is_transaction_record};
 use crate::updates::Updates;
-use als_record::{KeptUpdate, RecordView};
+use als_record::{ImageView, KeptUpdate, Key, RecordView};
 use std::alloc::{AllocError, Global};
 use std::marker::Model;
 
@@ -157,6 +158,32 @@ impl Survivors {
         self.tight = at;
     }
 
+    /// An update of the transaction at this place.
+    #[inline(always)]
+    fn push(
+        &mut self,
+        at: usize,
+        logged: &RecordView<'_>,
+        key: Key,
+        before: &ImageView<'_>,
+        after: &ImageView<'_>,
+    )
+        requires room { self.old.has_room ≡ true }
+        requires within { at < length self.old.lists }
+        requires shows { shown_body logged.now.body
+            ≡ AnyBody.Update key (shown_image before.now) (shown_image after.now) }
+        ensures { (d : List Record)
+            → self.new.lists ≡ slice_set self.old.lists at
+            (left_after (slice_index_or self.old.lists at d) (shown logged.now)
+            (shown_body logged.now.body)) }
+    {
+        let entry = &mut self.lists[at];
+        entry.push(logged, key, before, after);
+        // The one thing that the update may have used up is the room of its transaction.
+        self.has_room = entry.has_room();
+        self.tight = at;
+    }
+
     /// The end of the transaction at this place.
     fn close(&mut self, at: usize)
         requires room { self.old.has_room ≡ true }
@@ -204,6 +231,31 @@ impl Survivors {
             return;
         }
         self.extend(at, logged);
+    }
+
+    /// Notes an update, which has this key and these images, of the transaction whose row stands at
+    /// this place: of one that may follow the log it makes the survivors of the log with it.
+    #[inline(always)]
+    pub(crate) fn note_update(
+        &mut self,
+        at: usize,
+        logged: &RecordView<'_>,
+        key: Key,
+        before: &ImageView<'_>,
+        after: &ImageView<'_>,
+    )
+        requires room { self.old.has_room ≡ true }
+        requires shows { shown_body logged.now.body
+            ≡ AnyBody.Update key (shown_image before.now) (shown_image after.now) }
+        ensures { (log : List Record) → AreSurvivorsOf self.old log
+            → IsTrue (may_follow log (shown logged.now))
+            → StandsAt log logged.now.trans.0 at
+            → AreSurvivorsOf self.new (log ++ (shown logged.now) ∷ []) }
+    {
+        if at >= self.lists.len() {
+            return;
+        }
+        self.push(at, logged, key, before, after);
     }
 
     /// A record of a transaction without a row.

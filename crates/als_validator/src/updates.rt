@@ -1,8 +1,9 @@
 ghost use Rattle.std.specs.Prelude.{◌≡◌, ◌↔◌, IsTrue, ◌<◌, ◌≤◌, [], IfOk, OnOk, OnErr};
-ghost use Rattle.als_record.specs.Shown.{shown, shown_body};
+ghost use Rattle.als_record.specs.declared.record.Body.{Body as AnyBody};
+ghost use Rattle.als_record.specs.Shown.{shown, shown_body, shown_image};
 ghost use Rattle.als_validator.specs.Lists.{left_after};
 
-use als_record::{BodyView, KeptUpdate, RecordView};
+use als_record::{BodyView, ImageView, KeptUpdate, Key, RecordView};
 use std::alloc::{AllocError, Global};
 use std::marker::Model;
 
@@ -68,6 +69,25 @@ impl Updates {
         ensures room { self.old.room ≤ self.new.room }
     {
         self.left.clear();
+    }
+
+    /// Keeps an update of the transaction, which has this key and these images.
+    #[inline(always)]
+    pub(crate) fn push(
+        &mut self,
+        logged: &RecordView<'_>,
+        key: Key,
+        before: &ImageView<'_>,
+        after: &ImageView<'_>,
+    )
+        requires room { 0 < self.old.room }
+        requires shows { shown_body logged.now.body
+            ≡ AnyBody.Update key (shown_image before.now) (shown_image after.now) }
+        ensures { self.new.left ≡ left_after self.old.left (shown logged.now)
+            (shown_body logged.now.body) }
+    {
+        self.left
+            .push_reserved(KeptUpdate::of(logged, key, before, after));
     }
 
     /// Notes one more record of the transaction.

@@ -24,9 +24,10 @@ ghost use Rattle.std.specs.Prelude.{◌≡◌, ◌≢◌, ◌<◌, ℕ, ◌+◌,
 ghost use Rattle.std.specs.Prelude.{◌∷◌, ◌++◌, max, map, true, false};
 ghost use Rattle.std.specs.Prelude.{None, Ok, Err, IsOk, OnOk, OnErr, IfOk, IfErr, MatchOption};
 ghost use Rattle.std.specs.Prelude.{is_some};
+ghost use Rattle.als_record.specs.declared.record.Body.{Body as AnyBody};
 ghost use Rattle.als_record.specs.declared.record.Record.{Record};
 ghost use Rattle.als_record.specs.Spelling.{IsRecord};
-ghost use Rattle.als_record.specs.Shown.{shown, shown_body};
+ghost use Rattle.als_record.specs.Shown.{shown, shown_body, shown_image};
 ghost use Rattle.als_record.specs.LogText.{end_of};
 ghost use Rattle.als_record.specs.Tail.{reserve_of};
 ghost use Rattle.als_record.specs.Transactions.{unended, is_unended, greatest_trans};
@@ -44,7 +45,7 @@ ghost use Rattle.als_validator.specs.Validated.{room_in};
 use crate::fault::Fault;
 use crate::judging::Judging;
 use als_analysis::{OpenRow, TransTable};
-use als_record::{BodyView, Cause, KeptUpdate, Lsn, RecordView, TransId};
+use als_record::{BodyView, Cause, ImageView, KeptUpdate, Key, Lsn, RecordView, TransId};
 use std::alloc::Global;
 
 /// What is kept of a valid log to tell which record may follow it: the transaction table, the
@@ -107,6 +108,32 @@ fn note_judged(judging: &mut Option<Judging>, place: Option<usize>, logged: &Rec
 {
     match judging {
         Some(judging) => judging.note(place, logged),
+        None => {}
+    }
+}
+
+/// Notes an update that may follow the log, as long as records are judged. It has this key and these
+/// images, and the row of its transaction stands at this place.
+#[inline(always)]
+fn note_update(
+    judging: &mut Option<Judging>,
+    at: usize,
+    logged: &RecordView<'_>,
+    key: Key,
+    before: &ImageView<'_>,
+    after: &ImageView<'_>,
+)
+    requires room { room_in judging.old ≡ true }
+    requires shows { shown_body logged.now.body
+        ≡ AnyBody.Update key (shown_image before.now) (shown_image after.now) }
+    ensures kept { (pages : ℕ) (log : List Record) → IsJudgedBy pages judging.old log
+        → IsValidLog pages (log ++ (shown logged.now) ∷ [])
+        → StandsAt log logged.now.trans.0 at
+        → IsJudgedBy pages judging.new (log ++ (shown logged.now) ∷ []) }
+    ensures same { is_some judging.new ≡ is_some judging.old }
+{
+    match judging {
+        Some(judging) => judging.note_update(at, logged, key, before, after),
         None => {}
     }
 }
@@ -198,6 +225,28 @@ impl Validator {
     /// Takes a record that may follow the log: what is kept is that of the log with the record. Of
     /// any other record it is only said that nothing breaks.
     pub fn admit(&mut self, logged: &RecordView<'_>)
+        requires { HasRoom self.old }
+        ensures kept { (pages : ℕ) (log : List Record) → IsValidatorOf pages self.old log
+            → IsValidLog pages (log ++ (shown logged.now) ∷ [])
+            → IsValidatorOf pages self.new (log ++ (shown logged.now) ∷ []) }
+        ensures judging { judges self.new ≡ judges self.old }
+    {
+        if let BodyView::Update { key, before, after } = &logged.body {
+            if let Some(at) = self.table.place(logged.trans) {
+                // The greatest TransID stays: no transaction with a row is above it. An update is no
+                // record of a checkpoint.
+                note_update(&mut self.judging, at, logged, *key, before, after);
+                self.table.note_update(at, logged, before);
+                return;
+            }
+        }
+        self.take(logged)
+    }
+
+    /// Takes any record, as `admit` does. Most records are updates of a transaction with a row, and
+    /// do not come here.
+    #[inline(never)]
+    fn take(&mut self, logged: &RecordView<'_>)
         requires { HasRoom self.old }
         ensures kept { (pages : ℕ) (log : List Record) → IsValidatorOf pages self.old log
             → IsValidLog pages (log ++ (shown logged.now) ∷ [])
