@@ -7,7 +7,9 @@ use Rattle.als_record.specs.declared.lsn.Lsn.{Lsn}
 use Rattle.als_record.specs.declared.record.Record.{Record}
 use Rattle.als_record.specs.declared.rows.LoggedPage.{LoggedPage}
 use Rattle.als_record.specs.Pages.{change_of}
+use Rattle.als_record.specs.Commits.{Commit}
 use Rattle.als_record.specs.Spelling.{IsRecord}
+use Rattle.als_record.specs.Validity.{IsValidLog}
 use Rattle.als_record.specs.LogText.{end_of, IsLog, log_text}
 use Rattle.als_record.proofs.LogLaws.{follow-cons}
 use Rattle.als_record.proofs.PageLaws.{follow_from-parts, end_of-push, record_len-least}
@@ -15,7 +17,7 @@ use Rattle.als_analysis.specs.declared.open_row.OpenRow.{OpenRow}
 use Rattle.als_analysis.specs.Open.{rows_of as transaction_rows}
 use Rattle.als_ckpt_codec.specs.declared.checkpoint.Checkpoint.{Checkpoint}
 use Rattle.als_ckpt_codec.specs.declared.numbers.Numbers.{Numbers}
-use Rattle.als_scan.specs.Scanned.{Scanned, IsScanned, HandsOut, GivesNext, first_of}
+use Rattle.als_scan.specs.Scanned.{Scanned, IsScanned, HandsOut, HandsNext}
 use Rattle.als_tables.specs.declared.commit_count.CommitCount.{CommitCount}
 use Rattle.als_tables.specs.Counting.{IsCountOf}
 use Rattle.als_tables.specs.Fronts.{IsCheckpointOf, IsOfFront}
@@ -29,6 +31,7 @@ use Rattle.als_pool.specs.Restart.{HasRowsFrom}
 use Rattle.als_pool.proofs.PoolLaws.{change_inside}
 use Rattle.als_reopen.specs.Node.{position_of, rows_of}
 use Rattle.als_reopen.specs.Reading.{IsReading, IsMetBefore, IsOneMore, IsFrontOf, IsBelowMark}
+use Rattle.als_reopen.specs.Taking.{CanTake, Takes}
 use Rattle.als_reopen.proofs.Fronts.{length-below_end, same_front, none_within}
 use Rattle.als_reopen.proofs.Texts.{length-text}
 
@@ -70,31 +73,33 @@ pub record Handed (pages : ℕ) (log : List Record) (r : Record) : Type 0 where
   pub at : r.lsn.0 ≡ end_of log
   pub fits : IsRecord pages r
 
-pub handed : (old new : Scanned) (r : Record) → HandsOut old r new → IsScanned new → Handed old.pages old.log r
-handed old new r h f =
-    let seen : IsLog old.pages (old.log ++ r ∷ []) = subst (λ (s : Scanned). IsLog s.pages s.log) h.after f.valid.text in
-    record { is_log = seen; at = placed old.pages old.log r seen; fits = last-of (IsRecord old.pages) old.log r seen.records }
+-- the last record of a valid log
+last_handed : (pages : ℕ) (log : List Record) (r : Record) → IsValidLog pages (log ++ r ∷ []) → Handed pages log r
+last_handed pages log r v = record { is_log = v.text; at = placed pages log r v.text; fits = last-of (IsRecord pages) log r v.text.records }
+
+handed : (old new : Scanned) (r : Record) → HandsOut old r new → IsScanned new → Handed old.pages old.log r
+handed old new r h f = last_handed old.pages old.log r (subst (λ (s : Scanned). IsValidLog s.pages s.log) h.after f.valid)
 
 module _ (checkpoint : Option Checkpoint) (s : Scanned) (pool : Pooled) (count : CommitCount) (reading : IsReading checkpoint s pool count) (r : Record) (h : Handed s.pages s.log r) where
   page_count : length pool.waits ≡ s.pages
   page_count = sym reading.rows.paged ∙ reading.paged
 
   -- its page was not read
-  pub change_unread : (o : Option Change) → change_of r ≡ o → IfSome o (λ c. IsSome (unread_of pool.unread c.key.page))
+  change_unread : (o : Option Change) → change_of r ≡ o → IfSome o (λ c. IsSome (unread_of pool.unread c.key.page))
   change_unread None is = tt
   change_unread (Some c) is =
       let lt : c.key.page < length pool.waits = omega (arith, change_inside s.pages s.log r c h.is_log h.at is, page_count) in
       some_from (unread_of pool.unread c.key.page) _ (reading.queues.each c.key.page lt)
 
   -- its change can go behind those that its page waits for
-  pub change_can : CanBeRead → (o : Option Change) → change_of r ≡ o → IfSome o (λ c. IsFromOn pool c → CanRoute pool c)
+  change_can : CanBeRead → (o : Option Change) → change_of r ≡ o → IfSome o (λ c. IsFromOn pool c → CanRoute pool c)
   change_can law None is = tt
   change_can law (Some c) is = λ from.
       law s.log r c (position_of checkpoint) (rows_of checkpoint) pool reading.rows reading.queues (subst (λ n. IsLog n (s.log ++ r ∷ [])) (sym reading.paged) h.is_log) h.at is from
       (omega (arith, reading.few, few_records s reading.facts))
 
   -- and it is taken in
-  pub read_on : (new : Scanned) (next : Pooled) (counted : CommitCount) → new ≡ record s { log = s.log ++ r ∷ [] } → IsScanned new → QueuesOf (s.log ++ r ∷ []) next
+  read_on : (new : Scanned) (next : Pooled) (counted : CommitCount) → new ≡ record s { log = s.log ++ r ∷ [] } → IsScanned new → QueuesOf (s.log ++ r ∷ []) next
       → HasRowsFrom (position_of checkpoint) (rows_of checkpoint) next → total_waiting next.waits ≤ total_waiting pool.waits + 1 → next.frames ≡ pool.frames → next.next ≡ pool.next → IsCountOf counted (s.log ++ r ∷ []) → IsReading checkpoint new next counted
   read_on new next counted is facts queues rows few frames numbers counts =
       let log : new.log ≡ s.log ++ r ∷ [] = ap (λ (x : Scanned). x.log) is in
@@ -108,17 +113,31 @@ module _ (checkpoint : Option Checkpoint) (s : Scanned) (pool : Pooled) (count :
         counted = subst (IsCountOf counted) (sym log) counts;
       }
 
+-- the next record can be taken
+pub can_take : (checkpoint : Option Checkpoint) (s : Scanned) (pool : Pooled) (count : CommitCount) → CanBeRead → IsReading checkpoint s pool count → (r : Record) → IsValidLog s.pages (s.log ++ r ∷ []) → CanTake pool count r
+can_take checkpoint s pool count law reading r valid =
+    let h = last_handed s.pages s.log r valid in
+    let few = few_counted s count reading.facts reading.counted in
+    record {
+      unread = change_unread checkpoint s pool count reading r h (change_of r) refl;
+      can = change_can checkpoint s pool count reading r h law (change_of r) refl;
+      records = few.0;
+      commits = few.1;
+    }
+
+-- and where it was, or there is none, all is as it should be
+pub taken_on : (checkpoint : Option Checkpoint) (s new : Scanned) (pool next : Pooled) (count counted : CommitCount) (before after : List Commit) (kept : Type 0) (more : Bool) → IsReading checkpoint s pool count → IsScanned new → next.frames ≡ pool.frames
+    → (kept → (next ≡ pool) × (counted ≡ count)) → MatchBool more ((r : Record) × HandsOut s r new × Takes pool count before s.log r next counted after) (HandsNext s None new × kept) → IsReading checkpoint new next counted
+taken_on checkpoint s new pool next count counted before after kept true reading facts frames same (r, out, took) =
+    read_on checkpoint s pool count reading r (handed s new r out facts) new next counted out.after facts (took.queues reading.queues) (took.given (position_of checkpoint) (rows_of checkpoint) reading.rows) took.few frames took.numbers
+    (took.count reading.counted)
+taken_on checkpoint s new pool next count counted before after kept false reading facts frames same (none, k) =
+    let is = same k in
+    let first : IsReading checkpoint s pool counted = subst (IsReading checkpoint s pool) (sym is.1) reading in
+    let second : IsReading checkpoint s next counted = subst (λ (p : Pooled). IsReading checkpoint s p counted) (sym is.0) first in
+    subst (λ (x : Scanned). IsReading checkpoint x next counted) (sym none.1) second
+
 -- ---- fronts of the whole log
-
-front_next : (whole log : List Record) (r : Record) (rest : List Record) → whole ≡ log ++ rest → Some r ≡ first_of rest → IsFrontOf (log ++ r ∷ []) whole
-front_next whole log r [] parts is = absurd cc
-front_next whole log r (x ∷ more) parts is =
-    let same : r ≡ x = cc in
-    record { rest = more; parts = parts ∙ ap (λ (y : Record). log ++ y ∷ more) (sym same) ∙ sym (append_assoc log (r ∷ []) more) }
-
--- the record that comes next of a log makes a longer front of it
-pub front_given : (whole : List Record) (s new : Scanned) (r : Record) → GivesNext whole s.log (Some r) → new ≡ record s { log = s.log ++ r ∷ [] } → IsFrontOf new.log whole
-front_given whole s new r g is = subst (λ (l : List Record). IsFrontOf l whole) (sym (ap (λ (x : Scanned). x.log) is)) (front_next whole s.log r g.rest g.parts g.found_is)
 
 -- the checkpoint of a front of a log is that of the front that ends at its position
 pub met_front : (whole log rest : List Record) (c : Checkpoint) → whole ≡ log ++ rest → IsOfFront whole c → end_of log ≡ c.numbers.position.0 → IsCheckpointOf log c

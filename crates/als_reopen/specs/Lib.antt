@@ -4,3 +4,4 @@ pub mod Outcomes
 pub mod Reading
 pub mod Refusing
 pub mod Taken
+pub mod Taking

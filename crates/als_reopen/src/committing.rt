@@ -1,39 +1,41 @@
 // The commits of a log's records, on their way to the readers.
-ghost use Rattle.std.specs.Prelude.{◌≡◌, ℕ, true, List, [], ◌∷◌, ◌++◌, IfErr, OnOk};
+ghost use Rattle.std.specs.Prelude.{◌≡◌, ℕ, true, List, [], ◌∷◌, ◌++◌, None, OnOk};
 ghost use Rattle.als_record.specs.declared.record.Record.{Record as AnyRecord};
 ghost use Rattle.als_record.specs.Commits.{commits_of};
-ghost use Rattle.als_record.specs.Validity.{IsValidLog};
+ghost use Rattle.als_record.specs.LogText.{end_of};
+ghost use Rattle.als_record.specs.Shown.{shown};
+ghost use Rattle.als_record.specs.Spelling.{IsRecord};
+ghost use Rattle.als_record.specs.Validity.{IsValidLog, first_bad};
 ghost use Rattle.als_validator.specs.Validated.{IsValidatorOf, judges};
 
-use crate::fault::Fault;
 use als_commits::Waiting;
-use als_record::Record;
+use als_record::RecordView;
 use als_validator::Validator;
-use std::alloc::Global;
+use std::alloc::{AllocError, Global};
 
-/// Lets the commit that the last record of the log made, if it made one, wait for the readers.
+/// Lets the commit that the next record of the log makes, if it makes one, wait for the readers.
+/// The validator does not know of the record yet.
 ///
-/// `Memory`: an allocation failed.
+/// An `Err`: an allocation failed.
+#[inline(always)]
 pub(crate) fn take_commit(
     alloc: Global,
     waiting: &mut Waiting,
     validator: &Validator,
-    logged: &Record,
-) -> Result<(), Fault>
+    logged: &RecordView<'_>,
+) -> Result<(), AllocError>
     requires { judges validator.now ≡ true }
     ensures waits { OnOk result ((pages : ℕ) (front : List AnyRecord)
-        → IsValidatorOf pages validator.now (front ++ logged.now ∷ [])
-        → IsValidLog pages (front ++ logged.now ∷ [])
+        → IsValidatorOf pages validator.now front → IsValidLog pages front
+        → IsRecord pages (shown logged.now) → logged.now.lsn.0 ≡ end_of front
+        → first_bad front (shown logged.now) ≡ None
         → waiting.old.queued ≡ commits_of front
-        → waiting.new.queued ≡ commits_of (front ++ logged.now ∷ [])) }
-    ensures err { IfErr result (λ fault. fault ≡ Fault.Memory) }
+        → waiting.new.queued ≡ commits_of (front ++ shown logged.now ∷ [])) }
 {
-    let Ok(made) = validator.commit_made(alloc, logged) else {
-        return Err(Fault::Memory);
+    let Ok(made) = validator.commit_of(alloc, logged) else {
+        return Err(AllocError);
     };
-    if waiting.make_room(&made).is_err() {
-        return Err(Fault::Memory);
-    }
+    waiting.make_room(&made)?;
     waiting.take(made);
     Ok(())
 }

@@ -20,6 +20,7 @@ ghost use Rattle.als_reopen.specs.Refusing.{RefusesText, RefusesScan};
 use crate::fault::Fault;
 use crate::read_log::ReadLog;
 use crate::reading::Reading;
+use crate::taken::Taken;
 use crate::unread_log::UnreadLog;
 use als_ckpt::ControlState;
 use als_ckpt_codec::Checkpoint;
@@ -74,8 +75,8 @@ fn finish<D: BlockDisk>(
     checkpoint: &Option<Checkpoint>,
     blocks: u64,
 ) -> Result<ReadLog<D>, UnreadLog<D>>
-    requires reading { IsReading checkpoint.now reading.scan reading.pool.pool reading.count }
-    requires waiting { reading.waiting.queued ≡ commits_of reading.scan.log }
+    requires reading { IsReading checkpoint.now reading.scan reading.taken.pool.pool reading.taken.count }
+    requires waiting { reading.taken.waiting.queued ≡ commits_of reading.scan.log }
     requires met { IsMet reading.met reading.scan.log checkpoint.now }
     requires low { IfSome checkpoint.now (λ c. c.numbers.position.0 ≤ reading.scan.mark) }
     requires mark { reading.scan.mark ≡ state.now.mark.0 }
@@ -90,8 +91,8 @@ fn finish<D: BlockDisk>(
         ≡ all_synced reading.scan.pages x.log.log blocks reading.scan.failures reading.scan.attempts
         x.log.room) }
     ensures text { IfOk result (λ x. reading.scan.text ≡ log_text reading.scan.pages x.log.log) }
-    ensures frames { IfOk result (λ x. x.pool.pool.frames ≡ reading.pool.pool.frames) }
-    ensures images { IfOk result (λ x. KeepsImages reading.pool.pool x.pool.pool) }
+    ensures frames { IfOk result (λ x. x.pool.pool.frames ≡ reading.taken.pool.pool.frames) }
+    ensures images { IfOk result (λ x. KeepsImages reading.taken.pool.pool x.pool.pool) }
     ensures bare { (whole : List AnyRecord)
         → IsLogOn reading.scan.pages blocks reading.scan.mark reading.scan.text checkpoint.now whole
         → IsFrontOf reading.scan.log whole → IfErr result (λ u. IsBare u.fault) }
@@ -100,7 +101,7 @@ fn finish<D: BlockDisk>(
         (D.failures u.log)) }
     ensures left_log { IfErr result (λ u. IsScanLeft reading.scan (D.slot u.log)
         (D.block_count u.log) (D.attempts u.log)) }
-    ensures left_pages { IfErr result (λ u. IsPoolLeft reading.pool.pool.frames
+    ensures left_pages { IfErr result (λ u. IsPoolLeft reading.taken.pool.pool.frames
         (D.slot u.pages) (D.block_count u.pages) (D.failures u.pages) (D.attempts u.pages)) }
 {
     let mut reading = reading;
@@ -166,13 +167,13 @@ fn begin<D: BlockDisk>(
     requires position { IfSome checkpoint.now (IsBelowMark mark.0) }
     requires opened { IsPoolOpened checkpoint.now pool.pool }
     requires paged { pool.pool.frames.pages ≡ pages }
-    ensures reading { IfOk result (λ r. IsReading checkpoint.now r.scan r.pool.pool r.count) }
-    ensures waiting { IfOk result (λ r. r.waiting.queued ≡ commits_of r.scan.log) }
+    ensures reading { IfOk result (λ r. IsReading checkpoint.now r.scan r.taken.pool.pool r.taken.count) }
+    ensures waiting { IfOk result (λ r. r.taken.waiting.queued ≡ commits_of r.scan.log) }
     ensures met { IfOk result (λ r. IsMet r.met r.scan.log checkpoint.now) }
     ensures scan { IfOk result (λ r. r.scan
         ≡ scanned pages [] mark.0 (D.slot log) (D.block_count log) (D.failures log)
         (D.attempts log)) }
-    ensures pool { IfOk result (λ r. r.pool ≡ pool) }
+    ensures pool { IfOk result (λ r. r.taken.pool ≡ pool) }
     ensures bare { (whole : List AnyRecord) → IsValidLog pages whole
         → text_of (D.slot log) mark.0 ≡ log_text pages whole → IfErr result (λ u. IsBare u.fault) }
     ensures refuses { IfErr result (λ u. RefusesText u.fault pages (D.block_count log) mark.0
@@ -189,9 +190,11 @@ fn begin<D: BlockDisk>(
     match Scan::new(alloc, log, pages, mark.0) {
         Ok(scan) => Ok(Reading {
             scan,
-            pool,
-            count: CommitCount::new(),
-            waiting: Waiting::new(alloc),
+            taken: Taken {
+                pool,
+                count: CommitCount::new(),
+                waiting: Waiting::new(alloc),
+            },
             met: false,
         }),
         Err(unread) => {

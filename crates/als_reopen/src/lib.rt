@@ -14,6 +14,8 @@ mod reopened;
 mod taking_in;
 // The commits of the records, for the readers.
 mod committing;
+// What a restart takes of the records.
+mod taken;
 // The checkpoint, compared with the log.
 mod comparing;
 // The log, record by record.

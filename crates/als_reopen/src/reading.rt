@@ -15,30 +15,24 @@ ghost use Rattle.als_reopen.specs.Reading.{ScansOn, KeepsImages, IsOneMore, IsFr
 ghost use Rattle.als_reopen.specs.Reading.{CountsDevice, CountsLog, IsScanLeft, IsPoolLeft};
 ghost use Rattle.als_reopen.specs.Refusing.{IsChecked, IsUnmet, RefusesScan};
 
-use crate::committing::take_commit;
 use crate::comparing::is_checkpoint_of;
 use crate::fault::Fault;
 use crate::judging::kept_for;
 use crate::read_log::ReadLog;
-use crate::taking_in::take_change;
+use crate::taken::Taken;
 use crate::unread_log::UnreadLog;
 use als_ckpt::Phase;
 use als_ckpt_codec::Checkpoint;
-use als_commits::Waiting;
 use als_disk::BlockDisk;
-use als_pool::{Pool, change_can_be_read};
+use als_pool::change_can_be_read;
 use als_scan::{Scan, Unread};
-use als_tables::CommitCount;
 use std::alloc::Global;
 
 /// A log that is being read: the records handed out so far are counted, their changes wait for the
 /// pages, and their commits for the readers.
 pub(crate) struct Reading<D: BlockDisk> {
     pub(crate) scan: Scan<D>,
-    pub(crate) pool: Pool<D>,
-    pub(crate) count: CommitCount,
-    /// The commits of the records, which wait for the readers.
-    pub(crate) waiting: Waiting,
+    pub(crate) taken: Taken<D>,
     /// The position of the checkpoint was met, and it is that of the records in front of it.
     pub(crate) met: bool,
 }
@@ -48,14 +42,11 @@ impl<D: BlockDisk + Drop> Drop for Reading<D> {
     fn drop(self) {
         let Reading {
             scan,
-            pool,
-            count: _,
-            waiting,
+            taken,
             met: _,
         } = self;
         drop(scan);
-        drop(pool);
-        drop(waiting);
+        drop(taken);
     }
 }
 
@@ -68,8 +59,8 @@ fn meet<D: BlockDisk>(
     reading: &Reading<D>,
     checkpoint: &Option<Checkpoint>,
 ) -> Result<bool, Fault>
-    requires reading { IsReading checkpoint.now reading.now.scan reading.now.pool.pool
-        reading.now.count }
+    requires reading { IsReading checkpoint.now reading.now.scan reading.now.taken.pool.pool
+        reading.now.taken.count }
     requires met { IsMet reading.now.met reading.now.scan.log checkpoint.now }
     ensures ok { IfOk result (λ met. IsMetBefore met reading.now.scan.log checkpoint.now) }
     ensures err { IfErr result (λ fault. (fault ≡ Fault.Memory) ⊎ ((fault ≡ Fault.BadControl)
@@ -87,7 +78,7 @@ fn meet<D: BlockDisk>(
     if reading.scan.end().0 < checkpoint.numbers.position.0 {
         return Ok(false);
     }
-    if !is_checkpoint_of(alloc, &reading.scan, &reading.count, checkpoint)? {
+    if !is_checkpoint_of(alloc, &reading.scan, &reading.taken.count, checkpoint)? {
         return Err(Fault::BadControl);
     }
     Ok(true)
@@ -113,20 +104,20 @@ fn check_position(met: bool, end: u64, checkpoint: &Option<Checkpoint>) -> Resul
 
 impl<D: BlockDisk> Reading<D> {
     /// Takes the next record, if there is one. Whether there was is answered.
-    fn take_one(&mut self, alloc: Global, checkpoint: &Option<Checkpoint>) -> Result<bool, Fault>
-        requires reading { IsReading checkpoint.now self.old.scan self.old.pool.pool
-            self.old.count }
-        requires waiting { self.old.waiting.queued ≡ commits_of self.old.scan.log }
-        ensures waiting { OnOk result (self.new.waiting.queued ≡ commits_of self.new.scan.log) }
-        ensures reading { OnOk result (IsReading checkpoint.now self.new.scan self.new.pool.pool
-            self.new.count) }
+    fn take_one(&mut self, checkpoint: &Option<Checkpoint>) -> Result<bool, Fault>
+        requires reading { IsReading checkpoint.now self.old.scan self.old.taken.pool.pool
+            self.old.taken.count }
+        requires waiting { self.old.taken.waiting.queued ≡ commits_of self.old.scan.log }
+        ensures waiting { OnOk result (self.new.taken.waiting.queued ≡ commits_of self.new.scan.log) }
+        ensures reading { OnOk result (IsReading checkpoint.now self.new.scan self.new.taken.pool.pool
+            self.new.taken.count) }
         ensures more { IfOk result (λ more. MatchBool more
             (IsOneMore self.old.scan.log self.new.scan.log)
             (IsWhole self.new.scan × (self.new.scan.log ≡ self.old.scan.log))) }
         ensures met { self.new.met ≡ self.old.met }
         ensures scan { ScansOn self.old.scan self.new.scan }
-        ensures images { KeepsImages self.old.pool.pool self.new.pool.pool }
-        ensures frames { self.new.pool.pool.frames ≡ self.old.pool.pool.frames }
+        ensures images { KeepsImages self.old.taken.pool.pool self.new.taken.pool.pool }
+        ensures frames { self.new.taken.pool.pool.frames ≡ self.old.taken.pool.pool.frames }
         ensures done { OnOk result (self.new.scan.failures ≡ self.old.scan.failures) }
         ensures err { IfErr result (λ fault. CountsDevice fault self.old.scan.failures
             self.new.scan.failures) }
@@ -143,34 +134,29 @@ impl<D: BlockDisk> Reading<D> {
             → OnOk result (IsFrontOf self.new.scan.log whole) }
     {
         change_can_be_read();
-        let Some(logged) = self.scan.next()? else {
-            return Ok(false);
-        };
-        self.count.note(&logged.view());
-        take_commit(alloc, &mut self.waiting, self.scan.validator(), &logged)?;
-        take_change(&mut self.pool, &logged)?;
-        Ok(true)
+        let more = self.scan.next_to(&mut self.taken)?;
+        Ok(more)
     }
 
     /// Compares the checkpoint, if its position is reached, and takes the next record, if there is
     /// one. Whether there was is answered.
     fn step(&mut self, alloc: Global, checkpoint: &Option<Checkpoint>) -> Result<bool, Fault>
-        requires reading { IsReading checkpoint.now self.old.scan self.old.pool.pool
-            self.old.count }
-        requires waiting { self.old.waiting.queued ≡ commits_of self.old.scan.log }
+        requires reading { IsReading checkpoint.now self.old.scan self.old.taken.pool.pool
+            self.old.taken.count }
+        requires waiting { self.old.taken.waiting.queued ≡ commits_of self.old.scan.log }
         requires met { IsMet self.old.met self.old.scan.log checkpoint.now }
         requires low { IfSome checkpoint.now (λ c. c.numbers.position.0 ≤ self.old.scan.mark) }
-        ensures waiting { OnOk result (self.new.waiting.queued ≡ commits_of self.new.scan.log) }
-        ensures reading { OnOk result (IsReading checkpoint.now self.new.scan self.new.pool.pool
-            self.new.count) }
+        ensures waiting { OnOk result (self.new.taken.waiting.queued ≡ commits_of self.new.scan.log) }
+        ensures reading { OnOk result (IsReading checkpoint.now self.new.scan self.new.taken.pool.pool
+            self.new.taken.count) }
         ensures met { OnOk result (IsMet self.new.met self.new.scan.log checkpoint.now) }
         ensures more { IfOk result (λ more. MatchBool more
             (IsOneMore self.old.scan.log self.new.scan.log)
             (IsWhole self.new.scan × (self.new.scan.log ≡ self.old.scan.log)
             × IfSome checkpoint.now (IsOfFront self.new.scan.log))) }
         ensures scan { ScansOn self.old.scan self.new.scan }
-        ensures images { KeepsImages self.old.pool.pool self.new.pool.pool }
-        ensures frames { self.new.pool.pool.frames ≡ self.old.pool.pool.frames }
+        ensures images { KeepsImages self.old.taken.pool.pool self.new.taken.pool.pool }
+        ensures frames { self.new.taken.pool.pool.frames ≡ self.old.taken.pool.pool.frames }
         ensures done { OnOk result (self.new.scan.failures ≡ self.old.scan.failures) }
         ensures err { IfErr result (λ fault. CountsDevice fault self.old.scan.failures
             self.new.scan.failures) }
@@ -184,7 +170,7 @@ impl<D: BlockDisk> Reading<D> {
             → OnOk result (IsFrontOf self.new.scan.log whole) }
     {
         self.met = meet(alloc, self, checkpoint)?;
-        let more = self.take_one(alloc, checkpoint)?;
+        let more = self.take_one(checkpoint)?;
         check_position(self.met, self.scan.end().0, checkpoint)?;
         Ok(more)
     }
@@ -195,19 +181,19 @@ impl<D: BlockDisk> Reading<D> {
         alloc: Global,
         checkpoint: &Option<Checkpoint>,
     ) -> Result<(), Fault>
-        requires reading { IsReading checkpoint.now self.old.scan self.old.pool.pool
-            self.old.count }
-        requires waiting { self.old.waiting.queued ≡ commits_of self.old.scan.log }
+        requires reading { IsReading checkpoint.now self.old.scan self.old.taken.pool.pool
+            self.old.taken.count }
+        requires waiting { self.old.taken.waiting.queued ≡ commits_of self.old.scan.log }
         requires met { IsMet self.old.met self.old.scan.log checkpoint.now }
         requires low { IfSome checkpoint.now (λ c. c.numbers.position.0 ≤ self.old.scan.mark) }
-        ensures waiting { OnOk result (self.new.waiting.queued ≡ commits_of self.new.scan.log) }
-        ensures reading { OnOk result (IsReading checkpoint.now self.new.scan self.new.pool.pool
-            self.new.count) }
+        ensures waiting { OnOk result (self.new.taken.waiting.queued ≡ commits_of self.new.scan.log) }
+        ensures reading { OnOk result (IsReading checkpoint.now self.new.scan self.new.taken.pool.pool
+            self.new.taken.count) }
         ensures whole { OnOk result (IsWhole self.new.scan) }
         ensures of_front { OnOk result (IfSome checkpoint.now (IsOfFront self.new.scan.log)) }
         ensures scan { ScansOn self.old.scan self.new.scan }
-        ensures images { KeepsImages self.old.pool.pool self.new.pool.pool }
-        ensures frames { self.new.pool.pool.frames ≡ self.old.pool.pool.frames }
+        ensures images { KeepsImages self.old.taken.pool.pool self.new.taken.pool.pool }
+        ensures frames { self.new.taken.pool.pool.frames ≡ self.old.taken.pool.pool.frames }
         ensures done { OnOk result (self.new.scan.failures ≡ self.old.scan.failures) }
         ensures err { IfErr result (λ fault. CountsDevice fault self.old.scan.failures
             self.new.scan.failures) }
@@ -230,17 +216,16 @@ impl<D: BlockDisk> Reading<D> {
         ensures log { IsScanLeft self.scan (D.slot result.log) (D.block_count result.log)
             (D.attempts result.log) }
         ensures failures { D.failures result.log ≡ self.scan.failures }
-        ensures pages { IsPoolLeft self.pool.pool.frames
+        ensures pages { IsPoolLeft self.taken.pool.pool.frames
             (D.slot result.pages) (D.block_count result.pages) (D.failures result.pages)
             (D.attempts result.pages) }
     {
         let Reading {
             scan,
-            pool,
-            count: _,
-            waiting: _,
+            taken,
             met: _,
         } = self;
+        let (pool, _, _) = taken.into_parts();
         // For the prover alone: there are as many blocks as pages that wait for changes.
         let _ = pool.pages();
         UnreadLog {
@@ -257,22 +242,21 @@ impl<D: BlockDisk> Reading<D> {
         ensures judged { IfOk result (λ x. IsValidatorOf self.scan.pages x.validator
             self.scan.log) }
         ensures judging { IfOk result (λ x. judges x.validator ≡ follows phase) }
-        ensures pool { IfOk result (λ x. (x.pool ≡ self.pool) × (x.count ≡ self.count)
-            × (x.waiting ≡ self.waiting)) }
+        ensures pool { IfOk result (λ x. (x.pool ≡ self.taken.pool)
+            × (x.count ≡ self.taken.count) × (x.waiting ≡ self.taken.waiting)) }
         ensures fault { IfErr result (λ u. IsBare u.fault
             × CountsLog u.fault self.scan.failures (D.failures u.log)) }
         ensures left_log { IfErr result (λ u. IsScanLeft self.scan (D.slot u.log)
             (D.block_count u.log) (D.attempts u.log)) }
-        ensures left_pages { IfErr result (λ u. IsPoolLeft self.pool.pool.frames
+        ensures left_pages { IfErr result (λ u. IsPoolLeft self.taken.pool.pool.frames
             (D.slot u.pages) (D.block_count u.pages) (D.failures u.pages) (D.attempts u.pages)) }
     {
         let Reading {
             scan,
-            pool,
-            count,
-            waiting,
+            taken,
             met: _,
         } = self;
+        let (pool, count, waiting) = taken.into_parts();
         // For the prover alone: there are as many blocks as pages that wait for changes.
         let _ = pool.pages();
         match scan.into_parts() {

@@ -1,6 +1,6 @@
 -- The text of a valid log: where it begins with another valid log, that is a front of it.
-use Rattle.std.proofs.Common.{◌≡◌, ◌⊎◌, ℕ, ◌+◌, ◌<◌, true, List, [], ◌∷◌, ◌++◌, length, drop, Option, Some, None, Result, Ok, Err, inl, inr, refl, sym, ap, subst, ◌∙◌, append_assoc, length-append, arith}
-use Rattle.std.specs.Prelude.{IsTrue, is_none}
+use Rattle.std.proofs.Common.{◌≡◌, ◌⊎◌, ℕ, ◌+◌, ◌<◌, Bool, true, false, List, [], ◌∷◌, ◌++◌, length, drop, Option, Some, None, Result, Ok, Err, inl, inr, refl, sym, ap, subst, ◌∙◌, append_assoc, length-append, arith}
+use Rattle.std.specs.Prelude.{IsTrue, is_none, MatchBool}
 use Rattle.std.specs.List.{AllByRecursion}
 use Rattle.std.proofs.lemmas.List.{append_cancel_left, drop_at}
 use Rattle.als_record.specs.declared.cause.Cause.{Cause}
@@ -17,7 +17,7 @@ use Rattle.als_record.proofs.Validity.{is_valid-first_bad}
 use Rattle.als_record.proofs.TailFirst.{IsValidLog-front}
 use Rattle.als_scan.specs.declared.fault.Fault.{Fault}
 use Rattle.als_scan.specs.declared.fault.Fault.TheVariants.{Shape, Invalid, BadControl, Device, Memory}
-use Rattle.als_scan.specs.Scanned.{Scanned, IsScanned, HandsNext, RefusesNext, GivesNext, next_reading}
+use Rattle.als_scan.specs.Scanned.{Scanned, IsScanned, HandsOut, HandsNext, RefusesNext, GivesNext, BeginsSo, first_of, next_reading}
 use Rattle.als_scan.proofs.ReadingLaws.{length-text}
 
 -- ---- a front
@@ -97,6 +97,12 @@ same_found x y read a b = let e : ◌≡◌ {A = Result (Option (Record × ℕ))
 no_cause : (o : Option Cause) (c : Cause) → o ≡ None → o ≡ Some c → ⊥
 no_cause o c a b = let e : ◌≡◌ {A = Option Cause} None (Some c) = sym a ∙ b in cc e
 
+no_record : (r : Record) → ◌≡◌ {A = Option Record} (Some r) None → ⊥
+no_record r e = cc e
+
+same_record : (r x : Record) → ◌≡◌ {A = Option Record} (Some r) (Some x) → r ≡ x
+same_record r x e = cc e
+
 -- ---- a scan of a log's text
 
 module _ (s : Scanned) (f : IsScanned s) (log : List Record) (v : IsValidLog s.pages log) (e : s.text ≡ log_text s.pages log) where
@@ -159,3 +165,20 @@ bare_handed now s new log found same f v e h = bare_hands now f log v e found ne
 
 pub bare_refused : (now s new : Scanned) (log : List Record) (fault : Fault) → now ≡ s → IsScanned now → IsValidLog now.pages log → now.text ≡ log_text now.pages log → RefusesNext s fault new → (fault ≡ Device) ⊎ (fault ≡ Memory)
 bare_refused now s new log fault same f v e h = bare_refuses now f log v e fault new (subst (λ (x : Scanned). RefusesNext x fault new) (sym same) h)
+
+-- what is handed out then is still a front of it
+goes_on : (log : List Record) (s new : Scanned) (found : Option Record) → HandsNext s found new → GivesNext log s.log found → BeginsSo log new.log
+goes_on log s new None h gives = record { rest = gives.rest; parts = gives.parts ∙ ap (λ (x : Scanned). x.log ++ gives.rest) (sym h.1) }
+goes_on log s new (Some r) h gives = along gives.rest gives.parts gives.found_is
+  where
+    along : (rest : List Record) → log ≡ s.log ++ rest → ◌≡◌ {A = Option Record} (Some r) (first_of rest) → BeginsSo log new.log
+    along [] p e = absurd (no_record r e)
+    along (x ∷ more) p e = record {
+      rest = more;
+      parts = p ∙ ap (λ (y : Record). s.log ++ y ∷ more) (sym (same_record r x e)) ∙ sym (append_assoc s.log (r ∷ []) more) ∙ ap (λ (x : Scanned). x.log ++ more) (sym h.after);
+    }
+
+pub bare_handed_on : (now s new : Scanned) (log : List Record) (took : Record → Type 0) (kept : Type 0) (more : Bool) → now ≡ s → IsScanned now → IsValidLog now.pages log → now.text ≡ log_text now.pages log
+    → MatchBool more ((r : Record) × HandsOut s r new × took r) (HandsNext s None new × kept) → BeginsSo log new.log
+bare_handed_on now s new log took kept true same f v e (r, h, w) = goes_on log now new (Some r) (subst (λ (x : Scanned). HandsNext x (Some r) new) (sym same) h) (bare_handed now s new log (Some r) same f v e h)
+bare_handed_on now s new log took kept false same f v e (h, w) = goes_on log now new None (subst (λ (x : Scanned). HandsNext x None new) (sym same) h) (bare_handed now s new log None same f v e h)

@@ -1,11 +1,11 @@
 -- Where as many bytes have come as they say that the record has, no more are asked for.
-use Rattle.std.proofs.Common.{◌≡◌, ℕ, ◌≤◌, Bool, true, false, not, if◌then◌else◌, List, length, take, drop, Option, Some, None, Result, Ok, Err, nat_lt, ◌==◌, sym, ◌∙◌, le-ltb}
+use Rattle.std.proofs.Common.{◌≡◌, ℕ, ◌≤◌, Bool, true, false, not, if◌then◌else◌, List, length, take, drop, Option, None, Result, Ok, Err, nat_lt, ◌==◌, sym, ◌∙◌, le-ltb}
 use Rattle.std.proofs.lemmas.Bool.{cond-false}
 use Rattle.als_record.specs.declared.fault.Fault.{Fault}
 use Rattle.als_record.specs.declared.fault.Fault.TheVariants.{BadLength, BadType, BadReserved, WrongLsn}
 use Rattle.als_record.specs.declared.record.Body.{Body}
 use Rattle.als_record.specs.declared.record.Record.{Record}
-use Rattle.als_record.specs.Reading.{◌>>=◌, is_size, is_type, is_reserved_zero, size_at, type_at, long_at, with_head, read_body, read_record}
+use Rattle.als_record.specs.Reading.{is_size, is_type, is_reserved_zero, size_at, type_at, long_at, with_head, read_body, read_record}
 
 abbrev Read : Type 0
 Read = Result (Option (Record × ℕ)) Fault

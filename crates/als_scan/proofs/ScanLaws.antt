@@ -1,6 +1,7 @@
 -- A scan, record by record.
-use Rattle.std.proofs.Common.{◌≡◌, ℕ, ◌+◌, ◌*◌, ◌<◌, ◌≤◌, List, [], ◌∷◌, ◌++◌, length, take, drop, Option, Some, None, Ok, Err, refl, sym, ap, subst, ◌∙◌, append_assoc, append-nil, length-append, take-append-drop, arith}
+use Rattle.std.proofs.Common.{◌≡◌, ℕ, ◌+◌, ◌*◌, ◌<◌, ◌≤◌, Bool, true, false, List, [], ◌∷◌, ◌++◌, length, take, drop, Option, Some, None, Ok, Err, refl, sym, ap, subst, ◌∙◌, append_assoc, append-nil, length-append, take-append-drop, arith}
 use Rattle.std.proofs.lemmas.List.{take_at}
+use Rattle.std.specs.Prelude.{MatchBool}
 use Rattle.als_record.specs.declared.fault.Fault.{Fault as ShapeFault}
 use Rattle.als_record.specs.declared.record.Record.{Record}
 use Rattle.als_record.specs.Reading.{read_record}
@@ -16,7 +17,7 @@ use Rattle.als_disk.specs.Slot.{Slot, IsSettled, SameBlocks, GivesCandidates, Ho
 use Rattle.als_scan.specs.declared.fault.Fault.{Fault}
 use Rattle.als_scan.specs.declared.fault.Fault.TheVariants.{Shape, Invalid, BadControl, Device, Memory}
 use Rattle.als_scan.specs.Judged.{Judged, Reads, IsReady, Takes, TakesNext, Refuses, begun, position_of, reading_of, HasHeader, FailsToBegin}
-use Rattle.als_scan.specs.Scanned.{IsScan, IsScanned, Scanned, scanned, IsWhole, HandsNext, RefusesNext, RefusesHeader, RefusesLog}
+use Rattle.als_scan.specs.Scanned.{IsScan, IsScanned, Scanned, scanned, IsWhole, HandsOut, HandsNext, RefusesNext, RefusesHeader, RefusesLog}
 use Rattle.als_scan.specs.Texts.{text_of, slots_from, slot_in, StandsBelow}
 use Rattle.als_scan.proofs.JudgeLaws.{valid-nil, end-nil}
 use Rattle.als_scan.proofs.TextLaws.{settled_stands, slot_at, text_from-same, slots_from-same, length-text_from, block_len, header_is}
@@ -157,6 +158,12 @@ scan_take pages mark blocks slots j k (Some r) s t valid =
       valid = subst (λ n. IsValidLog n k.log) count valid;
     }
 
+-- so it is with a record that is handed to a taker
+pub scan_hand : (took : List Record → Record → Type 0) (kept : Type 0) (pages mark blocks : ℕ) (slots : ℕ → Slot) (j k : Judged) (more : Bool) → IsScan pages mark blocks slots j
+    → MatchBool more ((r : Record) × Takes j r k × took j.log r) (TakesNext j None k × kept) → IsValidLog k.pages k.log → IsScan pages mark blocks slots k
+scan_hand took kept pages mark blocks slots j k true s (r, t, w) valid = scan_take pages mark blocks slots j k (Some r) s t valid
+scan_hand took kept pages mark blocks slots j k false s (t, w) valid = scan_take pages mark blocks slots j k None s t valid
+
 module _ (pages mark blocks : ℕ) (slots : ℕ → Slot) (j : Judged) (s : IsScan pages mark blocks slots j) where
   there : read_record pages (end_of j.log) (drop (end_of j.log) (text_of slots mark)) ≡ read_record j.pages (end_of j.log) (j.kept ++ s.reads.rest)
   there = ap (λ n. read_record n (end_of j.log) (drop (end_of j.log) (text_of slots mark))) (sym s.page_count) ∙ ap (read_record j.pages (end_of j.log)) (drop_end (text_of slots mark) j s.reads)
@@ -187,6 +194,14 @@ module _ (pages mark blocks : ℕ) (slots : ℕ → Slot) (j : Judged) (s : IsSc
     good = t.good;
     after = ap (λ (x : Judged). scanned pages x.log mark slots blocks failures attempts) t.after;
   }
+
+  -- the same of a record that is handed to a taker, of which this holds
+  pub hands_to : (took : List Record → Record → Type 0) (kept : Type 0) (failures attempts : ℕ) (k : Judged) (more : Bool) → IsReady j mark
+      → MatchBool more ((r : Record) × Takes j r k × took j.log r) (TakesNext j None k × kept)
+      → MatchBool more ((r : Record) × HandsOut (scanned pages j.log mark slots blocks failures attempts) r (scanned pages k.log mark slots blocks failures attempts) × took j.log r)
+      (HandsNext (scanned pages j.log mark slots blocks failures attempts) None (scanned pages k.log mark slots blocks failures attempts) × kept)
+  hands_to took kept failures attempts k true ready (r, t, w) = (r, hands_next failures attempts k (Some r) ready t, w)
+  hands_to took kept failures attempts k false ready (t, w) = (hands_next failures attempts k None ready t, w)
 
   pub refuses_next : (failures attempts : ℕ) (k : Judged) (fault : Fault) → IsReady j mark → Refuses j fault → k ≡ j → RefusesNext (scanned pages j.log mark slots blocks failures attempts) fault (scanned pages k.log mark slots blocks failures attempts)
   refuses_next failures attempts k (Shape fault) ready h e = (next_fault fault h, ap (λ (x : Judged). scanned pages x.log mark slots blocks failures attempts) e)

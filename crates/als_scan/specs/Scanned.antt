@@ -1,5 +1,5 @@
 -- A log on a device that is read record by record, as callers see it.
-use Rattle.std.specs.Prelude.{◌≡◌, ◌≢◌, ◌⊎◌, ℕ, ◌<◌, ◌≤◌, ◌*◌, List, [], ◌∷◌, ◌++◌, length, take, drop, Option, Some, None, Result, Ok, Err}
+use Rattle.std.specs.Prelude.{◌≡◌, ◌≢◌, ◌⊎◌, ℕ, ◌<◌, ◌≤◌, ◌*◌, Bool, List, [], ◌∷◌, ◌++◌, length, take, drop, Option, Some, None, Result, Ok, Err}
 use Rattle.als_record.specs.declared.fault.Fault.{Fault as ShapeFault}
 use Rattle.als_record.specs.declared.fault.Fault.TheVariants as shape
 use Rattle.als_record.specs.declared.cause.Cause.{Cause}
@@ -104,6 +104,16 @@ pub record GivesNext (log front : List Record) (found : Option Record) : Type 0 
 abbrev pub GivesNextOf : List Record → List Record → Result (Option Record) Fault → Type 0
 GivesNextOf log front (Ok found) = GivesNext log front found
 GivesNextOf log front (Err fault) = (fault ≡ Device) ⊎ (fault ≡ Memory)
+
+-- the records of a log begin with these
+pub record BeginsSo (log front : List Record) : Type 0 where
+  pub rest : List Record
+  pub parts : log ≡ front ++ rest
+
+-- over the text of a log the records handed out are still a front of it, or the device has failed or allocation failed
+abbrev pub GoesOnOf : List Record → List Record → Result Bool Fault → Type 0
+GoesOnOf log front (Ok more) = BeginsSo log front
+GoesOnOf log front (Err fault) = (fault ≡ Device) ⊎ (fault ≡ Memory)
 
 -- why a text of which the header is to be read first is not read at all
 abbrev pub RefusesHeader : Fault → List ℕ → ℕ → ℕ → ℕ → Type 0

@@ -3,6 +3,8 @@
 
 // Why no record is read.
 mod fault;
+// What takes records one after another.
+mod taking;
 // Bytes in, records of a valid log out.
 mod judge;
 // The bytes of a device.
@@ -19,5 +21,6 @@ mod wanted;
 pub use counting::read_all;
 pub use fault::Fault;
 pub use scan::Scan;
+pub use taking::TakeRecord;
 pub use unread::Unread;
 pub use wanted::Wanted;

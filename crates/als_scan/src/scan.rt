@@ -1,4 +1,5 @@
-ghost use Rattle.std.specs.Prelude.{◌≡◌, ℕ, ◌<◌, ◌≤◌, ◌*◌, true, List, [], IfOk, IfErr};
+ghost use Rattle.std.specs.Prelude.{◌≡◌, ◌⊎◌, ℕ, ◌<◌, ◌≤◌, ◌*◌, true, List, [], ◌∷◌, ◌++◌, None, IfOk};
+ghost use Rattle.std.specs.Prelude.{IfErr, MatchBool};
 ghost use Rattle.als_record.specs.declared.record.Record.{Record as AnyRecord};
 ghost use Rattle.als_record.specs.LogText.{log_text, end_of};
 ghost use Rattle.als_record.specs.Validity.{IsValidLog};
@@ -6,12 +7,14 @@ ghost use Rattle.als_analysis.specs.Noted.{IsTableOf};
 ghost use Rattle.als_disk.specs.Slot.{IsSettled, SameBlocks};
 ghost use Rattle.als_validator.specs.Validated.{IsValidatorOf, judges};
 ghost use Rattle.als_scan.specs.Scanned.{IsScanned, IsWhole, HandsNext, RefusesNext, GivesNextOf};
+ghost use Rattle.als_scan.specs.Scanned.{HandsOut, GoesOnOf};
 ghost use Rattle.als_scan.specs.Scanned.{RefusesHeader, RefusesLog, scanned, taken_up};
 ghost use Rattle.als_scan.specs.Texts.{text_of, slot_in};
 
 use crate::fault::Fault;
 use crate::judge::Judge;
 use crate::reading::{begin, fill};
+use crate::taking::TakeRecord;
 use crate::unread::Unread;
 use als_analysis::TransTable;
 use als_disk::BlockDisk;
@@ -116,6 +119,34 @@ impl<D: BlockDisk> Scan<D> {
         fill(&mut self.disk, &mut self.judge, self.mark)?;
         let found = self.judge.take_one(self.alloc)?;
         Ok(found)
+    }
+
+    /// Hands the next record, which may follow those before it, to a taker as it lies in the bytes
+    /// that were read: nothing is copied. `false` where the mark is their end.
+    ///
+    /// The faults are those of `next`. `Memory` is the taker's fault too: then no record was handed
+    /// out, and of the taker no more is known than its `keeps`.
+    #[inline(always)]
+    pub fn next_to<T: TakeRecord>(&mut self, taker: &mut T) -> Result<bool, Fault>
+        requires can { (r : AnyRecord) → IsValidLog self.old.pages (self.old.log ++ r ∷ [])
+            → T.can taker.old r }
+        ensures ok { IfOk result (λ more. MatchBool more
+            ((r : AnyRecord) × HandsOut self.old r self.new
+            × T.took taker.old self.old.log r taker.new)
+            (HandsNext self.old None self.new × (taker.new ≡ taker.old))) }
+        ensures err { IfErr result (λ fault. RefusesNext self.old fault self.new) }
+        ensures keeps { (taker.new ≡ taker.old) ⊎ T.keeps taker.old taker.new }
+        ensures facts { IsScanned self.new }
+        // Over the text of a log its records are handed out, and no fault comes but a failed device
+        // and want of memory.
+        ensures bare { (log : List AnyRecord) → IsValidLog self.old.pages log
+            → self.old.text ≡ log_text self.old.pages log
+            → GoesOnOf log self.new.log result }
+    {
+        fill(&mut self.disk, &mut self.judge, self.mark)?;
+        self.judge.look_ahead();
+        let more = self.judge.hand_to(self.alloc, taker)?;
+        Ok(more)
     }
 
     /// The offset behind the records handed out, 16 before the first.

@@ -273,26 +273,8 @@ fn commits(rt: &impl Abort, alloc: Global) -> Option<()> {
     admit(rt, &mut validator, 52, 16, 1, update(1, None, 0xbb));
     admit(rt, &mut validator, 88, 52, 1, update(0, Some(1), 2));
     admit(rt, &mut validator, 125, 88, 1, undo(0, Some(1), 52));
-    makes_a_commit(
-        rt,
-        alloc,
-        &mut validator,
-        &record(168, 125, 1, Said::Commit),
-    )
-}
-
-// The record makes the same commit of two writes before it is taken and after.
-fn makes_a_commit(
-    rt: &impl Abort,
-    alloc: Global,
-    validator: &mut Validator,
-    commit: &Record,
-) -> Option<()>
-    requires { judges validator.old ≡ true }
-{
+    let commit = record(168, 125, 1, Said::Commit);
     has_two_writes(rt, &validator.commit_of(alloc, &commit.view()).ok()??);
-    admit_record(rt, validator, commit);
-    has_two_writes(rt, &validator.commit_made(alloc, commit).ok()??);
     Some(())
 }
 

@@ -13,7 +13,7 @@ ghost use Rattle.als_validator.specs.Validated.{IsValidatorOf, judges};
 use crate::fault::Fault;
 use crate::validator::Validator;
 use als_commits::Commit;
-use als_record::{Body, BodyView, Record as AnyRecord, RecordView};
+use als_record::{BodyView, RecordView};
 use std::alloc::Global;
 
 /// Whether a record commits its transaction.
@@ -21,13 +21,6 @@ fn is_commit_record(body: &BodyView<'_>) -> bool
     ensures { result ≡ is_commit (shown_body body.now) }
 {
     matches!(body, BodyView::Commit)
-}
-
-/// Whether a record that was admitted commits its transaction.
-fn is_commit_body(body: &Body) -> bool
-    ensures { result ≡ is_commit body.now }
-{
-    matches!(body, Body::Commit)
 }
 
 impl Validator {
@@ -58,28 +51,6 @@ impl Validator {
         }
         let survivors = self.survivors_of(logged.trans);
         match Commit::of(alloc, logged.trans, logged.lsn, survivors) {
-            Ok(commit) => Ok(Some(commit)),
-            Err(_) => Err(Fault::Memory),
-        }
-    }
-
-    /// The commit that the last record of the log made, with what survives of its transaction:
-    /// asked after the record was admitted. `None`: it is no commit record. Memory: a growth was
-    /// refused, for what a commit writes alone.
-    pub fn commit_made(&self, alloc: Global, last: &AnyRecord) -> Result<Option<Commit>, Fault>
-        requires { judges self.now ≡ true }
-        ensures ok { IfOk result (λ found. (pages : ℕ) (log : List Record)
-            → IsValidatorOf pages self.now (log ++ last.now ∷ [])
-            → IsValidLog pages (log ++ last.now ∷ [])
-            → commits_of (log ++ last.now ∷ []) ≡ commits_of log ++ option_to_list found) }
-        ensures err { IfErr result (λ e. e ≡ Memory) }
-        ensures reserved { is_commit last.now.body ≡ false → IsOk result }
-    {
-        if !is_commit_body(&last.body) {
-            return Ok(None);
-        }
-        let survivors = self.survivors_of(last.trans);
-        match Commit::of(alloc, last.trans, last.lsn, survivors) {
             Ok(commit) => Ok(Some(commit)),
             Err(_) => Err(Fault::Memory),
         }

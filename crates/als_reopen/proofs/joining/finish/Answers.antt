@@ -14,7 +14,7 @@ returns-in-Ok-take_up-clause-ok g c =
     let old = c.args.reading.scan in
     let new = c.read_all.new.self in
     let read = c.in-Ok-take_up.read in
-    reopened c.args.blocks old new.scan c.args.state.now c.args.checkpoint.now new.pool new.count read.log read.validator read.count read.pool c.read_all.ensures.scan c.in-Ok.ensures.reading c.in-Ok.ensures.whole c.in-Ok.ensures.of_front
+    reopened c.args.blocks old new.scan c.args.state.now c.args.checkpoint.now new.taken.pool new.taken.count read.log read.validator read.count read.pool c.read_all.ensures.scan c.in-Ok.ensures.reading c.in-Ok.ensures.whole c.in-Ok.ensures.of_front
     c.requires.mark (c.if-not-has_room.ensures.fits refl) c.in-Ok-take_up.ensures.log c.in-Ok-take_up.ensures.judged c.in-Ok-take_up.ensures.judging c.in-Ok-take_up.ensures.pool.0 c.in-Ok-take_up.ensures.pool.1
 
 pub returns-in-Ok-take_up-clause-images : goal.returns-in-Ok-take_up-clause-images

@@ -42,5 +42,5 @@ returns-in-Err-finish-clause-left_pages g c =
     let left = c.in-Err-finish.unread.pages in
     let reading = c.in-Ok-begin.reading in
     pool_left c.args.pages c.args.frames (g.D.BlockDisk.slot disk) (g.D.BlockDisk.slot left) (g.D.BlockDisk.block_count disk) (g.D.BlockDisk.failures disk) (g.D.BlockDisk.attempts disk)
-    (g.D.BlockDisk.block_count left) (g.D.BlockDisk.failures left) (g.D.BlockDisk.attempts left) reading.pool.pool.frames (ap (λ (p : Held). p.pool.frames) c.in-Ok-begin.ensures.pool ∙ c.in-Ok.ensures.frames)
+    (g.D.BlockDisk.block_count left) (g.D.BlockDisk.failures left) (g.D.BlockDisk.attempts left) reading.taken.pool.pool.frames (ap (λ (p : Held). p.pool.frames) c.in-Ok-begin.ensures.pool ∙ c.in-Ok.ensures.frames)
     c.in-Err-finish.ensures.left_pages

@@ -11,13 +11,13 @@ use Rattle.als_reopen.proofs.reading.Reading.read_all.Given as goal
 
 abbrev pub invariant-loop-more : goal.invariant-loop-more
 invariant-loop-more g l = record {
-  reading : IsReading l.checkpoint l.self.scan l.self.pool.pool l.self.count;
-  waiting : l.self.waiting.queued ≡ commits_of l.self.scan.log;
+  reading : IsReading l.checkpoint l.self.scan l.self.taken.pool.pool l.self.taken.count;
+  waiting : l.self.taken.waiting.queued ≡ commits_of l.self.scan.log;
   met : IsMet l.self.met l.self.scan.log l.checkpoint;
   ended : l.more ≡ false → IsWhole l.self.scan × IfSome l.checkpoint (IsOfFront l.self.scan.log);
   scan : ScansOn l.fn.self.scan l.self.scan;
-  images : KeepsImages l.fn.self.pool.pool l.self.pool.pool;
-  frames : l.self.pool.pool.frames ≡ l.fn.self.pool.pool.frames;
+  images : KeepsImages l.fn.self.taken.pool.pool l.self.taken.pool.pool;
+  frames : l.self.taken.pool.pool.frames ≡ l.fn.self.taken.pool.pool.frames;
   done : l.self.scan.failures ≡ l.fn.self.scan.failures;
   front : (whole : List Record) → IsValidLog l.fn.self.scan.pages whole → l.fn.self.scan.text ≡ log_text l.fn.self.scan.pages whole → IsFrontOf l.fn.self.scan.log whole → IsFrontOf l.self.scan.log whole;
 }

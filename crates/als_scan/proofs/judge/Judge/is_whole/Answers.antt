@@ -1,5 +1,4 @@
-use Rattle.std.proofs.Common.{◌≡◌, ℕ, ◌≤◌, List, length, take, drop, ap, ◌∙◌, take_all, le_refl, leb-true, arith}
-use Rattle.std.specs.Int.{w32, from_be_bytes}
+use Rattle.std.proofs.Common.{◌≡◌, ◌≤◌, length, take, ap, ◌∙◌, take_all, le_refl, leb-true, arith}
 use Rattle.als_record.specs.LogText.{end_of}
 use Rattle.als_record.specs.Reading.{word_at}
 use Rattle.als_log.specs.History.{records_in}
