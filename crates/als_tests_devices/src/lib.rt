@@ -20,6 +20,9 @@ mod file_calls;
 // als_disk: what a device keeps in memory.
 #[cfg(test)]
 mod forgetting;
+// als_disk: what a device gives its file, and by how many writes.
+#[cfg(test)]
+mod gathering;
 // als_frames.
 #[cfg(test)]
 mod frames;
