@@ -6,3 +6,4 @@ pub mod Folds
 pub mod Folding
 pub mod Moves
 pub mod Reading
+pub mod Knowing

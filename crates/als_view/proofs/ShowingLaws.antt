@@ -95,7 +95,7 @@ warms_on pages log old new same published all queued h = record { pages_are = sa
 -- ---- the first that wait are published
 
 -- of ended commits the first have ended
-ended_front : (a : ℕ) (few many : ℕ) (cs : List Commit) → few ≤ many → AllByRecursion (IsEnded a) (take many cs) → AllByRecursion (IsEnded a) (take few cs)
+pub ended_front : (a : ℕ) (few many : ℕ) (cs : List Commit) → few ≤ many → AllByRecursion (IsEnded a) (take many cs) → AllByRecursion (IsEnded a) (take few cs)
 ended_front a zero many cs le h = tt
 ended_front a (suc few) zero cs le h = absurd (omega (arith, le))
 ended_front a (suc few) (suc many) [] le h = tt

@@ -50,6 +50,25 @@ impl Front {
         }
     }
 
+    /// Whether another front of the same view begins with this one. Else it is shorter, and this one
+    /// begins with it.
+    pub(crate) fn is_within(&self, other: &Front) -> bool
+        requires { other.now.seen.book ≡ self.now.seen.book }
+        ensures within { result ≡ true → Begins (front_of self.now) (front_of other.now) }
+        ensures beyond { result ≡ false → Begins (front_of other.now) (front_of self.now)
+            × (Begins (front_of self.now) (front_of other.now) → ⊥) }
+    {
+        let mut both = self.seen.again();
+        both.learn(&other.seen);
+        if self.listed != 1 {
+            return true;
+        }
+        if other.listed != 1 {
+            return false;
+        }
+        self.count <= other.count
+    }
+
     /// Adds a commit to the history, and answers whether it did. It did not where the history is
     /// longer than this front.
     pub(crate) fn extend(&mut self, head: &Word<Commit, u64, Law>, commit: &Commit) -> bool

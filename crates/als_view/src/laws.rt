@@ -1,4 +1,5 @@
-ghost use Rattle.std.specs.Prelude.{◌≡◌, ℕ, ◌≤◌, true, false, List, [], ◌∷◌, ◌++◌, length};
+ghost use Rattle.std.specs.Prelude.{◌≡◌, ℕ, ◌≤◌, true, false, List, [], ◌∷◌, ◌++◌, length, take};
+ghost use Rattle.std.specs.Prelude.{Option, Some};
 ghost use Rattle.std.specs.List.{AllByRecursion};
 ghost use Rattle.als_record.specs.declared.key.Key.{Key};
 ghost use Rattle.als_record.specs.declared.record.Record.{Record as AnyRecord};
@@ -7,8 +8,8 @@ ghost use Rattle.als_record.specs.Transactions.{is_commit};
 ghost use Rattle.als_record.specs.Commits.{commits_of, Commit as AnyCommit};
 ghost use Rattle.als_commits.specs.Counting.{IsEnded, ended_count};
 ghost use Rattle.als_view.specs.declared.answer.Answer.{Answer};
-ghost use Rattle.als_view.specs.Answers.{Answers};
-ghost use Rattle.als_view.specs.Entries.{AreCommits};
+ghost use Rattle.als_view.specs.Answers.{Answers, IsAnswer};
+ghost use Rattle.als_view.specs.Entries.{AreCommits, Begins};
 ghost use Rattle.als_view.specs.Reading.{ReadsFront};
 ghost use Rattle.als_view.specs.Showing.{View as AnyView, IsShowing};
 ghost use Rattle.als_view.specs.Views.{listed_in};
@@ -20,6 +21,20 @@ pub fn an_answer_is_of_a_front()
         (a : Answer) → is_valid log ≡ true → commits_of log ≡ front ++ more
         → AllByRecursion (IsEnded offset) front → Answers a pages key front
         → ReadsFront log offset pages key a }
+{}
+
+/// A law: where the published commits, the first of a log, begin with what a reader knows, each answer
+/// of what it knows or knew is what the committed transactions of a front of that log left. No more
+/// are published than have ended at an offset, and all of this front have.
+pub fn what_is_known_is_published()
+    ensures reads { (log : List AnyRecord) (offset count pages : ℕ) (key : Key)
+        (known : Option (List AnyCommit)) (a : Answer) → is_valid log ≡ true
+        → count ≤ ended_count offset (commits_of log)
+        → Begins known (Some (take count (commits_of log))) → IsAnswer pages key known a
+        → ReadsFront log offset pages key a }
+    // What begins what is known begins what it begins.
+    ensures earlier { (before known published : Option (List AnyCommit)) → Begins before known
+        → Begins known published → Begins before published }
 {}
 
 /// A law: a view without a commit is that of the empty log, and one of which all commits wait is

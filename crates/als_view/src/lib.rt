@@ -42,7 +42,10 @@ pub use change::Change;
 pub use fault::Fault;
 pub use front::Front;
 pub use history::{Law, Token};
-pub use laws::{a_view_goes_on, an_answer_is_of_a_front, shown_commits_may_be_published};
+pub use laws::{
+    a_view_goes_on, an_answer_is_of_a_front, shown_commits_may_be_published,
+    what_is_known_is_published,
+};
 pub use opening::new;
 pub use publisher::Publisher;
 pub use reader::Reader;

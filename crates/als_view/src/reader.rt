@@ -1,4 +1,4 @@
-ghost use Rattle.std.specs.Prelude.{◌≡◌, ◌⊎◌, Some, IfOk, IfErr, OnErr};
+ghost use Rattle.std.specs.Prelude.{◌≡◌, ◌⊎◌, true, false, Some, IfOk, IfErr, OnErr};
 ghost use Rattle.left_right.specs.Sides.{view};
 ghost use Rattle.als_view.specs.Entries.{Begins};
 ghost use Rattle.als_view.specs.Fronts.{front_of};
@@ -64,6 +64,18 @@ impl Reader {
             ⊎ (known_to self.new ≡ front_of told) }
     {
         self.front.learn(told);
+    }
+
+    /// Whether what a publisher of its view told has all that this reader saw and was told: then it
+    /// begins with that. Else this reader knows of more commits, and begins with what was told. It
+    /// waits for nobody.
+    pub fn is_within(&self, told: &Front) -> bool
+        requires { told.now.seen.book ≡ book_of self.now }
+        ensures within { result ≡ true → Begins (known_to self.now) (front_of told.now) }
+        ensures beyond { result ≡ false → Begins (front_of told.now) (known_to self.now)
+            × (Begins (known_to self.now) (front_of told.now) → ⊥) }
+    {
+        self.front.is_within(told)
     }
 
     /// The value of a key after the commits that are then seen. They begin with all that this
