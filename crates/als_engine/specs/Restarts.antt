@@ -7,10 +7,11 @@ use Rattle.als_ckpt.specs.Regions.{held_of}
 use Rattle.als_pool.specs.Images.{QueuesOf}
 use Rattle.als_pool.specs.Pooled.{leases_of}
 use Rattle.als_pool.specs.Restart.{HasRowsFrom}
-use Rattle.als_reopen.specs.Node.{Node, IsNode, position_in, rows_in}
+use Rattle.als_reopen.specs.Node.{Node, HoldsLog, IsNode, position_in, rows_in}
 use Rattle.als_reopen.specs.Outcomes.{AreSettled, RefusesOpen}
 use Rattle.als_store.specs.Leaving.{MayLeave}
-use Rattle.als_store.specs.Opening.{IsOpened}
+use Rattle.als_store.specs.Opening.{IsOpened, said_in}
+use Rattle.als_store.specs.Stored.{acknowledged}
 use Rattle.als_store.specs.Staying.{StaysNode}
 use Rattle.als_store.specs.Warm.{WasWarm, now_of}
 use Rattle.als_engine.specs.declared.config.Config.{Config}
@@ -82,6 +83,24 @@ pub record IsStarted (config : Config) (n : Node) (new : Machine) : Type 0 where
   pub refused : new.refused ≡ None
   pub listed : new.listed ≡ false
   pub published : new.published ≡ 0
+
+-- ---- whatever the pages hold
+
+-- An engine that begins again with the log that the devices hold, and with what their control block
+-- says, its checkpoint too. All of the log is acknowledged: it ends at the mark.
+pub record TakesUpLog (n : Node) (new : Machine) : Type 0 where
+  pub log : new.held.log ≡ n.log
+  pub said : said_in new.held ≡ n.said
+  pub ends : acknowledged new.held ≡ end_of n.log
+
+-- Devices hold a log, whatever the pages hold: each block of the log's and of the control block's
+-- device has one content, and they are large enough for the configuration.
+pub record HoldsLogFor (config : Config) (log_blocks control_blocks page_blocks : ℕ)
+    (log control : ℕ → Slot) (n : Node) : Type 0 where
+  pub large : IsWorld config log_blocks control_blocks page_blocks
+  pub log_settled : AreSettled log
+  pub control_settled : AreSettled control
+  pub held : HoldsLog config.pages log_blocks log control n
 
 -- ---- over any contents
 

@@ -7,6 +7,7 @@ ghost use Rattle.als_reopen.specs.Outcomes.{AreLeft, AreSettled, IsOnceAtMost, S
 ghost use Rattle.als_store.specs.Devices.{AreKept};
 ghost use Rattle.als_store.specs.Stopped.{CrashesTo, NamesState, devices_of};
 ghost use Rattle.als_engine.specs.Restarts.{IsWarm, IsMadeWith, Holds, StillHolds, Leaves};
+ghost use Rattle.als_engine.specs.Restarts.{HoldsLogFor, TakesUpLog};
 ghost use Rattle.als_engine.specs.Restarts.{IsStarted, IsRestarted, RefusesRestart};
 ghost use Rattle.als_engine.specs.Readers.{AreReaders};
 ghost use Rattle.als_engine.specs.Tally.{no_events};
@@ -80,8 +81,19 @@ impl<D: BlockDisk> Engine<D> {
             IsOnceAtMost (D.attempts disks.log) (D.attempts r.disks.log)
             × IsOnceAtMost (D.attempts disks.control) (D.attempts r.disks.control)
             × IsOnceAtMost (D.attempts disks.pages) (D.attempts r.disks.pages)) }
-        // Devices that hold a log, a control state and a checkpoint give an engine that begins
-        // again with these,
+        // Whatever the pages hold: devices that hold a log give an engine that begins again with
+        // that very log, up to the mark,
+        ensures only { (n : Node) → HoldsLogFor config (D.block_count disks.log)
+            (D.block_count disks.control) (D.block_count disks.pages)
+            (D.slot disks.log) (D.slot disks.control) n
+            → IfOk result (λ t. TakesUpLog n t.0.machine) }
+        // or else a device failed or an allocation failed.
+        ensures lost { (n : Node) → HoldsLogFor config (D.block_count disks.log)
+            (D.block_count disks.control) (D.block_count disks.pages)
+            (D.slot disks.log) (D.slot disks.control) n
+            → IfErr result (λ r. (r.fault ≡ fault.Device) ⊎ (r.fault ≡ fault.Memory)) }
+        // Devices that hold a log, a control state and a checkpoint, and images of the pages, give an
+        // engine that begins again with these,
         ensures warm { (n : Node) → Holds config (D.block_count disks.log)
             (D.block_count disks.control) (D.block_count disks.pages)
             (D.slot disks.log) (D.slot disks.control) (D.slot disks.pages) n

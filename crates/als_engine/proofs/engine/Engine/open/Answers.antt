@@ -3,7 +3,8 @@ use Rattle.als_commits.specs.Waiting.{Waiting}
 use Rattle.als_receiver.specs.Reception.{Reception}
 use Rattle.als_view.specs.Showing.{View, published_of}
 use Rattle.als_store.specs.Stored.{Stored}
-use Rattle.als_store.specs.Opening.{TakesUp}
+use Rattle.als_store.specs.Opening.{TakesUp, said_in}
+use Rattle.als_ckpt.specs.Regions.{Said}
 use Rattle.als_store.specs.Spare.{Holding}
 use Rattle.als_engine.proofs.FeedLaws.{machine}
 use Rattle.als_engine.proofs.RestartLaws.{restarted, started, bare_or}
@@ -35,6 +36,17 @@ returns-in-Ok-open-clause-ok g c =
     (c.fits.ensures.0 c.if-not-fits.false).numbers
     (ap (λ (h : Holding). h.stored) c.into_parts-store.ensures.0) refl
     c.in-Ok-open.ensures.ok w (ap (λ (r : Reception). r.kept) c.new-receiver.ensures)
+
+pub returns-in-Ok-open-clause-only : goal.returns-in-Ok-open-clause-only
+returns-in-Ok-open-clause-only g c = λ n holds.
+    let same = ap (λ (h : Holding). h.stored) c.into_parts-store.ensures.0 in
+    let is = c.in-Ok-open.ensures.only n holds.log_settled holds.control_settled holds.held in
+    let said = ap (λ (h : Stored). said_in h) same ∙ is.1 in
+    record {
+      log = ap (λ (h : Stored). h.log) same ∙ is.0;
+      said = said;
+      ends = ap (λ (s : Said). s.state.mark.0) said ∙ sym holds.held.ends;
+    }
 
 pub returns-in-Ok-open-clause-warm : goal.returns-in-Ok-open-clause-warm
 returns-in-Ok-open-clause-warm g c = λ n holds.
