@@ -3,7 +3,7 @@ use Rattle.std.specs.Prelude.{◌≡◌, ℕ, ◌≤◌, true, false, not, ◌�
 use Rattle.als_ckpt.specs.declared.control_state.ControlState.{ControlState}
 use Rattle.als_ckpt.specs.Control.{Continues}
 use Rattle.als_record.specs.LogText.{end_of}
-use Rattle.als_record.specs.Validity.{is_valid}
+use Rattle.als_record.specs.Validity.{is_valid, IsValidLog}
 use Rattle.als_pool.specs.Pooled.{leases_of}
 use Rattle.als_store.specs.Stored.{acknowledged, newest, pending_of}
 use Rattle.als_store.specs.Takeover.{IsUnderTakeover, IsFinished, is_primary}
@@ -22,7 +22,8 @@ pub record Tells (m : Machine) (status : Status) : Type 0 where
   pub pending : status.pending ≡ pending_of m.held
   pub leases : status.leases ≡ leases_of m.held.pool
 
--- What always holds between two events. The log is valid, and reaches what is acknowledged. A page
+-- What always holds between two events. The log is valid and has the records of its database, each
+-- of which can be spelled; and it reaches what is acknowledged. A page
 -- is lent only while changes wait for it. Readers have a list of published commits unless the
 -- engine is recovering, and each of them is acknowledged. Where the devices were sound when the
 -- engine was made, what each control state that a crash may leave says of the log is true, and a
@@ -38,6 +39,7 @@ pub record Stands (m : Machine) : Type 0 where
   pub taken : WasWarm m.held → IsUnderTakeover m.held
   pub finished : WasWarm m.held → m.held.recovering ≡ false → is_primary m.held ≡ true
       → IsFinished m.held
+  pub log : IsValidLog m.held.pages m.held.log
 
 -- How many commits a reader may have been told of: those published, where there is a list; else
 -- those whose records end at or below what is acknowledged.

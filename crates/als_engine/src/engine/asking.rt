@@ -9,7 +9,7 @@ ghost use Rattle.als_pool.specs.Pooled.{leases_of};
 ghost use Rattle.als_pool.specs.Queues.{WaitsFirst};
 ghost use Rattle.als_record.specs.LogText.{end_of};
 ghost use Rattle.als_record.specs.Table.{table_of};
-ghost use Rattle.als_record.specs.Validity.{is_valid};
+ghost use Rattle.als_record.specs.Validity.{is_valid, IsValidLog};
 ghost use Rattle.als_store.specs.Stored.{acknowledged, pending_of};
 ghost use Rattle.als_store.specs.Takeover.{IsUnderTakeover, IsFinished, IsSealOf, is_primary};
 ghost use Rattle.als_store.specs.Warm.{WasWarm};
@@ -44,6 +44,8 @@ impl<D: BlockDisk> Engine<D> {
         ensures unlisted { self.now.machine.listed ≡ false → self.now.machine.published ≡ 0 }
         // The log is valid.
         ensures valid { is_valid self.now.machine.held.log ≡ true }
+        // Its records are those of the database, and each can be spelled.
+        ensures log { IsValidLog self.now.machine.held.pages self.now.machine.held.log }
         // Log texts have less than 2^64 bytes, those of the partial record too.
         ensures fits { result.end.0 + result.partial < 2 ^ 64 }
         // What each control state that a crash may leave says of the log is true: past Following

@@ -10,4 +10,5 @@ returns-clause-stands g c = λ alone. record {
   unlisted = c.status.ensures.unlisted;
   taken = c.status.ensures.taken;
   finished = c.status.ensures.finished;
+  log = c.status.ensures.log;
 }
