@@ -1,13 +1,15 @@
 -- What each step keeps: what is acknowledged, the log's records, and that an engine has stopped.
-use Rattle.std.proofs.Common.{◌≡◌, ℕ, ◌≤◌, true, false, List, [], refl, sym, ap, subst, ◌∙◌}
+use Rattle.std.proofs.Common.{◌≡◌, ℕ, ◌≤◌, true, false, List, [], Some, refl, sym, ap, subst, ◌∙◌}
 use Rattle.std.proofs.Common.{append-nil, arith}
 use Rattle.std.proofs.lemmas.Bool.{true≢false}
 use Rattle.als_record.specs.declared.record.Record.{Record}
 use Rattle.als_ckpt.specs.declared.control_state.ControlState.{ControlState}
+use Rattle.als_ckpt.proofs.StateLaws.{Continues-same}
 use Rattle.als_record.specs.LogText.{end_of}
 use Rattle.als_record.proofs.PageLaws.{end_of-append}
 use Rattle.als_log.specs.Local.{IsFrontEnd}
 use Rattle.als_store.specs.Takeover.{GoesOn}
+use Rattle.als_epochs.specs.Histories.{next_seal}
 use Rattle.als_epochs.specs.HistoryLaws.{GoesOn-refl}
 use Rattle.als_store.specs.Stored.{Stored, acknowledged}
 use Rattle.als_engine.specs.Machine.{Machine, Keeps}
@@ -18,6 +20,12 @@ le_refl n = omega arith
 
 pub goes_on_same : (s : ControlState) → GoesOn s s
 goes_on_same s = record { phase = omega arith; seal = λ past. refl; history = GoesOn-refl s.history }
+
+-- a synced control state that is as it was has the same history
+pub below_same : (old new : ControlState) → new ≡ old → (seal : ℕ)
+    → next_seal old.history new.history ≡ Some seal → old.mark.0 ≤ seal
+below_same old new same =
+    (Continues-same old new (ap (λ (c : ControlState). c.history) same)).below
 
 keeps_same : (m : Machine) → Keeps m m
 keeps_same m = record {
@@ -36,6 +44,7 @@ keeps_same m = record {
   published =
       le_refl m.published;
   shown = λ f t. absurd (true≢false (sym t ∙ f));
+  below = below_same m.held.control m.held.control refl;
 }
 
 pub keeps_equal : (old new : Machine) → new ≡ old → Keeps old new

@@ -23,7 +23,7 @@ use Rattle.als_engine.specs.Refusals.{refusal, Does}
 use Rattle.als_engine.specs.Events.{FlushesOne, WritesPage, ShowsPage, Reads}
 use Rattle.als_engine.specs.Events.{Changes}
 use Rattle.als_engine.proofs.KeepLaws.{goes_on_same, keeps_equal, IsReadAlike, none_opened}
-use Rattle.als_engine.proofs.KeepLaws.{IsAsMade, as_made}
+use Rattle.als_engine.proofs.KeepLaws.{IsAsMade, as_made, below_same}
 
 -- an event that is not refused acts
 pub acting : {A : Type 0} (old : Machine) (event : Step) (acts : Result A Fault → Machine
@@ -107,6 +107,7 @@ keeps_log old new control log stopped made limit alike = record {
   listed = λ l. alike.listed ∙ l;
   published = omega (arith, alike.published);
   shown = none_opened old new alike (ended_in old.held);
+  below = below_same old.held.control new.held.control control;
 }
 
 pub keeps_pool : (old new : Machine) (held : Stored) → new ≡ record old { held = held }

@@ -22,7 +22,7 @@ use Rattle.als_engine.specs.Readers.{ended_in}
 use Rattle.als_engine.specs.Takeover.{Undoes, UndoesOneOf, ResolvesHeld}
 use Rattle.als_engine.specs.Feeds.{Feeds, grown}
 use Rattle.als_engine.proofs.KeepLaws.{goes_on_same, keeps_equal, IsReadAlike, read_alike}
-use Rattle.als_engine.proofs.KeepLaws.{none_opened}
+use Rattle.als_engine.proofs.KeepLaws.{none_opened, below_same}
 
 -- a piece is looked at: the engine has not stopped, it is not recovering, it refuses nothing, and
 -- its pending changes are below their limit
@@ -52,6 +52,7 @@ keeps_grown old new records m is held limit alike =
       listed = λ l. a.listed ∙ l;
       published = omega (arith, a.published);
       shown = none_opened old new a (ended_in old.held);
+      below = below_same old.held.control new.held.control (ap (λ (x : Stored). x.control) h);
     }
 
 pub keeps_fed : (old new : Machine) (piece : List ℕ) (cause : Option Fault) (fed : Fed)

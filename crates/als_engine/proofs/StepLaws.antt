@@ -3,6 +3,8 @@ use Rattle.std.proofs.Common.{◌≡◌, ℕ, ◌+◌, ◌≤◌, true, false, L
 use Rattle.std.proofs.Common.{Ok, Err, inl, inr, refl, sym, ap, subst, ◌∙◌, arith, append-nil}
 use Rattle.std.specs.Prelude.{MatchOption, IsSomeAnd}
 use Rattle.als_ckpt.specs.declared.control_state.ControlState.{ControlState}
+use Rattle.als_ckpt.specs.Control.{Continues}
+use Rattle.als_ckpt.proofs.StateLaws.{Contains-head}
 use Rattle.als_record.specs.declared.lsn.Lsn.{Lsn}
 use Rattle.als_store.specs.Stored.{Stored, acknowledged, newest}
 use Rattle.als_store.specs.Takeover.{GoesOn}
@@ -13,6 +15,7 @@ use Rattle.als_engine.specs.declared.fed.FeedFault.{FeedFault}
 use Rattle.als_engine.specs.declared.step.Step.{Step}
 use Rattle.als_engine.specs.declared.step.Step.TheVariants as step
 use Rattle.als_engine.specs.Machine.{Machine, Keeps}
+use Rattle.als_engine.specs.Telling.{IsGrown}
 use Rattle.als_store.specs.Warm.{WasWarm}
 use Rattle.als_engine.specs.Refusals.{refusal, Does}
 use Rattle.als_engine.specs.Feeds.{Feeds}
@@ -31,7 +34,7 @@ use Rattle.als_record.specs.declared.trans_id.TransId.{TransId}
 use Rattle.als_store.specs.declared.decision.Decision.{Decision}
 use Rattle.als_engine.proofs.ReaderLaws.{ended_in-few}
 use Rattle.als_engine.proofs.RefusalLaws.{keeps_undone, keeps_resolved}
-use Rattle.als_engine.proofs.KeepLaws.{goes_on_same, keeps_equal, IsReadAlike, read_alike}
+use Rattle.als_engine.proofs.KeepLaws.{goes_on_same, below_same, keeps_equal, IsReadAlike, read_alike}
 use Rattle.als_engine.proofs.KeepLaws.{none_opened, IsAsMade, as_made}
 
 -- an event that is refused changes nothing
@@ -72,6 +75,7 @@ keeps_stays old new held e limit alike s =
       listed = λ l. alike.listed ∙ l;
       published = omega (arith, alike.published);
       shown = none_opened old new alike (ended_in old.held);
+      below = below_same old.held.control new.held.control control;
     }
 
 keeps_changes : (old new : Machine) (event : Stored → Stored → Type 0) → Changes old event new
@@ -248,6 +252,7 @@ keeps_more old new held e limit listed more all s =
       published =
           more;
       shown = λ f t. all;
+      below = k.below;
     }
 
 pub keeps_publish_view : (old new : Machine) (result : Result (Unit {0}) Fault)
@@ -310,8 +315,8 @@ keeps_adopt old new history result does =
 
 pub keeps_acknowledged : (old new : Machine) (lsn : Lsn)
     → acknowledged old.held ≤ (newest old.held).mark.0 → GoesOn old.held.control new.held.control
-    → ControlSyncs old (Ok lsn) new → Keeps old new
-keeps_acknowledged old new lsn marks goes_on does =
+    → Continues old.held.control (newest old.held) → ControlSyncs old (Ok lsn) new → Keeps old new
+keeps_acknowledged old new lsn marks goes_on continues does =
     keeps_does old new step.ControlSync (Acknowledges old) (Ok lsn) does go
   where
     go : Acknowledges old (Ok lsn) new → Keeps old new
@@ -331,6 +336,8 @@ keeps_acknowledged old new lsn marks goes_on does =
           listed = λ l. alike.listed ∙ l;
           published = omega (arith, alike.published);
           shown = none_opened old new alike (ended_in old.held);
+          below = (subst (λ (c : ControlState). Continues old.held.control c)
+              (sym (ap (λ (x : Stored). x.control) h)) continues).below;
         }
 
 pub keeps_not_acknowledged : (old new : Machine) (fault : Fault) → ControlSyncs old (Err fault) new
@@ -371,10 +378,12 @@ keeps_finish old new result does =
 
 pub keeps_ctl_sync : (old new : Machine) (answer : Result Lsn Fault)
     → acknowledged old.held ≤ (newest old.held).mark.0 → GoesOn old.held.control new.held.control
-    → ControlSyncs old answer new → Keeps old new
-keeps_ctl_sync old new (Ok lsn) marks goes_on does =
-    keeps_acknowledged old new lsn marks goes_on does
-keeps_ctl_sync old new (Err fault) marks goes_on does = keeps_not_acknowledged old new fault does
+    → IsGrown old → ControlSyncs old answer new → Keeps old new
+keeps_ctl_sync old new (Ok lsn) marks goes_on grown does =
+    keeps_acknowledged old new lsn marks goes_on
+    (grown old.held.control (Contains-head old.held.control old.held.since)) does
+keeps_ctl_sync old new (Err fault) marks goes_on grown does =
+    keeps_not_acknowledged old new fault does
 
 pub keeps_undo_one : (old new : Machine) (answer : Result Lsn Fault) → UndoesOneOf old answer new
     → Keeps old new

@@ -11,6 +11,7 @@ use Rattle.als_engine.specs.declared.config.Config.{Config}
 use Rattle.als_engine.specs.declared.fault.Fault.{Fault}
 use Rattle.als_engine.specs.declared.status.State.{State}
 use Rattle.als_engine.specs.declared.status.State.TheVariants as state
+use Rattle.als_epochs.specs.Histories.{next_seal}
 use Rattle.als_ckpt.specs.declared.phase.Phase.{Phase}
 use Rattle.als_ckpt.specs.declared.phase.Phase.TheVariants.{Following, Sealed, Primary}
 use Rattle.als_store.specs.Takeover.{GoesOn}
@@ -74,7 +75,8 @@ acknowledged_in m = ended_count (acknowledged m.held) (commits_of m.held.log)
 -- seal stays. The page count and the limit stay, an engine that was made over sound devices still
 -- was, and one that is not recovering does not begin to. What readers may see stays: there is a
 -- list of published commits if there was, and it only grows. A list that is opened has all commits
--- that were acknowledged.
+-- that were acknowledged. What was acknowledged ends at or below the next seal: the first one of the
+-- new history that the old one lacks.
 pub record Keeps (old new : Machine) : Type 0 where
   pub acknowledged : acknowledged old.held ≤ acknowledged new.held
   pub more : List Record
@@ -88,3 +90,5 @@ pub record Keeps (old new : Machine) : Type 0 where
   pub listed : old.listed ≡ true → new.listed ≡ true
   pub published : old.published ≤ new.published
   pub shown : old.listed ≡ false → new.listed ≡ true → acknowledged_in old ≤ new.published
+  pub below : (seal : ℕ) → next_seal old.held.control.history new.held.control.history ≡ Some seal
+      → old.held.control.mark.0 ≤ seal

@@ -104,6 +104,7 @@ impl<D: BlockDisk> Engine<D> {
     {
         // For the prover alone: what always holds of the engine.
         let _ = &self.limit;
+        let _ = self.store.history();
         let answer = self.ctl_sync_in();
         self.note(Event::ControlSync, &answer);
         answer

@@ -8,4 +8,4 @@ returns-clause-keeps g c =
     c.note.ensures.machine
     (keeps_ctl_sync c.args.self.now.machine c.ctl_sync_in-answer.new.self.machine c.ctl_sync_in-answer.result
     (rw (← c.self.view_is) c.self.invariant.ready.marks) c.ctl_sync_in-answer.ensures.goes_on
-    c.ctl_sync_in-answer.ensures.syncs)
+    (rw (← c.self.view_is) c.history.ensures.grown) c.ctl_sync_in-answer.ensures.syncs)
