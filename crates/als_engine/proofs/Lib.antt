@@ -3,6 +3,7 @@ pub mod RoomLaws
 pub mod ReadyLaws
 pub mod FeedLaws
 pub mod KeepLaws
+pub mod KnownLaws
 pub mod RefusalLaws
 pub mod PageLaws
 pub mod LeaseLaws

@@ -31,6 +31,8 @@ mod events;
 mod engine_events;
 // One step of the small machine, and its reply.
 mod step;
+// Laws of the small machine.
+mod laws;
 
 pub use als_epochs::History;
 pub use als_lease::PageLease;
@@ -42,6 +44,7 @@ pub use event::Event;
 pub use events::Events;
 pub use fault::Fault;
 pub use fed::{Fed, FeedFault};
+pub use laws::answers_are_of_published_commits;
 pub use not_given::NotGiven;
 pub use refused::Refused;
 pub use status::{State, Status};
