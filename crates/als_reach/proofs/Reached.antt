@@ -8,6 +8,8 @@ use Rattle.als_record.specs.Validity.{is_valid}
 use Rattle.als_commits.specs.Counting.{ended_count}
 use Rattle.als_commits.proofs.Counting.{count-kept, ended_count-rises}
 use Rattle.als_ckpt.specs.declared.control_state.ControlState.{ControlState}
+use Rattle.als_ckpt.specs.Control.{Continues}
+use Rattle.als_ckpt.proofs.StateLaws.{Continues-same, Continues-trans}
 use Rattle.als_store.specs.Stored.{acknowledged}
 use Rattle.als_epochs.specs.HistoryLaws.{GoesOn-refl, GoesOn-trans}
 use Rattle.als_store.specs.Takeover.{GoesOn}
@@ -140,6 +142,7 @@ keeps-same m = record {
   listed = λ l. l;
   published = omega arith;
   shown = λ none list. absurd (true≢false (sym list ∙ none));
+  below = (Continues-same m.held.control m.held.control refl).below;
 }
 
 -- a list that is opened on the way has what was acknowledged before
@@ -149,6 +152,10 @@ shown-both a b c s t p q none list = elim (cases_Bool b.listed) [
   | inl y ↦ omega (arith, p.shown none y, q.published)
   | inr still ↦ omega (arith, ended-rises a b s t p, q.shown still list)
 ]
+
+-- the synced control state of the later machine continues that of the earlier one
+continues : (old new : Machine) → Keeps old new → Continues old.held.control new.held.control
+continues old new k = record { history = k.takeover.history; below = k.below }
 
 pub keeps-both : (a b c : Machine) → Stands a → Stands b → Keeps a b → Keeps b c → Keeps a c
 keeps-both a b c s t p q = record {
@@ -165,6 +172,8 @@ keeps-both a b c s t p q = record {
   listed = λ l. q.listed (p.listed l);
   published = omega (arith, p.published, q.published);
   shown = shown-both a b c s t p q;
+  below = (Continues-trans a.held.control b.held.control c.held.control p.acknowledged
+      (continues a b p) (continues b c q)).below;
 }
 
 pub record IsKept (start now : Machine) : Type 0 where
