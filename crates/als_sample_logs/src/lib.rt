@@ -1,4 +1,4 @@
-//! Logs that a benchmark measures a standby with: what a primary would write, the same in each run.
+//! Logs as a primary would write them, the same in each run, for benchmarks, trials and tests.
 #![tactic(auto)]
 
 // Random numbers that come again.
