@@ -1,4 +1,4 @@
-// The pages of help. `./als` prints them from here where the program is not built.
+// The texts of the pages of help. `docs/help` has the pages as the program prints them, for `./als` before a build.
 
 pub const ABOUT: &str =
     "A hot standby that redoes the log which its primary ships (ARIES, continuous redo).";
@@ -236,7 +236,7 @@ Writes standard output: a line
 with F Following, Sealed or Primary; E, where the held log ends; A, up to where no crash can
 lose it; Q, where the log ended at the last checkpoint, 0 without one; and B, the bytes of log
 that a restart redoes. Then a line for each unended transaction, in rising TransID:
-  trans T STATE last=L undo=U      (STATE active, committed or rollback)
+  trans T STATE last=L undo=U      (STATE active, committed, rollback or prepared)
 The whole log and the checkpoint are read as a restart reads them, in a copy in memory.
 
 Example:
