@@ -32,6 +32,8 @@ mod silence;
 mod meeting;
 // The engine of a folder.
 mod opening;
+// The folder of a standby, held and opened.
+mod holding;
 // A session of a standby.
 mod following;
 // A standby that follows one session.
@@ -48,11 +50,13 @@ pub use checkpointing::checkpoint;
 pub use deciding::decide;
 pub use fault::Fault;
 pub use following::follow;
+pub use holding::{Held, hold};
 pub use meeting::{Meetings, Untold};
 pub use node_command::{NodeShipping, ship_node};
 pub use resolve_command::{Verdict, resolve};
 pub use settling::settle;
 pub use shipping::{Shipping, serve, serve_next, ship};
+pub use silence::dial;
 pub use standby_command::{Following, Prepared, conclude, prepare, standby};
 pub use takeover_command::takeover;
 pub use taking_over::{take_over, take_over_telling};

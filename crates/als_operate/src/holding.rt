@@ -3,19 +3,17 @@ ghost use Rattle.als_engine.specs.declared.fault.Fault.TheVariants.{BadConfig};
 ghost use Rattle.als_engine.specs.Config.{IsConfig};
 ghost use Rattle.als_operate.specs.declared.fault.Fault.TheVariants.{Refused};
 
-use crate::dialling::dial;
+use crate::fault::Fault;
 use crate::opening::{named, start};
+use crate::silence::dial;
+use crate::standby_command::{Following, PENDING};
 use als_disk::FileDisk;
 use als_engine::{Config, Engine, Fault as EngineFault, LOG_BLOCK_LIMIT, Reader};
 use als_folder::Folder;
-use als_operate::{Fault, Following};
 use std::fs::File;
 use std::net::Net;
 use std::rt::Files;
 use std::sync::Wait;
-
-/// Feeds are refused at this many pending changes.
-const PENDING: u64 = 1_000_000;
 
 /// A standby whose folder is held. What its database has is not redone yet.
 pub struct Held<S> {
