@@ -5,7 +5,7 @@ use Rattle.std.specs.Io.KnownBytes.{Appends}
 use Rattle.als_record.specs.declared.header.LogHeader.{LogHeader}
 use Rattle.als_record.specs.declared.lsn.Lsn.{Lsn}
 use Rattle.als_ship.specs.Wire.{Ships}
-use Rattle.als_operate.specs.Visits.{Visit, ShipsLast, ShipsTo}
+use Rattle.als_shipper.specs.Visits.{Visit, ShipsLast, ShipsTo}
 
 -- the line of a session: how many log bytes it sent
 abbrev pub sent_line : ℕ → List ℕ

@@ -1,5 +1,5 @@
-use Rattle.als_operate.proofs.Visiting.{tells_last}
-use Rattle.als_operate.proofs.shipping.receive.Goals as goal
+use Rattle.als_shipper.proofs.Visiting.{tells_last}
+use Rattle.als_shipper.proofs.shipping.receive.Goals as goal
 
 pub returns-in-Ok-clause-sent : goal.returns-in-Ok-clause-sent
 returns-in-Ok-clause-sent g c = λ header begins few asked.

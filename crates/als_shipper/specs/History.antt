@@ -1,8 +1,8 @@
 -- The visits that a history stands for.
 use Rattle.std.specs.Prelude.{ℕ, List, [], Option}
-use Rattle.als_operate.specs.declared.history.History.{History}
-use Rattle.als_operate.specs.declared.history.History.TheVariants.{Nobody, Came', Went'}
-use Rattle.als_operate.specs.Visits.{Visit, comes, goes}
+use Rattle.als_shipper.specs.declared.history.History.{History}
+use Rattle.als_shipper.specs.declared.history.History.TheVariants.{Nobody, Came', Went'}
+use Rattle.als_shipper.specs.Visits.{Visit, comes, goes}
 
 -- by what a stream gives to read, and what was written to it
 abbrev pub visits_of : {S : Type 0} → (S → Option (List ℕ)) → (S → Option (List ℕ)) → History S → List Visit

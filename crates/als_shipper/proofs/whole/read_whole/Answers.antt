@@ -1,7 +1,7 @@
 use Rattle.std.proofs.Common.{◌≡◌, ◌≤◌, ◌+◌, ◌++◌, ℕ, List, Option, IfSome, length, take, arith, ap, subst}
 use Rattle.std.specs.Option.{option_map}
-use Rattle.als_operate.proofs.Limits.{whole_from_take}
-use Rattle.als_operate.proofs.whole.read_whole.Goals as goal
+use Rattle.als_shipper.proofs.Limits.{whole_from_take}
+use Rattle.als_shipper.proofs.whole.read_whole.Goals as goal
 
 pub returns-clause-whole : goal.returns-clause-whole
 returns-clause-whole g c =

@@ -2,8 +2,8 @@ use Rattle.std.proofs.Common.{◌≡◌, refl, inl, ◌∙◌}
 use Rattle.std.proofs.lemmas.Result.{err_from_is_err_and}
 use Rattle.als_ship.specs.declared.fault.Fault.{Fault as AnyFault}
 use Rattle.als_operate.specs.declared.fault.Fault.TheVariants.{Session}
-use Rattle.als_operate.proofs.Visiting.{passes_none, passes_more, served, told_line, sends_true, ends_serving}
-use Rattle.als_operate.proofs.shipping.serve_next.Goals as goal
+use Rattle.als_shipper.proofs.Visiting.{passes_none, passes_more, served, told_line, sends_true, ends_serving}
+use Rattle.als_shipper.proofs.shipping.serve_next.Goals as goal
 
 pub loop-init : goal.loop-init
 loop-init g c = record { over = passes_none (g.V.Visitors.met c.args.visitors.now); quiet = refl; same = refl; kept = refl }

@@ -1,9 +1,9 @@
 ghost use Rattle.std.specs.Prelude.{◌≡◌, [], ℕ, List, Option};
-ghost use Rattle.als_operate.specs.History.{visits_of};
+ghost use Rattle.als_shipper.specs.History.{visits_of};
 
 use crate::history::History;
-use crate::silence::bound;
 use crate::visitors::Visitors;
+use als_operate::bound;
 use std::io;
 use std::io::{Read, Write};
 use std::net::{OpenListener, OpenStream};
@@ -31,7 +31,7 @@ impl<'a, L: OpenListener<Stream = S>, S> Callers<'a, L, S> {
 
 impl<L: OpenListener<Stream = S>, S: Read + Write + OpenStream + Drop> Visitors<S>
     for Callers<'_, L, S> {
-    ghost use Rattle.als_operate.specs.History.{visits_of};
+    ghost use Rattle.als_shipper.specs.History.{visits_of};
 
     ghost met = { λ callers. visits_of S.remaining S.contents callers.met };
 

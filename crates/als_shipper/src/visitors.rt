@@ -1,5 +1,5 @@
 ghost use Rattle.std.specs.Prelude.{◌≡◌, List, IfOk, IfErr};
-ghost use Rattle.als_operate.specs.Visits.{Visit, comes, goes};
+ghost use Rattle.als_shipper.specs.Visits.{Visit, comes, goes};
 
 use std::io;
 use std::io::{Read, Write};

@@ -1,7 +1,7 @@
 ghost use Rattle.std.specs.Prelude.{◌≡◌, ◌≤◌, ◌<◌, ◌^◌, vec_len, IfOk, IfErr, IfSome};
 ghost use Rattle.als_operate.specs.FaultNames.{IsOfReader};
 
-use crate::fault::Fault;
+use als_operate::Fault;
 use std::alloc::Global;
 use std::io::Read;
 

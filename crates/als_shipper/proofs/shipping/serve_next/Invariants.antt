@@ -1,6 +1,6 @@
 use Rattle.std.proofs.Common.{◌≡◌}
-use Rattle.als_operate.specs.Visits.{PassesOver}
-use Rattle.als_operate.proofs.shipping.serve_next.Given as goal
+use Rattle.als_shipper.specs.Visits.{PassesOver}
+use Rattle.als_shipper.proofs.shipping.serve_next.Given as goal
 
 abbrev pub invariant-loop : goal.invariant-loop
 invariant-loop g l = record {

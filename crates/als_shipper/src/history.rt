@@ -1,6 +1,6 @@
 ghost use Rattle.std.specs.Prelude.{◌≡◌, ℕ, List, Option};
-ghost use Rattle.als_operate.specs.Visits.{comes, goes};
-ghost use Rattle.als_operate.specs.History.{visits_of};
+ghost use Rattle.als_shipper.specs.Visits.{comes, goes};
+ghost use Rattle.als_shipper.specs.History.{visits_of};
 
 use std::snapshot::Snapshot;
 

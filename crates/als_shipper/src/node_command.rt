@@ -1,15 +1,12 @@
 ghost use Rattle.std.specs.Prelude.{ℕ, OnOk};
 ghost use Rattle.std.specs.Io.KnownBytes.{Appends};
-ghost use Rattle.als_operate.specs.Lines.{sent_line};
+ghost use Rattle.als_shipper.specs.Lines.{sent_line};
 
 use crate::callers::Callers;
-use crate::fault::Fault;
 use crate::meeting::Meetings;
-use crate::opening::{named, reopen};
 use crate::shipping::serve_next;
-use crate::silence::silence;
-use crate::standby_command::PENDING;
 use als_folder::Folder;
+use als_operate::{Fault, PENDING, named, reopen, silence};
 use als_ship::{Fault as SessionFault, LogBytes, acknowledged_log};
 use std::fs::File;
 use std::io::Write;

@@ -1,5 +1,5 @@
-use Rattle.als_operate.proofs.Visiting.{no_session}
-use Rattle.als_operate.proofs.shipping.serve.Goals as goal
+use Rattle.als_shipper.proofs.Visiting.{no_session}
+use Rattle.als_shipper.proofs.shipping.serve.Goals as goal
 
 pub returns-in-Err-clause-quiet : goal.returns-in-Err-clause-quiet
 returns-in-Err-clause-quiet g c = λ cause is. no_session _ c.in-Err.fault cause c.in-Err.ensures.fails is

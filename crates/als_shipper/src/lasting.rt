@@ -1,6 +1,10 @@
+use crate::callers::Callers;
 use crate::growing_log::GrowingLog;
 use crate::growing_session::{Sent, beat_for, serve_growing};
-use als_operate::{Callers, Fault, Meetings, Shipping, Visitors};
+use crate::meeting::Meetings;
+use crate::shipping::Shipping;
+use crate::visitors::Visitors;
+use als_operate::Fault;
 use als_ship::Fault as SessionFault;
 use std::fs::File;
 use std::io::{Read, Write};
@@ -31,7 +35,7 @@ pub trait Sessions: Meetings {
 /// has them then. After each session that came to the end it prints `sent=N`. What ends a session
 /// early ends the shipper, unless it is kept.
 ///
-/// Session: as `als_operate::ship` says. Stream: the file, the address or the output failed.
+/// Session: as `ship` says. Stream: the file, the address or the output failed.
 pub fn ship_on<R: AllocGlobal + Files<File = File> + Net + Clock, M: Sessions, O: Write>(
     rt: &R,
     shipping: Shipping<'_>,

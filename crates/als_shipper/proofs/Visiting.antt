@@ -8,8 +8,8 @@ use Rattle.als_ship.specs.declared.fault.Fault.{Fault as AnyFault}
 use Rattle.als_operate.specs.declared.fault.Fault.{Fault}
 use Rattle.als_operate.specs.declared.fault.Fault.TheVariants.{Session}
 use Rattle.als_operate.specs.FaultNames.{IsOfReader}
-use Rattle.als_operate.specs.Lines.{sent_line, Tells, TellsLast, TellsTo}
-use Rattle.als_operate.specs.Visits.{Visit, comes, goes, PassesLast, PassesOver, SendsLast, SendsTrueTo, EndsLast, EndsServingTo}
+use Rattle.als_shipper.specs.Lines.{sent_line, Tells, TellsLast, TellsTo}
+use Rattle.als_shipper.specs.Visits.{Visit, comes, goes, PassesLast, PassesOver, SendsLast, SendsTrueTo, EndsLast, EndsServingTo}
 
 -- what a printer is refused by is no fault of the session
 pub no_session : (P : Type 0) (fault : Fault) (cause : AnyFault) → IsOfReader fault → fault ≡ Session cause → P
