@@ -5,7 +5,7 @@ use std::net::{Net, OpenStream, TcpStream, ToSocketAddrs};
 use std::time::Duration;
 
 /// How long a connection may be silent: so many seconds. 0: as long as it likes.
-pub(crate) fn silence(seconds: u64) -> Option<Duration> {
+pub fn silence(seconds: u64) -> Option<Duration> {
     if seconds == 0 {
         None
     } else {
@@ -14,7 +14,7 @@ pub(crate) fn silence(seconds: u64) -> Option<Duration> {
 }
 
 /// From now on a read or a write of the stream fails once it has waited so long.
-pub(crate) fn bound<S: OpenStream>(stream: &S, silence: Option<Duration>) -> io::Result<()> {
+pub fn bound<S: OpenStream>(stream: &S, silence: Option<Duration>) -> io::Result<()> {
     stream.set_read_timeout(silence)?;
     stream.set_write_timeout(silence)?;
     stream.set_nodelay(true)

@@ -14,7 +14,7 @@ use std::rt::Files;
 use std::sync::Wait;
 
 /// Feeds are refused at this many pending changes.
-pub(crate) const PENDING: u64 = 1_000_000;
+pub const PENDING: u64 = 1_000_000;
 
 /// The bytes of a megabyte.
 const MEGABYTE: u64 = 1_048_576;
