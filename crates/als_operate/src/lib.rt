@@ -15,7 +15,7 @@ mod taking_over;
 // What is done between the frames of a session.
 mod upkeep;
 // How long a connection may be silent.
-mod silence;
+mod time_limit;
 // The engine of a folder.
 mod opening;
 // The folder of a standby, held and opened.
@@ -39,7 +39,7 @@ pub use holding::{Held, hold};
 pub use opening::{named, reopen};
 pub use resolve_command::{Verdict, resolve};
 pub use settling::settle;
-pub use silence::{bound, dial, silence};
+pub use time_limit::{bound, dial, silence};
 pub use standby_command::{Following, PENDING, Prepared, conclude, prepare, standby};
 pub use takeover_command::takeover;
 pub use taking_over::{take_over, take_over_telling};
