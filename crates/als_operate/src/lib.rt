@@ -15,7 +15,7 @@ mod taking_over;
 // What is done between the frames of a session.
 mod upkeep;
 // How long a connection may be silent.
-mod silence;
+mod patience;
 // The engine of a folder.
 mod opening;
 // A session of a standby.
@@ -34,9 +34,9 @@ pub use deciding::decide;
 pub use fault::Fault;
 pub use following::follow;
 pub use opening::{named, reopen};
+pub use patience::{bound, silence};
 pub use resolve_command::{Verdict, resolve};
 pub use settling::settle;
-pub use silence::{bound, silence};
 pub use standby_command::{Following, PENDING, Prepared, conclude, prepare, standby};
 pub use takeover_command::takeover;
 pub use taking_over::{take_over, take_over_telling};

@@ -6,7 +6,7 @@ ghost use Rattle.als_operate.specs.declared.fault.Fault.TheVariants.{Refused};
 use crate::fault::Fault;
 use crate::following::follow;
 use crate::opening::{named, start};
-use crate::silence::{connect, silence};
+use crate::patience::{connect, silence};
 use als_disk::FileDisk;
 use als_drive::{Progress, recover_telling};
 use als_engine::{Config, Engine, Fault as EngineFault, LOG_BLOCK_LIMIT};
