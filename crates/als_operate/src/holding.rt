@@ -5,7 +5,7 @@ ghost use Rattle.als_operate.specs.declared.fault.Fault.TheVariants.{Refused};
 
 use crate::fault::Fault;
 use crate::opening::{named, start};
-use crate::time_limit::dial;
+use crate::patience::dial;
 use crate::standby_command::{Following, PENDING};
 use als_disk::FileDisk;
 use als_engine::{Config, Engine, Fault as EngineFault, LOG_BLOCK_LIMIT, Reader};

@@ -15,7 +15,7 @@ mod taking_over;
 // What is done between the frames of a session.
 mod upkeep;
 // How long a connection may be silent.
-mod time_limit;
+mod patience;
 // The engine of a folder.
 mod opening;
 // The folder of a standby, held and opened.
@@ -37,9 +37,9 @@ pub use fault::Fault;
 pub use following::follow;
 pub use holding::{Held, hold};
 pub use opening::{named, reopen};
+pub use patience::{bound, dial, silence};
 pub use resolve_command::{Verdict, resolve};
 pub use settling::settle;
-pub use time_limit::{bound, dial, silence};
 pub use standby_command::{Following, PENDING, Prepared, conclude, prepare, standby};
 pub use takeover_command::takeover;
 pub use taking_over::{take_over, take_over_telling};

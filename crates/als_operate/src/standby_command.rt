@@ -2,7 +2,7 @@ use crate::fault::Fault;
 use crate::following::follow;
 use crate::holding::{Held, hold};
 use crate::opening::named;
-use crate::time_limit::dial;
+use crate::patience::dial;
 use als_disk::FileDisk;
 use als_drive::{Progress, recover_telling};
 use als_engine::Engine;
