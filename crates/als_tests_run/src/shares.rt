@@ -6,7 +6,7 @@ use crate::standbys::{TEXT, standby};
 use als_engine::{Events, State};
 use als_record::Lsn;
 use als_share::{Acknowledger, Blanks, Counts, Handle, Ledgers, Share, Shared, settle, share};
-use als_vouch::Voucher;
+use als_ship::Voucher;
 use std::alloc::Global;
 use std::marker::Brand;
 use std::sync::Wait;
