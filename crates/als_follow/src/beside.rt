@@ -1,6 +1,6 @@
 ghost use Rattle.std.specs.Prelude.{◌≡◌, ◌+◌, ◌<◌, ◌≤◌, OnOk, IfSome, Some};
 ghost use Rattle.als_store.specs.Stored.{acknowledged};
-ghost use Rattle.als_reach.specs.Reaching.{Reaches, ReachesFrom};
+ghost use Rattle.als_share.specs.Reaching.{Reaches, ReachesFrom};
 ghost use Rattle.als_ship.specs.Vouching.{TellsVouched};
 ghost use Rattle.als_operate.specs.Upkeep.{IsQuiet};
 ghost use Rattle.als_share.specs.Ledgers.{AreNamed};

@@ -1,7 +1,7 @@
 ghost use Rattle.std.specs.Prelude.{◌≡◌, false};
 ghost use Rattle.als_store.specs.Stored.{acknowledged};
 ghost use Rattle.als_engine.specs.Telling.{Stands};
-ghost use Rattle.als_reach.specs.Reaching.{Reaches};
+ghost use Rattle.als_share.specs.Reaching.{Reaches};
 ghost use Rattle.als_service.specs.Sessions.{VouchesAll, VouchesLast};
 ghost use Rattle.als_service.specs.Losses.{IsLost};
 

@@ -1,5 +1,5 @@
-use Rattle.als_reach.proofs.Undone.{run-holds, run-undoes, run-decides, run-goes_on}
-use Rattle.als_reach.proofs.laws.undo_answers_once_a_record.Goals as goal
+use Rattle.als_share.proofs.Undone.{run-holds, run-undoes, run-decides, run-goes_on}
+use Rattle.als_share.proofs.laws.undo_answers_once_a_record.Goals as goal
 
 pub returns-clause-grows : goal.returns-clause-grows
 returns-clause-grows c = run-holds

@@ -19,8 +19,8 @@ use Rattle.als_engine.specs.declared.step.Reply.{Reply}
 use Rattle.als_engine.specs.Machine.{Machine, Keeps}
 use Rattle.als_engine.specs.Readers.{ended_in}
 use Rattle.als_engine.specs.Telling.{Stands, told_in}
-use Rattle.als_reach.specs.Reaching.{Makes, MakesLend, MakesGive, Asks, Run, Begins, Goes}
-use Rattle.als_reach.specs.Reaching.{Lending, Giving, Queries, Reaches, ReachesFrom}
+use Rattle.als_share.specs.Reaching.{Makes, MakesLend, MakesGive, Asks, Run, Begins, Goes}
+use Rattle.als_share.specs.Reaching.{Lending, Giving, Queries, Reaches, ReachesFrom}
 
 -- ---- how reaching goes on
 

@@ -15,9 +15,9 @@ ghost use Rattle.als_engine.specs.declared.step.Reply.{Reply as AnyReply};
 ghost use Rattle.als_engine.specs.declared.step.Reply.TheVariants as reply;
 ghost use Rattle.als_engine.specs.Machine.{Machine, Keeps};
 ghost use Rattle.als_engine.specs.Telling.{Stands, told_in};
-ghost use Rattle.als_reach.specs.Reaching.{Makes, MakesLend, MakesGive, Asks, Run};
-ghost use Rattle.als_reach.specs.Reaching.{Reaches, ReachesFrom};
-ghost use Rattle.als_reach.specs.Undoing.{undone, resolved, IsSealed, EndsAtSeal, GoesOnFrom};
+ghost use Rattle.als_share.specs.Reaching.{Makes, MakesLend, MakesGive, Asks, Run};
+ghost use Rattle.als_share.specs.Reaching.{Reaches, ReachesFrom};
+ghost use Rattle.als_share.specs.Undoing.{undone, resolved, IsSealed, EndsAtSeal, GoesOnFrom};
 
 /// A law: what reaches a machine goes on with each event, each lend and give, and each query.
 pub fn reaching_goes_on()

@@ -39,7 +39,7 @@ use Rattle.als_engine.specs.Readiness.{BecomesReady}
 use Rattle.als_engine.specs.Refusals.{refusal, feed_refusal, Does, first_of, lend_causes, give_causes}
 use Rattle.als_engine.specs.Runs.{Steps}
 use Rattle.als_engine.specs.Takeover.{AdoptsIt, SealsLog, Undoes, FinishesTakeover, ResolvesIt}
-use Rattle.als_reach.specs.Undoing.{undone_by, resolved_by}
+use Rattle.als_share.specs.Undoing.{undone_by, resolved_by}
 
 -- ---- a machine whose log is another one's, and a store's
 

@@ -33,13 +33,13 @@ use Rattle.als_engine.specs.Machine.{Machine, Keeps}
 use Rattle.als_engine.specs.Refusals.{refusal}
 use Rattle.als_engine.specs.Takeover.{ResolvesIt, ResolvesOf}
 use Rattle.als_engine.specs.Telling.{Stands}
-use Rattle.als_reach.specs.Reaching.{IsAsked, Makes, Run, Begins, Goes, Lending, Giving, Queries}
-use Rattle.als_reach.specs.Reaching.{Reaches}
-use Rattle.als_reach.specs.Undoing.{undone_by, undone, resolved_by, resolved, IsSealed, EndsAtSeal}
-use Rattle.als_reach.specs.Undoing.{GoesOnFrom}
-use Rattle.als_reach.proofs.Fronts.{same_front}
-use Rattle.als_reach.proofs.Reached.{goes_on_same, goes_on_both, IsKept, run-kept}
-use Rattle.als_reach.proofs.Holding.{IsSameLog, none, holds, lend, give, undoes_next}
+use Rattle.als_share.specs.Reaching.{IsAsked, Makes, Run, Begins, Goes, Lending, Giving, Queries}
+use Rattle.als_share.specs.Reaching.{Reaches}
+use Rattle.als_share.specs.Undoing.{undone_by, undone, resolved_by, resolved, IsSealed, EndsAtSeal}
+use Rattle.als_share.specs.Undoing.{GoesOnFrom}
+use Rattle.als_share.proofs.Fronts.{same_front}
+use Rattle.als_share.proofs.Reached.{goes_on_same, goes_on_both, IsKept, run-kept}
+use Rattle.als_share.proofs.Holding.{IsSameLog, none, holds, lend, give, undoes_next}
 
 -- ---- the newest control state
 

@@ -1,7 +1,7 @@
-use Rattle.als_reach.proofs.Reached.{reaches-none, reaches-event, reaches-lend, reaches-give}
-use Rattle.als_reach.proofs.Reached.{reaches-query, from-none, from-event, from-lend, from-give}
-use Rattle.als_reach.proofs.Reached.{from-query, from-start}
-use Rattle.als_reach.proofs.laws.reaching_goes_on.Goals as goal
+use Rattle.als_share.proofs.Reached.{reaches-none, reaches-event, reaches-lend, reaches-give}
+use Rattle.als_share.proofs.Reached.{reaches-query, from-none, from-event, from-lend, from-give}
+use Rattle.als_share.proofs.Reached.{from-query, from-start}
+use Rattle.als_share.proofs.laws.reaching_goes_on.Goals as goal
 
 pub returns-clause-begins : goal.returns-clause-begins
 returns-clause-begins c = reaches-none

@@ -1,5 +1,5 @@
-use Rattle.als_reach.proofs.Reached.{reached-kept, told-rises}
-use Rattle.als_reach.proofs.laws.what_is_reached_is_kept.Goals as goal
+use Rattle.als_share.proofs.Reached.{reached-kept, told-rises}
+use Rattle.als_share.proofs.laws.what_is_reached_is_kept.Goals as goal
 
 pub returns-clause-keeps : goal.returns-clause-keeps
 returns-clause-keeps c start now s r = (reached-kept start now s r).keeps
