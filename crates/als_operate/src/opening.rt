@@ -13,14 +13,14 @@ use std::fs::File;
 use std::rt::Files;
 use std::sync::Wait;
 
-/// The engine of the folder's database, or, where there is none, of a new one whose log device has
-/// so many blocks.
-pub fn start<R: AllocGlobal + Files<File = File> + Wait>(
+/// The engine of the folder's database and its readers, or, where there is none, of a new one whose log
+/// device has so many blocks.
+pub(crate) fn start<R: AllocGlobal + Files<File = File> + Wait>(
     rt: &R,
     folder: &Folder,
     config: Config,
     log_blocks: u64,
-) -> Result<Engine<FileDisk>, Fault> {
+) -> Result<(Engine<FileDisk>, Vec<Reader>), Fault> {
     if folder.is_kept(rt)? {
         let mut devices = folder.open(rt)?;
         devices.forget_old_log();
@@ -36,15 +36,16 @@ fn open<R: AllocGlobal + Wait>(
     rt: &R,
     devices: Devices,
     config: Config,
-) -> Result<Engine<FileDisk>, Fault>
+) -> Result<(Engine<FileDisk>, Vec<Reader>), Fault>
     requires { (k : ℕ) → IsSettled (⟦<FileDisk<File> as BlockDisk>⟧.slot devices.control k) }
 {
     let mut devices = devices;
     check_lengths(&mut devices, config.pages)?;
-    engine_or_fault(Engine::open(rt.alloc(), rt, disks(devices), config))
+    made_or_fault(Engine::open(rt.alloc(), rt, disks(devices), config))
 }
 
-/// The engine of the folder's database, of as many pages as its log says.
+/// The engine of the folder's database, of as many pages as its log says. Nobody reads here: its reader is
+/// dropped.
 pub fn reopen<R: AllocGlobal + Files<File = File> + Wait>(
     rt: &R,
     folder: &Folder,
@@ -59,7 +60,9 @@ pub fn reopen<R: AllocGlobal + Files<File = File> + Wait>(
         pending,
         readers: 1,
     };
-    engine_or_fault(Engine::open(rt.alloc(), rt, disks(devices), config))
+    let (engine, readers) = made_or_fault(Engine::open(rt.alloc(), rt, disks(devices), config))?;
+    drop(readers);
+    Ok(engine)
 }
 
 /// Refuses files that are too short for a database of so many pages, and for the mark that its
@@ -146,7 +149,7 @@ fn begin<R: AllocGlobal + Files<File = File> + Wait>(
     folder: &Folder,
     config: Config,
     log_blocks: u64,
-) -> Result<Engine<FileDisk>, Fault> {
+) -> Result<(Engine<FileDisk>, Vec<Reader>), Fault> {
     let sizes = Sizes {
         log: log_blocks,
         control: CONTROL_BLOCKS,
@@ -154,9 +157,9 @@ fn begin<R: AllocGlobal + Files<File = File> + Wait>(
     };
     let mut devices = folder.lay_out(rt, sizes)?;
     devices.forget_old_log();
-    let engine = engine_or_fault(Engine::format(rt.alloc(), rt, disks(devices), config))?;
+    let made = made_or_fault(Engine::format(rt.alloc(), rt, disks(devices), config))?;
     folder.keep(rt)?;
-    Ok(engine)
+    Ok(made)
 }
 
 /// The devices of a folder as an engine takes them.
@@ -169,16 +172,12 @@ fn disks(devices: Devices) -> Disks<FileDisk> {
     }
 }
 
-/// The engine, or why there is none. Nobody reads here: its readers are dropped. So are the devices
-/// on a refusal.
-fn engine_or_fault(
+/// The engine and its readers, or why there is none. The devices are dropped on a refusal.
+fn made_or_fault(
     made: Result<(Engine<FileDisk>, Vec<Reader>), Refused<FileDisk>>,
-) -> Result<Engine<FileDisk>, Fault> {
+) -> Result<(Engine<FileDisk>, Vec<Reader>), Fault> {
     match made {
-        Ok((engine, readers)) => {
-            drop(readers);
-            Ok(engine)
-        }
+        Ok(made) => Ok(made),
         Err(refused) => {
             let fault = refused.fault;
             drop(refused);

@@ -3,8 +3,7 @@ ghost use Rattle.als_service.specs.Sessions.{Session, begins, ends};
 ghost use Rattle.als_service.specs.Met.{sessions_of};
 
 use crate::met::Met;
-use als_holding::dial;
-use als_operate::Following;
+use als_operate::{Following, dial};
 use std::io;
 use std::io::{Read, Write};
 use std::net::{Net, OpenStream};

@@ -1,12 +1,12 @@
 use crate::scripted::{End, Scripted, Told};
 use als_disk::MemDisk;
 use als_engine::{CONTROL_BLOCKS, Config, Disks, Engine, Events};
+use als_http::{Board, Report, Standing, State, Watch};
 use als_operate::Fault;
 use als_sample_logs::{FIRST, Primary};
 use als_service::{Kept, Pace, keep_following};
 use als_share::Counts;
 use als_ship::Fault as SessionFault;
-use als_standing::{Board, Report, Standing, State, Watch};
 use std::alloc::Global;
 use std::process::Abort;
 use std::sync::{Arc, Wait};
