@@ -32,6 +32,10 @@ mod silence;
 mod meeting;
 // The engine of a folder.
 mod opening;
+// A connection of which something was read and written before.
+mod line;
+// A primary is asked before there is a database.
+mod greeting;
 // The folder of a standby, held and opened.
 mod holding;
 // A session of a standby.
@@ -50,7 +54,9 @@ pub use checkpointing::checkpoint;
 pub use deciding::decide;
 pub use fault::Fault;
 pub use following::follow;
+pub use greeting::call;
 pub use holding::{Held, hold};
+pub use line::Line;
 pub use meeting::{Meetings, Untold};
 pub use node_command::{NodeShipping, ship_node};
 pub use resolve_command::{Verdict, resolve};
@@ -58,7 +64,7 @@ pub use settling::settle;
 pub use shipping::{Shipping, serve, serve_next, ship};
 pub use silence::dial;
 pub use standby_command::{Following, Prepared, conclude, prepare, standby};
-pub use takeover_command::takeover;
+pub use takeover_command::{TakenOver, takeover};
 pub use taking_over::{take_over, take_over_telling};
 pub use upkeep::StandbyUpkeep;
 pub use visitors::Visitors;
