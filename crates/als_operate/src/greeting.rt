@@ -1,6 +1,6 @@
 use crate::fault::Fault;
 use crate::line::Line;
-use crate::silence::dial;
+use crate::patience::dial;
 use crate::standby_command::Following;
 use als_engine::Fault as EngineFault;
 use als_epochs::History;

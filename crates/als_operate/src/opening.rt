@@ -47,7 +47,7 @@ fn open<R: AllocGlobal + Wait>(
 
 /// The engine of the folder's database, of as many pages as its log says. Nobody reads here: its reader is
 /// dropped.
-pub(crate) fn reopen<R: AllocGlobal + Files<File = File> + Wait>(
+pub fn reopen<R: AllocGlobal + Files<File = File> + Wait>(
     rt: &R,
     folder: &Folder,
     pending: u64,
@@ -135,7 +135,7 @@ fn pages_of(devices: &mut Devices) -> u64
 }
 
 /// The same refusal. Where a device failed, it tells which file that was, and what is wrong with it.
-pub(crate) fn named(folder: &Folder, fault: Fault) -> Fault
+pub fn named(folder: &Folder, fault: Fault) -> Fault
     ensures { kind_of result ≡ kind_of fault }
 {
     match (fault.kind(), folder.trouble()) {

@@ -3,7 +3,7 @@ use crate::following::follow;
 use crate::holding::{Held, hold};
 use crate::line::Line;
 use crate::opening::named;
-use crate::silence::dial;
+use crate::patience::dial;
 use als_disk::FileDisk;
 use als_drive::{Progress, recover_telling};
 use als_engine::Engine;
@@ -15,7 +15,7 @@ use std::rt::Files;
 use std::sync::Wait;
 
 /// Feeds are refused at this many pending changes.
-pub(crate) const PENDING: u64 = 1_000_000;
+pub const PENDING: u64 = 1_000_000;
 
 /// The bytes of a megabyte.
 const MEGABYTE: u64 = 1_048_576;

@@ -13,13 +13,11 @@ use als_engine::Decision;
 use als_fault::FaultKind;
 use als_folder::Trouble;
 use als_follow::standby as standby_with_workers;
-use als_growing::{Lasting, ship_on};
 use als_inspect::{Wanted, dump, get, status, verify};
-use als_operate::{
-    Following, NodeShipping, Shipping, TakenOver, Verdict, resolve, ship, ship_node, standby, takeover,
-};
+use als_operate::{Following, TakenOver, Verdict, resolve, standby, takeover};
 use als_record::{Key, Lsn, TransId};
 use als_service::{Service, standby as serve_standby};
+use als_shipper::{Lasting, NodeShipping, Shipping, ship, ship_node, ship_on};
 use std::fs;
 use std::fs::File;
 use std::io::Write;

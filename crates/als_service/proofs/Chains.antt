@@ -8,8 +8,8 @@ use Rattle.als_engine.specs.declared.step.Reply.TheVariants as reply
 use Rattle.als_engine.specs.Events.{Resyncs}
 use Rattle.als_engine.specs.Machine.{Machine, Keeps}
 use Rattle.als_engine.specs.Telling.{Stands}
-use Rattle.als_reach.specs.Reaching.{Run, Begins, Goes, Lending, Giving, Queries, Reaches}
-use Rattle.als_reach.proofs.Reached.{reaches-none, reaches-event, reaches-lend, reaches-give, reaches-query}
+use Rattle.als_share.specs.Reaching.{Run, Begins, Goes, Lending, Giving, Queries, Reaches}
+use Rattle.als_share.proofs.Reached.{reaches-none, reaches-event, reaches-lend, reaches-give, reaches-query}
 
 pub reaches_self : (m : Machine) → Reaches m m
 reaches_self m = reaches-none m

@@ -6,8 +6,8 @@ use Rattle.als_operate.specs.declared.fault.Fault.{Fault}
 use Rattle.als_engine.specs.Machine.{Machine}
 use Rattle.als_engine.specs.Telling.{Stands}
 use Rattle.als_store.specs.Stored.{acknowledged}
-use Rattle.als_reach.specs.Reaching.{Reaches}
-use Rattle.als_reach.proofs.Reached.{reached-kept}
+use Rattle.als_share.specs.Reaching.{Reaches}
+use Rattle.als_share.proofs.Reached.{reached-kept}
 use Rattle.als_ship.specs.Vouching.{TellsVouched}
 use Rattle.als_ship.proofs.Vouching.{told_higher}
 use Rattle.als_service.specs.Sessions.{Session, begins, ends, refuses, IsVouched, VouchesLast, VouchesAll}

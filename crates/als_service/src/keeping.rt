@@ -1,7 +1,7 @@
 ghost use Rattle.std.specs.Prelude.{◌≡◌};
 ghost use Rattle.als_store.specs.Stored.{acknowledged};
 ghost use Rattle.als_engine.specs.Telling.{Stands};
-ghost use Rattle.als_reach.specs.Reaching.{Reaches};
+ghost use Rattle.als_share.specs.Reaching.{Reaches};
 ghost use Rattle.als_service.specs.Sessions.{VouchesAll, EndsLast};
 ghost use Rattle.als_service.specs.Losses.{IsLost};
 
@@ -11,10 +11,10 @@ use crate::notices::Notices;
 use crate::outages::Outages;
 use crate::pause::Pause;
 use crate::primaries::Primaries;
+use als_http::{Board, State};
 use als_operate::Fault;
 use als_record::Lsn;
 use als_share::Counts;
-use als_standing::{Board, State};
 use std::alloc::Global;
 use std::io::{Read, Write};
 use std::sync::Wait;

@@ -1,7 +1,7 @@
 ghost use Rattle.std.specs.Prelude.{◌≡◌};
 ghost use Rattle.als_store.specs.Stored.{acknowledged};
 ghost use Rattle.als_engine.specs.Telling.{Stands};
-ghost use Rattle.als_reach.specs.Reaching.{Reaches};
+ghost use Rattle.als_share.specs.Reaching.{Reaches};
 ghost use Rattle.als_service.specs.Sessions.{VouchesLast, EndsOne};
 
 use crate::heard::Heard;
@@ -12,7 +12,7 @@ use als_follow::{Followed, follow_beside};
 use als_operate::Fault;
 use als_share::Counts;
 use als_ship::Fault as SessionFault;
-use als_standing::Board;
+use als_http::Board;
 use std::alloc::Global;
 use std::io::{Read, Write};
 use std::sync::Wait;

@@ -1,13 +1,13 @@
 use crate::scripted::{End, Scripted, Told};
-use als_bench_logs::{FIRST, Primary};
 use als_disk::MemDisk;
 use als_engine::{CONTROL_BLOCKS, Config, Disks, Engine, Events, Fault as EngineFault};
 use als_fault::FaultKind;
+use als_http::{Board, Report, Standing, State, Watch};
 use als_operate::Fault;
+use als_sample_logs::{FIRST, Primary};
 use als_service::{Kept, Pace, keep_following};
 use als_share::Counts;
 use als_ship::Fault as SessionFault;
-use als_standing::{Board, Report, Standing, State, Watch};
 use std::alloc::Global;
 use std::process::Abort;
 use std::sync::{Arc, Wait};
@@ -73,7 +73,7 @@ struct Sent {
 fn sent_by_a_primary(alloc: Global) -> Option<Sent> {
     let primary = Primary::new(alloc, PAGES, LENGTH, PAGES).ok()?;
     let text = primary.write(LENGTH).ok()?;
-    let frames = als_bench_logs::frames(alloc, text.as_slice(), FIRST, FRAME).ok()?;
+    let frames = als_sample_logs::frames(alloc, text.as_slice(), FIRST, FRAME).ok()?;
     let end = text.len() as u64;
     Some(Sent { frames, end })
 }

@@ -1,6 +1,6 @@
 use Rattle.std.proofs.Common.{◌≡◌}
 use Rattle.als_store.specs.Stored.{acknowledged}
-use Rattle.als_reach.specs.Reaching.{Reaches}
+use Rattle.als_share.specs.Reaching.{Reaches}
 use Rattle.als_service.specs.Sessions.{VouchesAll, GoesOnAll}
 use Rattle.als_service.proofs.keeping.keep_following.Given as goal
 
