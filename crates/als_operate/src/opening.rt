@@ -3,9 +3,11 @@ ghost use Rattle.als_disk.specs.Slot.{IsSettled};
 ghost use Rattle.als_operate.specs.FaultNames.{kind_of};
 
 use crate::fault::Fault;
-use als_ckpt::read_state;
+use als_ckpt::{Phase, read_state};
 use als_disk::{BlockDisk, FileDisk};
-use als_engine::{CONTROL_BLOCKS, Config, Disks, Engine, Reader, Refused};
+use als_engine::{
+    CONTROL_BLOCKS, Config, Disks, Engine, Fault as EngineFault, Reader, Refused,
+};
 use als_fault::FaultKind;
 use als_folder::{Devices, Fault as FolderFault, Folder, LOG_LIMIT, Part, Sizes, Trouble, Wrong};
 use als_record::LogHeader;
@@ -13,21 +15,17 @@ use std::fs::File;
 use std::rt::Files;
 use std::sync::Wait;
 
-/// The engine of the folder's database and its readers, or, where there is none, of a new one whose log
-/// device has so many blocks.
-pub(crate) fn start<R: AllocGlobal + Files<File = File> + Wait>(
+/// The engine of the folder's database and its readers.
+///
+/// Sealed: the database was taken over, and follows no more; its log was not read.
+pub(crate) fn open_kept<R: AllocGlobal + Files<File = File> + Wait>(
     rt: &R,
     folder: &Folder,
     config: Config,
-    log_blocks: u64,
 ) -> Result<(Engine<FileDisk>, Vec<Reader>), Fault> {
-    if folder.is_kept(rt)? {
-        let mut devices = folder.open(rt)?;
-        devices.forget_old_log();
-        open(rt, devices, config)
-    } else {
-        begin(rt, folder, config, log_blocks)
-    }
+    let mut devices = folder.open(rt)?;
+    devices.forget_old_log();
+    open(rt, devices, config)
 }
 
 /// The engine of the database that these devices hold. Files that are too short for it are refused
@@ -40,7 +38,10 @@ fn open<R: AllocGlobal + Wait>(
     requires { (k : ℕ) → IsSettled (⟦<FileDisk<File> as BlockDisk>⟧.slot devices.control k) }
 {
     let mut devices = devices;
-    check_lengths(&mut devices, config.pages)?;
+    match check_lengths(&mut devices, config.pages)? {
+        Some(Phase::Sealed | Phase::Primary) => return Err(Fault::Refused(EngineFault::Sealed)),
+        Some(Phase::Following) | None => {}
+    }
     made_or_fault(Engine::open(rt.alloc(), rt, disks(devices), config))
 }
 
@@ -66,8 +67,8 @@ pub fn reopen<R: AllocGlobal + Files<File = File> + Wait>(
 }
 
 /// Refuses files that are too short for a database of so many pages, and for the mark that its
-/// control block has.
-fn check_lengths(devices: &mut Devices, pages: u64) -> Result<(), Fault>
+/// control block has. It answers the phase that stands there, if one does.
+fn check_lengths(devices: &mut Devices, pages: u64) -> Result<Option<Phase>, Fault>
     requires { (k : ℕ) → IsSettled (⟦<FileDisk<File> as BlockDisk>⟧.slot devices.old.control k) }
 {
     let found = devices.sizes();
@@ -75,7 +76,7 @@ fn check_lengths(devices: &mut Devices, pages: u64) -> Result<(), Fault>
         return Err(damaged(Part::Control, Wrong::Short));
     }
     let Ok(count) = u32::try_from(pages) else {
-        return Ok(());
+        return Ok(None);
     };
     let control = CONTROL_BLOCKS;
     match read_state(&mut devices.control, count, LOG_LIMIT) {
@@ -88,7 +89,7 @@ fn check_lengths(devices: &mut Devices, pages: u64) -> Result<(), Fault>
             };
             match found.shorter_than(needed) {
                 Some(part) => Err(damaged(part, Wrong::Short)),
-                None => Ok(()),
+                None => Ok(Some(state.phase)),
             }
         }
         // What the files should have is not known: the engine tells what is wrong with them.
@@ -101,7 +102,7 @@ fn check_lengths(devices: &mut Devices, pages: u64) -> Result<(), Fault>
             };
             match found.shorter_than(needed) {
                 Some(_) => Err(damaged(Part::Control, Wrong::BadControl)),
-                None => Ok(()),
+                None => Ok(None),
             }
         }
     }
@@ -143,8 +144,8 @@ pub fn named(folder: &Folder, fault: Fault) -> Fault
     }
 }
 
-/// The engine of a new database. The folder has it once it is formatted.
-fn begin<R: AllocGlobal + Files<File = File> + Wait>(
+/// The engine of a new database and its readers. The folder has it once `Folder::keep` was called.
+pub(crate) fn begin<R: AllocGlobal + Files<File = File> + Wait>(
     rt: &R,
     folder: &Folder,
     config: Config,
@@ -157,9 +158,7 @@ fn begin<R: AllocGlobal + Files<File = File> + Wait>(
     };
     let mut devices = folder.lay_out(rt, sizes)?;
     devices.forget_old_log();
-    let made = made_or_fault(Engine::format(rt.alloc(), rt, disks(devices), config))?;
-    folder.keep(rt)?;
-    Ok(made)
+    made_or_fault(Engine::format(rt.alloc(), rt, disks(devices), config))
 }
 
 /// The devices of a folder as an engine takes them.

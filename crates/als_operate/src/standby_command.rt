@@ -1,6 +1,7 @@
 use crate::fault::Fault;
 use crate::following::follow;
 use crate::holding::{Held, hold};
+use crate::line::Line;
 use crate::opening::named;
 use crate::patience::dial;
 use als_disk::FileDisk;
@@ -42,9 +43,9 @@ pub struct Prepared<S> {
     pub folder: Folder,
     pub engine: Engine<FileDisk>,
     /// The connection, to be read.
-    pub reader: S,
+    pub reader: Line<S>,
     /// The same connection, to be written.
-    pub writer: S,
+    pub writer: Line<S>,
     /// Log bytes from one checkpoint to the next. 0: none is taken on the way.
     pub each: u64,
 }
@@ -72,11 +73,10 @@ pub fn standby<R: AllocGlobal + Files<File = File> + Net + Wait, P: Progress, O:
 }
 
 /// Holds the folder, opens its database and redoes what it holds, and connects to the primary.
-/// Where the folder has no database, a new one is laid out, once the primary has answered.
+/// Where the folder has no database, a new one is laid out, once the primary has answered with its
+/// history.
 ///
-/// BadConfig: a number is out of its range; no file was touched. Device: the folder or one of its
-/// files failed, or another program has the folder. Stream: nobody serves at the address, or the
-/// network failed. Memory: allocation failed. Else as `Engine::open` says.
+/// As `hold` says. Stream: nobody serves at the address, or the network failed.
 pub fn prepare<R: AllocGlobal + Files<File = File> + Net + Wait, P: Progress>(
     rt: &R,
     following: Following<'_>,
@@ -86,11 +86,12 @@ pub fn prepare<R: AllocGlobal + Files<File = File> + Net + Wait, P: Progress>(
         folder,
         mut engine,
         readers,
-        answered,
+        is_new: _,
+        greeted,
     } = hold(rt, following, 1, true)?;
     // Nobody reads here.
     drop(readers);
-    match connect(rt, following, &mut engine, answered, progress) {
+    match connect(rt, following, &mut engine, greeted, progress) {
         Ok((reader, writer)) => Ok(Prepared {
             folder,
             engine,
@@ -103,21 +104,27 @@ pub fn prepare<R: AllocGlobal + Files<File = File> + Net + Wait, P: Progress>(
 }
 
 /// Redoes what the engine holds, so that the primary does not wait for that, and answers the connection
-/// to the primary, twice: the one that was made before a new database was laid out, or else a new one.
+/// to the primary, to be read and to be written: the one over which it was greeted before a new database
+/// was laid out, or else a new one.
 fn connect<R: AllocGlobal + Net + Wait, P: Progress>(
     rt: &R,
     following: Following<'_>,
     engine: &mut Engine<FileDisk>,
-    answered: Option<R::Stream>,
+    greeted: Option<(Line<R::Stream>, Line<R::Stream>)>,
     progress: &mut P,
-) -> Result<(R::Stream, R::Stream), Fault> {
+) -> Result<(Line<R::Stream>, Line<R::Stream>), Fault> {
     recover_telling(rt, engine, progress)?;
-    let writer = match answered {
-        Some(stream) => stream,
-        None => dial(rt, following)?,
-    };
-    let reader = writer.try_clone()?;
-    Ok((reader, writer))
+    match greeted {
+        Some(lines) => Ok(lines),
+        None => {
+            let writer = dial(rt, following)?;
+            let reader = writer.try_clone()?;
+            Ok((
+                Line::new(rt.alloc(), reader),
+                Line::new(rt.alloc(), writer),
+            ))
+        }
+    }
 }
 
 /// Prints `end=E ack=A` after a session that ended well. The refusal of one that did not is
