@@ -77,7 +77,7 @@ show_progress() {
         read -r count name share < <(progress "$log" "$crates")
         minute=$(((SECONDS - began) / 60))
         left=''
-        if [[ $share -ge 30 ]]; then
+        if [[ ! -x $program && $share -ge 30 ]]; then # later builds prove some crates alone
             left=", some $(((SECONDS - began) * (1000 - share) / share / 60 + 1)) minutes to go"
         fi
         now="$minute $name"
