@@ -1,0 +1,10 @@
+pub mod Going
+pub mod Moved
+pub mod Lists
+pub mod Updates
+pub mod Committing
+pub mod Rolling
+pub mod Fitting
+pub mod Stepping
+pub mod Others
+mod Worked

@@ -1,0 +1,17 @@
+//! What a primary may append to a valid log: transactions of its own, whole or rolled back. The
+//! laws say that each such record may follow the log, and what comes of them.
+//!
+//! 1. A transaction is its updates, its commit and its end, one after another. The before image of
+//!    an update is what its key has by then, also behind an earlier update of the same transaction.
+//! 2. A transaction may begin with a number above all of the log, where fewer than 256 transactions
+//!    are unended and no other open transaction holds a key that it sets.
+//! 3. Each law is the contract of a function that does nothing.
+#![tactic(auto)]
+
+// One record of a transaction, also where others write between its records.
+mod moves;
+// All records of a transaction, which follow one another.
+mod laws;
+
+pub use laws::{rollback_follows, transaction_commits, transaction_follows};
+pub use moves::{moves_follow, moves_leave_others};
