@@ -7,4 +7,9 @@ pub mod Rolling
 pub mod Fitting
 pub mod Stepping
 pub mod Others
+pub mod Beside
+pub mod Fronts
+pub mod Rooms
+pub mod Ahead
+pub mod Owed
 mod Worked

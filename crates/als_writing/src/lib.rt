@@ -10,8 +10,11 @@
 
 // One record of a transaction, also where others write between its records.
 mod moves;
+// The room that they take.
+mod room;
 // All records of a transaction, which follow one another.
 mod laws;
 
 pub use laws::{rollback_follows, transaction_commits, transaction_follows};
 pub use moves::{moves_follow, moves_leave_others};
+pub use room::{room_is_a_sum, transaction_fits};
