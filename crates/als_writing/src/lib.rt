@@ -12,9 +12,12 @@
 mod moves;
 // The room that they take.
 mod room;
+// What is owed after a stop among them.
+mod stopped;
 // All records of a transaction, which follow one another.
 mod laws;
 
 pub use laws::{rollback_follows, transaction_commits, transaction_follows};
 pub use moves::{moves_follow, moves_leave_others};
 pub use room::{room_is_a_sum, transaction_fits};
+pub use stopped::tail_ends_a_transaction;
