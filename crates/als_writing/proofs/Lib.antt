@@ -12,4 +12,5 @@ pub mod Fronts
 pub mod Rooms
 pub mod Ahead
 pub mod Owed
+pub mod LastWrites
 mod Worked

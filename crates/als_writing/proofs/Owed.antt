@@ -239,7 +239,7 @@ module _ (pages : ℕ) (log : List Record) (t : ℕ) (writes : List Write) (v : 
     where
       go : (us : List Record) → take k (updates log t writes) ≡ us → f ((log ++ take k (updates log t writes)) ++ tail_of (log ++ take k (updates log t writes))) ≡ f log
       go [] e = ap (λ us. f ((log ++ us) ++ tail_of (log ++ us))) e ∙ ap (λ l. f (l ++ tail_of l)) (append-nil log) ∙ ap (λ rs. f (log ++ rs)) tidy ∙ ap f (append-nil log)
-      go (u ∷ us) e =
+      go (u ∷ more) e =
           ap (λ rs. f ((log ++ take k (updates log t writes)) ++ rs)) (tail_of-front k (ap is_some_left e))
           ∙ ap f (append_assoc log (take k (updates log t writes)) (rollback (log ++ take k (updates log t writes)) t (take k (updates log t writes))))
           ∙ same

@@ -5,7 +5,7 @@ ghost use Rattle.als_record.specs.LogText.{end_of};
 ghost use Rattle.als_record.specs.Transactions.{has_ended, unended};
 ghost use Rattle.als_record.specs.Images.{image_now, won, kept};
 ghost use Rattle.als_record.specs.Validity.{may_follow_all, IsValidLog};
-ghost use Rattle.als_record.specs.Commits.{Write as AnyWrite, Commit as AnyCommit, commits_of, after_write};
+ghost use Rattle.als_record.specs.Commits.{Write as AnyWrite, Commit as AnyCommit, commits_of, after_write, seen_after};
 ghost use Rattle.als_writing.specs.Writing.{updates, transaction, rolled_back, MayWrite};
 
 /// A primary may append a whole transaction to a valid log: an update for each write, whose before
@@ -26,7 +26,7 @@ pub fn transaction_follows()
 
 /// A transaction adds one commit to a log: this one, with these writes, at its commit record's LSN.
 /// Each key has the last of the writes to it, and what it had before if there is none: in what has
-/// committed, in what a takeover keeps, and now.
+/// committed, in what a takeover keeps, now, and for readers of all commits.
 pub fn transaction_commits()
     ensures commits { (pages : ℕ) → (log : List AnyRecord) → (t : ℕ) → (writes : List AnyWrite)
         → IsValidLog pages log → MayWrite pages log t writes
@@ -45,6 +45,10 @@ pub fn transaction_commits()
         → IsValidLog pages log → MayWrite pages log t writes → (k : AnyKey)
         → image_now (log ++ transaction log t writes) k
         ≡ fold (after_write k) (image_now log k) writes }
+    ensures seen { (pages : ℕ) → (log : List AnyRecord) → (t : ℕ) → (writes : List AnyWrite)
+        → IsValidLog pages log → MayWrite pages log t writes → (k : AnyKey)
+        → seen_after (commits_of (log ++ transaction log t writes)) k
+        ≡ fold (after_write k) (seen_after (commits_of log) k) writes }
 {}
 
 /// After any number of the updates of a transaction, a compensation of each of them, the last one

@@ -14,6 +14,8 @@ mod moves;
 mod room;
 // What is owed after a stop among them.
 mod stopped;
+// The last write of a key.
+mod unchanged;
 // All records of a transaction, which follow one another.
 mod laws;
 
@@ -21,3 +23,4 @@ pub use laws::{rollback_follows, transaction_commits, transaction_follows};
 pub use moves::{moves_follow, moves_leave_others};
 pub use room::{room_is_a_sum, transaction_fits};
 pub use stopped::tail_ends_a_transaction;
+pub use unchanged::{transaction_is_the_last_write, unchanged_key_is_seen_as_then};
