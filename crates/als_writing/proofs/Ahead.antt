@@ -74,7 +74,7 @@ module _ (pages : ℕ) (log : List Record) (t : ℕ) (v : is_valid log ≡ true)
     pub undo_one : to_undo updated t ≡ reverse us
     undo_one = undo_updates pages log t (w ∷ rest) v m
 
-    bytes_one : undo_bytes updated t ≡ sum_by undo_len us
+    pub bytes_one : undo_bytes updated t ≡ sum_by undo_len us
     unfolding undo_bytes
     bytes_one = ap (sum_by undo_len) undo_one ∙ sum_by-reverse undo_len us
 
@@ -218,7 +218,7 @@ module _ (pages : ℕ) (log : List Record) (t : ℕ) (v : is_valid log ≡ true)
     abbrev Fits : List Record → Type 0
     Fits more = end_of (log ++ more) + reserve_of (log ++ more) ≤ end_of log + reserve_of log + room_for log t (w ∷ rest)
 
-    some : (j : ℕ) → Fits (updates log t (take j (w ∷ rest)))
+    pub some : (j : ℕ) → Fits (updates log t (take j (w ∷ rest)))
     some zero =
         let e : log ++ updates log t [] ≡ log = none in
         let a : end_of (log ++ updates log t []) ≡ end_of log = ap end_of e in

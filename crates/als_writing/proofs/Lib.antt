@@ -13,4 +13,5 @@ pub mod Rooms
 pub mod Ahead
 pub mod Owed
 pub mod LastWrites
+pub mod Preparing
 mod Worked

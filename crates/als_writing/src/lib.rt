@@ -12,6 +12,8 @@
 mod moves;
 // The room that they take.
 mod room;
+// A transaction that a coordinator decides.
+mod prepared;
 // What is owed after a stop among them.
 mod stopped;
 // The last write of a key.
@@ -21,6 +23,7 @@ mod laws;
 
 pub use laws::{rollback_follows, transaction_commits, transaction_follows};
 pub use moves::{moves_follow, moves_leave_others};
+pub use prepared::{prepared_fits, prepared_follows};
 pub use room::{room_is_a_sum, transaction_fits};
 pub use stopped::tail_ends_a_transaction;
 pub use unchanged::{transaction_is_the_last_write, unchanged_key_is_seen_as_then};
