@@ -1,8 +1,7 @@
 -- A transaction on its way: its reserve and what it owes after each front of it.
-use Rattle.std.proofs.Common.{◌≡◌, ℕ, zero, suc, ◌==◌, ◌+◌, ◌≤◌, Bool, true, false, cond, not, ◌&&◌, ◌||◌, List, [], ◌∷◌, ◌++◌, map, take, drop, reverse, sum_by, refl, sym, ap, ◌∙◌, inl, inr, subst, arith, append-nil}
-use Rattle.std.specs.List.{AllByRecursion}
-use Rattle.std.proofs.lemmas.Bool.{cases_Bool, false≢true}
-use Rattle.std.proofs.lemmas.List.Sums.{sum_by-cons, sum_by-append, sum_by-take-le}
+use Rattle.std.proofs.Common.{◌≡◌, ℕ, zero, suc, ◌+◌, ◌≤◌, Bool, true, false, not, ◌&&◌, ◌||◌, List, [], ◌∷◌, ◌++◌, map, take, reverse, sum_by, refl, sym, ap, ◌∙◌, inl, inr, subst, arith}
+use Rattle.std.proofs.lemmas.Bool.{false≢true}
+use Rattle.std.proofs.lemmas.List.Sums.{sum_by-cons, sum_by-take-le}
 use Rattle.als_record.specs.declared.record.Record.{Record}
 use Rattle.als_record.specs.Spelling.{record_len}
 use Rattle.als_record.specs.LogText.{end_of}
@@ -11,11 +10,10 @@ use Rattle.als_record.specs.Validity.{is_valid}
 use Rattle.als_record.specs.Commits.{Write}
 use Rattle.als_record.specs.Tail.{undo_len, undo_bytes, reserve_of}
 use Rattle.als_record.proofs.Numbers.{eqb-refl}
-use Rattle.als_record.proofs.Records.{has_begun-own, is_unended-none, is_committed-own, is_unended-own, is_open-own, is_in_doubt-own, is_in_doubt-committed}
+use Rattle.als_record.proofs.Records.{has_begun-own, is_unended-none, is_committed-own, is_in_doubt-committed}
 use Rattle.als_record.proofs.Unended.{is_among-unended, unended-more}
 use Rattle.als_record.proofs.Places.{end_of-push}
 use Rattle.als_writing.specs.Writing.{Writes, Commits, Ends, record_for, moved, updates, transaction, room_for, MayWrite}
-use Rattle.als_writing.proofs.Going.{IsActive}
 use Rattle.als_writing.proofs.Moved.{moved-next, moved-append, moved-none, take-updates}
 use Rattle.als_writing.proofs.Updates.{Writing, IsNew-number, Writing-updates}
 use Rattle.als_writing.proofs.Committing.{Committed-transaction}

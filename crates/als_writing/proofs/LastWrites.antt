@@ -1,7 +1,7 @@
 -- The last write of a key: behind a transaction, and what it says of a key that is unchanged.
-use Rattle.std.proofs.Common.{◌≡◌, ℕ, ◌==◌, ◌+◌, ◌<◌, ◌≤◌, Bool, true, false, cond, ◌&&◌, List, [], ◌∷◌, ◌++◌, fold, refl, sym, ap, ◌∙◌, inl, inr, None, subst, arith, append_assoc, append-nil}
+use Rattle.std.proofs.Common.{◌≡◌, ℕ, ◌+◌, ◌<◌, ◌≤◌, Bool, true, false, cond, List, [], ◌∷◌, ◌++◌, fold, refl, sym, ap, ◌∙◌, inl, inr, None, subst, arith, append_assoc, append-nil}
 use Rattle.std.specs.List.{list_any, flat_map, AllByRecursion}
-use Rattle.std.proofs.lemmas.Bool.{cases_Bool, eqb-true, and_parts, or_parts}
+use Rattle.std.proofs.lemmas.Bool.{cases_Bool, and_parts, or_parts}
 use Rattle.std.proofs.lemmas.List.Sums.{fold-append}
 use Rattle.std.proofs.lemmas.Grind.{flat_map-append}
 use Rattle.std.proofs.lemmas.List.Concat.{flat_map-cons}
@@ -14,7 +14,7 @@ use Rattle.als_record.specs.Images.{same_key}
 use Rattle.als_record.specs.Validity.{may_follow, is_valid}
 use Rattle.als_record.specs.Commits.{Write, Commit as AnyCommit, commits_of, after_write, seen_after}
 use Rattle.als_record.proofs.Validity.{is_valid-front, is_valid-push, Admitted-may_follow}
-use Rattle.als_record.proofs.Places.{end_of-push, record_len-head}
+use Rattle.als_record.proofs.Places.{end_of-push}
 use Rattle.als_record.proofs.CommitSteps.{commit_by, commits_of-push}
 use Rattle.als_writing.specs.Writing.{updates, transaction, last_write, MayWrite}
 use Rattle.als_writing.proofs.Committing.{Committed-transaction}

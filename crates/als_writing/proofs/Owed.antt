@@ -1,5 +1,5 @@
 -- The tail behind a front of a transaction: its rollback behind updates, its end behind the commit.
-use Rattle.std.proofs.Common.{◌≡◌, ℕ, zero, suc, ◌==◌, Bool, true, false, cond, not, ◌&&◌, ◌||◌, List, [], ◌∷◌, ◌++◌, map, take, filter, reverse, refl, sym, ap, ◌∙◌, inl, inr, subst, append_assoc, append-nil}
+use Rattle.std.proofs.Common.{◌≡◌, ℕ, ◌==◌, Bool, true, false, cond, not, ◌||◌, List, [], ◌∷◌, ◌++◌, map, take, filter, reverse, refl, sym, ap, ◌∙◌, inl, inr, subst, append_assoc, append-nil}
 use Rattle.std.specs.List.{list_any, AllByRecursion}
 use Rattle.std.proofs.lemmas.Bool.{cases_Bool, eqb-true, false≢true}
 use Rattle.std.proofs.lemmas.List.{reverse-append}
@@ -7,24 +7,24 @@ use Rattle.std.proofs.lemmas.List.Elements.{filter-append}
 use Rattle.als_record.specs.declared.record.Record.{Record}
 use Rattle.als_record.specs.declared.trans_id.TransId.{TransId}
 use Rattle.als_record.specs.LogText.{end_of}
-use Rattle.als_record.specs.Transactions.{is_transactional, is_update, is_end, is_some_left, is_among, to_undo, has_begun, is_committed, is_unended, is_in_doubt, is_loser, last_lsn, unended, all_surviving}
+use Rattle.als_record.specs.Transactions.{is_update, is_some_left, is_among, to_undo, has_begun, is_committed, is_unended, is_in_doubt, is_loser, last_lsn, unended, all_surviving}
 use Rattle.als_record.specs.Validity.{prev_of, is_valid}
 use Rattle.als_record.specs.Commits.{Write}
-use Rattle.als_record.specs.Tail.{TailStep, Ends as EndsOne, Undoes as UndoesOne, is_finished, ends, undoes, losing, ending, tail_steps, undone, record_for as tail_record, numbered, tail_of}
+use Rattle.als_record.specs.Tail.{Ends as EndsOne, Undoes as UndoesOne, is_finished, ends, undoes, losing, ending, tail_steps, undone, record_for as tail_record, numbered, tail_of}
 use Rattle.als_record.proofs.Numbers.{eqb-refl, filter-except}
 use Rattle.als_record.proofs.Records.{loser_parts, is_loser-from, is_unended-own, has_ended-unended}
 use Rattle.als_record.proofs.Survivors.{is_by, All-is_update, All-weaken, all_surviving-by}
-use Rattle.als_record.proofs.Unended.{is_among-unended, is_among-ending, All-unended}
+use Rattle.als_record.proofs.Unended.{is_among-ending, All-unended}
 use Rattle.als_record.proofs.TailSteps.{is_finished-in_doubt, undone-is_compensation, compensation-is_transactional, compensation-is_end}
 use Rattle.als_record.proofs.Falling.{losing-none, All-filter}
 use Rattle.als_record.proofs.TailFirst.{ending-tail_of, tail_of-none}
-use Rattle.als_writing.specs.Writing.{Move, Writes, Undoes, Commits, Ends, record_for, moved, updates, transaction, rollback, rolled_back, MayWrite}
+use Rattle.als_writing.specs.Writing.{Writes, Undoes, Commits, Ends, record_for, moved, updates, transaction, rollback, rolled_back, MayWrite}
 use Rattle.als_writing.proofs.Moved.{take-updates}
 use Rattle.als_writing.proofs.Rolling.{MayWrite-front}
-use Rattle.als_writing.proofs.Updates.{Writing, IsNew-number, Writing-updates}
+use Rattle.als_writing.proofs.Updates.{IsNew-number, Writing-updates}
 use Rattle.als_writing.proofs.Committing.{All-others, All-own, Committed-transaction}
 use Rattle.als_writing.proofs.Beside.{Beside, Beside-moved}
-use Rattle.als_writing.proofs.Ahead.{out, committed_one, unended_committed, beside_committed, beside_updated, unended_updated, unended_one, undoubted_one, undo_one, begun_updated}
+use Rattle.als_writing.proofs.Ahead.{out, committed_one, unended_committed, beside_committed, beside_updated, unended_updated, unended_one, undoubted_one, undo_one}
 
 -- ---- lists
 

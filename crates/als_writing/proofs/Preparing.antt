@@ -1,27 +1,26 @@
 -- A transaction that prepares: its updates and its prepare record, and what comes of them.
-use Rattle.std.proofs.Common.{◌≡◌, ℕ, zero, suc, ◌==◌, ◌+◌, ◌≤◌, ◌^◌, Bool, true, false, cond, not, ◌&&◌, ◌||◌, List, [], ◌∷◌, ◌++◌, map, filter, find, fold, take, sum_by, refl, sym, ap, ◌∙◌, inl, inr, subst, arith, append-nil}
-use Rattle.std.specs.List.{AllByRecursion}
+use Rattle.std.proofs.Common.{◌≡◌, ℕ, ◌==◌, ◌+◌, ◌≤◌, ◌^◌, Bool, true, false, cond, not, ◌&&◌, ◌||◌, List, [], ◌∷◌, ◌++◌, map, filter, find, fold, take, sum_by, refl, sym, ap, ◌∙◌, inl, inr, subst, arith, append-nil}
 use Rattle.std.proofs.lemmas.Bool.{cases_Bool, eqb-true, and_parts}
 use Rattle.std.proofs.lemmas.List.Elements.{filter-append}
 use Rattle.als_record.specs.declared.key.Key.{Key}
 use Rattle.als_record.specs.declared.record.Record.{Record}
 use Rattle.als_record.specs.Spelling.{record_len}
 use Rattle.als_record.specs.LogText.{end_of}
-use Rattle.als_record.specs.Transactions.{is_among, is_loser, surviving, to_undo, is_committed, has_begun, has_ended, is_unended, is_open, is_in_doubt, transactions, unended, in_doubt, all_surviving}
+use Rattle.als_record.specs.Transactions.{is_among, is_loser, surviving, to_undo, is_committed, has_begun, is_unended, is_open, is_in_doubt, transactions, unended, in_doubt, all_surviving}
 use Rattle.als_record.specs.Images.{is_update_at, image_of_found, is_kept, kept}
 use Rattle.als_record.specs.Validity.{may_follow_all, is_valid, IsValidLog}
 use Rattle.als_record.specs.Commits.{Write, commits_of, after_write, writes_of}
 use Rattle.als_record.specs.Tail.{ending, undo_len, undo_bytes, tail_of, reserve_of}
 use Rattle.als_record.proofs.Numbers.{eqb-refl, eqb-sym, filter-except}
-use Rattle.als_record.proofs.Records.{is_committed-own, is_committed-other, is_in_doubt-own, is_in_doubt-other, is_open-is, has_ended-unended, to_undo-own, is_unended-none}
+use Rattle.als_record.proofs.Records.{is_committed-other, is_in_doubt-own, is_in_doubt-other, is_open-is, to_undo-own, is_unended-none}
 use Rattle.als_record.proofs.Survivors.{all_surviving-push, All-weaken}
 use Rattle.als_record.proofs.Unended.{is_in_doubt-unended, is_among-unended}
 use Rattle.als_record.proofs.Validity.{is_valid-append}
 use Rattle.als_record.proofs.Places.{end_of-push}
 use Rattle.als_record.proofs.CommitSteps.{commits_of-push}
 use Rattle.als_record.proofs.TailFirst.{ending-tail_of, tail_of-none}
-use Rattle.als_writing.specs.Writing.{Move, Writes, Commits, Prepares, record_for, moved, updates, prepared, room_for, MayWrite}
-use Rattle.als_writing.proofs.Going.{IsActive, may_prepare, is_valid-next}
+use Rattle.als_writing.specs.Writing.{Writes, Prepares, record_for, moved, updates, prepared, room_for, MayWrite}
+use Rattle.als_writing.proofs.Going.{may_prepare, is_valid-next}
 use Rattle.als_writing.proofs.Moved.{moved-next, moved-append, moved-none}
 use Rattle.als_writing.proofs.Lists.{written-on_top}
 use Rattle.als_writing.proofs.Updates.{Writing, IsNew-number, Writing-updates, unended-joined}

@@ -1,4 +1,4 @@
-use Rattle.std.proofs.Common.{◌≡◌, ◌++◌, ap, ◌∙◌}
+use Rattle.std.proofs.Common.{ap, ◌∙◌}
 use Rattle.als_record.specs.Transactions.{unended, in_doubt}
 use Rattle.als_record.specs.Images.{kept}
 use Rattle.als_record.specs.Commits.{commits_of}

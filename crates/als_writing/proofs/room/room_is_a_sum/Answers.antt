@@ -1,9 +1,8 @@
-use Rattle.std.proofs.Common.{◌≡◌, ℕ, ◌+◌, List, [], ◌∷◌, ◌++◌, map, sum_by, refl, arith}
+use Rattle.std.proofs.Common.{◌≡◌, ◌+◌, List, [], ◌∷◌, ◌++◌, map, sum_by, refl, arith}
 use Rattle.std.proofs.lemmas.List.Sums.{sum_by-cons}
 use Rattle.als_record.specs.declared.record.Record.{Record}
 use Rattle.als_record.specs.Spelling.{record_len}
 use Rattle.als_record.specs.Tail.{undo_len}
-use Rattle.als_record.specs.Commits.{Write}
 use Rattle.als_writing.specs.Writing.{Writes, record_for, moved, updates, room_for}
 use Rattle.als_writing.proofs.room.room_is_a_sum.Goals as goal
 

@@ -1,10 +1,8 @@
-use Rattle.std.proofs.Common.{ℕ, List, take}
-use Rattle.als_record.specs.declared.record.Record.{Record}
+use Rattle.std.proofs.Common.{ℕ, List}
 use Rattle.als_record.specs.Transactions.{unended}
 use Rattle.als_record.specs.Spelling.{Image}
 use Rattle.als_record.specs.Images.{image_now}
 use Rattle.als_record.specs.Commits.{Commit, commits_of}
-use Rattle.als_writing.specs.Writing.{updates, rolled_back}
 use Rattle.als_writing.proofs.Rolling.{RolledBack-front}
 use Rattle.als_writing.proofs.Owed.{tail_of-committed, tail_of-whole, tail_of-front, tail_of-any}
 use Rattle.als_writing.proofs.stopped.tail_ends_a_transaction.Goals as goal
