@@ -1,7 +1,6 @@
-use als_growing::Sessions;
-use als_operate::Meetings;
 use als_record::Lsn;
 use als_ship::Fault;
+use als_shipper::{Meetings, Sessions};
 use std::io::Write;
 
 /// Says whom a shipper passed over, and how far its follower got.

@@ -1,6 +1,6 @@
 ghost use Rattle.std.specs.Prelude.{◌≡◌};
 
-use als_standing::{Board, State};
+use als_http::{Board, State};
 use std::io;
 use std::io::Read;
 use std::time::Clock;

@@ -1,5 +1,5 @@
 ghost use Rattle.std.specs.Prelude.{◌≡◌, IfSome, Some};
-ghost use Rattle.als_reach.specs.Reaching.{Reaches, ReachesFrom};
+ghost use Rattle.als_share.specs.Reaching.{Reaches, ReachesFrom};
 ghost use Rattle.als_share.specs.Ledgers.{AreNamed};
 
 use crate::standbys::{TEXT, standby};

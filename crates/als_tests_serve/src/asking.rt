@@ -1,11 +1,9 @@
 ghost use Rattle.std.specs.Prelude.{◌<◌, ◌^◌};
 
 use crate::written::{Change, transaction};
-use als_answers::Answering;
+use als_http::{Answering, Report, Standing, State, config};
 use als_published_log::PublishedLog;
 use als_record::{Key, Lsn};
-use als_serve::config;
-use als_standing::{Report, Standing, State};
 use als_view::Reader;
 use http_server::{Connection, serve};
 use std::alloc::Global;

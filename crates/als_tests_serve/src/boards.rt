@@ -1,5 +1,5 @@
+use als_http::{Board, Report, Standing, State, Watch};
 use als_record::Lsn;
-use als_standing::{Board, Report, Standing, State, Watch};
 use std::io;
 use std::sync::Arc;
 use std::test::*;

@@ -1,10 +1,8 @@
 use crate::asking::{Fixed, published};
 use crate::written::{Change, transaction};
-use als_answers::Answering;
+use als_http::{Answering, Servers, State, listen};
 use als_published_log::PublishedLog;
 use als_record::Key;
-use als_serve::{Servers, listen};
-use als_standing::State;
 use als_view::Reader;
 use std::alloc::Global;
 use std::io::{Read, Write};

@@ -1,0 +1,7 @@
+pub mod States
+pub mod Numbers
+pub mod Asking
+pub mod Telling
+pub mod Reading
+pub mod Texts
+pub mod Replies
