@@ -9,7 +9,7 @@ use Rattle.als_store.specs.Stored.{acknowledged}
 use Rattle.als_share.specs.Reaching.{Reaches}
 use Rattle.als_share.proofs.Reached.{reached-kept}
 use Rattle.als_ship.specs.Vouching.{TellsVouched}
-use Rattle.als_ship.proofs.Vouching.{told_higher}
+use Rattle.als_ship.proofs.Vouching.{told_higher, told_nothing}
 use Rattle.als_service.specs.Sessions.{Session, begins, ends, refuses, IsVouched, VouchesLast, VouchesAll}
 
 -- the streams of a session are those of the last one
@@ -21,7 +21,7 @@ vouches_last floor ended told after start came gone comes_first goes_then tells 
 -- where there was no connection, nobody was told anything
 pub vouches_nobody : (floor : ℕ) (fault : Fault) (start gone : List Session) → gone ≡ refuses fault start → VouchesLast floor start gone
 vouches_nobody floor fault start gone e =
-    (record { told = None; after = None; ended = Some (Some (Err fault)) }, e, (0, 0, [], [], tt, ([], _, refl, tt)))
+    (record { told = None; after = None; ended = Some (Some (Err fault)) }, e, told_nothing floor None)
 
 pub vouches_none : (floor : ℕ) (met : List Session) → VouchesAll floor met met
 vouches_none floor met = ([], refl, tt)
@@ -35,6 +35,8 @@ higher low high (session ∷ rest) rises all =
 pub vouches_more : (old now : Machine) (start mid new : List Session) → Stands old → Reaches old now
     → VouchesAll (acknowledged old.held) start mid → VouchesLast (acknowledged now.held) mid new → VouchesAll (acknowledged now.held) start new
 vouches_more old now start mid new stands reaches all last =
-    let kept = reached-kept old now stands reaches in
-    (last.0 ∷ all.0, last.1 ∙ ap (λ (met : List Session). last.0 ∷ met) all.1,
-    (last.2, higher (acknowledged old.held) (acknowledged now.held) all.0 kept.keeps.acknowledged all.2))
+    let kept = reached-kept old now stands reaches in (
+      last.0 ∷ all.0,
+      last.1 ∙ ap (λ (met : List Session). last.0 ∷ met) all.1,
+      (last.2, higher (acknowledged old.held) (acknowledged now.held) all.0 kept.keeps.acknowledged all.2),
+    )

@@ -10,11 +10,7 @@ use std::snapshot::Snapshot;
 pub enum Met<S> {
     Nobody,
     Began(Snapshot<Met<S>>, Snapshot<S>),
-    Ended(
-        Snapshot<Met<S>>,
-        Snapshot<S>,
-        Snapshot<Option<Result<(), Fault>>>,
-    ),
+    Ended(Snapshot<Met<S>>, Snapshot<S>, Snapshot<Option<Result<(), Fault>>>),
     Refused(Snapshot<Met<S>>, Snapshot<Fault>),
 }
 

@@ -9,18 +9,18 @@ use crate::keeping::Pace;
 use crate::primaries::Primaries;
 use als_engine::{Events, State as EngineState};
 use als_follow::{Followed, follow_beside};
+use als_http::Board;
 use als_operate::Fault;
 use als_share::Counts;
 use als_ship::Fault as SessionFault;
-use als_http::Board;
 use std::alloc::Global;
 use std::io::{Read, Write};
 use std::sync::Wait;
 use std::thread::Threads;
 use std::time::{Clock, Duration};
 
-/// A connection that ends within this time is one that was ended at once.
-const SOON: Duration = Duration::from_secs(1);
+/// A connection that ends within so many seconds is one that was ended at once.
+const SOON: u64 = 1;
 
 /// What a session leaves, and how it ended. None: a thread could not be started, or allocation failed,
 /// and no frame was asked for.
@@ -40,14 +40,7 @@ pub(crate) fn follow_next<
     R: Threads + Wait + Sync + Clock,
     S: Read + Write + Drop,
     L: Primaries<S>,
->(
-    rt: &R,
-    alloc: Global,
-    events: E,
-    pace: Pace,
-    primaries: &mut L,
-    board: &Board,
-) -> Turn<E>
+>(rt: &R, alloc: Global, events: E, pace: Pace, primaries: &mut L, board: &Board) -> Turn<E>
     ensures reached { E.alone → Reaches (E.machine events) (E.machine result.events) }
     ensures book { E.book result.events ≡ E.book events }
     // One session came, or there was no connection. Each LSN that its primary was answered is
@@ -141,7 +134,7 @@ fn is_hang_up(
     match ended {
         Some(Err(Fault::Session(SessionFault::Cut))) => true,
         Some(Err(Fault::Session(SessionFault::Stream))) => match (begun, now) {
-            (Some(begun), Some(now)) => now.saturating_sub(begun) < SOON,
+            (Some(begun), Some(now)) => now.saturating_sub(begun) < Duration::from_secs(SOON),
             _ => false,
         },
         _ => false,

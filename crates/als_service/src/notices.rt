@@ -66,12 +66,7 @@ impl Notices {
     }
 
     /// Counts a connection that was ended at once, or one that was not, and reports several in a row.
-    pub fn hang_up<C: Clock, N: Outages>(
-        &mut self,
-        clock: &C,
-        is_hang_up: bool,
-        outages: &mut N,
-    ) {
+    pub fn hang_up<C: Clock, N: Outages>(&mut self, clock: &C, is_hang_up: bool, outages: &mut N) {
         if !is_hang_up {
             self.hang_ups = 0;
             return;
