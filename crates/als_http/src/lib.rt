@@ -45,6 +45,8 @@ mod unread;
 mod value_text;
 // Whether the threads go on, and how many have a connection.
 mod gate;
+// A connection of the spare thread.
+mod guest;
 // Times and sizes.
 mod limits;
 // Where they listen.
@@ -55,6 +57,10 @@ mod peer;
 mod servers;
 // What a thread does.
 mod serving;
+// What the thread does that waits for nobody.
+mod spare;
+// For how long a peer asks, and is answered.
+mod turn;
 
 pub use answering::Answering;
 pub use asked::Asked;
