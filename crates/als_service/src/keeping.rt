@@ -5,6 +5,7 @@ ghost use Rattle.als_reach.specs.Reaching.{Reaches};
 ghost use Rattle.als_service.specs.Sessions.{VouchesAll, VouchesLast};
 ghost use Rattle.als_service.specs.Losses.{IsLost};
 
+use crate::answered::Answered;
 use crate::heard::Heard;
 use crate::outages::Outages;
 use crate::pause::Pause;
@@ -79,6 +80,7 @@ pub fn keep_following<
         let why = match ended {
             Some(Ok(())) => None,
             Some(Err(fault)) => {
+                board.note_failure(u64::from(fault.number()));
                 if !is_lost(fault) {
                     return Kept {
                         events: held,
@@ -164,10 +166,11 @@ fn follow_next<
                 pace.workers,
                 pace.each,
                 Heard::new(reader, board, rt),
-                writer,
+                Answered::new(writer, board),
             );
             let is_refused = reader.is_silent() && position(&engine).0 <= HEADER;
-            primaries.part(reader.end(), writer);
+            board.set_epoch(u64::from(engine.history().epoch()));
+            primaries.part(reader.end(), writer.end());
             Kept {
                 events: engine,
                 ended: understood(ended, is_refused),
