@@ -1,4 +1,4 @@
-// The pages of help. `./als` prints them from here where the program is not built.
+// The texts of the pages of help. `docs/help` has the pages as the program prints them, for `./als` before a build.
 
 pub const ABOUT: &str =
     "A hot standby that redoes the log which its primary ships (ARIES, continuous redo).";
@@ -120,7 +120,7 @@ pub const STANDBY_ABOUT: &str = "Follows a primary's log as the standby of a fol
 pub const STANDBY_HELP: &str =
     "Needs DIR, a folder that is there, for itself alone. Opens the database in it: log.blk,
 control.blk and pages.blk. Where there is no control.blk, it lays out an empty database of
-N pages with a log of B blocks of 512 bytes, once it is connected.
+N pages with a log of B blocks of 512 bytes, once the primary has answered.
 Redoes what was not redone, connects to ADDR, where `als ship` serves the primary's log,
 and follows it: each piece is stored, synced, acknowledged and then redone, up to the end of
 the log. After M megabytes of log (0: never), and however the session ends, the pages and a
@@ -130,8 +130,9 @@ Writes standard output: `end=E ack=A`, where the held log ends, and up to where 
 can lose it.
 To follow on, run it again: it goes on where it was left, also after a crash.
 With --keep it does so itself: after the end of the log, 43 or 44 it connects again, after a
-pause of at most 5 s; any other refusal ends it. With --explain, or on a terminal, standard
-error says once a minute at most that nothing comes.
+pause of at most 5 s, and after any other refusal, of which standard error tells, after a pause
+of 5 s to 60 s; only 21, 29, 30, 31, 33, 34, 42 and 48 end it. With --explain, or on a terminal,
+standard error says once a minute at most that nothing comes.
 With --serve it answers over HTTP: GET /keys/P/S, /status, /metrics and /health. Nothing is
 encrypted, and nobody is asked who he is.
 With --keep or --serve one thread redoes at least: --workers 0 is 1.
@@ -151,9 +152,8 @@ Exit statuses: 0 done, 2 a fault of the command line, 3 `als: refused N Name`:
   37  N is not 1 to 4,096, B not 1 to 4,194,304, W not 0 to 8, or R not 1 to 8; no file
       was touched
   40, 41 what came is no frame that may come
-  43  the primary went away; it does so too where its log is another or a shorter one.
-      With --keep: 1, where it does so before it has sent anything of its log, to DIR with
-      an empty database: then its log has another number of pages than N
+  43  the primary went away; it does so too where its log is another or a shorter one, or has
+      another number of pages than N
   44  nobody serves at ADDR, the network or standard output failed, or the primary was
       silent for longer than SECONDS: run it again
   42  the log in DIR goes past the takeover of the node that serves: the two parted there

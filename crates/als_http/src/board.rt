@@ -84,9 +84,9 @@ impl Board {
         let came = self.waits.swap(0, Ordering::SeqCst);
         if came > 0 {
             self.frame.store(came, Ordering::SeqCst);
-            let waiting = State::Waiting.number();
-            if self.state.load(Ordering::SeqCst) == waiting {
-                self.set_state(State::Following);
+            match State::of(self.state.load(Ordering::SeqCst)) {
+                State::Waiting | State::Refusing => self.set_state(State::Following),
+                _ => {}
             }
         }
     }

@@ -4,7 +4,7 @@ use crate::restarting::restarted;
 use als_ckpt::Phase;
 use als_engine::{Events, History};
 use als_folder::Folder;
-use als_script::ShownRow;
+use als_text::ShownRow;
 use std::alloc::Global;
 use std::fs::File;
 use std::io::Write;

@@ -18,6 +18,12 @@ mod upkeep;
 mod patience;
 // The engine of a folder.
 mod opening;
+// A connection of which something was read and written before.
+mod line;
+// A primary is asked before there is a database.
+mod greeting;
+// The folder of a standby, held and opened.
+mod holding;
 // A session of a standby.
 mod following;
 // A standby that follows one session.
@@ -33,11 +39,14 @@ pub use checkpointing::checkpoint;
 pub use deciding::decide;
 pub use fault::Fault;
 pub use following::follow;
+pub use greeting::call;
+pub use holding::{Held, hold};
+pub use line::Line;
 pub use opening::{named, reopen};
-pub use patience::{bound, silence};
+pub use patience::{bound, dial, silence};
 pub use resolve_command::{Verdict, resolve};
 pub use settling::settle;
 pub use standby_command::{Following, PENDING, Prepared, conclude, prepare, standby};
-pub use takeover_command::takeover;
+pub use takeover_command::{TakenOver, takeover};
 pub use taking_over::{take_over, take_over_telling};
 pub use upkeep::StandbyUpkeep;

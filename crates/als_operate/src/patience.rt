@@ -1,3 +1,4 @@
+use crate::standby_command::Following;
 use std::io;
 use std::io::ErrorKind;
 use std::net::{Net, OpenStream, TcpStream, ToSocketAddrs};
@@ -19,12 +20,13 @@ pub fn bound<S: OpenStream>(stream: &S, silence: Option<Duration>) -> io::Result
     stream.set_nodelay(true)
 }
 
+/// A connection to the primary, which may be silent for as long as was asked for.
+pub fn dial<R: Net>(rt: &R, following: Following<'_>) -> io::Result<R::Stream> {
+    connect(rt, following.from, silence(following.timeout))
+}
+
 /// A connection to the address, which is not waited for longer either.
-pub(crate) fn connect<R: Net>(
-    rt: &R,
-    addr: &str,
-    silence: Option<Duration>,
-) -> io::Result<R::Stream> {
+fn connect<R: Net>(rt: &R, addr: &str, silence: Option<Duration>) -> io::Result<R::Stream> {
     let stream = match silence {
         Some(limit) => connect_within(rt, addr, limit)?,
         None => TcpStream::connect(rt, addr)?,

@@ -15,12 +15,18 @@ mod heard;
 mod answered;
 // How long is waited before a primary is asked again.
 mod pause;
-// Receives the times in which nobody sends.
+// Receives why a standby waits.
 mod outages;
+// What was reported of a primary that is waited for.
+mod notices;
+// Which ends of a session end all.
+mod ending;
 // Which sessions there were, for clauses alone.
 mod met;
 // The connections to a primary, one after another.
 mod primaries;
+// The next session.
+mod next_session;
 // One session after another.
 mod keeping;
 // A thread for each reader.

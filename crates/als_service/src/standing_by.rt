@@ -9,9 +9,8 @@ use als_drive::{Progress, recover_telling};
 use als_engine::{Events, Reader};
 use als_folder::Folder;
 use als_follow::{Followed, follow_beside};
-use als_holding::{Held, hold};
 use als_http::{Board, Servers, State, listen};
-use als_operate::{Fault, Following, conclude, follow};
+use als_operate::{Fault, Following, Held, conclude, follow, hold};
 use als_share::Counts;
 use std::alloc::Global;
 use std::fs::File;
@@ -46,8 +45,8 @@ pub struct Service<'a> {
 /// then prints `end=E ack=A`. Its reads are answered from the moment that its folder is held: 503 until
 /// what that holds is redone.
 ///
-/// As `als_operate::prepare` says. Stream: the address can't be listened at, and no file was touched; or
-/// the primary does not answer. Then as a session ends; with `keep` a lost connection does not end it.
+/// As `als_operate::hold` says. Stream: the address can't be listened at, and no file was touched; or
+/// the primary does not answer. Then as a session ends; with `keep` only by what asking again can't mend.
 pub fn standby<
     R: AllocGlobal
         + Files<File = File>
@@ -74,7 +73,8 @@ pub fn standby<
         Some(addr) => Some(listen(rt, rt.alloc(), addr)?),
         None => None,
     };
-    // A standby that is kept waits for its primary, also the first time.
+    // A standby that is kept waits for its primary, also the first time: until that has answered, the
+    // folder has no database.
     let held = hold(rt, following, seats(service.readers), !service.keep)?;
     let pace = Pace {
         workers: service.workers,
@@ -138,13 +138,15 @@ fn stand<
         folder,
         engine,
         readers,
-        answered,
+        is_new,
+        greeted,
     } = held;
     let (board, servers) = answer(rt, listener, readers)?;
     if let Some(bytes) = capacity_of(rt, &folder) {
         board.set_capacity(bytes);
     }
-    let mut primaries = Dialled::new(rt, following, answered);
+    let unkept = if is_new { Some(&folder) } else { None };
+    let mut primaries = Dialled::new(rt, following, unkept, greeted);
     let Kept {
         events: engine,
         ended,
@@ -242,10 +244,10 @@ fn follow_once<
     let alloc = rt.alloc();
     let (reader, writer) = match primaries.next() {
         Ok(streams) => streams,
-        Err(e) => {
+        Err(fault) => {
             return Kept {
                 events,
-                ended: Err(Fault::from(e)),
+                ended: Err(fault),
             };
         }
     };
@@ -261,7 +263,7 @@ fn follow_once<
         Some(ended) => ended,
         None => follow(rt, alloc, &mut engine, pace.each, &mut reader, &mut writer),
     };
-    primaries.part(reader.end(), writer.end());
+    primaries.part(reader.end(), writer.end(), Some(ended));
     Kept {
         events: engine,
         ended,

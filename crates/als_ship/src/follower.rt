@@ -10,13 +10,14 @@ ghost use Rattle.als_ship.specs.Sessions.{KeepsFront, TakesOne, Follows, Stops, 
 ghost use Rattle.als_ship.specs.Sessions.{TellsPart, GivesUp, EndsEarly};
 ghost use Rattle.als_ship.specs.Vouching.{AnswersOne, AnswersPart, TellsVouched};
 
+use crate::direct::Direct;
 use crate::fault::Fault;
 use crate::forcing::force_by;
 use crate::joining::{join, take_up};
 use crate::upkeep::{NoUpkeep, Upkeep};
+use crate::voucher::Voucher;
 use als_engine::Events;
 use als_record::{LogHeader, Lsn};
-use als_vouch::{Direct, Voucher};
 use als_wire::{Frame, Tag, is_head, write_acknowledged, write_resume};
 use std::alloc::Global;
 use std::io::{Read, Write};

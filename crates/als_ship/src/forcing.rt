@@ -3,10 +3,11 @@ ghost use Rattle.als_engine.specs.Events.{ControlSyncs};
 ghost use Rattle.als_ship.specs.Follows.{SameText};
 ghost use Rattle.als_ship.specs.Forcing.{WritesAll, Syncs, Forces, FailsToForce};
 
+use crate::direct::Direct;
 use crate::fault::Fault;
+use crate::voucher::Voucher;
 use als_engine::{Events, Fault as EngineFault};
 use als_record::Lsn;
-use als_vouch::{Direct, Voucher};
 
 /// Forces the log: what is held is put on the devices, and the acknowledged LSN answered. The
 /// standby's refusal: an event was refused, and not for want of something to do.
