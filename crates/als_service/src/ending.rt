@@ -10,7 +10,7 @@ use als_ship::Fault as SessionFault;
 /// The fault of a session that ends all, if it is one that asking again can't mend.
 pub(crate) fn final_fault(ended: Option<Result<(), Fault>>) -> Option<Fault>
     ensures ends { IfSome result (λ fault. ended ≡ Some (Err fault)) }
-    ensures final { IfSome result (λ fault. is_final (kind_of fault) ≡ true) }
+    ensures over { IfSome result (λ fault. is_final (kind_of fault) ≡ true) }
     ensures goes_on { MatchOption result (λ fault. Unit {0}) (ends_it ended ≡ false) }
 {
     match ended {
