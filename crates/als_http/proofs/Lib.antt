@@ -1,4 +1,5 @@
 mod WorkedPaths
+mod WorkedHealth
 pub mod AnswerLaws
 pub mod NumberLaws
 pub mod AskingLaws

@@ -1,4 +1,5 @@
 pub mod States
+pub mod Health
 pub mod Numbers
 pub mod Asking
 pub mod Telling

@@ -25,3 +25,13 @@ name_of_state Refusing = codes "refusing"
 name_of_state Sealed = codes "sealed"
 name_of_state Primary = codes "primary"
 name_of_state Stopped = codes "stopped"
+
+-- the role of a node in a state: from the seal on it is the primary
+abbrev pub role_of_state : State → List ℕ
+role_of_state Recovering = codes "standby"
+role_of_state Waiting = codes "standby"
+role_of_state Following = codes "standby"
+role_of_state Refusing = codes "standby"
+role_of_state Sealed = codes "primary"
+role_of_state Primary = codes "primary"
+role_of_state Stopped = codes "standby"

@@ -5,6 +5,7 @@ use Rattle.hex.specs.Hex.{encode_lower}
 use Rattle.als_record.specs.Spelling.{Image}
 use Rattle.als_view.specs.declared.answer.Answer.{Answer}
 use Rattle.als_http.specs.States.{name_of_state}
+use Rattle.als_http.specs.Health.{room_of}
 use Rattle.als_http.specs.declared.report.Report.{Report}
 use Rattle.als_http.specs.declared.unread.Unread.{Unread}
 use Rattle.als_http.specs.declared.unread.Unread.TheVariants.{Warming, Stopped, Older}
@@ -42,12 +43,17 @@ redo_tokens r commits =
     key (codes "pending") ∷ number (decimal r.pending) ∷ key (codes "leases") ∷ number (decimal r.leases)
     ∷ key (codes "commits") ∷ number_token commits ∷ key (codes "seconds_since_last_frame") ∷ number_token r.silence ∷ []
 
+-- how much log there can be, and how much of it is left
+abbrev pub room_tokens : Report → List Token
+room_tokens r = key (codes "capacity") ∷ number_token r.capacity ∷ key (codes "left") ∷ number_token (room_of r) ∷ []
+
 abbrev pub status_tokens : Report → Option ℕ → List Token
 status_tokens r commits =
     begin_object ∷ key (codes "state") ∷ string (name_of_state r.state) ∷ key (codes "end") ∷ number (decimal r.end.0)
     ∷ key (codes "acknowledged") ∷ number (decimal r.acknowledged.0)
     ∷ key (codes "pending") ∷ number (decimal r.pending) ∷ key (codes "leases") ∷ number (decimal r.leases)
     ∷ key (codes "commits") ∷ number_token commits ∷ key (codes "seconds_since_last_frame") ∷ number_token r.silence
+    ∷ key (codes "capacity") ∷ number_token r.capacity ∷ key (codes "left") ∷ number_token (room_of r)
     ∷ end_object ∷ []
 
 abbrev pub health_tokens : Bool → List Token

@@ -6,9 +6,7 @@ use crate::filling::show;
 use crate::query::Query;
 use crate::reading::{published, read};
 use crate::reply::Reply;
-use crate::report::Report;
 use crate::standing::Standing;
-use crate::state::State;
 use crate::telling::query_of;
 use als_view::Reader;
 use bytes::Bytes;
@@ -52,8 +50,10 @@ impl<S: Standing> Answering<S> {
     /// What a query is answered.
     #[tactic(auto, using(crate::proofs::AnswerLaws::goes_on_self))]
     pub fn reply(&mut self, query: Query) -> Reply
-        ensures reply { Replies query result self.old.reader self.new.reader }
+        ensures reply { Replies (S.tells self.old.standing) query result self.old.reader
+            self.new.reader }
         ensures reader { GoesOn self.old.reader self.new.reader }
+        ensures standing { self.new.standing ≡ self.old.standing }
     {
         match query {
             Query::Value(key, at_least) => match read(&mut self.reader, key, at_least) {
@@ -69,9 +69,8 @@ impl<S: Standing> Answering<S> {
                 Reply::Metrics(report, published(&mut self.reader))
             }
             Query::Health => {
-                let follows = follows(&self.standing.report());
-                let commits = published(&mut self.reader);
-                Reply::Health(follows && commits.is_some())
+                let report = self.standing.report();
+                Reply::Health(report, published(&mut self.reader))
             }
             Query::Refused(why) => Reply::Refused(why),
         }
@@ -80,16 +79,13 @@ impl<S: Standing> Answering<S> {
     /// Fills a response by the reply to a query.
     fn respond(&mut self, query: Query, response: &mut Response)
         requires { IsBlank response.old }
-        ensures { Answers query self.old.reader response.new self.new.reader }
+        ensures answers { Answers (S.tells self.old.standing) query self.old.reader response.new
+            self.new.reader }
+        ensures standing { self.new.standing ≡ self.old.standing }
     {
         let made = self.reply(query);
         show(self.alloc, &made, response);
     }
-}
-
-/// Whether a standby follows.
-fn follows(report: &Report) -> bool {
-    matches!(report.state, State::Following)
 }
 
 impl<S: Standing> Service for Answering<S> {
@@ -97,7 +93,7 @@ impl<S: Standing> Service for Answering<S> {
     ghost use Rattle.als_http.specs.Telling.{query_of};
 
     ghost answers = { λ old request response new.
-        Answers (query_of (head_of request)) old.reader response new.reader };
+        Answers (S.tells old.standing) (query_of (head_of request)) old.reader response new.reader };
 
     fn call(
         &mut self,

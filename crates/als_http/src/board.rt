@@ -16,8 +16,17 @@ pub struct Board {
     acknowledged: AtomicU64,
     pending: AtomicU64,
     leases: AtomicU64,
-    /// The second in which the last frame came, and 1. 0: none has come.
+    /// The second in which the last acknowledged frame came, and 1. 0: none has.
     frame: AtomicU64,
+    /// The second in which a frame came that waits for its acknowledgement, and 1. 0: none waits.
+    waits: AtomicU64,
+    /// Bytes that the log takes at most. 0: not known yet.
+    capacity: AtomicU64,
+    failures: AtomicU64,
+    /// The number of the last fault that ended a session. 0: there was none.
+    fault: AtomicU64,
+    /// The epoch of its history, and 1. 0: not known yet.
+    epoch: AtomicU64,
 }
 
 impl Board {
@@ -30,11 +39,19 @@ impl Board {
             pending: AtomicU64::new(0),
             leases: AtomicU64::new(0),
             frame: AtomicU64::new(0),
+            waits: AtomicU64::new(0),
+            capacity: AtomicU64::new(0),
+            failures: AtomicU64::new(0),
+            fault: AtomicU64::new(0),
+            epoch: AtomicU64::new(0),
         }
     }
 
-    /// What the standby does now.
+    /// What the standby does now. No frame waits where no primary sends.
     pub fn set_state(&self, state: State) {
+        if !state.is_sent_to() {
+            self.waits.store(0, Ordering::SeqCst);
+        }
         self.state.store(state.number(), Ordering::SeqCst);
     }
 
@@ -51,17 +68,58 @@ impl Board {
         self.leases.store(leases, Ordering::SeqCst);
     }
 
-    /// A frame of a primary came. A clock that cannot be read leaves the time of the one before.
+    /// Something of a frame came. It waits for its acknowledgement from then on. A clock that cannot
+    /// be read leaves the board as it was.
     pub fn note_frame<C: Clock>(&self, clock: &C) {
-        if let Some(now) = second(clock) {
-            self.frame.store(now.saturating_add(1), Ordering::SeqCst);
+        if self.waits.load(Ordering::SeqCst) == 0 {
+            if let Some(now) = second(clock) {
+                self.waits.store(now.saturating_add(1), Ordering::SeqCst);
+            }
         }
     }
 
-    /// Seconds since the last frame. None: none has come, or the clock cannot be read.
-    fn silence<C: Clock>(&self, clock: &C) -> Option<u64> {
-        let frame = self.frame.load(Ordering::SeqCst).checked_sub(1)?;
-        Some(second(clock)?.saturating_sub(frame))
+    /// The frame that came was acknowledged: a primary sends. What a refused session sent is never
+    /// acknowledged, so it counts as nothing.
+    pub fn note_answer(&self) {
+        let came = self.waits.swap(0, Ordering::SeqCst);
+        if came > 0 {
+            self.frame.store(came, Ordering::SeqCst);
+            match State::of(self.state.load(Ordering::SeqCst)) {
+                State::Waiting | State::Refusing => self.set_state(State::Following),
+                _ => {}
+            }
+        }
+    }
+
+    /// A fault of this number has ended a session.
+    pub fn note_failure(&self, number: u64) {
+        self.failures.fetch_add(1, Ordering::SeqCst);
+        self.fault.store(number, Ordering::SeqCst);
+    }
+
+    /// The log takes at most so many bytes.
+    pub fn set_capacity(&self, bytes: u64) {
+        self.capacity.store(bytes, Ordering::SeqCst);
+    }
+
+    /// The history of its log is of this epoch.
+    pub fn set_epoch(&self, epoch: u64) {
+        self.epoch.store(epoch.saturating_add(1), Ordering::SeqCst);
+    }
+}
+
+/// Seconds since a second of the clock that a cell holds, and 1. None: the cell holds none, or the clock
+/// cannot be read.
+fn since<C: Clock>(cell: &AtomicU64, clock: &C) -> Option<u64> {
+    let then = cell.load(Ordering::SeqCst).checked_sub(1)?;
+    Some(second(clock)?.saturating_sub(then))
+}
+
+/// The number that a cell holds. None: it is 0.
+fn known(cell: &AtomicU64) -> Option<u64> {
+    match cell.load(Ordering::SeqCst) {
+        0 => None,
+        number => Some(number),
     }
 }
 
@@ -94,7 +152,12 @@ impl<C: Clock> Standing for Watch<C> {
             acknowledged,
             pending: board.pending.load(Ordering::SeqCst),
             leases: board.leases.load(Ordering::SeqCst),
-            silence: board.silence(&self.clock),
+            silence: since(&board.frame, &self.clock),
+            waiting: since(&board.waits, &self.clock),
+            capacity: known(&board.capacity),
+            failures: board.failures.load(Ordering::SeqCst),
+            last_fault: known(&board.fault),
+            epoch: board.epoch.load(Ordering::SeqCst).checked_sub(1),
         }
     }
 }

@@ -54,7 +54,7 @@ fn text_of(alloc: Global, reply: &Reply) -> Result<Vec<u8>, AllocError>
         Reply::Unread(why) => unread_text(alloc, *why),
         Reply::Status(report, commits) => status_text(alloc, report, *commits),
         Reply::Metrics(report, commits) => metrics_text(alloc, report, *commits),
-        Reply::Health(healthy) => health_text(alloc, *healthy),
+        Reply::Health(report, commits) => health_text(alloc, report.is_healthy(*commits)),
         Reply::Refused(why) => wrong_text(alloc, *why),
     }
 }

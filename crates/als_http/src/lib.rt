@@ -45,6 +45,8 @@ mod unread;
 mod value_text;
 // Whether the threads go on, and how many have a connection.
 mod gate;
+// A connection of the spare thread.
+mod guest;
 // Times and sizes.
 mod limits;
 // Where they listen.
@@ -55,6 +57,10 @@ mod peer;
 mod servers;
 // What a thread does.
 mod serving;
+// What the thread does that waits for nobody.
+mod spare;
+// For how long a peer asks, and is answered.
+mod turn;
 
 pub use answering::Answering;
 pub use asked::Asked;
@@ -63,11 +69,12 @@ pub use board::{Board, Watch};
 pub use gate::Gate;
 pub use limits::{THREADS, config};
 pub use listening::listen;
+pub use metrics_text::VERSION;
 pub use numbers::number;
 pub use query::{Query, Wrong};
 pub use reading::{published, read};
 pub use reply::Reply;
-pub use report::Report;
+pub use report::{PATIENCE, Report};
 pub use servers::Servers;
 pub use serving::serve_until_closed;
 pub use standing::Standing;

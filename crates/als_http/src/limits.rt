@@ -5,11 +5,17 @@ use http1::Limits;
 /// in the system's queue.
 pub const THREADS: usize = 8;
 
+/// So many connections the spare thread has at most. Where more come, the first of them goes.
+pub(crate) const GUESTS: usize = 64;
+
 /// Bytes of a request's head, at most.
 const HEAD: usize = 7 * 1024;
 
 /// Bytes of a request's body, at most. No request that is answered has a use for one.
 const BODY: usize = 1024;
+
+/// Bytes of a request, at most.
+pub(crate) const REQUEST_LEN: usize = HEAD + BODY;
 
 /// Milliseconds that a thread sleeps where nobody wants to connect.
 pub(crate) const NAP: u64 = 5;
@@ -22,6 +28,12 @@ pub(crate) const SILENCE: u64 = 10_000;
 
 /// The same, while every thread has a connection.
 pub(crate) const CROWDED: u64 = 1_000;
+
+/// A request that is not whole after so many milliseconds is not waited for longer.
+pub(crate) const REQUEST: u64 = 5_000;
+
+/// A response that is not taken after so many milliseconds is given up.
+pub(crate) const RESPONSE: u64 = 5_000;
 
 /// A connection is closed after so many milliseconds, so that nobody keeps a thread.
 pub(crate) const LIFE: u64 = 60_000;

@@ -1,5 +1,6 @@
 use crate::gate::Gate;
-use crate::limits::{CROWDED, LIFE, SILENCE};
+use crate::limits::{CROWDED, LIFE, REQUEST, RESPONSE, SILENCE};
+use crate::turn::Turn;
 use std::io;
 use std::io::{ErrorKind, Read, Write};
 use std::time::{Clock, Duration};
@@ -10,17 +11,25 @@ pub(crate) struct Peer<'a, S, C: Clock> {
     stream: S,
     clock: &'a C,
     gate: &'a Gate,
+    turn: &'a Turn,
     /// When it connected, by the clock.
     begun: Duration,
 }
 
 impl<'a, S, C: Clock> Peer<'a, S, C> {
     /// The peer has just connected.
-    pub fn new(stream: S, clock: &'a C, gate: &'a Gate, begun: Duration) -> Peer<'a, S, C> {
+    pub fn new(
+        stream: S,
+        clock: &'a C,
+        gate: &'a Gate,
+        turn: &'a Turn,
+        begun: Duration,
+    ) -> Peer<'a, S, C> {
         Peer {
             stream,
             clock,
             gate,
+            turn,
             begun,
         }
     }
@@ -37,12 +46,13 @@ impl<'a, S, C: Clock> Peer<'a, S, C> {
         };
         self.gate.is_closed()
             || now.saturating_sub(since) >= Duration::from_millis(patience)
+            || self.turn.asking(now) >= REQUEST
             || now.saturating_sub(self.begun) >= Duration::from_millis(LIFE)
     }
 }
 
 /// Whether a read or a write has only waited for its time.
-fn is_late(e: &io::Error) -> bool {
+pub(crate) fn is_late(e: &io::Error) -> bool {
     matches!(
         e.kind(),
         ErrorKind::WouldBlock | ErrorKind::TimedOut | ErrorKind::Interrupted
@@ -53,12 +63,16 @@ impl<S: Read, C: Clock> Read for Peer<'_, S, C> {
     /// A peer whose time is over has nothing more to say.
     fn read(&mut self, into: &mut [u8]) -> io::Result<usize> {
         let since = self.clock.monotonic()?;
+        self.turn.listen();
         for _ in 0..u64::MAX {
             if self.is_over(since) {
                 break;
             }
             match self.stream.read(into) {
-                Ok(count) => return Ok(count),
+                Ok(count) => {
+                    self.turn.ask(self.clock.monotonic()?);
+                    return Ok(count);
+                }
                 Err(e) if is_late(&e) => {}
                 Err(e) => return Err(e),
             }
@@ -72,7 +86,10 @@ impl<S: Write, C: Clock> Write for Peer<'_, S, C> {
     ghost contents = { λ peer. S.contents peer.stream };
 
     fn write(&mut self, bytes: &[u8]) -> io::Result<usize> {
-        if self.clock.monotonic()?.saturating_sub(self.begun) >= Duration::from_millis(LIFE) {
+        let now = self.clock.monotonic()?;
+        self.turn.answer(now);
+        let is_old = now.saturating_sub(self.begun) >= Duration::from_millis(LIFE);
+        if is_old || self.turn.answering(now) >= RESPONSE {
             return Err(ErrorKind::TimedOut.into());
         }
         self.stream.write(bytes)

@@ -17,8 +17,8 @@ pub enum Reply {
     Status(Report, Option<u64>),
     /// The same, for a collector of metrics.
     Metrics(Report, Option<u64>),
-    /// Whether it follows, and readers see a list of commits.
-    Health(bool),
+    /// Whether it is healthy by such a report, with so many published commits.
+    Health(Report, Option<u64>),
     /// Nothing was asked for.
     Refused(Wrong),
 }
@@ -31,9 +31,15 @@ impl Reply {
         ensures { result ≡ status_of self.now }
     {
         match self {
-            Reply::Value(_) | Reply::Status(..) | Reply::Metrics(..) | Reply::Health(true) =>
-                StatusCode::OK,
-            Reply::Unread(_) | Reply::Health(false) => StatusCode::SERVICE_UNAVAILABLE,
+            Reply::Value(_) | Reply::Status(..) | Reply::Metrics(..) => StatusCode::OK,
+            Reply::Unread(_) => StatusCode::SERVICE_UNAVAILABLE,
+            Reply::Health(report, commits) => {
+                if report.is_healthy(*commits) {
+                    StatusCode::OK
+                } else {
+                    StatusCode::SERVICE_UNAVAILABLE
+                }
+            }
             Reply::Refused(Wrong::Path) => StatusCode::NOT_FOUND,
             Reply::Refused(Wrong::Method) => StatusCode::METHOD_NOT_ALLOWED,
             Reply::Refused(Wrong::Number | Wrong::Lsn) => StatusCode::BAD_REQUEST,

@@ -1,7 +1,7 @@
 ghost use Rattle.std.specs.Prelude.{◌≡◌, IfOk, OnOk, ◌++◌};
 ghost use Rattle.json.specs.Print.{print};
-ghost use Rattle.als_http.specs.Texts.{status_tokens, log_tokens, redo_tokens, health_tokens};
-ghost use Rattle.als_http.specs.Texts.{error_tokens, why_unread, why_wrong};
+ghost use Rattle.als_http.specs.Texts.{status_tokens, log_tokens, redo_tokens, room_tokens};
+ghost use Rattle.als_http.specs.Texts.{health_tokens, error_tokens, why_unread, why_wrong};
 
 use crate::members::member;
 use crate::query::Wrong;
@@ -33,6 +33,7 @@ fn write_status(text: &mut Writer, report: &Report, commits: Option<u64>) -> Res
     text.begin_object()?;
     write_log(text, report)?;
     write_redo(text, report, commits)?;
+    write_room(text, report)?;
     text.end_object()?;
     Ok(())
 }
@@ -62,7 +63,17 @@ fn write_redo(text: &mut Writer, report: &Report, commits: Option<u64>) -> Resul
     Ok(())
 }
 
-/// Whether a standby follows and readers see a list of commits, as JSON.
+/// How much log there can be, and how much of it is left.
+fn write_room(text: &mut Writer, report: &Report) -> Result<(), AllocError>
+    ensures tokens { OnOk result (text.new.tokens ≡ text.old.tokens ++ room_tokens report.now) }
+    ensures before { OnOk result (text.new.before ≡ text.old.before) }
+{
+    member(text, "capacity", report.capacity)?;
+    member(text, "left", report.room())?;
+    Ok(())
+}
+
+/// Whether a standby is healthy, as JSON.
 #[tactic(auto, using(crate::proofs::TextLaws::printed))]
 pub(crate) fn health_text(alloc: Global, healthy: bool) -> Result<Vec<u8>, AllocError>
     ensures { IfOk result (λ text. text.items ≡ print (health_tokens healthy)) }

@@ -2,6 +2,7 @@ use crate::answering::Answering;
 use crate::gate::Gate;
 use crate::limits::THREADS;
 use crate::serving::serve_until_closed;
+use crate::spare::answer_guests;
 use crate::standing::Standing;
 use std::alloc::{AllocError, Global};
 use std::hash::RandomState;
@@ -29,7 +30,8 @@ impl Drop for Servers {
 
 impl Servers {
     /// Starts a thread for each of these, up to eight, which serve the listener until `close`. Each
-    /// has a clock of its own.
+    /// has a clock of its own. Where there are two and more, the last one is spare: it waits for nobody,
+    /// and answers while each other one has a connection.
     ///
     /// An error: allocation failed, or the system refused a thread. Then none goes on.
     pub fn start<
@@ -45,14 +47,16 @@ impl Servers {
         listener.set_nonblocking(true)?;
         let keys = RandomState::new(rt)?;
         let count = seats.len().min(THREADS);
-        let gate = Arc::new(alloc, Gate::new(count as u64))?;
+        let waiting = if count > 1 { count - 1 } else { count };
+        let gate = Arc::new(alloc, Gate::new(waiting as u64))?;
         let mut servers = Servers {
             gate,
             handles: Vec::with_capacity(alloc, count)?,
         };
         for seat in seats {
             if servers.handles.len() < count {
-                servers.add(rt, alloc, listener.try_clone()?, keys, seat)?;
+                let is_spare = servers.handles.len() >= waiting;
+                servers.add(rt, alloc, listener.try_clone()?, keys, seat, is_spare)?;
             }
         }
         Ok(servers)
@@ -66,13 +70,17 @@ impl Servers {
         listener: TcpListener,
         keys: RandomState,
         seat: (Answering<S>, C),
+        is_spare: bool,
     ) -> io::Result<()> {
         let (mut answering, clock) = seat;
         let gate = Arc::try_clone(&self.gate)?;
-        let handle = thread::spawn(
-            rt,
-            move || serve_until_closed(alloc, &listener, &mut answering, keys, &clock, &gate),
-        );
+        let handle = thread::spawn(rt, move || {
+            if is_spare {
+                answer_guests(alloc, &listener, &mut answering, keys, &clock, &gate)
+            } else {
+                serve_until_closed(alloc, &listener, &mut answering, keys, &clock, &gate)
+            }
+        });
         match handle {
             Ok(handle) => Ok(self.handles.push(handle)?),
             Err(_) => Err(io::ErrorKind::Other.into()),

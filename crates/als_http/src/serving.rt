@@ -1,8 +1,9 @@
 use crate::answering::Answering;
 use crate::gate::Gate;
-use crate::limits::{LEFTOVERS, NAP, SILENCE, TICK, config};
+use crate::limits::{LEFTOVERS, NAP, RESPONSE, TICK, config};
 use crate::peer::Peer;
 use crate::standing::Standing;
+use crate::turn::Turn;
 use http_server::{Connection, serve};
 use std::alloc::Global;
 use std::hash::RandomState;
@@ -52,12 +53,13 @@ fn serve_one<T: Read + Write + OpenStream + Drop, S: Standing, C: Clock>(
     gate: &Gate,
 ) -> io::Result<()> {
     stream.set_read_timeout(Some(Duration::from_millis(TICK)))?;
-    stream.set_write_timeout(Some(Duration::from_millis(SILENCE)))?;
+    stream.set_write_timeout(Some(Duration::from_millis(RESPONSE)))?;
     stream.set_nodelay(true)?;
     let begun = clock.monotonic()?;
     let mut rest = stream.try_clone()?;
-    let mut writer = Peer::new(stream.try_clone()?, clock, gate, begun);
-    let mut reader = Peer::new(stream, clock, gate, begun);
+    let turn = Turn::new();
+    let mut writer = Peer::new(stream.try_clone()?, clock, gate, &turn, begun);
+    let mut reader = Peer::new(stream, clock, gate, &turn, begun);
     let mut connection = Connection::new(alloc, keys, config());
     serve(&mut connection, answering, &mut reader, &mut writer)?;
     linger(&mut rest)

@@ -1,5 +1,6 @@
 ghost use Rattle.std.specs.Prelude.{◌≡◌};
-ghost use Rattle.als_http.specs.States.{number_of_state, state_of_number, name_of_state};
+ghost use Rattle.als_http.specs.States.{number_of_state, state_of_number, name_of_state, role_of_state};
+ghost use Rattle.als_http.specs.Health.{is_sent_to};
 
 /// What a standby is doing.
 #[derive(Clone, Copy, Debug, PartialEq, Eq)]
@@ -48,6 +49,27 @@ impl State {
             4 => State::Sealed,
             5 => State::Primary,
             _ => State::Stopped,
+        }
+    }
+
+    /// Whether a primary sends to it.
+    pub fn is_sent_to(self) -> bool
+        ensures { result ≡ is_sent_to self }
+    {
+        matches!(self, State::Following)
+    }
+
+    /// The role of its node.
+    pub fn role(self) -> &'static str
+        ensures { result.now ≡ role_of_state self }
+    {
+        match self {
+            State::Sealed | State::Primary => "primary",
+            State::Recovering
+            | State::Waiting
+            | State::Following
+            | State::Refusing
+            | State::Stopped => "standby",
         }
     }
 

@@ -17,7 +17,7 @@ use als_inspect::{Wanted, dump, get, status, verify};
 use als_operate::{Following, TakenOver, Verdict, resolve, standby, takeover};
 use als_record::{Key, Lsn, TransId};
 use als_service::{Service, standby as serve_standby};
-use als_shipper::{Lasting, NodeShipping, Shipping, ship, ship_node, ship_on};
+use als_shipper::{Lasting, NodeShipping, Shipping, ship, ship_node, ship_node_on, ship_on};
 use std::fs;
 use std::fs::File;
 use std::io::Write;
@@ -128,6 +128,7 @@ fn attempt<
             dir,
             listen,
             timeout,
+            keep,
             explain,
         } => {
             let shipping = NodeShipping {
@@ -136,7 +137,11 @@ fn attempt<
                 timeout,
             };
             let mut lines = MeetingLines::new(errors, seen || explain);
-            ship_node(rt, shipping, &mut lines, output)?
+            if keep {
+                ship_node_on(rt, shipping, &mut lines, output)?
+            } else {
+                ship_node(rt, shipping, &mut lines, output)?
+            }
         }
         Command::Standby {
             dir,

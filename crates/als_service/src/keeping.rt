@@ -79,6 +79,7 @@ pub fn keep_following<
             is_hang_up,
         } = follow_next(rt, alloc, held, pace, primaries, board);
         held = back;
+        note(board, ended);
         if let Some(fault) = final_fault(ended) {
             return Kept {
                 events: held,
@@ -128,6 +129,13 @@ fn rest<C: Clock, N: Outages>(
     };
     if millis > 0 {
         thread::sleep(clock, Duration::from_millis(millis));
+    }
+}
+
+/// Counts a session that a fault has ended.
+fn note(board: &Board, ended: Option<Result<(), Fault>>) {
+    if let Some(fault) = why(ended) {
+        board.note_failure(u64::from(fault.number()));
     }
 }
 

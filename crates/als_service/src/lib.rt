@@ -11,6 +11,8 @@
 mod telling;
 // A stream that tells a board when something came.
 mod heard;
+// What a primary is told.
+mod answered;
 // How long is waited before a primary is asked again.
 mod pause;
 // Receives why a standby waits.

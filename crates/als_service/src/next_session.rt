@@ -4,6 +4,7 @@ ghost use Rattle.als_engine.specs.Telling.{Stands};
 ghost use Rattle.als_share.specs.Reaching.{Reaches};
 ghost use Rattle.als_service.specs.Sessions.{VouchesLast, EndsOne};
 
+use crate::answered::Answered;
 use crate::heard::Heard;
 use crate::keeping::Pace;
 use crate::primaries::Primaries;
@@ -67,10 +68,11 @@ pub(crate) fn follow_next<
                 pace.workers,
                 pace.each,
                 Heard::new(reader, board, rt),
-                writer,
+                Answered::new(writer, board),
             );
             let is_silent = reader.is_silent();
-            primaries.part(reader.end(), writer, ended);
+            board.set_epoch(u64::from(engine.history().epoch()));
+            primaries.part(reader.end(), writer.end(), ended);
             Turn {
                 events: engine,
                 ended,

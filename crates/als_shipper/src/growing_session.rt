@@ -3,7 +3,9 @@ use als_epochs::{History, judge};
 use als_record::Lsn;
 use als_ship::{Fault, Frame, PIECE_LIMIT, Tag};
 use std::alloc::Global;
+use std::fs::File;
 use std::io::{Read, Write};
+use std::rt::Files;
 use std::thread;
 use std::time::{Clock, Duration};
 
@@ -51,11 +53,11 @@ impl Sent {
 /// Serves one follower: the log from where it goes on, which is of the first epoch. At the end of the
 /// file it waits for it to grow, with a beat each so many naps. Without a beat the session ends there.
 ///
-/// As `als_ship::Shipper::serve` says. Stream: the file shrank too.
-pub(crate) fn serve_growing<C: Clock, R: Read, W: Write>(
+/// As `als_ship::Shipper::serve` says. Stream: the file strayed too.
+pub(crate) fn serve_growing<F: Files<File = File>, C: Clock, R: Read, W: Write>(
     clock: &C,
     alloc: Global,
-    log: &mut GrowingLog,
+    log: &mut GrowingLog<'_, F>,
     beat: Option<u64>,
     reader: &mut R,
     writer: &mut W,
@@ -84,9 +86,9 @@ pub(crate) fn serve_growing<C: Clock, R: Read, W: Write>(
 
 /// Reads where the follower goes on and its history, and tells it that of the file: no takeover was
 /// before it.
-fn meet<R: Read, W: Write>(
+fn meet<F: Files<File = File>, R: Read, W: Write>(
     alloc: Global,
-    log: &mut GrowingLog,
+    log: &mut GrowingLog<'_, F>,
     reader: &mut R,
     writer: &mut W,
     sent: &mut Sent,
@@ -113,9 +115,9 @@ fn meet<R: Read, W: Write>(
 }
 
 /// Sends so many bytes from an offset on, and reads the answer. None of them end the session.
-fn send<R: Read, W: Write>(
+fn send<F: Files<File = File>, R: Read, W: Write>(
     alloc: Global,
-    log: &mut GrowingLog,
+    log: &mut GrowingLog<'_, F>,
     at: u64,
     count: u64,
     reader: &mut R,
@@ -144,10 +146,10 @@ fn send<R: Read, W: Write>(
 
 /// Waits until the file goes on behind an offset, and answers how long it is then. At each beat the byte
 /// in front of the offset is sent once more: the follower has it, and answers it all the same.
-fn wait_past<C: Clock, R: Read, W: Write>(
+fn wait_past<F: Files<File = File>, C: Clock, R: Read, W: Write>(
     clock: &C,
     alloc: Global,
-    log: &mut GrowingLog,
+    log: &mut GrowingLog<'_, F>,
     at: u64,
     beat: u64,
     reader: &mut R,

@@ -13,6 +13,12 @@ mod whole;
 mod visitors;
 // Who came and who went, for clauses alone.
 mod history;
+// Who came and is to ask.
+mod asker;
+// A stream of a session, of which a frame takes limited time.
+mod bounded;
+// Since when an end of a session is waited for.
+mod turn;
 // Who connects to a listener.
 mod callers;
 // Receives the sessions that a shipper meets.
@@ -21,6 +27,8 @@ mod meeting;
 mod shipping;
 // The log of a node as what is shipped.
 mod node_command;
+// Why the file of a log is no longer the one that it was.
+mod strayed;
 // A log file that may grow.
 mod growing_log;
 // A session of such a log.
@@ -28,10 +36,12 @@ mod growing_session;
 // One follower after another.
 mod lasting;
 
+pub use bounded::Bounded;
 pub use callers::Callers;
-pub use lasting::{Lasting, Sessions, ship_on};
+pub use lasting::{Lasting, Sessions, ship_node_on, ship_on};
 pub use meeting::{Meetings, Untold};
 pub use node_command::{NodeShipping, ship_node};
 pub use shipping::{Shipping, serve, serve_next, ship};
+pub use strayed::Strayed;
 pub use visitors::Visitors;
 pub use whole::read_whole;

@@ -13,6 +13,7 @@ use std::io::Write;
 use std::net::{Net, TcpListener};
 use std::rt::Files;
 use std::sync::Wait;
+use std::time::Clock;
 
 /// A node whose log is shipped, and where.
 #[derive(Clone, Copy, Debug)]
@@ -30,7 +31,7 @@ pub struct NodeShipping<'a> {
 ///
 /// Device: the folder or one of its files failed, it has no database, or another program has it.
 /// Memory: there was none for the log. Session, Stream: as `ship` says. Else as `Engine::open` says.
-pub fn ship_node<R: AllocGlobal + Files<File = File> + Net + Wait, M: Meetings, O: Write>(
+pub fn ship_node<R: AllocGlobal + Files<File = File> + Net + Wait + Clock, M: Meetings, O: Write>(
     rt: &R,
     shipping: NodeShipping<'_>,
     meetings: &mut M,
@@ -47,7 +48,7 @@ pub fn ship_node<R: AllocGlobal + Files<File = File> + Net + Wait, M: Meetings, 
 }
 
 /// The same of a folder that is held.
-fn serve_node<R: AllocGlobal + Files<File = File> + Net + Wait, M: Meetings, O: Write>(
+fn serve_node<R: AllocGlobal + Files<File = File> + Net + Wait + Clock, M: Meetings, O: Write>(
     rt: &R,
     folder: &Folder,
     shipping: NodeShipping<'_>,
@@ -59,12 +60,12 @@ fn serve_node<R: AllocGlobal + Files<File = File> + Net + Wait, M: Meetings, O: 
 {
     let mut source = source_of(rt, folder)?;
     let listener = TcpListener::bind(rt, shipping.listen)?;
-    let mut callers = Callers::new(&listener, silence(shipping.timeout));
+    let mut callers = Callers::new(rt.alloc(), &listener, rt, silence(shipping.timeout));
     serve_next(rt.alloc(), &mut source, &mut callers, meetings, output)
 }
 
 /// What the folder's node has acknowledged of its log, with its history.
-fn source_of<R: AllocGlobal + Files<File = File> + Wait>(
+pub(crate) fn source_of<R: AllocGlobal + Files<File = File> + Wait>(
     rt: &R,
     folder: &Folder,
 ) -> Result<LogBytes, Fault> {

@@ -23,6 +23,7 @@ use std::fs::File;
 use std::io::{Read, Write};
 use std::net::{Net, TcpListener};
 use std::rt::Files;
+use std::time::Clock;
 
 /// What is shipped, and where.
 #[derive(Clone, Copy, Debug)]
@@ -45,7 +46,7 @@ pub struct Shipping<'a> {
 /// the follower went away, the network failed or was silent too long. Stream: the file, the address
 /// or the output failed, or the file has more than `LOG_LIMIT` bytes. Memory: there was none for
 /// the file.
-pub fn ship<R: AllocGlobal + Files + Net, M: Meetings, O: Write>(
+pub fn ship<R: AllocGlobal + Files + Net + Clock, M: Meetings, O: Write>(
     rt: &R,
     shipping: Shipping<'_>,
     meetings: &mut M,
@@ -57,7 +58,7 @@ pub fn ship<R: AllocGlobal + Files + Net, M: Meetings, O: Write>(
     let bytes = read_whole(rt.alloc(), File::open(rt, shipping.log)?, LOG_LIMIT)?;
     let mut source = LogBytes::new(bytes)?;
     let listener = TcpListener::bind(rt, shipping.listen)?;
-    let mut callers = Callers::new(&listener, silence(shipping.timeout));
+    let mut callers = Callers::new(rt.alloc(), &listener, rt, silence(shipping.timeout));
     serve_next(rt.alloc(), &mut source, &mut callers, meetings, output)
 }
 
@@ -144,7 +145,7 @@ fn receive<S: Source, T: Read + Write + Drop, V: Visitors<T>, M: Meetings, O: Wr
             meetings.acknowledged(shipper.acknowledged());
             Ok(true)
         }
-        Err(Fault::Session(fault)) if asks_nothing(&shipper, fault) => {
+        Err(Fault::Session(fault)) if has_asked_nothing(&shipper, fault) => {
             meetings.passed_over(fault);
             Ok(false)
         }
@@ -156,14 +157,19 @@ fn receive<S: Source, T: Read + Write + Drop, V: Visitors<T>, M: Meetings, O: Wr
 }
 
 /// Did the other end ask for nothing? It was silent, went away, or sent what is no Resume frame.
-fn asks_nothing(shipper: &Shipper, fault: SessionFault) -> bool
+fn has_asked_nothing(shipper: &Shipper, fault: SessionFault) -> bool
     ensures { result ≡ true → shipper.now.begun ≡ false }
 {
-    let is_none = matches!(
+    let is_none = asks_nothing(fault);
+    is_none && !shipper.has_begun()
+}
+
+/// Whether this is said of one who asks for no log.
+pub(crate) fn asks_nothing(fault: SessionFault) -> bool {
+    matches!(
         fault,
         SessionFault::BadFrame | SessionFault::Cut | SessionFault::Stream
-    );
-    is_none && !shipper.has_begun()
+    )
 }
 
 /// Serves a follower at the other end of two streams, and then prints how many log bytes it sent.

@@ -178,10 +178,10 @@ fn holds<
 
 /// The folder's state before the takeover, and after it.
 const FOLLOWING: &str =
-    "phase=Following pages=4 end=108 ack=108 checkpoint=108 behind=0 transactions=0\n";
+    "phase=Following pages=4 end=108 ack=108 checkpoint=108 behind=0 transactions=0 capacity=1048576 left=1048468\n";
 
 const PRIMARY: &str =
-    "phase=Primary pages=4 end=108 ack=108 checkpoint=108 behind=0 transactions=0\nepoch 1 seals 108\n";
+    "phase=Primary pages=4 end=108 ack=108 checkpoint=108 behind=0 transactions=0 capacity=1048576 left=1048468\nepoch 1 seals 108\n";
 
 /// Whether what was taken over is refused as a standby, before anybody is called.
 fn follows_no_more<
