@@ -1,7 +1,7 @@
 use crate::devices::{Size, in_folder, in_memory, standby};
 use crate::session::{SessionTime, millis, session, speed};
-use als_bench_logs::{FIRST, frames};
 use als_operate::Fault;
+use als_sample_logs::{FIRST, frames};
 use std::fs::File;
 use std::io;
 use std::rt::{Clock, Files};

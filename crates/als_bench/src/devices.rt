@@ -1,6 +1,6 @@
-use als_bench_logs::PAGES;
 use als_disk::{BlockDisk, FileDisk, FirstError, MemDisk};
 use als_engine::{Config, Disks, Engine, Fault};
+use als_sample_logs::PAGES;
 use std::alloc::Global;
 use std::fs::{self, File};
 use std::io;

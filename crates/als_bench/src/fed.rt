@@ -1,8 +1,8 @@
 use crate::devices::{Size, in_memory, standby, write_all};
 use crate::redone::redo_some;
-use als_bench_logs::{FIRST, tell};
 use als_disk::{BlockDisk, MemDisk};
 use als_engine::{Engine, Fault};
+use als_sample_logs::{FIRST, tell};
 use std::io;
 use std::rt::Clock;
 use std::sync::Wait;

@@ -1,9 +1,9 @@
 use crate::devices::{Size, in_folder, in_memory, standby};
 use crate::split::Split;
 use crate::turn::{feed, force, settle, store};
-use als_bench_logs::{FIRST, tell};
 use als_disk::{BlockDisk, FileDisk, MemDisk};
 use als_engine::{Engine, Fault};
+use als_sample_logs::{FIRST, tell};
 use std::fs::File;
 use std::io;
 use std::rt::{Clock, Files};

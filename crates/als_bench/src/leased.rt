@@ -1,9 +1,9 @@
 use crate::devices::{Size, in_memory, standby};
 use crate::redone::hold_frame;
-use als_bench_logs::{FIRST, PAGES, Primary};
 use als_disk::{BlockDisk, MemDisk};
 use als_engine::{Engine, Fault};
 use als_lease::PageLease;
+use als_sample_logs::{FIRST, PAGES, Primary};
 use std::alloc::Global;
 use std::io;
 use std::rt::Clock;

@@ -9,7 +9,7 @@ use crate::restarted::restart_all;
 use crate::shipped::ship_all;
 use crate::taken_over::take_over_all;
 use crate::worked::work_all;
-use als_bench_logs::{PAGES, Primary};
+use als_sample_logs::{PAGES, Primary};
 use std::fs::File;
 use std::io;
 use std::net::{Net, TcpListener, TcpStream};

@@ -1,7 +1,7 @@
 use crate::devices::{Size, in_folder, in_memory, standby, write_all};
-use als_bench_logs::FIRST;
 use als_disk::{BlockDisk, FileDisk, MemDisk};
 use als_engine::{Engine, Fault};
+use als_sample_logs::FIRST;
 use std::fs::File;
 use std::io;
 use std::rt::{Clock, Files};

@@ -1,9 +1,9 @@
 use crate::checkpointed::{publish, write_blocks};
 use crate::devices::{Size, config, in_memory, standby};
 use crate::redone::{flush_rows, hold, redo_some};
-use als_bench_logs::FIRST;
 use als_disk::{BlockDisk, MemDisk};
 use als_engine::{Engine, Fault};
+use als_sample_logs::FIRST;
 use std::io;
 use std::rt::Clock;
 use std::sync::Wait;

@@ -1,8 +1,8 @@
 use crate::devices::{Size, in_memory, standby};
 use crate::redone::hold;
-use als_bench_logs::{FIRST, write_losers};
 use als_disk::{BlockDisk, MemDisk};
 use als_engine::{Engine, Fault};
+use als_sample_logs::{FIRST, write_losers};
 use std::io;
 use std::rt::Clock;
 use std::sync::Wait;

@@ -1,10 +1,10 @@
 use crate::devices::{Size, in_memory, standby};
 use crate::redone::hold_frame;
 use crate::session::{SessionTime, session};
-use als_bench_logs::{FIRST, Primary, frames};
 use als_disk::{BlockDisk, MemDisk};
 use als_engine::{Engine, Fault as EngineFault};
 use als_operate::Fault;
+use als_sample_logs::{FIRST, Primary, frames};
 use std::io;
 use std::rt::Clock;
 use std::sync::Wait;

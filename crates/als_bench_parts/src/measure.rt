@@ -1,5 +1,5 @@
 use crate::reading::{decode_all, judge_all, judge_pieces, receive_all, view_all};
-use als_bench_logs::{PAGES, Primary, tell};
+use als_sample_logs::{PAGES, Primary, tell};
 use std::io;
 use std::rt::Clock;
 use std::time::Instant;

@@ -1,9 +1,9 @@
 ghost use Rattle.std.specs.Prelude.{◌≡◌, true};
 ghost use Rattle.als_validator.specs.Validated.{judges};
 
-use als_bench_logs::{FIRST, PAGES};
 use als_receiver::Receiver;
 use als_record::{BodyView, Lsn, RecordView, decode, view_record};
+use als_sample_logs::{FIRST, PAGES};
 use als_validator::Validator;
 use std::alloc::Global;
 

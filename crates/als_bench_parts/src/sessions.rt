@@ -1,7 +1,7 @@
 use crate::resident::resident;
-use als_bench_logs::{FIRST, PAGES, Primary};
 use als_published_log::{Fault, PublishedLog};
 use als_record::Key;
+use als_sample_logs::{FIRST, PAGES, Primary};
 use als_view::Reader;
 use std::io;
 use std::rt::Files;

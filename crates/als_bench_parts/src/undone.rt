@@ -1,8 +1,8 @@
 use als_analysis::TransTable;
-use als_bench_logs::{PAGES, write_losers};
 use als_disk::MemDisk;
 use als_log::{Fault, LocalLog, NewLog};
 use als_record::{Record, decode};
+use als_sample_logs::{PAGES, write_losers};
 use als_takeover::next_undo;
 use std::alloc::Global;
 use std::io;

@@ -19,11 +19,12 @@ pub enum Command<'a> {
         follow: bool,
         explain: bool,
     },
-    /// The log of a folder's node to one follower.
+    /// The log of a folder's node to one follower, or to one after another.
     ShipNode {
         dir: &'a str,
         listen: &'a str,
         timeout: u64,
+        keep: bool,
         explain: bool,
     },
     /// One session as the standby of a folder, or one after another.

@@ -21,6 +21,10 @@ const READERS: u64 = 2;
 /// The seconds that the other end may be silent, where the command line does not say.
 const TIMEOUT: u64 = 60;
 
+/// What is said of words of which one is of a file, and the other of a folder.
+const PARTED: &str =
+    "the argument '--follow' cannot be used with '--dir <DIR>': a node's log does not grow while it is shipped; --keep can";
+
 /// What the words ask for, of which the first is the program's name.
 pub fn args<'a, S: AsStr>(alloc: Global, words: &'a [S]) -> Result<Command<'a>, NoCommand> {
     match parsed(alloc, words) {
@@ -39,9 +43,20 @@ fn parsed<'a, S: AsStr>(alloc: Global, words: &'a [S]) -> Result<Command<'a>, Er
 /// What the words ask a program for that knows these command lines.
 fn matched<'a, S: AsStr>(als: &mut Language<'a>, words: &'a [S]) -> Result<Command<'a>, Error> {
     let matches = als.try_get_matches_from_mut(words)?;
+    if is_parted(&matches) {
+        return Err(als.error(ErrorKind::ArgumentConflict, PARTED)?);
+    }
     match found(&matches) {
         Ok(command) => Ok(command),
         Err(lack) => Err(als.error(lack, "an argument is wanted")?),
+    }
+}
+
+/// Whether a node's log is to be shipped, and waited for to grow: nobody writes it meanwhile.
+fn is_parted(matches: &ArgMatches<'_>) -> bool {
+    match matches.subcommand() {
+        Some(("ship", ship)) => ship.get_flag("follow") && ship.get_str("dir").is_some(),
+        _ => false,
     }
 }
 
@@ -103,14 +118,11 @@ fn ship<'a>(matches: &ArgMatches<'a>) -> Option<Command<'a>> {
             explain,
         });
     };
-    // A node's log does not grow meanwhile: --keep and --follow are of a file.
-    if keep || follow {
-        return None;
-    }
     Some(Command::ShipNode {
         dir,
         listen,
         timeout,
+        keep,
         explain,
     })
 }

@@ -1,4 +1,4 @@
-// The pages of help. `./als` prints them from here where the program is not built.
+// The texts of the pages of help. `docs/help` has the pages as the program prints them, for `./als` before a build.
 
 pub const ABOUT: &str =
     "A hot standby that redoes the log which its primary ships (ARIES, continuous redo).";
@@ -84,16 +84,20 @@ pub const SHIP_HELP: &str =
     "Reads FILE whole, at most 2,147,483,648 bytes: a log text as `als make` writes it, of
 which nothing is checked but its header. Waits at ADDR, a host and a port, for a
 follower, and sends it the log from where it goes on to the end of FILE. A connection that
-asks for no log is passed over.
+asks for no log within 5 s is passed over, and holds up nobody meanwhile.
 Writes standard output: `sent=B`, the log bytes that it sent. With --explain, or on a
 terminal, standard error says what was passed over, and up to where the follower has
 acknowledged the log: no crash of it loses what is below.
 With --keep it serves one follower after another, for ever, a line for each session that came
 to the end; what ends a session early is said on standard error. With --follow a session waits
 at the end of FILE for it to grow; 44 where it shrank. With either FILE is read piece by piece.
+The file has to stay the one that it was: where it shrank, was replaced or removed or can't be
+read, standard error says so, and it ends with 44, with --keep too. One that is longer than the
+largest log is served up to there.
 With --dir in place of --log it serves the log of the node in the folder DIR, as far as no crash
-can lose it, and tells the node's history: the takeovers before it. --keep and --follow are of
-FILE alone.
+can lose it, and tells the node's history: the takeovers before it. It holds DIR meanwhile. With
+--keep it serves one follower after another, and holds DIR while it serves one alone. --follow is
+of FILE alone.
 
 Example:
   printf 'pages 4\\nu 1 0 0 - aa\\ncommit 1\\nend 1\\n' | als make > primary.log
@@ -107,7 +111,7 @@ Exit statuses: 0 done, 2 a fault of the command line, 3 `als: refused N Name`:
   42  the follower's log goes past the seal with which the history goes on
   43  the follower went away before the end
   44  FILE, ADDR, the network or standard output failed, FILE is too long, or the
-      follower was silent for longer than SECONDS
+      follower was silent, or a frame took, for longer than SECONDS
   48  the follower's history is no front of the one that is served
   With --dir also the faults of the files.";
 
@@ -116,7 +120,7 @@ pub const STANDBY_ABOUT: &str = "Follows a primary's log as the standby of a fol
 pub const STANDBY_HELP: &str =
     "Needs DIR, a folder that is there, for itself alone. Opens the database in it: log.blk,
 control.blk and pages.blk. Where there is no control.blk, it lays out an empty database of
-N pages with a log of B blocks of 512 bytes, once it is connected.
+N pages with a log of B blocks of 512 bytes, once the primary has answered.
 Redoes what was not redone, connects to ADDR, where `als ship` serves the primary's log,
 and follows it: each piece is stored, synced, acknowledged and then redone, up to the end of
 the log. After M megabytes of log (0: never), and however the session ends, the pages and a
@@ -126,8 +130,9 @@ Writes standard output: `end=E ack=A`, where the held log ends, and up to where 
 can lose it.
 To follow on, run it again: it goes on where it was left, also after a crash.
 With --keep it does so itself: after the end of the log, 43 or 44 it connects again, after a
-pause of at most 5 s; any other refusal ends it. With --explain, or on a terminal, standard
-error says once a minute at most that nothing comes.
+pause of at most 5 s, and after any other refusal, of which standard error tells, after a pause
+of 5 s to 60 s; only 21, 29, 30, 31, 33, 34, 42 and 48 end it. With --explain, or on a terminal,
+standard error says once a minute at most that nothing comes.
 With --serve it answers over HTTP: GET /keys/P/S, /status, /metrics and /health. Nothing is
 encrypted, and nobody is asked who he is.
 With --keep or --serve one thread redoes at least: --workers 0 is 1.
@@ -139,16 +144,16 @@ Example:
 Exit statuses: 0 done, 2 a fault of the command line, 3 `als: refused N Name`:
   2 to 16 a record of the primary may not follow: it is not held
   21  the database was taken over, and follows no more
-  29  the log has no room for more: B is too small
+  29  the log has no room for more: B is too small. With the largest B this database takes no
+      more: --explain says what to do
   30  DIR or a file of it failed, or another program has DIR; or control.blk is missing,
       but log.blk or pages.blk has data: nothing was touched
   34  DIR has a database of another number of pages, or a damaged one (1, 33 too)
   37  N is not 1 to 4,096, B not 1 to 4,194,304, W not 0 to 8, or R not 1 to 8; no file
       was touched
   40, 41 what came is no frame that may come
-  43  the primary went away; it does so too where its log is another or a shorter one.
-      With --keep: 1, where it does so before it has sent anything of its log, to DIR with
-      an empty database: then its log has another number of pages than N
+  43  the primary went away; it does so too where its log is another or a shorter one, or has
+      another number of pages than N
   44  nobody serves at ADDR, the network or standard output failed, or the primary was
       silent for longer than SECONDS: run it again
   42  the log in DIR goes past the takeover of the node that serves: the two parted there
@@ -232,11 +237,12 @@ pub const STATUS_ABOUT: &str = "Prints what the folder of a standby holds";
 pub const STATUS_HELP: &str =
     "Reads DIR, the folder of a standby that does not run, and changes nothing.
 Writes standard output: a line
-  phase=F pages=N end=E ack=A checkpoint=Q behind=B transactions=T
+  phase=F pages=N end=E ack=A checkpoint=Q behind=B transactions=T capacity=C left=L
 with F Following, Sealed or Primary; E, where the held log ends; A, up to where no crash can
-lose it; Q, where the log ended at the last checkpoint, 0 without one; and B, the bytes of log
-that a restart redoes. Then a line for each unended transaction, in rising TransID:
-  trans T STATE last=L undo=U      (STATE active, committed or rollback)
+lose it; Q, where the log ended at the last checkpoint, 0 without one; B, the bytes of log that
+a restart redoes; C, the bytes that the log takes at most; and L, those that it still takes. Then
+a line for each unended transaction, in rising TransID:
+  trans T STATE last=L undo=U      (STATE active, prepared, committed or rollback)
 The whole log and the checkpoint are read as a restart reads them, in a copy in memory.
 
 Example:

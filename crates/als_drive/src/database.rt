@@ -1,7 +1,7 @@
 use als_engine::{Events, Fault};
 use als_page::Page;
 use als_record::SLOT_COUNT;
-use als_script::ShownImage;
+use als_text::ShownImage;
 use std::alloc::{AllocError, Global};
 
 /// A line for each record of the database, in key order; one line `empty` where there is none.

@@ -1,6 +1,6 @@
 ghost use Rattle.std.specs.Prelude.{◌≡◌, ◌+◌, ◌<◌, ◌≤◌, OnOk, IfSome, Some};
 ghost use Rattle.als_store.specs.Stored.{acknowledged};
-ghost use Rattle.als_reach.specs.Reaching.{Reaches, ReachesFrom};
+ghost use Rattle.als_share.specs.Reaching.{Reaches, ReachesFrom};
 ghost use Rattle.als_ship.specs.Vouching.{TellsVouched};
 ghost use Rattle.als_operate.specs.Upkeep.{IsQuiet};
 ghost use Rattle.als_share.specs.Ledgers.{AreNamed};
@@ -11,9 +11,9 @@ use crate::followed::Followed;
 use crate::session::Session;
 use crate::stage::Stage;
 use als_engine::{Events, Fault as EngineFault};
-use als_handoff::HandOff;
 use als_operate::Fault;
 use als_share::{Blanks, Counts, Ledgers, settle, share};
+use als_workers::HandOff;
 use std::alloc::Global;
 use std::io::{Read, Write};
 use std::marker::Brand;

@@ -1,7 +1,7 @@
 ghost use Rattle.std.specs.Prelude.{◌≡◌, ◌+◌, ◌<◌, ◌≤◌, vec_len, vec_capacity};
 ghost use Rattle.crossbeam_channel.specs.Claims.{view};
-ghost use Rattle.als_handoff.specs.Rule.{new_pass};
-ghost use Rattle.als_handoff.specs.Passes.{IsPassOf};
+ghost use Rattle.als_workers.specs.Rule.{new_pass};
+ghost use Rattle.als_workers.specs.Passes.{IsPassOf};
 ghost use Rattle.als_ship.specs.Vouching.{TellsVouched};
 
 use crate::crew::{dismiss, seat, work};
@@ -11,9 +11,9 @@ use crate::session::Session;
 use crate::stage::Stage;
 use crate::threads::{Back, Led, checkpoint, dispatch, flush, lead};
 use als_engine::Events;
-use als_handoff::Pass;
 use als_operate::Fault;
 use als_share::{Acknowledger, Handle, Ledgers, Share};
+use als_workers::Pass;
 use std::io::{Read, Write};
 use std::sync::Wait;
 use std::thread;

@@ -1,14 +1,14 @@
 ghost use Rattle.std.specs.Prelude.{◌≡◌, ◌+◌, ◌<◌, ◌≤◌, vec_len, vec_capacity};
 ghost use Rattle.crossbeam_channel.specs.Claims.{view};
-ghost use Rattle.als_handoff.specs.Passes.{IsPassOf};
+ghost use Rattle.als_workers.specs.Passes.{IsPassOf};
 
 use crate::desk::Desk;
 use crate::refusal::{Refusal, first};
 use crate::stage::Stage;
 use crate::worker::Worker;
 use als_engine::Events;
-use als_handoff::Pass;
 use als_share::{Handle, Ledgers, Share};
+use als_workers::Pass;
 use std::sync::Wait;
 use std::thread;
 use std::thread::Threads;

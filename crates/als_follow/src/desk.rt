@@ -1,6 +1,6 @@
 use crate::bell::Bell;
 use als_record::Lsn;
-use als_run::{Gate, Point};
+use als_workers::{Gate, Point};
 use std::sync::Wait;
 use std::sync::atomic::{AtomicBool, AtomicU64, Ordering};
 

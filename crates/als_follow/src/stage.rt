@@ -1,7 +1,7 @@
 use crate::desk::Desk;
 use als_engine::Events;
-use als_handoff::HandOff;
 use als_share::{Ledgers, Shared};
+use als_workers::HandOff;
 use std::alloc::Global;
 use std::sync::Wait;
 

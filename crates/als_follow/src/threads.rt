@@ -1,6 +1,6 @@
 ghost use Rattle.std.specs.Prelude.{◌≡◌, ◌<◌};
 ghost use Rattle.crossbeam_channel.specs.Claims.{view};
-ghost use Rattle.als_handoff.specs.Passes.{IsPassOf};
+ghost use Rattle.als_workers.specs.Passes.{IsPassOf};
 ghost use Rattle.als_ship.specs.Vouching.{TellsVouched};
 
 use crate::paced::Paced;
@@ -10,11 +10,10 @@ use crate::session::Session;
 use crate::stage::Stage;
 use crate::through::Through;
 use als_engine::Events;
-use als_handoff::Pass;
 use als_record::LogHeader;
-use als_run::{Halt, checkpointer, dispatcher, flusher};
 use als_share::{Handle, Ledgers, Share};
 use als_ship::{Fault, Follower};
+use als_workers::{Halt, Pass, checkpointer, dispatcher, flusher};
 use std::io::{Read, Write};
 use std::sync::Wait;
 

@@ -3,7 +3,7 @@ ghost use Rattle.std.specs.Prelude.{◌≡◌};
 use crate::paced::Paced;
 use als_engine::{Events, Fault};
 use als_record::Lsn;
-use als_vouch::Voucher;
+use als_ship::Voucher;
 use std::sync::Wait;
 
 /// The voucher of events that are paced: it acknowledges by the events themselves.

@@ -1,13 +1,12 @@
 ghost use Rattle.std.specs.Prelude.{◌≡◌, ◌<◌};
 ghost use Rattle.crossbeam_channel.specs.Claims.{view};
-ghost use Rattle.als_handoff.specs.Passes.{IsPassOf};
+ghost use Rattle.als_workers.specs.Passes.{IsPassOf};
 
 use crate::desk::Desk;
 use crate::refusal::Refusal;
 use als_engine::{Events, Fault};
-use als_handoff::{HandOff, Pass};
-use als_run::{Ended, GhostOffers, Via, apply_worker};
 use als_ship::Fault as SessionFault;
+use als_workers::{Ended, GhostOffers, HandOff, Pass, Via, apply_worker};
 use std::sync::Wait;
 
 /// A worker: its seat at the queue of leases, its way to the engine, and why it ended early.

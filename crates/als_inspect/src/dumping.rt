@@ -4,7 +4,7 @@ use crate::telling::told;
 use als_disk::BlockDisk;
 use als_folder::Folder;
 use als_scan::{Scan, Wanted};
-use als_script::ShownRecord;
+use als_text::ShownRecord;
 use std::fs;
 use std::fs::File;
 use std::io::Write;

@@ -12,7 +12,7 @@ use als_drive::recover;
 use als_engine::Engine;
 use als_folder::Folder;
 use als_record::Key;
-use als_script::ShownImage;
+use als_text::ShownImage;
 use als_view::{Answer, Reader};
 use std::fs::File;
 use std::io::Write;

@@ -4,7 +4,7 @@ use crate::restarting::restarted;
 use als_ckpt::Phase;
 use als_engine::{Events, History};
 use als_folder::Folder;
-use als_script::ShownRow;
+use als_text::ShownRow;
 use std::alloc::Global;
 use std::fs::File;
 use std::io::Write;
@@ -13,7 +13,7 @@ use std::sync::Wait;
 
 /// Prints what the standby of a folder holds: its phase, its page count, where its log ends and up
 /// to where that is acknowledged, where its checkpoint stands and how many bytes of log lie behind
-/// it; the seals of the takeovers before it, if there are any, as `show epochs` does; and then each
+/// it, how many bytes the log takes at most, and how many more it takes; the seals of the takeovers before it, if there are any, as `show epochs` does; and then each
 /// unended transaction, as `show table` does. The folder is only read.
 ///
 /// Folder: the folder or a file of it failed, or another program has it. Stream: the output failed.
@@ -29,7 +29,8 @@ pub fn status<R: AllocGlobal + Files<File = File> + Wait, O: Write>(
     let database = database_of(rt.alloc(), &files)?;
     let (engine, readers) = restarted(rt, &files, database)?;
     drop(readers);
-    tell(rt.alloc(), &database, &engine, output)
+    let capacity = files.sizes()?.log.saturating_mul(BLOCK);
+    tell(rt.alloc(), &database, &engine, capacity, output)
 }
 
 /// Prints the state of a standby and its open transactions.
@@ -37,6 +38,7 @@ fn tell<E: Events, O: Write>(
     alloc: Global,
     database: &Database,
     events: &E,
+    capacity: u64,
     output: &mut O,
 ) -> Result<(), Fault> {
     let rows = events.table(alloc)?;
@@ -47,9 +49,10 @@ fn tell<E: Events, O: Write>(
     let behind = acknowledged.saturating_sub(position.max(FIRST));
     writeln!(
         output,
-        "phase={} pages={pages} end={end} ack={acknowledged} checkpoint={position} behind={behind} transactions={}",
+        "phase={} pages={pages} end={end} ack={acknowledged} checkpoint={position} behind={behind} transactions={} capacity={capacity} left={}",
         name_of(database.state.phase),
-        rows.len()
+        rows.len(),
+        capacity.saturating_sub(end)
     )?;
     seals(&events.history(), output)?;
     for row in rows.iter() {
@@ -70,6 +73,9 @@ fn seals<O: Write>(history: &History, output: &mut O) -> Result<(), Fault> {
     writeln!(output)?;
     Ok(())
 }
+
+/// The bytes of a block.
+const BLOCK: u64 = 512;
 
 /// Where the first record of a log stands: a restart without a checkpoint redoes from there.
 const FIRST: u64 = 16;

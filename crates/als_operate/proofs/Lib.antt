@@ -1,5 +1,3 @@
-mod Limits
-pub mod Visiting
 pub mod Keeping
 pub mod Checkpoints
 pub mod Refusing

@@ -1,7 +1,4 @@
 pub mod FaultNames
-pub mod Visits
-pub mod History
-pub mod Lines
 pub mod Upkeep
 pub mod Following
 pub mod Building

@@ -3,9 +3,9 @@ ghost use Rattle.als_disk.specs.Slot.{IsSettled};
 ghost use Rattle.als_operate.specs.FaultNames.{kind_of};
 
 use crate::fault::Fault;
-use als_ckpt::read_state;
+use als_ckpt::{Phase, read_state};
 use als_disk::{BlockDisk, FileDisk};
-use als_engine::{CONTROL_BLOCKS, Config, Disks, Engine, Reader, Refused};
+use als_engine::{CONTROL_BLOCKS, Config, Disks, Engine, Fault as EngineFault, Reader, Refused};
 use als_fault::FaultKind;
 use als_folder::{Devices, Fault as FolderFault, Folder, LOG_LIMIT, Part, Sizes, Trouble, Wrong};
 use als_record::LogHeader;
@@ -13,21 +13,17 @@ use std::fs::File;
 use std::rt::Files;
 use std::sync::Wait;
 
-/// The engine of the folder's database, or, where there is none, of a new one whose log device has
-/// so many blocks.
-pub fn start<R: AllocGlobal + Files<File = File> + Wait>(
+/// The engine of the folder's database and its readers.
+///
+/// Sealed: the database was taken over, and follows no more; its log was not read.
+pub(crate) fn open_kept<R: AllocGlobal + Files<File = File> + Wait>(
     rt: &R,
     folder: &Folder,
     config: Config,
-    log_blocks: u64,
-) -> Result<Engine<FileDisk>, Fault> {
-    if folder.is_kept(rt)? {
-        let mut devices = folder.open(rt)?;
-        devices.forget_old_log();
-        open(rt, devices, config)
-    } else {
-        begin(rt, folder, config, log_blocks)
-    }
+) -> Result<(Engine<FileDisk>, Vec<Reader>), Fault> {
+    let mut devices = folder.open(rt)?;
+    devices.forget_old_log();
+    open(rt, devices, config)
 }
 
 /// The engine of the database that these devices hold. Files that are too short for it are refused
@@ -36,15 +32,19 @@ fn open<R: AllocGlobal + Wait>(
     rt: &R,
     devices: Devices,
     config: Config,
-) -> Result<Engine<FileDisk>, Fault>
+) -> Result<(Engine<FileDisk>, Vec<Reader>), Fault>
     requires { (k : ℕ) → IsSettled (⟦<FileDisk<File> as BlockDisk>⟧.slot devices.control k) }
 {
     let mut devices = devices;
-    check_lengths(&mut devices, config.pages)?;
-    engine_or_fault(Engine::open(rt.alloc(), rt, disks(devices), config))
+    match check_lengths(&mut devices, config.pages)? {
+        Some(Phase::Sealed | Phase::Primary) => return Err(Fault::Refused(EngineFault::Sealed)),
+        Some(Phase::Following) | None => {}
+    }
+    made_or_fault(Engine::open(rt.alloc(), rt, disks(devices), config))
 }
 
-/// The engine of the folder's database, of as many pages as its log says.
+/// The engine of the folder's database, of as many pages as its log says. Nobody reads here: its reader is
+/// dropped.
 pub fn reopen<R: AllocGlobal + Files<File = File> + Wait>(
     rt: &R,
     folder: &Folder,
@@ -59,12 +59,14 @@ pub fn reopen<R: AllocGlobal + Files<File = File> + Wait>(
         pending,
         readers: 1,
     };
-    engine_or_fault(Engine::open(rt.alloc(), rt, disks(devices), config))
+    let (engine, readers) = made_or_fault(Engine::open(rt.alloc(), rt, disks(devices), config))?;
+    drop(readers);
+    Ok(engine)
 }
 
 /// Refuses files that are too short for a database of so many pages, and for the mark that its
-/// control block has.
-fn check_lengths(devices: &mut Devices, pages: u64) -> Result<(), Fault>
+/// control block has. It answers the phase that stands there, if one does.
+fn check_lengths(devices: &mut Devices, pages: u64) -> Result<Option<Phase>, Fault>
     requires { (k : ℕ) → IsSettled (⟦<FileDisk<File> as BlockDisk>⟧.slot devices.old.control k) }
 {
     let found = devices.sizes();
@@ -72,7 +74,7 @@ fn check_lengths(devices: &mut Devices, pages: u64) -> Result<(), Fault>
         return Err(damaged(Part::Control, Wrong::Short));
     }
     let Ok(count) = u32::try_from(pages) else {
-        return Ok(());
+        return Ok(None);
     };
     let control = CONTROL_BLOCKS;
     match read_state(&mut devices.control, count, LOG_LIMIT) {
@@ -85,7 +87,7 @@ fn check_lengths(devices: &mut Devices, pages: u64) -> Result<(), Fault>
             };
             match found.shorter_than(needed) {
                 Some(part) => Err(damaged(part, Wrong::Short)),
-                None => Ok(()),
+                None => Ok(Some(state.phase)),
             }
         }
         // What the files should have is not known: the engine tells what is wrong with them.
@@ -98,7 +100,7 @@ fn check_lengths(devices: &mut Devices, pages: u64) -> Result<(), Fault>
             };
             match found.shorter_than(needed) {
                 Some(_) => Err(damaged(Part::Control, Wrong::BadControl)),
-                None => Ok(()),
+                None => Ok(None),
             }
         }
     }
@@ -140,13 +142,13 @@ pub fn named(folder: &Folder, fault: Fault) -> Fault
     }
 }
 
-/// The engine of a new database. The folder has it once it is formatted.
-fn begin<R: AllocGlobal + Files<File = File> + Wait>(
+/// The engine of a new database and its readers. The folder has it once `Folder::keep` was called.
+pub(crate) fn begin<R: AllocGlobal + Files<File = File> + Wait>(
     rt: &R,
     folder: &Folder,
     config: Config,
     log_blocks: u64,
-) -> Result<Engine<FileDisk>, Fault> {
+) -> Result<(Engine<FileDisk>, Vec<Reader>), Fault> {
     let sizes = Sizes {
         log: log_blocks,
         control: CONTROL_BLOCKS,
@@ -154,9 +156,7 @@ fn begin<R: AllocGlobal + Files<File = File> + Wait>(
     };
     let mut devices = folder.lay_out(rt, sizes)?;
     devices.forget_old_log();
-    let engine = engine_or_fault(Engine::format(rt.alloc(), rt, disks(devices), config))?;
-    folder.keep(rt)?;
-    Ok(engine)
+    made_or_fault(Engine::format(rt.alloc(), rt, disks(devices), config))
 }
 
 /// The devices of a folder as an engine takes them.
@@ -169,16 +169,12 @@ fn disks(devices: Devices) -> Disks<FileDisk> {
     }
 }
 
-/// The engine, or why there is none. Nobody reads here: its readers are dropped. So are the devices
-/// on a refusal.
-fn engine_or_fault(
+/// The engine and its readers, or why there is none. The devices are dropped on a refusal.
+fn made_or_fault(
     made: Result<(Engine<FileDisk>, Vec<Reader>), Refused<FileDisk>>,
-) -> Result<Engine<FileDisk>, Fault> {
+) -> Result<(Engine<FileDisk>, Vec<Reader>), Fault> {
     match made {
-        Ok((engine, readers)) => {
-            drop(readers);
-            Ok(engine)
-        }
+        Ok(made) => Ok(made),
         Err(refused) => {
             let fault = refused.fault;
             drop(refused);

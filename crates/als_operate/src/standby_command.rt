@@ -1,15 +1,12 @@
-ghost use Rattle.std.specs.Prelude.{◌≡◌, ◌≤◌, IfOk, IfErr};
-ghost use Rattle.als_engine.specs.declared.fault.Fault.TheVariants.{BadConfig};
-ghost use Rattle.als_engine.specs.Config.{IsConfig};
-ghost use Rattle.als_operate.specs.declared.fault.Fault.TheVariants.{Refused};
-
 use crate::fault::Fault;
 use crate::following::follow;
-use crate::opening::{named, start};
-use crate::silence::{connect, silence};
+use crate::holding::{Held, hold};
+use crate::line::Line;
+use crate::opening::named;
+use crate::patience::dial;
 use als_disk::FileDisk;
 use als_drive::{Progress, recover_telling};
-use als_engine::{Config, Engine, Fault as EngineFault, LOG_BLOCK_LIMIT};
+use als_engine::Engine;
 use als_folder::Folder;
 use std::fs::File;
 use std::io::Write;
@@ -18,7 +15,7 @@ use std::rt::Files;
 use std::sync::Wait;
 
 /// Feeds are refused at this many pending changes.
-pub(crate) const PENDING: u64 = 1_000_000;
+pub const PENDING: u64 = 1_000_000;
 
 /// The bytes of a megabyte.
 const MEGABYTE: u64 = 1_048_576;
@@ -46,9 +43,9 @@ pub struct Prepared<S> {
     pub folder: Folder,
     pub engine: Engine<FileDisk>,
     /// The connection, to be read.
-    pub reader: S,
+    pub reader: Line<S>,
     /// The same connection, to be written.
-    pub writer: S,
+    pub writer: Line<S>,
     /// Log bytes from one checkpoint to the next. 0: none is taken on the way.
     pub each: u64,
 }
@@ -76,20 +73,26 @@ pub fn standby<R: AllocGlobal + Files<File = File> + Net + Wait, P: Progress, O:
 }
 
 /// Holds the folder, opens its database and redoes what it holds, and connects to the primary.
-/// Where the folder has no database, a new one is laid out, once the primary has answered.
+/// Where the folder has no database, a new one is laid out, once the primary has answered with its
+/// history.
 ///
-/// BadConfig: a number is out of its range; no file was touched. Device: the folder or one of its
-/// files failed, or another program has the folder. Stream: nobody serves at the address, or the
-/// network failed. Memory: allocation failed. Else as `Engine::open` says.
+/// As `hold` says. Stream: nobody serves at the address, or the network failed.
 pub fn prepare<R: AllocGlobal + Files<File = File> + Net + Wait, P: Progress>(
     rt: &R,
     following: Following<'_>,
     progress: &mut P,
 ) -> Result<Prepared<R::Stream>, Fault> {
-    let config = config_of(following.pages, following.log_blocks)?;
-    let folder = Folder::hold(rt, following.dir)?;
-    match prepare_in(rt, &folder, config, following, progress) {
-        Ok((engine, reader, writer)) => Ok(Prepared {
+    let Held {
+        folder,
+        mut engine,
+        readers,
+        is_new: _,
+        greeted,
+    } = hold(rt, following, 1, true)?;
+    // Nobody reads here.
+    drop(readers);
+    match connect(rt, following, &mut engine, greeted, progress) {
+        Ok((reader, writer)) => Ok(Prepared {
             folder,
             engine,
             reader,
@@ -100,30 +103,25 @@ pub fn prepare<R: AllocGlobal + Files<File = File> + Net + Wait, P: Progress>(
     }
 }
 
-/// The engine of a folder that is held, and the connection to its primary, twice. A new database is
-/// laid out only where the primary answers. One that is there is redone first, so that the primary
-/// does not wait for that.
-fn prepare_in<R: AllocGlobal + Files<File = File> + Net + Wait, P: Progress>(
+/// Redoes what the engine holds, so that the primary does not wait for that, and answers the connection
+/// to the primary, to be read and to be written: the one over which it was greeted before a new database
+/// was laid out, or else a new one.
+fn connect<R: AllocGlobal + Net + Wait, P: Progress>(
     rt: &R,
-    folder: &Folder,
-    config: Config,
     following: Following<'_>,
+    engine: &mut Engine<FileDisk>,
+    greeted: Option<(Line<R::Stream>, Line<R::Stream>)>,
     progress: &mut P,
-) -> Result<(Engine<FileDisk>, R::Stream, R::Stream), Fault> {
-    let silence = silence(following.timeout);
-    let answered = if folder.is_kept(rt)? {
-        None
-    } else {
-        Some(connect(rt, following.from, silence)?)
-    };
-    let mut engine = start(rt, folder, config, following.log_blocks)?;
-    recover_telling(rt, &mut engine, progress)?;
-    let writer = match answered {
-        Some(stream) => stream,
-        None => connect(rt, following.from, silence)?,
-    };
-    let reader = writer.try_clone()?;
-    Ok((engine, reader, writer))
+) -> Result<(Line<R::Stream>, Line<R::Stream>), Fault> {
+    recover_telling(rt, engine, progress)?;
+    match greeted {
+        Some(lines) => Ok(lines),
+        None => {
+            let writer = dial(rt, following)?;
+            let reader = writer.try_clone()?;
+            Ok((Line::new(rt.alloc(), reader), Line::new(rt.alloc(), writer)))
+        }
+    }
 }
 
 /// Prints `end=E ack=A` after a session that ended well. The refusal of one that did not is
@@ -141,24 +139,5 @@ pub fn conclude<O: Write>(
             Ok(())
         }
         Err(fault) => Err(named(folder, fault)),
-    }
-}
-
-/// The configuration that is asked for. BadConfig: a number is out of its range.
-fn config_of(pages: u64, log_blocks: u64) -> Result<Config, Fault>
-    ensures ok { IfOk result (λ config. IsConfig config × (1 ≤ log_blocks)
-        × (log_blocks ≤ 4194304)) }
-    ensures fails { IfErr result (λ f. f ≡ Refused BadConfig) }
-{
-    let config = Config {
-        pages,
-        frames: pages,
-        pending: PENDING,
-        readers: 1,
-    };
-    if config.is_valid() && (1..=LOG_BLOCK_LIMIT).contains(&log_blocks) {
-        Ok(config)
-    } else {
-        Err(Fault::Refused(EngineFault::BadConfig))
     }
 }

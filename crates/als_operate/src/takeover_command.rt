@@ -5,16 +5,24 @@ use crate::taking_over::take_over_telling;
 use als_drive::{Progress, listing};
 use als_engine::Events;
 use als_folder::Folder;
-use als_record::{TransId, TransactionState};
+use als_record::{FIRST_LSN, TransId, TransactionState};
 use std::alloc::{AllocError, Global};
 use std::fs::File;
 use std::io::Write;
 use std::rt::Files;
 use std::sync::Wait;
 
+/// What a takeover leaves to be said.
+pub struct TakenOver {
+    /// The transactions in doubt, in rising TransID.
+    pub doubts: Vec<TransId>,
+    /// The log holds no record: nothing was ever followed in the folder.
+    pub is_empty: bool,
+}
+
 /// Makes a primary of the standby of a folder, and then prints `end=E` and each record of its
-/// database. It answers the transactions that are in doubt. It may be called again after a stop: the takeover then goes on. `progress` receives
-/// the progress of its redo.
+/// database. It may be called again after a stop: the takeover then goes on. `progress` receives the
+/// progress of its redo.
 ///
 /// Device: the folder or one of its files failed, it has no database, or another program has it.
 /// Stream: the output failed. Memory: allocation failed. Else as `Engine::open` says, or the first refusal of an event.
@@ -23,10 +31,10 @@ pub fn takeover<R: AllocGlobal + Files<File = File> + Wait, P: Progress, O: Writ
     dir: &str,
     progress: &mut P,
     output: &mut O,
-) -> Result<Vec<TransId>, Fault> {
+) -> Result<TakenOver, Fault> {
     let folder = Folder::hold(rt, dir)?;
     match takeover_in(rt, &folder, progress, output) {
-        Ok(doubts) => Ok(doubts),
+        Ok(taken) => Ok(taken),
         Err(fault) => Err(named(&folder, fault)),
     }
 }
@@ -37,11 +45,13 @@ fn takeover_in<R: AllocGlobal + Files<File = File> + Wait, P: Progress, O: Write
     folder: &Folder,
     progress: &mut P,
     output: &mut O,
-) -> Result<Vec<TransId>, Fault> {
+) -> Result<TakenOver, Fault> {
     let mut engine = reopen(rt, folder, PENDING)?;
     take_over_telling(rt, &mut engine, progress)?;
     print_database(rt.alloc(), &mut engine, output)?;
-    doubts(rt.alloc(), &engine)
+    let doubts = doubts(rt.alloc(), &engine)?;
+    let is_empty = engine.status().end == FIRST_LSN;
+    Ok(TakenOver { doubts, is_empty })
 }
 
 /// Prints where the log ends, and each record of the database.

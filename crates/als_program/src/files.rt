@@ -13,13 +13,11 @@ use als_engine::Decision;
 use als_fault::FaultKind;
 use als_folder::Trouble;
 use als_follow::standby as standby_with_workers;
-use als_growing::{Lasting, ship_on};
 use als_inspect::{Wanted, dump, get, status, verify};
-use als_operate::{
-    Following, NodeShipping, Shipping, Verdict, resolve, ship, ship_node, standby, takeover,
-};
+use als_operate::{Following, TakenOver, Verdict, resolve, standby, takeover};
 use als_record::{Key, Lsn, TransId};
 use als_service::{Service, standby as serve_standby};
+use als_shipper::{Lasting, NodeShipping, Shipping, ship, ship_node, ship_node_on, ship_on};
 use std::fs;
 use std::fs::File;
 use std::io::Write;
@@ -130,6 +128,7 @@ fn attempt<
             dir,
             listen,
             timeout,
+            keep,
             explain,
         } => {
             let shipping = NodeShipping {
@@ -138,7 +137,11 @@ fn attempt<
                 timeout,
             };
             let mut lines = MeetingLines::new(errors, seen || explain);
-            ship_node(rt, shipping, &mut lines, output)?
+            if keep {
+                ship_node_on(rt, shipping, &mut lines, output)?
+            } else {
+                ship_node(rt, shipping, &mut lines, output)?
+            }
         }
         Command::Standby {
             dir,
@@ -176,7 +179,10 @@ fn attempt<
         }
         Command::Takeover { dir, .. } => {
             let mut lines = RedoLines::new(&mut *errors, seen, false);
-            let doubts = takeover(rt, dir, &mut lines, output)?;
+            let TakenOver { doubts, is_empty } = takeover(rt, dir, &mut lines, output)?;
+            if is_empty {
+                tell_emptiness(dir, output, errors)?;
+            }
             tell_doubts(dir, doubts.as_slice(), output, errors)?
         }
         Command::Resolve {
@@ -255,6 +261,26 @@ fn workers_of(workers: u64) -> Result<usize, Refusal> {
         });
     }
     Ok(workers as usize)
+}
+
+/// Says that a takeover was one of nothing, behind what was printed.
+fn tell_emptiness<O: Write, E: Write>(
+    dir: &str,
+    output: &mut O,
+    errors: &mut E,
+) -> Result<(), Refusal> {
+    if output.flush().is_err() {
+        return Err(Refusal {
+            kind: FaultKind::Stream,
+            trouble: None,
+        });
+    }
+    // Where it can't be said, what was printed says it too.
+    let _ = writeln!(
+        errors,
+        "als: {dir} holds no record: nothing was ever followed there"
+    );
+    Ok(())
 }
 
 /// A line for each transaction that is in doubt, behind what was printed.

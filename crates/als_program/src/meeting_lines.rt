@@ -1,7 +1,7 @@
-use als_growing::Sessions;
-use als_operate::Meetings;
+use als_operate::Fault as FolderFault;
 use als_record::Lsn;
 use als_ship::Fault;
+use als_shipper::{Meetings, Sessions, Strayed};
 use std::io::Write;
 
 /// Says whom a shipper passed over, and how far its follower got.
@@ -47,5 +47,16 @@ impl<W: Write> Meetings for MeetingLines<W> {
 impl<W: Write> Sessions for MeetingLines<W> {
     fn ended(&mut self, fault: Fault) {
         let _ = writeln!(self.errors, "als: a session ended early: {fault}");
+    }
+
+    fn strayed(&mut self, why: Strayed) {
+        let _ = writeln!(self.errors, "als: the log file {}", why.words());
+    }
+
+    fn closed(&mut self, fault: FolderFault) {
+        let _ = writeln!(
+            self.errors,
+            "als: a follower came, and the folder gave no log: {fault}"
+        );
     }
 }

@@ -89,4 +89,19 @@ impl<W: Write> Outages for RedoLines<W> {
             ),
         };
     }
+
+    // What is refused, or may be a wrong option, is said to everybody: the standby goes on.
+    fn refusal(&mut self, fault: Fault, millis: u64) {
+        let _ = writeln!(
+            self.errors,
+            "als: what the primary sends is refused: {fault}; it is asked again in {millis} ms"
+        );
+    }
+
+    fn hang_ups(&mut self, count: u32) {
+        let _ = writeln!(
+            self.errors,
+            "als: the primary hung up at once, {count} times in a row; one possible cause is that its log has another number of pages than --pages says"
+        );
+    }
 }

@@ -1,4 +1,4 @@
-//! What scripts and record lines say, and how a held record is shown.
+//! What scripts and record lines say.
 #![tactic(auto)]
 
 // A line's words.
@@ -33,12 +33,6 @@ mod forms;
 mod wanted;
 // Why a line is bad.
 mod explaining;
-// A held image as text.
-mod shown_image;
-// A held record as text.
-mod shown_record;
-// A row of the transaction table as text.
-mod shown_row;
 
 pub use combined_line::CombinedLine;
 pub use commands::{is_command, line_number, number_past};
@@ -52,9 +46,6 @@ pub use line::Line;
 pub use read_line::ReadLine;
 pub use record_line::parse_record;
 pub use show_line::ShowLine;
-pub use shown_image::ShownImage;
-pub use shown_record::ShownRecord;
-pub use shown_row::ShownRow;
 pub use step_line::StepLine;
 pub use wanted::Wanted;
 pub use words::Words;

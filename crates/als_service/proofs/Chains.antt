@@ -1,10 +1,15 @@
--- A run of events behind another one.
-use Rattle.std.proofs.Common.{List}
+-- A run of events behind another one, and one of a single event.
+use Rattle.std.proofs.Common.{List, Result, Ok, Err}
+use Rattle.als_engine.specs.declared.fault.Fault.{Fault}
 use Rattle.als_engine.specs.declared.step.Step.{Step}
+use Rattle.als_engine.specs.declared.step.Step.TheVariants as step
 use Rattle.als_engine.specs.declared.step.Reply.{Reply}
-use Rattle.als_engine.specs.Machine.{Machine}
-use Rattle.als_reach.specs.Reaching.{Run, Begins, Goes, Lending, Giving, Queries, Reaches}
-use Rattle.als_reach.proofs.Reached.{reaches-none, reaches-event, reaches-lend, reaches-give, reaches-query}
+use Rattle.als_engine.specs.declared.step.Reply.TheVariants as reply
+use Rattle.als_engine.specs.Events.{Resyncs}
+use Rattle.als_engine.specs.Machine.{Machine, Keeps}
+use Rattle.als_engine.specs.Telling.{Stands}
+use Rattle.als_share.specs.Reaching.{Run, Begins, Goes, Lending, Giving, Queries, Reaches}
+use Rattle.als_share.proofs.Reached.{reaches-none, reaches-event, reaches-lend, reaches-give, reaches-query}
 
 pub reaches_self : (m : Machine) → Reaches m m
 reaches_self m = reaches-none m
@@ -22,3 +27,9 @@ reaches_run a b _ _ _ r (Queries events replies mid run new asks) =
 
 pub reaches_both : (a b c : Machine) → Reaches a b → Reaches b c → Reaches a c
 reaches_both a b c r s = reaches_run a b c s.events s.replies r s.run
+
+pub reaches_resync : (old new : Machine) (answer : Result (Unit {0}) Fault) → Resyncs old answer new → Keeps old new → Stands new → Reaches old new
+reaches_resync old new (Ok tt) acts keeps stands =
+    reaches-event old old step.Resync reply.Done new (reaches-none old) (record { steps = acts; keeps = keeps; stands = stands })
+reaches_resync old new (Err fault) acts keeps stands =
+    reaches-event old old step.Resync (reply.Refused fault) new (reaches-none old) (record { steps = acts; keeps = keeps; stands = stands })

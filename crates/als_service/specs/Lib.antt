@@ -1,4 +1,5 @@
 pub mod Pauses
 pub mod Losses
+pub mod Endings
 pub mod Sessions
 pub mod Met

@@ -1,12 +1,12 @@
 ghost use Rattle.std.specs.Prelude.{◌≡◌};
 
-use als_standing::{Board, State};
+use als_http::Board;
 use std::io;
 use std::io::Read;
 use std::time::Clock;
 
-/// What a primary sends. The board records that something came, and when it last did. A connection
-/// alone proves nothing: the system accepts it also for a primary that is frozen.
+/// What a primary sends. The board records that something came, which waits for its acknowledgement
+/// then. A connection alone proves nothing: the system accepts it also for a primary that is frozen.
 pub(crate) struct Heard<'a, I, C> {
     stream: I,
     board: &'a Board,
@@ -55,14 +55,13 @@ impl<'a, I, C> Heard<'a, I, C> {
 }
 
 impl<I: Read, C: Clock> Read for Heard<'_, I, C> {
+    ghost remaining = { λ heard. I.remaining heard.stream };
+
     fn read(&mut self, into: &mut [u8]) -> io::Result<usize> {
         match self.stream.read(into) {
             Ok(count) => {
                 if count > 0 {
-                    if self.is_silent {
-                        self.is_silent = false;
-                        self.board.set_state(State::Following);
-                    }
+                    self.is_silent = false;
                     self.board.note_frame(self.clock);
                 }
                 Ok(count)

@@ -1,29 +1,26 @@
-ghost use Rattle.std.specs.Prelude.{◌≡◌, false};
+ghost use Rattle.std.specs.Prelude.{◌≡◌};
 ghost use Rattle.als_store.specs.Stored.{acknowledged};
 ghost use Rattle.als_engine.specs.Telling.{Stands};
-ghost use Rattle.als_reach.specs.Reaching.{Reaches};
-ghost use Rattle.als_service.specs.Sessions.{VouchesAll, VouchesLast};
+ghost use Rattle.als_share.specs.Reaching.{Reaches};
+ghost use Rattle.als_service.specs.Sessions.{VouchesAll, EndsLast};
 ghost use Rattle.als_service.specs.Losses.{IsLost};
 
-use crate::heard::Heard;
+use crate::ending::{final_fault, is_refusal};
+use crate::next_session::{Turn, follow_next};
+use crate::notices::Notices;
 use crate::outages::Outages;
 use crate::pause::Pause;
 use crate::primaries::Primaries;
-use als_follow::{Followed, follow_beside};
+use als_http::{Board, State};
 use als_operate::Fault;
 use als_record::Lsn;
 use als_share::Counts;
-use als_ship::Fault as SessionFault;
-use als_standing::{Board, State};
 use std::alloc::Global;
 use std::io::{Read, Write};
 use std::sync::Wait;
 use std::thread;
 use std::thread::Threads;
 use std::time::{Clock, Duration};
-
-/// Where a log ends that has its header alone.
-const HEADER: u64 = 16;
 
 /// With how many workers a session is followed, and with a checkpoint each so many bytes of log (0:
 /// none on the way).
@@ -41,8 +38,9 @@ pub struct Kept<E, F> {
 
 /// Follows one session after another over the same events. After the end of the primary's log, and
 /// after a connection that was lost, it connects again: at once after a session that brought
-/// something, else after a pause. Any other refusal ends it.
-#[tactic(auto, using(crate::proofs::Chains::reaches_self, crate::proofs::Chains::reaches_both, crate::proofs::Vouched::vouches_none, crate::proofs::Vouched::vouches_more))]
+/// something, else after a pause. After a refusal it asks again for what was refused, after a longer
+/// pause. Only what asking again can't mend ends it.
+#[tactic(auto, using(crate::proofs::Chains::reaches_self, crate::proofs::Chains::reaches_both, crate::proofs::Vouched::vouches_none, crate::proofs::Vouched::vouches_more, crate::proofs::Endings::goes_on_none, crate::proofs::Endings::goes_on_more, crate::proofs::Endings::ends_last, crate::proofs::Endings::final_is_not_lost))]
 pub fn keep_following<
     E: Counts + Send + Drop,
     R: Threads + Wait + Sync + Clock,
@@ -64,36 +62,35 @@ pub fn keep_following<
     // Each LSN that its primary was answered in any session is acknowledged in the end.
     ensures vouched { E.alone → VouchesAll (acknowledged (E.machine result.events).held)
         (L.met primaries.old) (L.met primaries.new) }
+    // What ends it is how the last session ended, with a fault that asking again can't mend. Each
+    // session before it was followed to its end, and each connection that was given is one.
+    ensures last { EndsLast result.ended (L.met primaries.old) (L.met primaries.new) }
     // A lost connection does not end it.
     ensures ended { IsLost result.ended → ⊥ }
 {
     let mut held = events;
     let mut pause = Pause::new();
+    let mut notices = Notices::new();
     for _ in rt.forever() {
         let before = position(&held);
-        let Kept {
+        let Turn {
             events: back,
             ended,
+            is_hang_up,
         } = follow_next(rt, alloc, held, pace, primaries, board);
         held = back;
-        let why = match ended {
-            Some(Ok(())) => None,
-            Some(Err(fault)) => {
-                if !is_lost(fault) {
-                    return Kept {
-                        events: held,
-                        ended: fault,
-                    };
-                }
-                Some(fault)
-            }
-            None => None,
-        };
-        board.set_state(State::Waiting);
+        note(board, ended);
+        if let Some(fault) = final_fault(ended) {
+            return Kept {
+                events: held,
+                ended: fault,
+            };
+        }
         if position(&held).0 > before.0 {
             pause.begin_again();
         }
-        wait(rt, &mut pause, why, outages);
+        notices.hang_up(rt, is_hang_up, outages);
+        rest(rt, &mut pause, &mut notices, ended, board, outages);
     }
     unreachable!()
 }
@@ -105,88 +102,47 @@ fn position<E: Counts>(events: &E) -> Lsn
     events.status().end
 }
 
-/// Whether the connection was lost, or there was none.
-fn is_lost(fault: Fault) -> bool
-    ensures { result ≡ false → IsLost fault → ⊥ }
-{
-    matches!(
-        fault,
-        Fault::Stream | Fault::Session(SessionFault::Cut | SessionFault::Stream)
-    )
-}
-
 /// Waits before the primary is asked again.
-fn wait<C: Clock, N: Outages>(clock: &C, pause: &mut Pause, why: Option<Fault>, outages: &mut N) {
-    let millis = pause.next();
-    if millis > 0 {
-        if pause.is_told(clock) {
-            outages.outage(why, millis);
+fn rest<C: Clock, N: Outages>(
+    clock: &C,
+    pause: &mut Pause,
+    notices: &mut Notices,
+    ended: Option<Result<(), Fault>>,
+    board: &Board,
+    outages: &mut N,
+) {
+    let millis = match ended {
+        Some(Err(fault)) if is_refusal(fault) => {
+            board.set_state(State::Refusing);
+            let millis = pause.next_refused();
+            notices.refusal(clock, fault, millis, outages);
+            millis
         }
+        _ => {
+            board.set_state(State::Waiting);
+            let millis = pause.next();
+            if millis > 0 {
+                notices.outage(clock, why(ended), millis, outages);
+            }
+            millis
+        }
+    };
+    if millis > 0 {
         thread::sleep(clock, Duration::from_millis(millis));
     }
 }
 
-/// Connects to the primary and follows one session. None: a thread could not be started, or allocation
-/// failed, and no frame was asked for.
-// What calls it stays small: clang does not come to an end over both in one function.
-#[inline(never)]
-#[tactic(auto, using(crate::proofs::Chains::reaches_self, crate::proofs::Vouched::vouches_last))]
-fn follow_next<
-    E: Counts + Send + Drop,
-    R: Threads + Wait + Sync + Clock,
-    S: Read + Write + Drop,
-    L: Primaries<S>,
->(
-    rt: &R,
-    alloc: Global,
-    events: E,
-    pace: Pace,
-    primaries: &mut L,
-    board: &Board,
-) -> Kept<E, Option<Result<(), Fault>>>
-    ensures reached { E.alone → Reaches (E.machine events) (E.machine result.events) }
-    ensures book { E.book result.events ≡ E.book events }
-    // Each LSN that its primary was answered is acknowledged then.
-    ensures vouched { E.alone → VouchesLast (acknowledged (E.machine result.events).held)
-        (L.met primaries.old) (L.met primaries.new) }
-{
-    match primaries.next() {
-        Ok((reader, writer)) => {
-            let Followed {
-                engine,
-                reader,
-                writer,
-                ended,
-            } = follow_beside(
-                rt,
-                alloc,
-                events,
-                pace.workers,
-                pace.each,
-                Heard::new(reader, board, rt),
-                writer,
-            );
-            let is_refused = reader.is_silent() && position(&engine).0 <= HEADER;
-            primaries.part(reader.end(), writer);
-            Kept {
-                events: engine,
-                ended: understood(ended, is_refused),
-            }
-        }
-        Err(e) => Kept {
-            events,
-            ended: Some(Err(Fault::from(e))),
-        },
+/// Counts a session that a fault has ended.
+fn note(board: &Board, ended: Option<Result<(), Fault>>) {
+    if let Some(fault) = why(ended) {
+        board.note_failure(u64::from(fault.number()));
     }
 }
 
-/// What ended a session, of which nothing came where a standby asked that holds no record. A primary
-/// that hangs up on that question has a log of another number of pages: it has no other way to say so.
-fn understood(ended: Option<Result<(), Fault>>, is_refused: bool) -> Option<Result<(), Fault>> {
+/// Why nobody sends.
+fn why(ended: Option<Result<(), Fault>>) -> Option<Fault> {
     match ended {
-        Some(Err(Fault::Session(SessionFault::Cut))) if is_refused => {
-            Some(Err(Fault::Session(SessionFault::BadHeader)))
-        }
-        _ => ended,
+        Some(Err(fault)) => Some(fault),
+        _ => None,
     }
 }

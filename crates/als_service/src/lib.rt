@@ -11,14 +11,22 @@
 mod telling;
 // A stream that tells a board when something came.
 mod heard;
+// What a primary is told.
+mod answered;
 // How long is waited before a primary is asked again.
 mod pause;
-// Receives the times in which nobody sends.
+// Receives why a standby waits.
 mod outages;
+// What was reported of a primary that is waited for.
+mod notices;
+// Which ends of a session end all.
+mod ending;
 // Which sessions there were, for clauses alone.
 mod met;
 // The connections to a primary, one after another.
 mod primaries;
+// The next session.
+mod next_session;
 // One session after another.
 mod keeping;
 // A thread for each reader.

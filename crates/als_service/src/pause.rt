@@ -1,7 +1,5 @@
 ghost use Rattle.std.specs.Prelude.{◌≡◌};
-ghost use Rattle.als_service.specs.Pauses.{next_pause};
-
-use std::time::{Clock, Duration};
+ghost use Rattle.als_service.specs.Pauses.{next_pause, next_refusal};
 
 /// The shortest pause, in milliseconds.
 const SHORT: u64 = 100;
@@ -9,32 +7,39 @@ const SHORT: u64 = 100;
 /// The longest one.
 const LONG: u64 = 5_000;
 
-/// A pause is reported at most once in this many seconds.
-const TOLD: u64 = 60;
+/// The shortest pause after a refusal.
+const REFUSED: u64 = 5_000;
 
-/// How long is waited before the primary is asked again, and when that was last told.
+/// The longest one.
+const REFUSED_LONG: u64 = 60_000;
+
+/// How long is waited before the primary is asked again.
 #[derive(Drop)]
 pub(crate) struct Pause {
     millis: u64,
-    told: Option<Duration>,
+    /// The pause after the last refusal.
+    refused: u64,
 }
 
 impl Pause {
     /// At first it is asked at once.
     pub fn new() -> Pause
-        ensures { result.millis ≡ 0 }
+        ensures at_once { result.millis ≡ 0 }
+        ensures unrefused { result.refused ≡ 0 }
     {
         Pause {
             millis: 0,
-            told: None,
+            refused: 0,
         }
     }
 
-    /// The primary sent something: the next time it is asked at once again.
+    /// The primary sent something new: the next time it is asked at once again.
     pub fn begin_again(&mut self)
-        ensures { self.new.millis ≡ 0 }
+        ensures at_once { self.new.millis ≡ 0 }
+        ensures unrefused { self.new.refused ≡ 0 }
     {
         self.millis = 0;
+        self.refused = 0;
     }
 
     /// So many milliseconds are waited now; the next time twice as many, up to the longest pause.
@@ -53,18 +58,21 @@ impl Pause {
         millis
     }
 
-    /// Whether this pause is to be reported. It is not where the clock can't be read.
-    pub fn is_told<C: Clock>(&mut self, clock: &C) -> bool {
-        let Ok(now) = clock.monotonic() else {
-            return false;
+    /// So many milliseconds are waited after a refusal: the first time the shortest pause of these, then
+    /// twice as many each time, up to the longest one.
+    pub fn next_refused(&mut self) -> u64
+        ensures now { result ≡ next_refusal self.old.refused }
+        ensures then { self.new.refused ≡ result }
+    {
+        let before = self.refused;
+        let millis = if before < REFUSED {
+            REFUSED
+        } else if before < REFUSED_LONG / 2 {
+            before * 2
+        } else {
+            REFUSED_LONG
         };
-        let is_due = match self.told {
-            Some(before) => now.saturating_sub(before) >= Duration::from_secs(TOLD),
-            None => true,
-        };
-        if is_due {
-            self.told = Some(now);
-        }
-        is_due
+        self.refused = millis;
+        millis
     }
 }

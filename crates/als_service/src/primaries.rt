@@ -1,80 +1,116 @@
 ghost use Rattle.std.specs.Prelude.{◌≡◌, List, IfOk, IfErr};
-ghost use Rattle.als_service.specs.Sessions.{Session, begins, ends};
+ghost use Rattle.als_service.specs.Sessions.{Session, begins, ends, refuses};
 ghost use Rattle.als_service.specs.Met.{sessions_of};
 
 use crate::met::Met;
-use als_holding::dial;
-use als_operate::Following;
-use std::io;
+use als_folder::Folder;
+use als_operate::{Fault, Following, Line, call, dial};
+use std::fs::File;
 use std::io::{Read, Write};
 use std::net::{Net, OpenStream};
+use std::rt::Files;
 
 /// The connections to a primary, one after another.
 pub trait Primaries<S: Read + Write> {
-    /// The sessions with it, the last one first: what was written to each.
+    /// The sessions with it, the last one first: what was written in each, and how it ended.
     ghost met: { Self → List Session };
 
     /// The next connection, twice: to be read, and to be written.
-    fn next(&mut self) -> io::Result<(S, S)>
+    fn next(&mut self) -> Result<(S, S), Fault>
         ensures begins { IfOk result (λ streams. met self.new
             ≡ begins (S.contents streams.1) (met self.old)) }
-        ensures none { IfErr result (λ _. met self.new ≡ met self.old) };
+        ensures none { IfErr result (λ fault. met self.new ≡ refuses fault (met self.old)) };
 
-    /// The last one has ended: it is closed.
-    fn part(&mut self, reader: S, writer: S)
-        ensures ends { met self.new ≡ ends (S.contents writer) (met self.old) };
+    /// The last one has ended so: it is closed.
+    fn part(&mut self, reader: S, writer: S, ended: Option<Result<(), Fault>>)
+        ensures ends { met self.new ≡ ends (S.contents writer) ended (met self.old) };
 }
 
 /// The connections to the primary of a standby.
-pub(crate) struct Dialled<'a, R, S> {
+pub(crate) struct Dialled<'a, R: Net> {
     rt: &'a R,
     following: Following<'a>,
-    /// The first one, where it stands.
-    answered: Option<S>,
-    met: Met<S>,
+    /// The folder, as long as it has no database: it has one once a primary has answered.
+    unkept: Option<&'a Folder>,
+    /// The first connection, where it stands.
+    greeted: Option<(Line<R::Stream>, Line<R::Stream>)>,
+    met: Met<Line<R::Stream>>,
 }
 
-impl<R, S: Drop> Drop for Dialled<'_, R, S> {
+impl<R: Net> Drop for Dialled<'_, R> {
     fn drop(self) {
         let Dialled {
             rt: _,
             following: _,
-            answered,
+            unkept: _,
+            greeted,
             met,
         } = self;
-        drop(answered);
+        drop(greeted);
         drop(met);
     }
 }
 
-impl<'a, R, S> Dialled<'a, R, S> {
-    pub fn new(rt: &'a R, following: Following<'a>, answered: Option<S>) -> Dialled<'a, R, S> {
+impl<'a, R: AllocGlobal + Files<File = File> + Net> Dialled<'a, R> {
+    pub fn new(
+        rt: &'a R,
+        following: Following<'a>,
+        unkept: Option<&'a Folder>,
+        greeted: Option<(Line<R::Stream>, Line<R::Stream>)>,
+    ) -> Dialled<'a, R> {
         Dialled {
             rt,
             following,
-            answered,
+            unkept,
+            greeted,
             met: Met::Nobody,
         }
     }
+
+    /// The next connection. Where the folder has no database, the primary is asked for its history, and
+    /// once that came the folder has the new one.
+    fn connect(&mut self) -> Result<(Line<R::Stream>, Line<R::Stream>), Fault> {
+        if let Some(lines) = self.greeted.take() {
+            return Ok(lines);
+        }
+        if let Some(folder) = self.unkept {
+            let lines = call(self.rt, self.following)?;
+            folder.keep(self.rt)?;
+            self.unkept = None;
+            return Ok(lines);
+        }
+        let writer = dial(self.rt, self.following)?;
+        let reader = writer.try_clone()?;
+        let alloc = self.rt.alloc();
+        Ok((Line::new(alloc, reader), Line::new(alloc, writer)))
+    }
 }
 
-impl<R: Net<Stream = S>, S: Read + Write + OpenStream + Drop> Primaries<S> for Dialled<'_, R, S> {
+impl<R: AllocGlobal + Files<File = File> + Net> Primaries<Line<R::Stream>> for Dialled<'_, R> {
     ghost use Rattle.als_service.specs.Met.{sessions_of};
 
-    ghost met = { λ dialled. sessions_of S.contents dialled.met };
+    ghost met = { λ dialled. sessions_of (Line (R.Stream)).contents dialled.met };
 
-    fn next(&mut self) -> io::Result<(S, S)> {
-        let writer = match self.answered.take() {
-            Some(stream) => stream,
-            None => dial(self.rt, self.following)?,
-        };
-        let reader = writer.try_clone()?;
-        self.met.begin(&writer);
-        Ok((reader, writer))
+    fn next(&mut self) -> Result<(Line<R::Stream>, Line<R::Stream>), Fault> {
+        match self.connect() {
+            Ok((reader, writer)) => {
+                self.met.begin(&writer);
+                Ok((reader, writer))
+            }
+            Err(fault) => {
+                self.met.refuse(fault);
+                Err(fault)
+            }
+        }
     }
 
-    fn part(&mut self, reader: S, writer: S) {
-        self.met.end(&writer);
+    fn part(
+        &mut self,
+        reader: Line<R::Stream>,
+        writer: Line<R::Stream>,
+        ended: Option<Result<(), Fault>>,
+    ) {
+        self.met.end(&writer, ended);
         drop(reader);
         drop(writer);
     }

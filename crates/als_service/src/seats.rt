@@ -1,8 +1,6 @@
-use als_answers::Answering;
 use als_engine::Reader;
+use als_http::{Answering, Board, Servers, Watch};
 use als_operate::Fault;
-use als_serve::Servers;
-use als_standing::{Board, Watch};
 use std::alloc::{AllocError, Global};
 use std::net::TcpListener;
 use std::random::RandomSource;

@@ -1,3 +1,4 @@
+use crate::answered::Answered;
 use crate::heard::Heard;
 use crate::keeping::{Kept, Pace, keep_following};
 use crate::outages::Outages;
@@ -5,13 +6,12 @@ use crate::primaries::{Dialled, Primaries};
 use crate::seats::{new_board, serve_reads};
 use crate::telling::Telling;
 use als_drive::{Progress, recover_telling};
-use als_engine::Reader;
+use als_engine::{Events, Reader};
+use als_folder::Folder;
 use als_follow::{Followed, follow_beside};
-use als_holding::{Held, hold};
-use als_operate::{Fault, Following, conclude, follow};
-use als_serve::{Servers, listen};
+use als_http::{Board, Servers, State, listen};
+use als_operate::{Fault, Following, Held, conclude, follow, hold};
 use als_share::Counts;
-use als_standing::{Board, State};
 use std::alloc::Global;
 use std::fs::File;
 use std::io::{Read, Write};
@@ -24,6 +24,9 @@ use std::time::Clock;
 
 /// The bytes of a megabyte.
 const MEGABYTE: u64 = 1_048_576;
+
+/// The bytes of a block.
+const BLOCK: u64 = 512;
 
 /// What a standby does beside following one session.
 #[derive(Clone, Copy, Debug)]
@@ -42,8 +45,8 @@ pub struct Service<'a> {
 /// then prints `end=E ack=A`. Its reads are answered from the moment that its folder is held: 503 until
 /// what that holds is redone.
 ///
-/// As `als_operate::prepare` says. Stream: the address can't be listened at, and no file was touched; or
-/// the primary does not answer. Then as a session ends; with `keep` a lost connection does not end it.
+/// As `als_operate::hold` says. Stream: the address can't be listened at, and no file was touched; or
+/// the primary does not answer. Then as a session ends; with `keep` only by what asking again can't mend.
 pub fn standby<
     R: AllocGlobal
         + Files<File = File>
@@ -70,8 +73,9 @@ pub fn standby<
         Some(addr) => Some(listen(rt, rt.alloc(), addr)?),
         None => None,
     };
-    // A standby that is kept waits for its primary, also the first time.
-    let held = hold(rt, following, service.readers, !service.keep)?;
+    // A standby that is kept waits for its primary, also the first time: until that has answered, the
+    // folder has no database.
+    let held = hold(rt, following, seats(service.readers), !service.keep)?;
     let pace = Pace {
         workers: service.workers,
         each: following.checkpoint_mb.saturating_mul(MEGABYTE),
@@ -86,6 +90,22 @@ pub fn standby<
         progress,
         output,
     )
+}
+
+/// A reader for each of so many threads, and one for the thread that is spare. Of eight one is spare.
+fn seats(readers: u64) -> u64 {
+    if (1..=7).contains(&readers) {
+        readers + 1
+    } else {
+        readers
+    }
+}
+
+/// Bytes that the log of a folder takes at most. None: its files can't be read.
+fn capacity_of<R: AllocGlobal + Files<File = File>>(rt: &R, folder: &Folder) -> Option<u64> {
+    let files = folder.open_to_read(rt).ok()?;
+    let sizes = files.sizes().ok()?;
+    Some(sizes.log.saturating_mul(BLOCK))
 }
 
 /// Answers reads and follows, over a folder that is held.
@@ -118,10 +138,15 @@ fn stand<
         folder,
         engine,
         readers,
-        answered,
+        is_new,
+        greeted,
     } = held;
     let (board, servers) = answer(rt, listener, readers)?;
-    let mut primaries = Dialled::new(rt, following, answered);
+    if let Some(bytes) = capacity_of(rt, &folder) {
+        board.set_capacity(bytes);
+    }
+    let unkept = if is_new { Some(&folder) } else { None };
+    let mut primaries = Dialled::new(rt, following, unkept, greeted);
     let Kept {
         events: engine,
         ended,
@@ -183,6 +208,7 @@ fn drive<
             ended: Err(fault),
         };
     }
+    board.set_epoch(u64::from(events.history().epoch()));
     board.set_state(State::Waiting);
     if keep {
         let Kept { events, ended } = keep_following(
@@ -218,25 +244,26 @@ fn follow_once<
     let alloc = rt.alloc();
     let (reader, writer) = match primaries.next() {
         Ok(streams) => streams,
-        Err(e) => {
+        Err(fault) => {
             return Kept {
                 events,
-                ended: Err(Fault::from(e)),
+                ended: Err(fault),
             };
         }
     };
     let heard = Heard::new(reader, board, rt);
+    let answered = Answered::new(writer, board);
     let Followed {
         mut engine,
         mut reader,
         mut writer,
         ended,
-    } = follow_beside(rt, alloc, events, pace.workers, pace.each, heard, writer);
+    } = follow_beside(rt, alloc, events, pace.workers, pace.each, heard, answered);
     let ended = match ended {
         Some(ended) => ended,
         None => follow(rt, alloc, &mut engine, pace.each, &mut reader, &mut writer),
     };
-    primaries.part(reader.end(), writer);
+    primaries.part(reader.end(), writer.end(), Some(ended));
     Kept {
         events: engine,
         ended,

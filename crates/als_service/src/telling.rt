@@ -4,10 +4,10 @@ use als_engine::{
     Decision, Events, Fault, Fed, FeedFault, NotGiven, PageLease, State as EngineState, Status,
 };
 use als_epochs::History;
+use als_http::{Board, State};
 use als_page::Page;
 use als_record::{LoggedPage, Lsn, Record, TransId, TransactionRow};
 use als_share::Counts;
-use als_standing::{Board, State};
 use als_view::Told;
 use std::alloc::Global;
 use std::sync::Wait;

@@ -26,8 +26,8 @@ use Rattle.als_engine.specs.Leases.{Recalls, Lends, Gives}
 use Rattle.als_engine.specs.Publishing.{PublishesView}
 use Rattle.als_engine.specs.Readiness.{Readies}
 use Rattle.als_engine.specs.Takeover.{Adopts, Seals, UndoesOneOf, ResolvesOf, Finishes}
-use Rattle.als_reach.specs.Reaching.{Makes, MakesLend, MakesGive, Asks, ReachesFrom}
-use Rattle.als_reach.proofs.Reached.{from-event, from-lend, from-give, from-query}
+use Rattle.als_share.specs.Reaching.{Makes, MakesLend, MakesGive, Asks, ReachesFrom}
+use Rattle.als_share.proofs.Reached.{from-event, from-lend, from-give, from-query}
 
 -- what every event says of a machine beside its own relation
 pub record GoesOn (from : Option Machine) (old new : Machine) : Type 0 where

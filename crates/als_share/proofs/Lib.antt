@@ -1,3 +1,7 @@
+pub mod Fronts
+pub mod Reached
+pub mod Holding
+pub mod Undone
 pub mod Sums
 pub mod Shares
 pub mod Booked

@@ -1,1 +1,3 @@
+pub mod Reaching
+pub mod Undoing
 pub mod Ledgers

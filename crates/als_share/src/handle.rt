@@ -7,8 +7,8 @@ use crate::thread_share::Share;
 use als_engine::{Decision, Events, Fault, Fed, FeedFault, History, NotGiven, PageLease, Status};
 use als_page::Page;
 use als_record::{LoggedPage, Lsn, Record, TransId, TransactionRow};
+use als_ship::Voucher;
 use als_view::Told;
-use als_vouch::Voucher;
 use std::alloc::Global;
 use std::sync::Wait;
 

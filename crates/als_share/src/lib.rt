@@ -14,6 +14,8 @@
 //! 4. Readers stay those of the engine that was shared: what a handle tells, each of them may learn.
 //! 5. Whenever the lock is free, what was acknowledged for a session is acknowledged in the engine.
 //! 6. Books and shares take no bytes and no time: they are there for contracts.
+//! 7. Laws say what is true of a machine that events and queries made of another one: a lock over
+//!    an engine holds such a machine, and its callers may rely on these laws.
 #![tactic(auto)]
 
 // Which ledgers belong together.
@@ -36,11 +38,14 @@ mod locked;
 mod shared;
 // A thread's way to it.
 mod handle;
+// What is true of a machine that is reached from another one.
+mod laws;
 
 pub use acknowledger::Acknowledger;
 pub use blanks::Blanks;
 pub use counts::Counts;
 pub use handle::Handle;
+pub use laws::{reaching_goes_on, undo_answers_once_a_record, what_is_reached_is_kept};
 pub use ledgers::Ledgers;
 pub use shared::{Shared, settle, share};
 pub use thread_share::Share;

@@ -4,7 +4,7 @@ ghost use Rattle.als_engine.specs.declared.event.Event.TheVariants as event;
 ghost use Rattle.als_engine.specs.Tally.{TellsOk, TellsTaken};
 ghost use Rattle.als_engine.specs.Readers.{book_told};
 ghost use Rattle.als_engine.specs.Telling.{Stands};
-ghost use Rattle.als_reach.specs.Reaching.{ReachesFrom};
+ghost use Rattle.als_share.specs.Reaching.{ReachesFrom};
 
 use crate::acknowledger::Acknowledger;
 use crate::books::Books;
@@ -31,7 +31,7 @@ impl<L: Ledgers, E: Events> Model for Locked<L, E> {
     ghost use Rattle.std.specs.Prelude.{◌≡◌, ◌≤◌};
     ghost use Rattle.als_store.specs.Stored.{acknowledged};
     ghost use Rattle.als_engine.specs.Machine.{Machine};
-    ghost use Rattle.als_reach.specs.Reaching.{ReachesFrom};
+    ghost use Rattle.als_share.specs.Reaching.{ReachesFrom};
 
     ghost Value = { Machine };
 

@@ -1,7 +1,7 @@
 ghost use Rattle.std.specs.Prelude.{◌≡◌, ◌+◌, ◌<◌, ◌≤◌, IfOk, IfErr, Some, vec_len};
 ghost use Rattle.std.specs.List.{fold};
 ghost use Rattle.als_store.specs.Stored.{acknowledged};
-ghost use Rattle.als_reach.specs.Reaching.{ReachesFrom};
+ghost use Rattle.als_share.specs.Reaching.{ReachesFrom};
 ghost use Rattle.als_share.specs.Ledgers.{AreNamed, AreNew, plus};
 
 use crate::acknowledger::Acknowledger;

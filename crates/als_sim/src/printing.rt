@@ -1,7 +1,7 @@
 use crate::refusal_line::RefusalLine;
 use als_engine::{Fault, Fed, FeedFault, Reply};
 use als_record::Lsn;
-use als_script::ShownImage;
+use als_text::ShownImage;
 use als_world::WorldReply;
 use std::io;
 use std::io::Write;

@@ -5,7 +5,7 @@ use als_disk::BlockDisk;
 use als_engine::{Engine, Fault, History, State, Status};
 use als_page::Page;
 use als_record::{FIRST_LSN, Lsn, SLOT_COUNT, encoded_len};
-use als_script::{ShownImage, ShownRecord, ShownRow};
+use als_text::{ShownImage, ShownRecord, ShownRow};
 use als_world::World;
 use std::alloc::{AllocError, Global};
 use std::io;

@@ -4,7 +4,7 @@ use crate::logs::{FRAME, log};
 use crate::sessions::Left;
 use crate::standbys::{NEVER, Part, failing};
 use crate::trouble::Trouble;
-use als_bench_logs::Dice;
+use als_sample_logs::Dice;
 use std::alloc::Global;
 use std::sync::Wait;
 use std::thread::Threads;

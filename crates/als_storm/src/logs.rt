@@ -1,5 +1,5 @@
 use crate::trouble::Trouble;
-use als_bench_logs::{FIRST, Primary};
+use als_sample_logs::{FIRST, Primary};
 use std::alloc::Global;
 
 /// Pages of the database. Redo beside a session begins at 64 changes a page: at 1,024.
@@ -19,7 +19,7 @@ pub fn log(alloc: Global, bytes: usize) -> Result<Vec<u8>, Trouble> {
 
 /// What a shipper of a log sends from an offset on.
 pub fn frames(alloc: Global, text: &[u8], from: u64) -> Result<Vec<u8>, Trouble> {
-    match als_bench_logs::frames(alloc, text, (from as usize).max(FIRST), FRAME) {
+    match als_sample_logs::frames(alloc, text, (from as usize).max(FIRST), FRAME) {
         Ok(sent) => Ok(sent),
         Err(_) => Err(Trouble::Memory),
     }

@@ -1,5 +1,5 @@
 use crate::trouble::Trouble;
-use als_bench_logs::Dice;
+use als_sample_logs::Dice;
 
 /// The most bytes that a frame may have.
 const LIMIT: u32 = 65_536;

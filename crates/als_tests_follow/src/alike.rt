@@ -1,9 +1,9 @@
 use crate::logs::{frames, log};
 use crate::sessions::{Left, follow_with, is_quiet};
 use crate::standbys::{failing, standby};
-use als_bench_logs::FIRST;
 use als_engine::Events;
 use als_follow::Followed;
+use als_sample_logs::FIRST;
 use std::alloc::Global;
 use std::process::Abort;
 use std::sync::Wait;

@@ -1,10 +1,10 @@
 use crate::logs::{FRAME, frames, log};
 use crate::sessions::{Left, follow_with, is_quiet};
 use crate::standbys::{failing, standby};
-use als_bench_logs::FIRST;
 use als_engine::Events;
 use als_follow::Followed;
 use als_operate::Fault;
+use als_sample_logs::FIRST;
 use als_ship::Fault as SessionFault;
 use std::alloc::Global;
 use std::process::Abort;

@@ -1,9 +1,9 @@
 use crate::logs::{FRAME, frames, log};
 use crate::sessions::follow_with;
 use crate::standbys::{Fuses, failing, standby};
-use als_bench_logs::FIRST;
 use als_engine::{Events, State};
 use als_follow::Followed;
+use als_sample_logs::FIRST;
 use std::alloc::Global;
 use std::process::Abort;
 use std::sync::Wait;

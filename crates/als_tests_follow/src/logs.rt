@@ -1,4 +1,4 @@
-use als_bench_logs::Primary;
+use als_sample_logs::Primary;
 use std::alloc::Global;
 
 /// Pages of the database. Redo beside a session begins at 64 changes a page: at 1,024.
@@ -19,5 +19,5 @@ pub fn log(alloc: Global) -> Option<Vec<u8>> {
 
 /// What a shipper of a log sends from an offset on. `None`: allocation failed.
 pub fn frames(alloc: Global, text: &[u8], from: usize) -> Option<Vec<u8>> {
-    als_bench_logs::frames(alloc, text, from, FRAME).ok()
+    als_sample_logs::frames(alloc, text, from, FRAME).ok()
 }

@@ -178,10 +178,31 @@ fn holds<
 
 /// The folder's state before the takeover, and after it.
 const FOLLOWING: &str =
-    "phase=Following pages=4 end=108 ack=108 checkpoint=108 behind=0 transactions=0\n";
+    "phase=Following pages=4 end=108 ack=108 checkpoint=108 behind=0 transactions=0 capacity=1048576 left=1048468\n";
 
 const PRIMARY: &str =
-    "phase=Primary pages=4 end=108 ack=108 checkpoint=108 behind=0 transactions=0\nepoch 1 seals 108\n";
+    "phase=Primary pages=4 end=108 ack=108 checkpoint=108 behind=0 transactions=0 capacity=1048576 left=1048468\nepoch 1 seals 108\n";
+
+/// Whether what was taken over is refused as a standby, before anybody is called.
+fn follows_no_more<
+    R: AllocGlobal
+        + Files<File = File>
+        + Net<Listener = TcpListener, Stream = TcpStream>
+        + Threads
+        + Wait
+        + Sync
+        + Clock
+        + RandomSource
+        + Clone
+        + Send
+        + Drop
+        + 'static,
+>(rt: &R, option: &str) -> bool {
+    let words = [
+        "als", "standby", "--dir", "followed", "--from", "nowhere", "--pages", "4", option,
+    ];
+    refuses(rt, &words, "", "als: refused 21 Sealed\n")
+}
 
 /// What the folder then holds, and a takeover, twice.
 fn takes_over<
@@ -246,6 +267,14 @@ fn a_standby_follows_and_takes_over(rt: HostRuntime) {
     assert!(rt; holds(&rt, FOLLOWING) || holds(&rt, FOLLOWING));
     assert!(rt; takes_over(&rt) || takes_over(&rt));
     assert!(rt; holds(&rt, PRIMARY) || holds(&rt, PRIMARY));
+    for option in [
+        "--keep",
+        "--serve=127.0.0.1:0",
+        "--workers=0",
+        "--workers=2",
+    ] {
+        assert!(rt; follows_no_more(&rt, option) || follows_no_more(&rt, option));
+    }
     assert!(rt; fs::remove_dir_all(&rt, "followed").is_ok());
     assert!(rt; fs::remove_file(&rt, "followed.log").is_ok());
 }

@@ -39,8 +39,9 @@ fn ships_to_another<
     refuses(rt, &words, "", bad) || refuses(rt, &words, "", bad)
 }
 
-/// Waits for a primary with an empty database of five pages, and is told that it has another number.
-fn waits_for_another<
+/// Follows with a database of five pages, which there is only once a primary has answered, and is hung up
+/// on: whether no database was laid out.
+fn is_hung_up_on<
     R: AllocGlobal
         + Files<File = File>
         + Net<Listener = TcpListener, Stream = TcpStream>
@@ -55,12 +56,28 @@ fn waits_for_another<
         + 'static,
 >(rt: &R, addr: &str) -> bool {
     let words = [
-        "als", "standby", "--dir", "another", "--from", addr, "--pages", "5", "--keep",
+        "als",
+        "standby",
+        "--dir",
+        "another",
+        "--from",
+        addr,
+        "--pages",
+        "5",
+        "--serve",
+        "127.0.0.1:0",
     ];
-    refuses(rt, &words, "", "als: refused 1 BadHeader\n")
+    let status = ["als", "status", "another"];
+    for _ in 0..1000 {
+        // 44, until the shipper listens.
+        if refuses(rt, &words, "", "als: refused 43 Cut\n") {
+            return refuses(rt, &status, "", "als: refused 30 Device\n");
+        }
+    }
+    false
 }
 
-/// A standby that goes on ends where its primary has a database of another number of pages.
+/// A standby of another number of pages than its primary's log lays out no database.
 #[test]
 fn another_page_count_ends_both_ends(rt: HostRuntime) {
     assert!(rt; lays_out(&rt, "another.log", "another"));
@@ -71,10 +88,96 @@ fn another_page_count_ends_both_ends(rt: HostRuntime) {
     let (shipped, stood) = thread::join(
         rt,
         move || ships_to_another(rt, addr),
-        move || waits_for_another(rt, addr),
+        move || is_hung_up_on(rt, addr),
     );
     assert!(rt; shipped && stood);
     assert!(rt; clears(rt, "another.log", "another"));
+}
+
+/// Serves a log of no record.
+fn ships_nothing<
+    R: AllocGlobal
+        + Files<File = File>
+        + Net<Listener = TcpListener, Stream = TcpStream>
+        + Threads
+        + Wait
+        + Sync
+        + Clock
+        + RandomSource
+        + Clone
+        + Send
+        + Drop
+        + 'static,
+>(rt: &R, addr: &str) -> bool {
+    let words = ["als", "ship", "--log", "nothing.log", "--listen", addr];
+    prints(rt, &words, "sent=0\n") || prints(rt, &words, "sent=0\n")
+}
+
+/// Follows a log of no record, and is taken over: whether that is said to be a takeover of nothing.
+fn takes_over_nothing<
+    R: AllocGlobal
+        + Files<File = File>
+        + Net<Listener = TcpListener, Stream = TcpStream>
+        + Threads
+        + Wait
+        + Sync
+        + Clock
+        + RandomSource
+        + Clone
+        + Send
+        + Drop
+        + 'static,
+>(rt: &R, addr: &str) -> bool {
+    let standby = [
+        "als", "standby", "--dir", "nothing", "--from", addr, "--pages", "4",
+    ];
+    for _ in 0..1000 {
+        if prints(rt, &standby, "end=16 ack=16\n") {
+            return tells_of_nothing(rt) || tells_of_nothing(rt);
+        }
+    }
+    false
+}
+
+/// Whether the takeover of a folder that followed no record says so.
+fn tells_of_nothing<
+    R: AllocGlobal
+        + Files<File = File>
+        + Net<Listener = TcpListener, Stream = TcpStream>
+        + Threads
+        + Wait
+        + Sync
+        + Clock
+        + RandomSource
+        + Clone
+        + Send
+        + Drop
+        + 'static,
+>(rt: &R) -> bool {
+    let takeover = ["als", "takeover", "--dir", "nothing"];
+    let mut output = Vec::new(rt.alloc());
+    let mut errors = Vec::new(rt.alloc());
+    let status = program(rt, &takeover, io::empty(), &mut output, &mut errors);
+    let told = b"als: nothing holds no record: nothing was ever followed there\n";
+    status == 0 && output.as_slice() == b"end=16\nempty\n" && errors.as_slice() == told
+}
+
+/// A takeover of a folder in which nothing was ever followed says so.
+#[test]
+fn a_takeover_of_nothing_is_told(rt: HostRuntime) {
+    assert!(rt; fs::write(&rt, "nothing.log", &TEXT[..16]).is_ok());
+    assert!(rt; fs::create_dir(&rt, "nothing").is_ok());
+    let addr = free_port(&rt)
+        .or_else(|| free_port(&rt))
+        .expect(&rt, "a port");
+    let (rt, addr) = (&rt, addr.as_str());
+    let (shipped, stood) = thread::join(
+        rt,
+        move || ships_nothing(rt, addr),
+        move || takes_over_nothing(rt, addr),
+    );
+    assert!(rt; shipped && stood);
+    assert!(rt; clears(rt, "nothing.log", "nothing"));
 }
 
 /// Serves one follower, and prints what it sent.

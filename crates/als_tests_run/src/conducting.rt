@@ -1,14 +1,14 @@
 ghost use Rattle.std.specs.Prelude.{◌≡◌, ◌+◌, ◌<◌, ◌≤◌, vec_len, Some};
 ghost use Rattle.crossbeam_channel.specs.Claims.{view};
-ghost use Rattle.als_handoff.specs.Rule.{new_pass};
-ghost use Rattle.als_handoff.specs.Passes.{IsPassOf};
+ghost use Rattle.als_workers.specs.Rule.{new_pass};
+ghost use Rattle.als_workers.specs.Passes.{IsPassOf};
 ghost use Rattle.als_share.specs.Ledgers.{AreNamed};
 
 use crate::pace::Pace;
 use crate::seats::{Dispatcher, Done, Helper, Job, Seat, Worker};
 use als_engine::Events;
-use als_handoff::{HandOff, Pass};
 use als_share::{Blanks, Counts, Handle, Ledgers, Share, Shared, settle, share};
+use als_workers::{HandOff, Pass};
 use std::alloc::Global;
 use std::marker::Brand;
 use std::sync::Wait;

@@ -1,4 +1,4 @@
-use als_run::{Gate, Point};
+use als_workers::{Gate, Point};
 use std::sync::Wait;
 use std::sync::atomic::{AtomicBool, AtomicU64, Ordering};
 use std::thread;

@@ -1,13 +1,12 @@
 ghost use Rattle.std.specs.Prelude.{◌≡◌, ◌<◌};
 ghost use Rattle.crossbeam_channel.specs.Claims.{view};
-ghost use Rattle.als_handoff.specs.Passes.{IsPassOf};
+ghost use Rattle.als_workers.specs.Passes.{IsPassOf};
 
 use crate::pace::Pace;
 use als_engine::Events;
-use als_handoff::{HandOff, Pass};
-use als_run::{
-    DispatchEnd, Ended, Halt, Offer, OfferRecord, StoredOffers, Via, apply_worker, checkpointer,
-    dispatcher, flusher, forcer,
+use als_workers::{
+    DispatchEnd, Ended, Halt, HandOff, Offer, OfferRecord, Pass, StoredOffers, Via, apply_worker,
+    checkpointer, dispatcher, flusher, forcer,
 };
 use std::alloc::Global;
 use std::sync::Wait;

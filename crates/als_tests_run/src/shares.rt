@@ -1,12 +1,12 @@
 ghost use Rattle.std.specs.Prelude.{◌≡◌, IfSome, Some};
-ghost use Rattle.als_reach.specs.Reaching.{Reaches, ReachesFrom};
+ghost use Rattle.als_share.specs.Reaching.{Reaches, ReachesFrom};
 ghost use Rattle.als_share.specs.Ledgers.{AreNamed};
 
 use crate::standbys::{TEXT, standby};
 use als_engine::{Events, State};
 use als_record::Lsn;
 use als_share::{Acknowledger, Blanks, Counts, Handle, Ledgers, Share, Shared, settle, share};
-use als_vouch::Voucher;
+use als_ship::Voucher;
 use std::alloc::Global;
 use std::marker::Brand;
 use std::sync::Wait;

@@ -1,8 +1,8 @@
 ghost use Rattle.std.specs.Prelude.{◌≡◌, ◌<◌};
 ghost use Rattle.crossbeam_channel.specs.Claims.{view};
-ghost use Rattle.als_handoff.specs.Passes.{IsPassOf};
+ghost use Rattle.als_workers.specs.Passes.{IsPassOf};
 
-use als_handoff::{HandOff, Job, Pass};
+use als_workers::{HandOff, Job, Pass};
 use std::alloc::Global;
 use std::sync::Wait;
 use std::sync::atomic::{AtomicU64, Ordering};

@@ -1,14 +1,13 @@
 ghost use Rattle.std.specs.Prelude.{◌≡◌, ◌<◌, Some};
 ghost use Rattle.crossbeam_channel.specs.Claims.{view};
-ghost use Rattle.als_handoff.specs.Rule.{new_pass};
-ghost use Rattle.als_handoff.specs.Passes.{IsPassOf};
+ghost use Rattle.als_workers.specs.Rule.{new_pass};
+ghost use Rattle.als_workers.specs.Passes.{IsPassOf};
 ghost use Rattle.als_share.specs.Ledgers.{AreNamed};
 
 use crate::standbys::{TWO_PAGES, standby};
 use als_engine::Events;
-use als_handoff::{HandOff, Job, Pass};
-use als_run::{Ended, Gate, Point, StoredOffers, Via, apply_worker};
 use als_share::{Blanks, Counts, Handle, Ledgers, Share, Shared, settle, share};
+use als_workers::{Ended, Gate, HandOff, Job, Pass, Point, StoredOffers, Via, apply_worker};
 use std::alloc::Global;
 use std::marker::Brand;
 use std::sync::Wait;

@@ -1,11 +1,9 @@
 ghost use Rattle.std.specs.Prelude.{◌<◌, ◌^◌};
 
 use crate::written::{Change, transaction};
-use als_answers::Answering;
+use als_http::{Answering, Report, Standing, State, config};
 use als_published_log::PublishedLog;
 use als_record::{Key, Lsn};
-use als_serve::config;
-use als_standing::{Report, Standing, State};
 use als_view::Reader;
 use http_server::{Connection, serve};
 use std::alloc::Global;
@@ -13,12 +11,12 @@ use std::hash::RandomState;
 use std::sync::Wait;
 use std::test::*;
 
-/// What a standby tells of itself in these tests.
-pub struct Fixed(pub State);
+/// What a standby tells of itself in these tests: its state, and for how long a frame waits.
+pub struct Fixed(pub State, pub Option<u64>);
 
 impl Drop for Fixed {
     fn drop(self) {
-        let Fixed(_) = self;
+        let Fixed(_, _) = self;
     }
 }
 
@@ -31,6 +29,11 @@ impl Standing for Fixed {
             pending: 5,
             leases: 1,
             silence: Some(2),
+            waiting: self.1,
+            capacity: Some(1024),
+            failures: 3,
+            last_fault: Some(43),
+            epoch: Some(1),
         }
     }
 }
@@ -111,8 +114,8 @@ const NOTHING: &str =
 
 const STATUS: &str =
     "HTTP/1.1 200 OK\r\ncontent-type: application/json\r\ncache-control: no-store\r\n\
-    content-length: 113\r\n\r\n{\"state\":\"following\",\"end\":108,\"acknowledged\":80,\"pending\":5,\
-    \"leases\":1,\"commits\":1,\"seconds_since_last_frame\":2}";
+    content-length: 140\r\n\r\n{\"state\":\"following\",\"end\":108,\"acknowledged\":80,\"pending\":5,\
+    \"leases\":1,\"commits\":1,\"seconds_since_last_frame\":2,\"capacity\":1024,\"left\":916}";
 
 #[test]
 fn each_path_is_answered(rt: HostRuntime) -> Result<(), Fail> {
@@ -120,7 +123,7 @@ fn each_path_is_answered(rt: HostRuntime) -> Result<(), Fail> {
     let keys = RandomState::new(&rt)?;
     let (log, mut readers) = published(&rt, alloc, 1).ok_or("memory")?;
     let reader = readers.pop().ok_or("a reader")?;
-    let mut answering = Answering::new(alloc, reader, Fixed(State::Following));
+    let mut answering = Answering::new(alloc, reader, Fixed(State::Following, None));
     let table = [
         ("GET /keys/1/3 HTTP/1.1\r\nHost: a\r\n\r\n", KEY),
         (
@@ -152,7 +155,7 @@ fn each_refusal_is_answered(rt: HostRuntime) -> Result<(), Fail> {
     let keys = RandomState::new(&rt)?;
     let (log, mut readers) = published(&rt, alloc, 1).ok_or("memory")?;
     let reader = readers.pop().ok_or("a reader")?;
-    let mut answering = Answering::new(alloc, reader, Fixed(State::Sealed));
+    let mut answering = Answering::new(alloc, reader, Fixed(State::Sealed, None));
     let table = [
         (
             "GET /keys/1/3 HTTP/1.1\r\nHost: a\r\nals-at-least: 53\r\n\r\n",
@@ -208,7 +211,7 @@ fn metrics_and_health_are_answered(rt: HostRuntime) -> Result<(), Fail> {
     let keys = RandomState::new(&rt)?;
     let (log, mut readers) = published(&rt, alloc, 1).ok_or("memory")?;
     let reader = readers.pop().ok_or("a reader")?;
-    let mut answering = Answering::new(alloc, reader, Fixed(State::Following));
+    let mut answering = Answering::new(alloc, reader, Fixed(State::Following, None));
     let health = "HEAD /health HTTP/1.1\r\nHost: a\r\n\r\n";
     assert!(rt; begins(alloc, keys, &mut answering, health, "HTTP/1.1 200 OK\r\n"));
     let metrics = "GET /metrics HTTP/1.0\r\n\r\n";
@@ -224,8 +227,61 @@ fn metrics_and_health_are_answered(rt: HostRuntime) -> Result<(), Fail> {
         "\nals_warming 0\n",
         "\nals_commits 1\n",
         "\nals_seconds_since_last_frame 2\n",
+        "\nals_info{version=\"0.2\",role=\"standby\",epoch=\"1\"} 1\n",
+        "\nals_log_capacity_bytes 1024\n",
+        "\nals_log_left_bytes 916\n",
+        "\n# TYPE als_session_failures_total counter\nals_session_failures_total 3\n",
+        "\nals_session_last_fault 43\n",
     ] {
         assert!(rt; text.contains(line), "{line}");
+    }
+    log.close(&rt);
+    Ok(())
+}
+
+/// What `/health` answers of a standby in this state, where a frame waits for so long.
+fn health_of(
+    alloc: Global,
+    keys: RandomState,
+    reader: Reader,
+    state: State,
+    waiting: Option<u64>,
+) -> Option<Vec<u8>> {
+    let mut answering = Answering::new(alloc, reader, Fixed(state, waiting));
+    answered(
+        alloc,
+        keys,
+        &mut answering,
+        b"GET /health HTTP/1.1\r\nHost: a\r\n\r\n",
+    )
+}
+
+#[test]
+fn health_is_of_a_session_that_goes_on(rt: HostRuntime) -> Result<(), Fail> {
+    let alloc = rt.alloc();
+    let keys = RandomState::new(&rt)?;
+    let (log, mut readers) = published(&rt, alloc, 10).ok_or("memory")?;
+    let table = [
+        (State::Following, None, true),
+        (State::Following, Some(10), true),
+        // A frame that waits for longer is one that the standby does not acknowledge.
+        (State::Following, Some(11), false),
+        (State::Recovering, None, false),
+        (State::Waiting, None, false),
+        (State::Refusing, None, false),
+        (State::Sealed, None, false),
+        (State::Primary, None, false),
+        (State::Stopped, None, false),
+    ];
+    for (state, waiting, is_healthy) in table {
+        let reader = readers.pop().ok_or("a reader")?;
+        let answer = health_of(alloc, keys, reader, state, waiting).ok_or("an answer")?;
+        let front: &[u8] = if is_healthy {
+            b"HTTP/1.1 200 "
+        } else {
+            b"HTTP/1.1 503 "
+        };
+        assert!(rt; answer.as_slice().starts_with(front), "{}", state.name());
     }
     log.close(&rt);
     Ok(())
@@ -237,7 +293,7 @@ fn a_standby_without_a_list_is_warming(rt: HostRuntime) -> Result<(), Fail> {
     let keys = RandomState::new(&rt)?;
     let (publisher, mut readers) = als_view::new(alloc, &rt, 2, 1, false)?;
     let reader = readers.pop().ok_or("a reader")?;
-    let mut answering = Answering::new(alloc, reader, Fixed(State::Following));
+    let mut answering = Answering::new(alloc, reader, Fixed(State::Following, None));
     let key = "GET /keys/1/3 HTTP/1.1\r\nHost: a\r\n\r\n";
     assert!(rt; begins(alloc, keys, &mut answering, key, "HTTP/1.1 503 "));
     let health = "GET /health HTTP/1.1\r\nHost: a\r\n\r\n";
@@ -254,7 +310,7 @@ fn a_request_has_at_most_eight_kilobytes(rt: HostRuntime) -> Result<(), Fail> {
     let keys = RandomState::new(&rt)?;
     let (log, mut readers) = published(&rt, alloc, 1).ok_or("memory")?;
     let reader = readers.pop().ok_or("a reader")?;
-    let mut answering = Answering::new(alloc, reader, Fixed(State::Following));
+    let mut answering = Answering::new(alloc, reader, Fixed(State::Following, None));
     let mut request = String::from_str(alloc, "GET /status HTTP/1.1\r\nHost: a\r\nx: ")?;
     for _ in 0..8192 {
         request.push_str("y")?;

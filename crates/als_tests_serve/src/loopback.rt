@@ -1,10 +1,8 @@
 use crate::asking::{Fixed, published};
 use crate::written::{Change, transaction};
-use als_answers::Answering;
+use als_http::{Answering, Servers, State, listen};
 use als_published_log::PublishedLog;
 use als_record::Key;
-use als_serve::{Servers, listen};
-use als_standing::State;
 use als_view::Reader;
 use std::alloc::Global;
 use std::io::{Read, Write};
@@ -12,7 +10,7 @@ use std::net::{Net, Shutdown, SocketAddr, TcpListener, TcpStream};
 use std::sync::Wait;
 use std::test::*;
 use std::thread::{Threads, join};
-use std::time::Duration;
+use std::time::{Clock, Duration};
 use std::{io, thread};
 
 /// How many commits are published beside the client.
@@ -92,7 +90,7 @@ fn seats(
 ) -> Option<Vec<(Answering<Fixed>, HostRuntime)>> {
     let mut seats = Vec::with_capacity(alloc, readers.len()).ok()?;
     for reader in readers {
-        let answering = Answering::new(alloc, reader, Fixed(State::Following));
+        let answering = Answering::new(alloc, reader, Fixed(State::Following, None));
         seats.push((answering, rt.clone().ok()?)).ok()?;
     }
     Some(seats)
@@ -140,5 +138,63 @@ fn a_silent_peer_gives_way(rt: HostRuntime) -> Result<(), Fail> {
     servers.close(&rt);
     drop(kept);
     log.close(&rt);
+    Ok(())
+}
+
+/// How many slow clients come.
+const SLOW: usize = 30;
+
+#[test]
+fn slow_peers_shut_nobody_out(rt: HostRuntime) -> Result<(), Fail> {
+    let alloc = rt.alloc();
+    let (log, readers) = published(&rt, alloc, 2).ok_or("memory")?;
+    let seats = seats(alloc, &rt, readers).ok_or("seats")?;
+    let listener = listen(&rt, alloc, "0")?;
+    let at = listener.local_addr()?;
+    let servers = Servers::start(&rt, alloc, &listener, seats)?;
+    let mut slow = Vec::with_capacity(alloc, SLOW)?;
+    for _ in 0..SLOW {
+        let mut stream = TcpStream::connect(&rt, at)?;
+        stream.write_all(b"GET /keys/1")?;
+        slow.push(stream)?;
+    }
+    thread::sleep(&rt, Duration::from_millis(50));
+    let begun = rt.monotonic()?;
+    for path in ["/health", "/status", "/metrics", "/keys/1/3"] {
+        let request = format!(in alloc;
+            "GET {path} HTTP/1.1\r\nHost: a\r\nConnection: close\r\n\r\n"
+        )?;
+        let text = asked(&rt, at, request.as_str())?;
+        assert!(rt; text.as_str().starts_with("HTTP/1.1 200 "), "{path}");
+    }
+    let took = rt.monotonic()?.saturating_sub(begun);
+    drop(slow);
+    servers.close(&rt);
+    log.close(&rt);
+    assert!(rt; took < Duration::from_secs(5));
+    Ok(())
+}
+
+#[test]
+fn a_request_that_drips_is_given_up(rt: HostRuntime) -> Result<(), Fail> {
+    let alloc = rt.alloc();
+    let (log, readers) = published(&rt, alloc, 1).ok_or("memory")?;
+    let seats = seats(alloc, &rt, readers).ok_or("seats")?;
+    let listener = listen(&rt, alloc, "0")?;
+    let at = listener.local_addr()?;
+    let servers = Servers::start(&rt, alloc, &listener, seats)?;
+    let mut stream = TcpStream::connect(&rt, at)?;
+    let mut written: u32 = 0;
+    for _ in 0..40u32 {
+        if stream.write_all(b"G").is_err() {
+            break;
+        }
+        written = written.saturating_add(1);
+        thread::sleep(&rt, Duration::from_millis(500));
+    }
+    servers.close(&rt);
+    log.close(&rt);
+    // It has five seconds for its request: the twentieth byte comes after ten.
+    assert!(rt; written < 20);
     Ok(())
 }

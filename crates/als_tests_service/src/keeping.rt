@@ -1,12 +1,13 @@
 use crate::scripted::{End, Scripted, Told};
-use als_bench_logs::{FIRST, Primary};
 use als_disk::MemDisk;
-use als_engine::{CONTROL_BLOCKS, Config, Disks, Engine, Events};
+use als_engine::{CONTROL_BLOCKS, Config, Disks, Engine, Events, Fault as EngineFault};
+use als_fault::FaultKind;
+use als_http::{Board, Report, Standing, State, Watch};
 use als_operate::Fault;
+use als_sample_logs::{FIRST, Primary};
 use als_service::{Kept, Pace, keep_following};
 use als_share::Counts;
 use als_ship::Fault as SessionFault;
-use als_standing::{Board, Report, Standing, State, Watch};
 use std::alloc::Global;
 use std::process::Abort;
 use std::sync::{Arc, Wait};
@@ -32,8 +33,11 @@ const PACE: Pace = Pace {
     each: FRAME as u64,
 };
 
-/// What is no frame.
-const NO_FRAME: &[u8] = b"nothing that is a frame";
+/// The history of a primary that took over where a log of no record ends: a log that goes on from there has parted from it.
+const PARTED: &[u8] = b"E\0\0\0\x01\0\0\0\0\0\0\0\x10";
+
+/// The history of a primary before which there was no takeover.
+const FIRST_PRIMARY: &[u8] = b"E\0\0\0\0";
 
 const CONFIG: Config = Config {
     pages: PAGES as u64,
@@ -69,7 +73,7 @@ struct Sent {
 fn sent_by_a_primary(alloc: Global) -> Option<Sent> {
     let primary = Primary::new(alloc, PAGES, LENGTH, PAGES).ok()?;
     let text = primary.write(LENGTH).ok()?;
-    let frames = als_bench_logs::frames(alloc, text.as_slice(), FIRST, FRAME).ok()?;
+    let frames = als_sample_logs::frames(alloc, text.as_slice(), FIRST, FRAME).ok()?;
     let end = text.len() as u64;
     Some(Sent { frames, end })
 }
@@ -83,22 +87,41 @@ fn sends(alloc: Global, bytes: &[u8]) -> Option<(End, End)> {
     Some((reader, writer))
 }
 
-/// Connections: one that is cut, none, one that goes to the end of the log, and one that sends no
-/// frames. The last one first. `None`: allocation failed.
+/// Connections: one that is cut, none, one that goes to the end of the log, and one to a primary whose
+/// log parted from it. The last one first. `None`: allocation failed.
 fn connections(alloc: Global, sent: &[u8]) -> Option<Scripted<End>> {
     let mut ready = Vec::new(alloc);
-    ready.push(Some(sends(alloc, NO_FRAME)?)).ok()?;
+    ready.push(Some(sends(alloc, PARTED)?)).ok()?;
     ready.push(Some(sends(alloc, sent)?)).ok()?;
     ready.push(None).ok()?;
     ready.push(Some(sends(alloc, sent.get(..CUT)?)?)).ok()?;
     Some(Scripted::new(ready))
 }
 
-/// A connection over which nothing comes, and one that sends no frames. The last one first. `None`:
-/// allocation failed.
-fn hang_up(alloc: Global) -> Option<Scripted<End>> {
+/// Connections: one within which a record is refused, one that goes to the end of the log, and one to a
+/// primary whose log parted from it. The last one first. `None`: allocation failed.
+fn refusals(alloc: Global, sent: &[u8]) -> Option<Scripted<End>> {
+    let mut altered = Vec::new(alloc);
+    altered.extend_from_slice(sent).ok()?;
+    // The type of the first record, behind the history and the head of the first frame.
+    *altered.as_mut_slice().get_mut(5 + 17 + 4)? = 9;
+    let reader = End::new(altered, Vec::new(alloc));
+    let writer = End::new(Vec::new(alloc), Vec::new(alloc));
     let mut ready = Vec::new(alloc);
-    ready.push(Some(sends(alloc, NO_FRAME)?)).ok()?;
+    ready.push(Some(sends(alloc, PARTED)?)).ok()?;
+    ready.push(Some(sends(alloc, sent)?)).ok()?;
+    ready.push(Some((reader, writer))).ok()?;
+    Some(Scripted::new(ready))
+}
+
+/// Three connections over which nothing comes, one to a primary that took over, and one to the primary
+/// before it. The last one first. `None`: allocation failed.
+fn hang_ups(alloc: Global) -> Option<Scripted<End>> {
+    let mut ready = Vec::new(alloc);
+    ready.push(Some(sends(alloc, FIRST_PRIMARY)?)).ok()?;
+    ready.push(Some(sends(alloc, PARTED)?)).ok()?;
+    ready.push(Some(sends(alloc, b"")?)).ok()?;
+    ready.push(Some(sends(alloc, b"")?)).ok()?;
     ready.push(Some(sends(alloc, b"")?)).ok()?;
     Some(Scripted::new(ready))
 }
@@ -127,7 +150,7 @@ fn goes_on<E: Counts + Send + Drop, R: Threads + Wait + Sync + Clock + Clone + D
     let mut primaries = connections(alloc, sent.frames.as_slice())?;
     let board = Arc::new(alloc, Board::new()).ok()?;
     let watch = Watch::new(Arc::try_clone(&board).ok()?, rt.clone().ok()?);
-    let mut told = Told { last: None };
+    let mut told = Told::nothing();
     let Kept { events, ended } = keep_following(
         rt,
         alloc,
@@ -137,7 +160,7 @@ fn goes_on<E: Counts + Send + Drop, R: Threads + Wait + Sync + Clock + Clone + D
         &board,
         &mut told,
     );
-    if ended != Fault::Session(SessionFault::BadFrame) {
+    if ended.kind() != (FaultKind::Diverged { seal: 16 }) {
         return None;
     }
     assert!(rt; holds(&events, sent.end));
@@ -146,15 +169,44 @@ fn goes_on<E: Counts + Send + Drop, R: Threads + Wait + Sync + Clock + Clone + D
     Some(())
 }
 
-/// Is hung up on with an empty database. `None`: it ended otherwise, as where allocation fails.
+/// Has a record refused, and asks for it again. `None`: it ended otherwise, as where allocation fails.
+fn asks_again<E: Counts + Send + Drop, R: Threads + Wait + Sync + Clock + Clone + Drop + Abort>(
+    rt: &R,
+    alloc: Global,
+    engine: E,
+) -> Option<()> {
+    let sent = sent_by_a_primary(alloc)?;
+    let mut primaries = refusals(alloc, sent.frames.as_slice())?;
+    let board = Board::new();
+    let mut told = Told::nothing();
+    let Kept { events, ended } = keep_following(
+        rt,
+        alloc,
+        engine,
+        PACE,
+        &mut primaries,
+        &board,
+        &mut told,
+    );
+    if ended.kind() != (FaultKind::Diverged { seal: 16 }) {
+        return None;
+    }
+    assert!(rt; holds(&events, sent.end));
+    let refused = Fault::Session(SessionFault::Refused(EngineFault::BadType));
+    assert!(rt; told.refusal == Some((refused, 5000)));
+    Some(())
+}
+
+/// Is hung up on with an empty database, and goes on. `None`: it ended otherwise, as where allocation
+/// fails.
 fn is_turned_away<E: Counts + Send + Drop, R: Threads + Wait + Sync + Clock + Clone + Drop + Abort>(
     rt: &R,
     alloc: Global,
     engine: E,
 ) -> Option<()> {
-    let mut primaries = hang_up(alloc)?;
+    let mut primaries = hang_ups(alloc)?;
     let board = Board::new();
-    let mut told = Told { last: None };
+    let mut told = Told::nothing();
     let Kept { events, ended } = keep_following(
         rt,
         alloc,
@@ -165,10 +217,11 @@ fn is_turned_away<E: Counts + Send + Drop, R: Threads + Wait + Sync + Clock + Cl
         &mut told,
     );
     drop(events);
-    if ended != Fault::Session(SessionFault::BadHeader) {
+    if ended.kind() != (FaultKind::OtherEpoch { epoch: 0 }) {
         return None;
     }
-    assert!(rt; told.last.is_none());
+    assert!(rt; told.hang_ups == Some(3));
+    assert!(rt; told.refusal.is_none());
     Some(())
 }
 
@@ -195,10 +248,26 @@ fn is_turned_away_in_memory<R: Threads + Wait + Sync + Clock + Clone + Drop + Ab
 }
 
 #[test]
-fn a_primary_that_hangs_up_on_an_empty_database_ends_it(rt: HostRuntime) {
+fn a_primary_that_hangs_up_does_not_end_it(rt: HostRuntime) {
     let alloc = rt.alloc();
     assert!(rt;
         is_turned_away_in_memory(&rt, alloc).is_some()
             || is_turned_away_in_memory(&rt, alloc).is_some()
+    );
+}
+
+/// Has a record refused over devices in memory.
+fn asks_again_in_memory<R: Threads + Wait + Sync + Clock + Clone + Drop + Abort>(
+    rt: &R,
+    alloc: Global,
+) -> Option<()> {
+    asks_again(rt, alloc, standby(rt, alloc)?)
+}
+
+#[test]
+fn a_refused_record_is_asked_for_again(rt: HostRuntime) {
+    let alloc = rt.alloc();
+    assert!(rt;
+        asks_again_in_memory(&rt, alloc).is_some() || asks_again_in_memory(&rt, alloc).is_some()
     );
 }

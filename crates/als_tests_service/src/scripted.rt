@@ -1,7 +1,7 @@
 use als_operate::Fault;
 use als_service::{Met, Outages, Primaries};
 use std::io;
-use std::io::{ErrorKind, Read, Write};
+use std::io::{Read, Write};
 
 /// One end of a stream in memory: what is read of it, and what is written to it.
 pub struct End {
@@ -79,33 +79,59 @@ impl<S: Read + Write + Drop> Primaries<S> for Scripted<S> {
     ghost met = { λ scripted. sessions_of S.contents scripted.met };
 
     #[inline(never)]
-    fn next(&mut self) -> io::Result<(S, S)> {
+    fn next(&mut self) -> Result<(S, S), Fault> {
         match self.ready.pop() {
             Some(Some((reader, writer))) => {
                 self.met.begin(&writer);
                 Ok((reader, writer))
             }
-            Some(None) | None => Err(ErrorKind::ConnectionRefused.into()),
+            Some(None) | None => {
+                self.met.refuse(Fault::Stream);
+                Err(Fault::Stream)
+            }
         }
     }
 
     #[inline(never)]
-    fn part(&mut self, reader: S, writer: S) {
-        self.met.end(&writer);
+    fn part(&mut self, reader: S, writer: S, ended: Option<Result<(), Fault>>) {
+        self.met.end(&writer, ended);
         drop(reader);
         drop(writer);
     }
 }
 
-/// The outages that were told, and the last of them.
+/// The last outage, the last refusal and the last hang-ups that were told.
 #[derive(Drop)]
 pub struct Told {
     pub last: Option<(Option<Fault>, u64)>,
+    pub refusal: Option<(Fault, u64)>,
+    pub hang_ups: Option<u32>,
+}
+
+impl Told {
+    /// Nothing was told.
+    pub fn nothing() -> Told {
+        Told {
+            last: None,
+            refusal: None,
+            hang_ups: None,
+        }
+    }
 }
 
 impl Outages for Told {
     #[inline(never)]
     fn outage(&mut self, fault: Option<Fault>, millis: u64) {
         self.last = Some((fault, millis));
+    }
+
+    #[inline(never)]
+    fn refusal(&mut self, fault: Fault, millis: u64) {
+        self.refusal = Some((fault, millis));
+    }
+
+    #[inline(never)]
+    fn hang_ups(&mut self, count: u32) {
+        self.hang_ups = Some(count);
     }
 }

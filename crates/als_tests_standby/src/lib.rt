@@ -14,7 +14,7 @@ mod folders;
 // als_inspect.
 #[cfg(test)]
 mod inspect;
-// als_operate.
+// als_operate and als_shipper.
 #[cfg(test)]
 mod operate;
 // als_script.

@@ -2,9 +2,10 @@ use crate::common::{CONFIG, SENT, TEXT, TOLD, devices_in_memory, listen, source}
 use als_drive::{Progress, drain_telling};
 use als_engine::{Engine, Events, Fault as EngineFault};
 use als_folder::{Part, Trouble, Wrong};
-use als_operate::{Fault, Shipping, Untold, follow as follow_session, serve, ship};
+use als_operate::{Fault, follow as follow_session};
 use als_record::{Key, Lsn};
 use als_ship::{LogBytes, Shipper};
+use als_shipper::{Shipping, Untold, serve, ship};
 use std::alloc::Global;
 use std::io::{Read, Write};
 use std::net::{Net, SocketAddr, TcpListener, TcpStream};

@@ -1,7 +1,7 @@
 use Rattle.std.proofs.Common.{sym, subst, ◌∙◌, ap}
 use Rattle.als_store.specs.Stored.{acknowledged}
-use Rattle.als_reach.specs.Reaching.{ReachesFrom}
-use Rattle.als_reach.proofs.Reached.{from-none}
+use Rattle.als_share.specs.Reaching.{ReachesFrom}
+use Rattle.als_share.proofs.Reached.{from-none}
 use Rattle.als_ship.specs.Vouching.{TellsVouched}
 use Rattle.als_ship.proofs.Vouching.{told_higher}
 use Rattle.als_follow.proofs.Telling.{told_same}

@@ -1,7 +1,7 @@
 use Rattle.std.proofs.Common.{◌≡◌, ◌+◌, length}
 use Rattle.std.specs.Vec.{vec_len, vec_capacity}
 use Rattle.crossbeam_channel.specs.Claims.{view}
-use Rattle.als_handoff.specs.Passes.{IsPassOf}
+use Rattle.als_workers.specs.Passes.{IsPassOf}
 use Rattle.als_follow.proofs.crew.seat.Given as goal
 
 abbrev pub invariant-loop-share : goal.invariant-loop-share

@@ -1,7 +1,7 @@
 use Rattle.std.proofs.Common.{◌≡◌}
 use Rattle.als_store.specs.Stored.{acknowledged}
-use Rattle.als_reach.specs.Reaching.{Reaches}
-use Rattle.als_service.specs.Sessions.{VouchesAll}
+use Rattle.als_share.specs.Reaching.{Reaches}
+use Rattle.als_service.specs.Sessions.{VouchesAll, GoesOnAll}
 use Rattle.als_service.proofs.keeping.keep_following.Given as goal
 
 abbrev pub invariant-loop : goal.invariant-loop
@@ -10,3 +10,4 @@ invariant-loop g l =
     × (g.E.Events.alone → Reaches (g.E.Events.machine l.fn.events) (g.E.Events.machine l.held))
     × (g.E.Events.book l.held ≡ g.E.Events.book l.fn.events)
     × (g.E.Events.alone → VouchesAll (acknowledged (g.E.Events.machine l.held).held) (g.L.Primaries.met l.fn.primaries) (g.L.Primaries.met l.primaries))
+    × GoesOnAll (g.L.Primaries.met l.fn.primaries) (g.L.Primaries.met l.primaries)

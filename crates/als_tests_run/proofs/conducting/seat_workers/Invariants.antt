@@ -1,6 +1,6 @@
 use Rattle.std.proofs.Common.{◌≡◌, ◌+◌, length}
 use Rattle.crossbeam_channel.specs.Claims.{view}
-use Rattle.als_handoff.specs.Passes.{IsPassOf}
+use Rattle.als_workers.specs.Passes.{IsPassOf}
 use Rattle.als_tests_run.proofs.conducting.seat_workers.Given as goal
 
 abbrev pub invariant-loop-share : goal.invariant-loop-share

@@ -1,5 +1,5 @@
 use Rattle.std.proofs.Common.{sym}
-use Rattle.als_reach.proofs.Reached.{from-none}
+use Rattle.als_share.proofs.Reached.{from-none}
 use Rattle.als_share.proofs.Floors.{starts_low}
 use Rattle.als_share.proofs.locked.Locked.new.Goals as goal
 

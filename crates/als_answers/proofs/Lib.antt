@@ -1,5 +1,0 @@
-mod WorkedPaths
-pub mod AnswerLaws
-pub mod NumberLaws
-pub mod AskingLaws
-pub mod TextLaws

@@ -1,6 +1,0 @@
-pub mod Numbers
-pub mod Asking
-pub mod Telling
-pub mod Reading
-pub mod Texts
-pub mod Replies

@@ -1,5 +1,0 @@
-use Rattle.als_handoff.proofs.Moves.{refuses}
-use Rattle.als_handoff.proofs.queue.HandOff.note_back.Goals as goal
-
-pub another-requires-clause-rule : goal.another-requires-clause-rule
-another-requires-clause-rule c = refuses _ _ c.requires.parts

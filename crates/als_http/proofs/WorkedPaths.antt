@@ -1,0 +1,36 @@
+-- What paths ask for, worked by hand.
+use Rattle.std.specs.Prelude.{◌≡◌, codes, refl}
+use Rattle.als_http.specs.Asking.{asked_by, slot_asked}
+use Rattle.als_http.specs.declared.asked.Asked.TheVariants.{Value, Status, NoNumber, Nothing}
+
+key_row : asked_by (codes "/keys/17/3") ≡ Value (record { page = 17; slot = 3 })
+unfolding asked_by slot_asked
+key_row = refl
+
+past_row : asked_by (codes "/keys/4294967295/256") ≡ Value (record { page = 4294967295; slot = 255 })
+unfolding asked_by slot_asked
+past_row = refl
+
+large_row : asked_by (codes "/keys/4294967296/0") ≡ NoNumber
+unfolding asked_by slot_asked
+large_row = refl
+
+sign_row : asked_by (codes "/keys/+1/0") ≡ NoNumber
+unfolding asked_by slot_asked
+sign_row = refl
+
+more_row : asked_by (codes "/keys/1/2/3") ≡ NoNumber
+unfolding asked_by slot_asked
+more_row = refl
+
+page_row : asked_by (codes "/keys/1") ≡ Nothing
+unfolding asked_by slot_asked
+page_row = refl
+
+status_row : asked_by (codes "/status") ≡ Status
+unfolding asked_by slot_asked
+status_row = refl
+
+slash_row : asked_by (codes "/status/") ≡ Nothing
+unfolding asked_by slot_asked
+slash_row = refl

@@ -1,0 +1,14 @@
+use Rattle.std.proofs.Common.{◌≡◌, ◌+◌, drop, take, ap, ap₂, ◌∙◌}
+use Rattle.std.proofs.lemmas.List.{take_rest}
+use Rattle.als_http.specs.Numbers.{number_of}
+use Rattle.als_http.specs.Asking.{key_asked}
+use Rattle.als_http.proofs.AskingLaws.{slot_found}
+use Rattle.als_http.proofs.asking.slot_of.Goals as goal
+
+pub returns-in-Some : goal.returns-in-Some
+returns-in-Some c =
+    let text = c.args.text.now in
+    let at = c.in-Some.at in
+    let front : c.number.result ≡ number_of (take at text) = c.number.ensures in
+    let back : c.number-in-Some.result ≡ number_of (drop (at + 1) text) = c.number-in-Some.ensures ∙ ap number_of (take_rest text (at + 1)) in
+    slot_found text c.slash_in.result at c.key_of.result c.slash_in.ensures.value c.in-Some.is (c.key_of.ensures ∙ ap₂ key_asked front back)

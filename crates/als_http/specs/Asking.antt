@@ -1,0 +1,33 @@
+-- What a path asks for.
+use Rattle.std.specs.Prelude.{ℕ, ◌+◌, ◌==◌, nat_le, ◌&&◌, Bool, List, take, drop, codes, bytes_eq, Option, Some, None, if◌then◌else◌}
+use Rattle.std.specs.List.{position_from}
+use Rattle.als_http.specs.Numbers.{number_of}
+use Rattle.als_http.specs.declared.asked.Asked.{Asked}
+use Rattle.als_http.specs.declared.asked.Asked.TheVariants.{Value, Status, Metrics, Health, NoNumber, Nothing}
+
+-- the key of these numbers, which have 32 bits each
+abbrev pub key_asked : Option ℕ → Option ℕ → Asked
+key_asked None slot = NoNumber
+key_asked (Some page) None = NoNumber
+key_asked (Some page) (Some slot) =
+    if nat_le page 4294967295 && nat_le slot 4294967295
+    then Value (record { page = page; slot = if nat_le slot 255 then slot else 255 }) else NoNumber
+
+-- the numbers on both sides of a slash
+abbrev pub numbers_asked : List ℕ → Option ℕ → Asked
+numbers_asked text None = Nothing
+numbers_asked text (Some i) = key_asked (number_of (take i text)) (number_of (drop (i + 1) text))
+
+abbrev pub is_slash : ℕ → Bool
+is_slash c = c == 47
+
+-- what is asked for behind `/keys/`: the numbers on both sides of the first slash
+unfoldable pub slot_asked : List ℕ → Asked
+slot_asked text = numbers_asked text (position_from is_slash 0 text)
+
+unfoldable pub asked_by : List ℕ → Asked
+asked_by path =
+    if bytes_eq path (codes "/status") then Status
+    else (if bytes_eq path (codes "/metrics") then Metrics
+    else (if bytes_eq path (codes "/health") then Health
+    else (if bytes_eq (take 6 path) (codes "/keys/") then slot_asked (drop 6 path) else Nothing)))

@@ -1,0 +1,32 @@
+-- Whether a standby is healthy, and how much log it still takes, by what it tells of itself.
+use Rattle.std.specs.Prelude.{ℕ, ◌-◌, Bool, true, false, ◌&&◌, nat_le, Option, Some, None, is_some}
+use Rattle.als_http.specs.declared.report.Report.{Report}
+use Rattle.als_http.specs.declared.state.State.{State}
+use Rattle.als_http.specs.declared.state.State.TheVariants.{Recovering, Waiting, Following, Refusing, Sealed, Primary, Stopped}
+
+-- a primary sends to it
+abbrev pub is_sent_to : State → Bool
+is_sent_to Recovering = false
+is_sent_to Waiting = false
+is_sent_to Following = true
+is_sent_to Refusing = false
+is_sent_to Sealed = false
+is_sent_to Primary = false
+is_sent_to Stopped = false
+
+-- no frame waits for its acknowledgement for longer than ten seconds
+abbrev pub is_prompt : Option ℕ → Bool
+is_prompt None = true
+is_prompt (Some seconds) = nat_le seconds 10
+
+-- a primary sends to it, each frame is acknowledged in time, and readers see a list of commits
+abbrev pub is_healthy : Report → Option ℕ → Bool
+is_healthy r commits = is_sent_to r.state && is_prompt r.waiting && is_some commits
+
+-- so many bytes are left below a capacity
+abbrev pub room_below : Option ℕ → ℕ → Option ℕ
+room_below None end = None
+room_below (Some capacity) end = Some (capacity - end)
+
+abbrev pub room_of : Report → Option ℕ
+room_of r = room_below r.capacity r.end.0

@@ -1,0 +1,103 @@
+-- What a query is replied, and what of that a response shows.
+use Rattle.std.specs.Prelude.{◌≡◌, ℕ, List, [], ◌∷◌, ◌⊎◌, codes, decimal, Option, IfSome, Some, if◌then◌else◌}
+use Rattle.http1.specs.Fields.{Header}
+use Rattle.http_server.specs.declared.response.Response.{Response}
+use Rattle.http_server.specs.Response.{IsResponse, fields_of}
+use Rattle.als_view.specs.Entries.{Begins}
+use Rattle.als_view.specs.Views.{known_to, pages_of, IsSameReader}
+use Rattle.als_view.specs.declared.reader.Reader.{Reader}
+use Rattle.json.specs.Print.{print}
+use Rattle.als_http.specs.Texts.{value_tokens, status_tokens, health_tokens, error_tokens, why_unread, why_wrong}
+use Rattle.als_http.specs.Health.{is_healthy}
+use Rattle.als_http.specs.declared.report.Report.{Report}
+use Rattle.als_http.specs.Reading.{IsRead, IsUnread, count_in}
+use Rattle.als_http.specs.declared.query.Query.{Query}
+use Rattle.als_http.specs.declared.query.Query.TheVariants as query
+use Rattle.als_http.specs.declared.query.Wrong.{Wrong}
+use Rattle.als_http.specs.declared.query.Wrong.TheVariants.{Path, Method, Number, Lsn}
+use Rattle.als_http.specs.declared.reply.Reply.{Reply}
+use Rattle.als_http.specs.declared.reply.Reply.TheVariants.{Value, Unread, Status, Metrics, Health, Refused}
+
+abbrev pub status_of : Reply → ℕ
+status_of (Value a) = 200
+status_of (Unread e) = 503
+status_of (Status r n) = 200
+status_of (Metrics r n) = 200
+status_of (Health r n) = if is_healthy r n then 200 else 503
+status_of (Refused Path) = 404
+status_of (Refused Method) = 405
+status_of (Refused Number) = 400
+status_of (Refused Lsn) = 400
+
+-- the methods that are answered, where another one was asked with
+abbrev pub fields_of_wrong : Wrong → List Header
+fields_of_wrong Path = []
+fields_of_wrong Method = (codes "allow", codes "GET, HEAD") ∷ []
+fields_of_wrong Number = []
+fields_of_wrong Lsn = []
+
+-- the header fields beside those of every reply
+abbrev pub own_fields : Reply → List Header
+own_fields (Value a) = (codes "als-lsn", decimal a.lsn.0) ∷ []
+own_fields (Unread e) = []
+own_fields (Status r n) = []
+own_fields (Metrics r n) = []
+own_fields (Health r n) = []
+own_fields (Refused w) = fields_of_wrong w
+
+-- what its text is
+abbrev pub type_of : Reply → List ℕ
+type_of (Value a) = codes "application/json"
+type_of (Unread e) = codes "application/json"
+type_of (Status r n) = codes "application/json"
+type_of (Metrics r n) = codes "text/plain; version=0.0.4"
+type_of (Health r n) = codes "application/json"
+type_of (Refused w) = codes "application/json"
+
+-- nobody may keep an answer: a later one has more commits
+abbrev pub fields_for : Reply → List Header
+fields_for reply = (codes "content-type", type_of reply) ∷ (codes "cache-control", codes "no-store") ∷ own_fields reply
+
+-- the bytes of its text; those of metrics are only tested
+unfoldable pub HasText : Reply → List ℕ → Type 0
+HasText (Value a) text = text ≡ print (value_tokens a)
+HasText (Unread e) text = text ≡ print (error_tokens (why_unread e))
+HasText (Status r n) text = text ≡ print (status_tokens r n)
+HasText (Metrics r n) text = Unit {0}
+HasText (Health r n) text = text ≡ print (health_tokens (is_healthy r n))
+HasText (Refused w) text = text ≡ print (error_tokens (why_wrong w))
+
+-- the report is one that the standby told, and so many commits a reader knows of, if it was told how many
+abbrev pub IsTold : (Report → Type 0) → Report → Option ℕ → Reader → Type 0
+IsTold tells r n new = tells r × IfSome n (λ n. count_in (known_to new) ≡ Some n)
+
+-- the reply to a query by a reader, before and after it, and by what a standby tells
+abbrev pub Replies : (Report → Type 0) → Query → Reply → Reader → Reader → Type 0
+Replies tells (query.Value key lsn) (Value a) old new = IsRead (pages_of old) key (known_to new) lsn a
+Replies tells (query.Value key lsn) (Unread e) old new = IsUnread (known_to old) (known_to new) lsn e
+Replies tells query.Status (Status r n) old new = IsTold tells r n new
+Replies tells query.Metrics (Metrics r n) old new = IsTold tells r n new
+Replies tells query.Health (Health r n) old new = IsTold tells r n new
+Replies tells (query.Refused w) (Refused v) old new = v ≡ w
+Replies tells q r old new = ⊥
+
+-- the reader goes on: it is of the same view, and knows no less
+abbrev pub GoesOn : Reader → Reader → Type 0
+GoesOn old new = IsSameReader old new × Begins (known_to old) (known_to new)
+
+-- the response has the reply's status, fields and text
+pub record ShowsAll (reply : Reply) (response : Response) : Type 0 where
+  pub status : response.status ≡ status_of reply
+  pub fields : fields_of response ≡ fields_for reply
+  pub text : HasText reply response.body.items
+
+-- so it has, or it is empty where no memory was left for it
+abbrev pub Shows : Reply → Response → Type 0
+Shows reply response = ShowsAll reply response ⊎ IsResponse 503 [] [] response
+
+-- a reply to the query, and a response that shows it
+pub record Answers (tells : Report → Type 0) (q : Query) (old : Reader) (response : Response) (new : Reader) : Type 0 where
+  pub reply : Reply
+  pub replies : Replies tells q reply old new
+  pub goes_on : GoesOn old new
+  pub shows : Shows reply response

@@ -1,0 +1,106 @@
+ghost use Rattle.std.specs.Prelude.{◌≡◌};
+ghost use Rattle.http_server.specs.Response.{IsBlank};
+ghost use Rattle.als_http.specs.Replies.{Replies, GoesOn, Answers};
+
+use crate::filling::show;
+use crate::query::Query;
+use crate::reading::{published, read};
+use crate::reply::Reply;
+use crate::standing::Standing;
+use crate::telling::query_of;
+use als_view::Reader;
+use bytes::Bytes;
+use http::Request;
+use http_server::{Response, Service};
+use std::alloc::{AllocError, Global};
+
+/// What answers the requests of one thread: a reader of its own, and who knows how the standby
+/// stands. It waits for nobody.
+pub struct Answering<S: Standing> {
+    alloc: Global,
+    reader: Reader,
+    standing: S,
+}
+
+// Written out: a derived drop is proved wherever a value is dropped, this one only here.
+impl<S: Standing + Drop> Drop for Answering<S> {
+    fn drop(self) {
+        let Answering {
+            alloc: _,
+            reader,
+            standing,
+        } = self;
+        drop(reader);
+        drop(standing);
+    }
+}
+
+impl<S: Standing> Answering<S> {
+    /// It answers by this reader.
+    pub fn new(alloc: Global, reader: Reader, standing: S) -> Answering<S>
+        ensures { result.reader ≡ reader }
+    {
+        Answering {
+            alloc,
+            reader,
+            standing,
+        }
+    }
+
+    /// What a query is answered.
+    #[tactic(auto, using(crate::proofs::AnswerLaws::goes_on_self))]
+    pub fn reply(&mut self, query: Query) -> Reply
+        ensures reply { Replies (S.tells self.old.standing) query result self.old.reader
+            self.new.reader }
+        ensures reader { GoesOn self.old.reader self.new.reader }
+        ensures standing { self.new.standing ≡ self.old.standing }
+    {
+        match query {
+            Query::Value(key, at_least) => match read(&mut self.reader, key, at_least) {
+                Ok(answer) => Reply::Value(answer),
+                Err(why) => Reply::Unread(why),
+            },
+            Query::Status => {
+                let report = self.standing.report();
+                Reply::Status(report, published(&mut self.reader))
+            }
+            Query::Metrics => {
+                let report = self.standing.report();
+                Reply::Metrics(report, published(&mut self.reader))
+            }
+            Query::Health => {
+                let report = self.standing.report();
+                Reply::Health(report, published(&mut self.reader))
+            }
+            Query::Refused(why) => Reply::Refused(why),
+        }
+    }
+
+    /// Fills a response by the reply to a query.
+    fn respond(&mut self, query: Query, response: &mut Response)
+        requires { IsBlank response.old }
+        ensures answers { Answers (S.tells self.old.standing) query self.old.reader response.new
+            self.new.reader }
+        ensures standing { self.new.standing ≡ self.old.standing }
+    {
+        let made = self.reply(query);
+        show(self.alloc, &made, response);
+    }
+}
+
+impl<S: Standing> Service for Answering<S> {
+    ghost use Rattle.http.specs.Request.{head_of};
+    ghost use Rattle.als_http.specs.Telling.{query_of};
+
+    ghost answers = { λ old request response new.
+        Answers (S.tells old.standing) (query_of (head_of request)) old.reader response new.reader };
+
+    fn call(
+        &mut self,
+        request: &Request<Bytes>,
+        response: &mut Response,
+    ) -> Result<(), AllocError> {
+        self.respond(query_of(request), response);
+        Ok(())
+    }
+}

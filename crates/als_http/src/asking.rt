@@ -1,0 +1,68 @@
+ghost use Rattle.std.specs.Prelude.{◌≡◌, ◌<◌, length, IfSome};
+ghost use Rattle.std.specs.List.{position_from};
+ghost use Rattle.als_http.specs.Asking.{asked_by, key_asked, slot_asked, is_slash};
+
+use crate::asked::Asked;
+use crate::numbers::number;
+use als_record::Key;
+
+/// The greatest number that a path may name.
+const LAST: u64 = u32::MAX as u64;
+
+/// What stands before the two numbers of a key.
+const KEYS: &[u8] = b"/keys/";
+
+/// What a path asks for.
+#[tactic(auto, unfolding(crate::specs::Asking::asked_by))]
+pub fn asked_by(path: &str) -> Asked
+    ensures { result ≡ asked_by path.now }
+{
+    if path == "/status" {
+        return Asked::Status;
+    }
+    if path == "/metrics" {
+        return Asked::Metrics;
+    }
+    if path == "/health" {
+        return Asked::Health;
+    }
+    match path.as_bytes().strip_prefix(KEYS) {
+        Some(text) => slot_of(text),
+        None => Asked::Nothing,
+    }
+}
+
+/// What is asked for behind `/keys/`.
+#[tactic(auto, using(crate::proofs::AskingLaws::slot_missing))]
+fn slot_of(text: &[u8]) -> Asked
+    ensures { result ≡ slot_asked text.now }
+{
+    match slash_in(text) {
+        Some(at) => key_of(number(&text[..at]), number(&text[at + 1..])),
+        None => Asked::Nothing,
+    }
+}
+
+/// Where the first slash stands.
+fn slash_in(text: &[u8]) -> Option<usize>
+    ensures value { result ≡ position_from is_slash 0 text.now }
+    ensures bound { IfSome result (λ i. i < length text.now) }
+{
+    text.iter().position(|c| *c == b'/')
+}
+
+/// The key of these numbers, which have 32 bits each.
+fn key_of(page: Option<u64>, slot: Option<u64>) -> Asked
+    ensures { result ≡ key_asked page slot }
+{
+    let (Some(page), Some(slot)) = (page, slot) else {
+        return Asked::NoNumber;
+    };
+    if page > LAST || slot > LAST {
+        return Asked::NoNumber;
+    }
+    Asked::Value(Key {
+        page: page as u32,
+        slot: slot.min(255) as u8,
+    })
+}

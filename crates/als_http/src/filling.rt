@@ -1,0 +1,116 @@
+ghost use Rattle.std.specs.Prelude.{◌≡◌, OnOk, IfOk, ◌++◌, codes};
+ghost use Rattle.http_server.specs.Response.{IsBlank, fields_of};
+ghost use Rattle.als_http.specs.Replies.{status_of, fields_for, own_fields, type_of, HasText};
+ghost use Rattle.als_http.specs.Replies.{Shows, fields_of_wrong};
+
+use crate::metrics_text::metrics_text;
+use crate::query::Wrong;
+use crate::reply::Reply;
+use crate::report_text::{health_text, status_text, unread_text, wrong_text};
+use crate::value_text::value_text;
+use bytes::Bytes;
+use http::{HeaderName, HeaderValue, StatusCode};
+use http_server::Response;
+use std::alloc::{AllocError, Global};
+
+/// Fills a response by a reply. Where memory is refused it is an empty 503.
+pub(crate) fn show(alloc: Global, reply: &Reply, response: &mut Response)
+    requires { IsBlank response.old }
+    ensures { Shows reply.now response.new }
+{
+    match fill(alloc, reply, response) {
+        Ok(()) => {}
+        Err(_) => {
+            response.clear();
+            response.status = StatusCode::SERVICE_UNAVAILABLE;
+        }
+    }
+}
+
+/// Fills a response by a reply. After an error some of it may be there.
+#[tactic(auto, using(crate::proofs::TextLaws::text_same))]
+fn fill(alloc: Global, reply: &Reply, response: &mut Response) -> Result<(), AllocError>
+    requires { IsBlank response.old }
+    ensures status { OnOk result (response.new.status ≡ status_of reply.now) }
+    ensures fields { OnOk result (fields_of response.new ≡ fields_for reply.now) }
+    ensures text { OnOk result (HasText reply.now response.new.body.items) }
+{
+    let text = text_of(alloc, reply)?;
+    response.add_header(HeaderName::from_static("content-type"), type_of(reply))?;
+    response.add_header(HeaderName::from_static("cache-control"), no_store())?;
+    add_own(alloc, reply, response)?;
+    response.status = reply.status();
+    response.body.push(Bytes::from_vec(text)?)?;
+    Ok(())
+}
+
+/// The text of a reply.
+#[tactic(auto, unfolding(crate::specs::Replies::HasText))]
+fn text_of(alloc: Global, reply: &Reply) -> Result<Vec<u8>, AllocError>
+    ensures { IfOk result (λ text. HasText reply.now text.items) }
+{
+    match reply {
+        Reply::Value(answer) => value_text(alloc, answer),
+        Reply::Unread(why) => unread_text(alloc, *why),
+        Reply::Status(report, commits) => status_text(alloc, report, *commits),
+        Reply::Metrics(report, commits) => metrics_text(alloc, report, *commits),
+        Reply::Health(report, commits) => health_text(alloc, report.is_healthy(*commits)),
+        Reply::Refused(why) => wrong_text(alloc, *why),
+    }
+}
+
+/// What its text is.
+fn type_of(reply: &Reply) -> HeaderValue
+    ensures { result.bytes ≡ type_of reply.now }
+{
+    match reply {
+        Reply::Metrics(..) => HeaderValue::from_static("text/plain; version=0.0.4"),
+        _ => HeaderValue::from_static("application/json"),
+    }
+}
+
+/// The header fields beside those of every reply.
+fn add_own(alloc: Global, reply: &Reply, response: &mut Response) -> Result<(), AllocError>
+    ensures fields { OnOk result
+        (fields_of response.new ≡ fields_of response.old ++ own_fields reply.now) }
+    ensures body { OnOk result (response.new.body ≡ response.old.body) }
+{
+    match reply {
+        Reply::Value(answer) => {
+            let lsn = HeaderValue::from_u64(alloc, answer.lsn.0)?;
+            response.add_header(HeaderName::from_static("als-lsn"), lsn)?;
+        }
+        Reply::Refused(why) => add_methods(*why, response)?,
+        _ => {}
+    }
+    Ok(())
+}
+
+/// The methods that are answered, where another one was asked with.
+fn add_methods(why: Wrong, response: &mut Response) -> Result<(), AllocError>
+    ensures fields { OnOk result
+        (fields_of response.new ≡ fields_of response.old ++ fields_of_wrong why) }
+    ensures body { OnOk result (response.new.body ≡ response.old.body) }
+{
+    match why {
+        Wrong::Method => {
+            response.add_header(HeaderName::from_static("allow"), methods())?;
+        }
+        Wrong::Path | Wrong::Number | Wrong::Lsn => {}
+    }
+    Ok(())
+}
+
+/// The methods that are answered.
+fn methods() -> HeaderValue
+    ensures { result.bytes ≡ codes "GET, HEAD" }
+{
+    HeaderValue::from_static("GET, HEAD")
+}
+
+/// Nobody may keep a response.
+fn no_store() -> HeaderValue
+    ensures { result.bytes ≡ codes "no-store" }
+{
+    HeaderValue::from_static("no-store")
+}

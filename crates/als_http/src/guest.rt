@@ -1,0 +1,104 @@
+use crate::limits::REQUEST_LEN;
+use crate::peer::is_late;
+use std::alloc::Global;
+use std::io;
+use std::io::{Read, Write};
+use std::net::{OpenStream, Shutdown};
+use std::time::Duration;
+
+/// What ends the head of a request.
+const END: &[u8] = b"\r\n\r\n";
+
+/// A connection of the spare thread, whose stream does not block.
+pub(crate) struct Guest<T> {
+    stream: T,
+    said: Vec<u8>,
+    /// When it connected, by the clock.
+    begun: Duration,
+    is_answered: bool,
+}
+
+impl<T: Drop> Drop for Guest<T> {
+    fn drop(self) {
+        let Guest {
+            stream,
+            said,
+            begun: _,
+            is_answered: _,
+        } = self;
+        drop(stream);
+        drop(said);
+    }
+}
+
+/// What was heard of a guest.
+pub(crate) enum Heard {
+    /// A whole request, or more than one may have.
+    All,
+    /// It is not done yet.
+    Part,
+    /// It is gone.
+    Gone,
+}
+
+impl<T> Guest<T> {
+    /// It has just connected.
+    pub fn new(alloc: Global, stream: T, begun: Duration) -> Guest<T> {
+        Guest {
+            stream,
+            said: Vec::new(alloc),
+            begun,
+            is_answered: false,
+        }
+    }
+
+    /// For how long it is there.
+    pub fn age(&self, now: Duration) -> Duration {
+        now.saturating_sub(self.begun)
+    }
+
+    /// What it said.
+    pub fn said(&self) -> &[u8] {
+        self.said.as_slice()
+    }
+}
+
+impl<T: Read> Guest<T> {
+    /// Reads what is there of it. Behind its answer nothing of that is kept.
+    pub fn hear(&mut self) -> Heard {
+        let mut bytes = [0; 1024];
+        match self.stream.read(&mut bytes) {
+            Ok(0) => Heard::Gone,
+            Ok(_) if self.is_answered => Heard::Part,
+            Ok(count) => {
+                if count > 1024 || self.said.extend_from_slice(&bytes[..count]).is_err() {
+                    return Heard::Gone;
+                }
+                if is_whole(self.said.as_slice()) {
+                    Heard::All
+                } else {
+                    Heard::Part
+                }
+            }
+            Err(e) if is_late(&e) => Heard::Part,
+            Err(_) => Heard::Gone,
+        }
+    }
+}
+
+impl<T: Write + OpenStream> Guest<T> {
+    /// Sends its response, and says that no more is sent. What it still sends is read for a while: else the
+    /// system could take the response back.
+    pub fn tell(&mut self, response: &[u8]) -> io::Result<()> {
+        self.stream.write_all(response)?;
+        self.stream.flush()?;
+        self.stream.shutdown(Shutdown::Write)?;
+        self.is_answered = true;
+        Ok(())
+    }
+}
+
+/// Whether these bytes have the head of a request, or more than a request may have.
+fn is_whole(said: &[u8]) -> bool {
+    said.len() >= REQUEST_LEN || said.windows(END.len()).any(|four| four == END)
+}

@@ -1,0 +1,19 @@
+ghost use Rattle.std.specs.Prelude.{◌≡◌, OnOk, ◌++◌};
+ghost use Rattle.als_http.specs.Texts.{member_tokens};
+
+use json::Writer;
+use std::alloc::AllocError;
+
+/// A member of a JSON object: a number, or null.
+pub(crate) fn member(text: &mut Writer, name: &str, value: Option<u64>) -> Result<(), AllocError>
+    ensures tokens { OnOk result
+        (text.new.tokens ≡ text.old.tokens ++ member_tokens name.now value) }
+    ensures before { OnOk result (text.new.before ≡ text.old.before) }
+{
+    text.key(name)?;
+    match value {
+        Some(value) => text.u64(value)?,
+        None => text.null()?,
+    }
+    Ok(())
+}

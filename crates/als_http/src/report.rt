@@ -1,0 +1,64 @@
+ghost use Rattle.std.specs.Prelude.{◌≡◌};
+ghost use Rattle.als_http.specs.Health.{is_prompt, is_healthy, room_of};
+
+use crate::state::State;
+use als_record::Lsn;
+
+/// So many seconds a frame may wait for its acknowledgement. Past them the standby is not healthy.
+pub const PATIENCE: u64 = 10;
+
+/// What a standby tells of itself.
+#[derive(Clone, Copy, Debug, PartialEq, Eq)]
+pub struct Report {
+    pub state: State,
+    /// The offset after the last held record.
+    pub end: Lsn,
+    /// The offset below which no log byte can be lost.
+    pub acknowledged: Lsn,
+    /// Changes that wait for redo.
+    pub pending: u64,
+    /// Leases that are out.
+    pub leases: u64,
+    /// Seconds since the last frame came that was acknowledged. None: none was.
+    pub silence: Option<u64>,
+    /// Seconds for which a frame waits for its acknowledgement. None: none waits.
+    pub waiting: Option<u64>,
+    /// Bytes that the log takes at most. None: that is not known yet.
+    pub capacity: Option<u64>,
+    /// How many sessions a fault has ended.
+    pub failures: u64,
+    /// The number of the last such fault. None: there was none.
+    pub last_fault: Option<u64>,
+    /// The epoch of its history. None: that is not known yet.
+    pub epoch: Option<u64>,
+}
+
+impl Report {
+    /// Whether a primary sends to it, no frame waits for its acknowledgement for longer than
+    /// `PATIENCE`, and readers see a list of commits.
+    pub fn is_healthy(&self, commits: Option<u64>) -> bool
+        ensures { result ≡ is_healthy self.now commits }
+    {
+        self.state.is_sent_to() && is_prompt(self.waiting) && commits.is_some()
+    }
+
+    /// So many bytes more the log takes. None: that is not known yet.
+    pub fn room(&self) -> Option<u64>
+        ensures { result ≡ room_of self.now }
+    {
+        match self.capacity {
+            Some(capacity) => Some(capacity.saturating_sub(self.end.0)),
+            None => None,
+        }
+    }
+}
+
+/// Whether a frame that waits for so many seconds is none that waits for too long.
+fn is_prompt(waiting: Option<u64>) -> bool
+    ensures { result ≡ is_prompt waiting }
+{
+    match waiting {
+        Some(seconds) => seconds <= PATIENCE,
+        None => true,
+    }
+}

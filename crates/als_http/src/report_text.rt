@@ -1,0 +1,151 @@
+ghost use Rattle.std.specs.Prelude.{◌≡◌, IfOk, OnOk, ◌++◌};
+ghost use Rattle.json.specs.Print.{print};
+ghost use Rattle.als_http.specs.Texts.{status_tokens, log_tokens, redo_tokens, room_tokens};
+ghost use Rattle.als_http.specs.Texts.{health_tokens, error_tokens, why_unread, why_wrong};
+
+use crate::members::member;
+use crate::query::Wrong;
+use crate::report::Report;
+use crate::unread::Unread;
+use json::Writer;
+use std::alloc::{AllocError, Global};
+
+/// How a standby stands, as JSON.
+#[tactic(auto, using(crate::proofs::TextLaws::printed))]
+pub(crate) fn status_text(
+    alloc: Global,
+    report: &Report,
+    commits: Option<u64>,
+) -> Result<Vec<u8>, AllocError>
+    ensures { IfOk result (λ text. text.items ≡ print (status_tokens report.now commits)) }
+{
+    let mut text = Writer::new(Vec::new(alloc));
+    write_status(&mut text, report, commits)?;
+    Ok(text.into_inner())
+}
+
+/// The object of how a standby stands.
+fn write_status(text: &mut Writer, report: &Report, commits: Option<u64>) -> Result<(), AllocError>
+    ensures tokens { OnOk result
+        (text.new.tokens ≡ text.old.tokens ++ status_tokens report.now commits) }
+    ensures before { OnOk result (text.new.before ≡ text.old.before) }
+{
+    text.begin_object()?;
+    write_log(text, report)?;
+    write_redo(text, report, commits)?;
+    write_room(text, report)?;
+    text.end_object()?;
+    Ok(())
+}
+
+/// The state, and how far the log goes.
+fn write_log(text: &mut Writer, report: &Report) -> Result<(), AllocError>
+    ensures tokens { OnOk result (text.new.tokens ≡ text.old.tokens ++ log_tokens report.now) }
+    ensures before { OnOk result (text.new.before ≡ text.old.before) }
+{
+    text.key("state")?;
+    text.string(report.state.name())?;
+    member(text, "end", Some(report.end.0))?;
+    member(text, "acknowledged", Some(report.acknowledged.0))?;
+    Ok(())
+}
+
+/// What waits, what is published, and how old the last frame is.
+fn write_redo(text: &mut Writer, report: &Report, commits: Option<u64>) -> Result<(), AllocError>
+    ensures tokens { OnOk result
+        (text.new.tokens ≡ text.old.tokens ++ redo_tokens report.now commits) }
+    ensures before { OnOk result (text.new.before ≡ text.old.before) }
+{
+    member(text, "pending", Some(report.pending))?;
+    member(text, "leases", Some(report.leases))?;
+    member(text, "commits", commits)?;
+    member(text, "seconds_since_last_frame", report.silence)?;
+    Ok(())
+}
+
+/// How much log there can be, and how much of it is left.
+fn write_room(text: &mut Writer, report: &Report) -> Result<(), AllocError>
+    ensures tokens { OnOk result (text.new.tokens ≡ text.old.tokens ++ room_tokens report.now) }
+    ensures before { OnOk result (text.new.before ≡ text.old.before) }
+{
+    member(text, "capacity", report.capacity)?;
+    member(text, "left", report.room())?;
+    Ok(())
+}
+
+/// Whether a standby is healthy, as JSON.
+#[tactic(auto, using(crate::proofs::TextLaws::printed))]
+pub(crate) fn health_text(alloc: Global, healthy: bool) -> Result<Vec<u8>, AllocError>
+    ensures { IfOk result (λ text. text.items ≡ print (health_tokens healthy)) }
+{
+    let mut text = Writer::new(Vec::new(alloc));
+    write_health(&mut text, healthy)?;
+    Ok(text.into_inner())
+}
+
+fn write_health(text: &mut Writer, healthy: bool) -> Result<(), AllocError>
+    ensures tokens { OnOk result (text.new.tokens ≡ text.old.tokens ++ health_tokens healthy) }
+    ensures before { OnOk result (text.new.before ≡ text.old.before) }
+{
+    text.begin_object()?;
+    text.key("healthy")?;
+    text.boolean(healthy)?;
+    text.end_object()?;
+    Ok(())
+}
+
+/// Why there is no answer, as JSON: the fault's number and name, or what is older.
+pub(crate) fn unread_text(alloc: Global, why: Unread) -> Result<Vec<u8>, AllocError>
+    ensures { IfOk result (λ text. text.items ≡ print (error_tokens (why_unread why))) }
+{
+    error_text(alloc, why_unread(why))
+}
+
+fn why_unread(why: Unread) -> &'static str
+    ensures { result.now ≡ why_unread why }
+{
+    match why {
+        Unread::Warming => "35 Warming: no commits are published yet",
+        Unread::Stopped => "31 Stopped: the view has ended",
+        Unread::Older(_) => "the commit that Als-At-Least names is not published yet",
+    }
+}
+
+/// What is wrong with a request, as JSON.
+pub(crate) fn wrong_text(alloc: Global, why: Wrong) -> Result<Vec<u8>, AllocError>
+    ensures { IfOk result (λ text. text.items ≡ print (error_tokens (why_wrong why))) }
+{
+    error_text(alloc, why_wrong(why))
+}
+
+fn why_wrong(why: Wrong) -> &'static str
+    ensures { result.now ≡ why_wrong why }
+{
+    match why {
+        Wrong::Path => "no such path: /keys/P/S, /status, /metrics, /health",
+        Wrong::Method => "GET and HEAD alone are answered",
+        Wrong::Number => "a page and a slot are decimal numbers below 2^32",
+        Wrong::Lsn => "Als-At-Least is one decimal number below 2^64",
+    }
+}
+
+/// An object with a text of what is wrong.
+#[tactic(auto, using(crate::proofs::TextLaws::printed))]
+fn error_text(alloc: Global, why: &str) -> Result<Vec<u8>, AllocError>
+    ensures { IfOk result (λ text. text.items ≡ print (error_tokens why.now)) }
+{
+    let mut text = Writer::new(Vec::new(alloc));
+    write_error(&mut text, why)?;
+    Ok(text.into_inner())
+}
+
+fn write_error(text: &mut Writer, why: &str) -> Result<(), AllocError>
+    ensures tokens { OnOk result (text.new.tokens ≡ text.old.tokens ++ error_tokens why.now) }
+    ensures before { OnOk result (text.new.before ≡ text.old.before) }
+{
+    text.begin_object()?;
+    text.key("error")?;
+    text.string(why)?;
+    text.end_object()?;
+    Ok(())
+}

@@ -1,0 +1,79 @@
+use crate::answering::Answering;
+use crate::gate::Gate;
+use crate::limits::{LEFTOVERS, NAP, RESPONSE, TICK, config};
+use crate::peer::Peer;
+use crate::standing::Standing;
+use crate::turn::Turn;
+use http_server::{Connection, serve};
+use std::alloc::Global;
+use std::hash::RandomState;
+use std::io::{Read, Write};
+use std::net::{OpenListener, OpenStream, Shutdown};
+use std::time::{Clock, Duration};
+use std::{io, thread};
+
+/// Serves one connection after another, until the gate closes. The listener does not block.
+pub fn serve_until_closed<
+    L: OpenListener<Stream = T>,
+    T: Read + Write + OpenStream + Drop,
+    S: Standing,
+    C: Clock,
+>(
+    alloc: Global,
+    listener: &L,
+    answering: &mut Answering<S>,
+    keys: RandomState,
+    clock: &C,
+    gate: &Gate,
+) {
+    for _ in 0..u64::MAX {
+        if gate.is_closed() {
+            break;
+        }
+        match listener.accept() {
+            Ok((stream, _)) => {
+                gate.enter();
+                // What ends a connection is its own affair.
+                let _ = serve_one(alloc, stream, answering, keys, clock, gate);
+                gate.leave();
+            }
+            // Nobody wants to connect, or the system refuses for now.
+            Err(_) => thread::sleep(clock, Duration::from_millis(NAP)),
+        }
+    }
+}
+
+/// Serves the requests of a connection.
+fn serve_one<T: Read + Write + OpenStream + Drop, S: Standing, C: Clock>(
+    alloc: Global,
+    stream: T,
+    answering: &mut Answering<S>,
+    keys: RandomState,
+    clock: &C,
+    gate: &Gate,
+) -> io::Result<()> {
+    stream.set_read_timeout(Some(Duration::from_millis(TICK)))?;
+    stream.set_write_timeout(Some(Duration::from_millis(RESPONSE)))?;
+    stream.set_nodelay(true)?;
+    let begun = clock.monotonic()?;
+    let mut rest = stream.try_clone()?;
+    let turn = Turn::new();
+    let mut writer = Peer::new(stream.try_clone()?, clock, gate, &turn, begun);
+    let mut reader = Peer::new(stream, clock, gate, &turn, begun);
+    let mut connection = Connection::new(alloc, keys, config());
+    serve(&mut connection, answering, &mut reader, &mut writer)?;
+    linger(&mut rest)
+}
+
+/// Says that no more is sent, and reads what the peer still sends. Where a connection is closed with
+/// bytes unread, the system may take back the last response.
+fn linger<T: Read + OpenStream>(stream: &mut T) -> io::Result<()> {
+    stream.shutdown(Shutdown::Write)?;
+    let mut bytes = [0; 1024];
+    for _ in 0..LEFTOVERS {
+        if stream.read(&mut bytes)? == 0 {
+            break;
+        }
+    }
+    Ok(())
+}

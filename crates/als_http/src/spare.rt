@@ -1,0 +1,107 @@
+use crate::answering::Answering;
+use crate::gate::Gate;
+use crate::guest::{Guest, Heard};
+use crate::limits::{GUESTS, NAP, REQUEST, config};
+use crate::standing::Standing;
+use http_server::{Connection, serve};
+use std::alloc::{AllocError, Global};
+use std::hash::RandomState;
+use std::io::{Read, Write};
+use std::net::{OpenListener, OpenStream};
+use std::time::{Clock, Duration};
+use std::{io, thread};
+
+/// Answers those who come while each other thread has a connection, until the gate closes. It waits for
+/// none of them: whoever sends no whole request in time is dropped. Each connection is closed after its
+/// answer.
+pub(crate) fn answer_guests<
+    L: OpenListener<Stream = T>,
+    T: Read + Write + OpenStream + Drop,
+    S: Standing,
+    C: Clock,
+>(
+    alloc: Global,
+    listener: &L,
+    answering: &mut Answering<S>,
+    keys: RandomState,
+    clock: &C,
+    gate: &Gate,
+) {
+    let mut guests = Vec::new(alloc);
+    for _ in 0..u64::MAX {
+        if gate.is_closed() {
+            break;
+        }
+        let Ok(now) = clock.monotonic() else {
+            break;
+        };
+        let has_come = gate.is_crowded() && admit(alloc, listener, &mut guests, now);
+        guests = attend(alloc, guests, answering, keys, now);
+        if !has_come {
+            thread::sleep(clock, Duration::from_millis(NAP));
+        }
+    }
+}
+
+/// Takes the next who wants to connect. Where too many are there, the first of them goes. It answers
+/// whether one came.
+fn admit<L: OpenListener<Stream = T>, T: OpenStream + Drop>(
+    alloc: Global,
+    listener: &L,
+    guests: &mut Vec<Guest<T>>,
+    now: Duration,
+) -> bool {
+    let Ok((stream, _)) = listener.accept() else {
+        return false;
+    };
+    if stream.set_nonblocking(true).is_err() {
+        return true;
+    }
+    if guests.len() >= GUESTS {
+        drop(guests.remove(0));
+    }
+    // Where there is no memory for it, it is dropped.
+    let _ = guests.push(Guest::new(alloc, stream, now));
+    true
+}
+
+/// Looks at each of them. Those stay who have not said all, and those who have to read their answer.
+fn attend<T: Read + Write + OpenStream + Drop, S: Standing>(
+    alloc: Global,
+    guests: Vec<Guest<T>>,
+    answering: &mut Answering<S>,
+    keys: RandomState,
+    now: Duration,
+) -> Vec<Guest<T>> {
+    let mut left = Vec::new(alloc);
+    for guest in guests {
+        let mut guest = guest;
+        let heard = guest.hear();
+        let stays = match heard {
+            Heard::All => answer(alloc, &mut guest, answering, keys).is_ok(),
+            Heard::Part => guest.age(now) < Duration::from_millis(REQUEST),
+            Heard::Gone => false,
+        };
+        if stays {
+            // Where there is no memory for it, it is dropped.
+            let _ = left.push(guest);
+        } else {
+            drop(guest);
+        }
+    }
+    left
+}
+
+/// Answers what a guest has said. Its response is short enough for what the system keeps for it.
+fn answer<T: Read + Write + OpenStream, S: Standing>(
+    alloc: Global,
+    guest: &mut Guest<T>,
+    answering: &mut Answering<S>,
+    keys: RandomState,
+) -> io::Result<()> {
+    let mut connection = Connection::new(alloc, keys, config());
+    let mut response = Vec::new(alloc);
+    let mut said = guest.said();
+    serve(&mut connection, answering, &mut said, &mut response)?;
+    guest.tell(response.as_slice())
+}

@@ -1,0 +1,90 @@
+ghost use Rattle.std.specs.Prelude.{◌≡◌};
+ghost use Rattle.als_http.specs.States.{number_of_state, state_of_number, name_of_state, role_of_state};
+ghost use Rattle.als_http.specs.Health.{is_sent_to};
+
+/// What a standby is doing.
+#[derive(Clone, Copy, Debug, PartialEq, Eq)]
+pub enum State {
+    /// It makes ready what its folder holds.
+    Recovering,
+    /// No primary sends to it.
+    Waiting,
+    /// It takes the primary's log.
+    Following,
+    /// A record was refused, and so is all that comes behind it.
+    Refusing,
+    /// The log was sealed: what was not committed is undone.
+    Sealed,
+    /// The takeover is done.
+    Primary,
+    /// A device failed, or the standby ends.
+    Stopped,
+}
+
+impl State {
+    /// Its number, as a cell keeps it.
+    pub(crate) fn number(self) -> u64
+        ensures { result ≡ number_of_state self }
+    {
+        match self {
+            State::Recovering => 0,
+            State::Waiting => 1,
+            State::Following => 2,
+            State::Refusing => 3,
+            State::Sealed => 4,
+            State::Primary => 5,
+            State::Stopped => 6,
+        }
+    }
+
+    /// The state of a number. Past the last one it is Stopped.
+    pub(crate) fn of(number: u64) -> State
+        ensures { result ≡ state_of_number number }
+    {
+        match number {
+            0 => State::Recovering,
+            1 => State::Waiting,
+            2 => State::Following,
+            3 => State::Refusing,
+            4 => State::Sealed,
+            5 => State::Primary,
+            _ => State::Stopped,
+        }
+    }
+
+    /// Whether a primary sends to it.
+    pub fn is_sent_to(self) -> bool
+        ensures { result ≡ is_sent_to self }
+    {
+        matches!(self, State::Following)
+    }
+
+    /// The role of its node.
+    pub fn role(self) -> &'static str
+        ensures { result.now ≡ role_of_state self }
+    {
+        match self {
+            State::Sealed | State::Primary => "primary",
+            State::Recovering
+            | State::Waiting
+            | State::Following
+            | State::Refusing
+            | State::Stopped => "standby",
+        }
+    }
+
+    /// Its name, as answers have it.
+    pub fn name(self) -> &'static str
+        ensures { result.now ≡ name_of_state self }
+    {
+        match self {
+            State::Recovering => "recovering",
+            State::Waiting => "waiting",
+            State::Following => "following",
+            State::Refusing => "refusing",
+            State::Sealed => "sealed",
+            State::Primary => "primary",
+            State::Stopped => "stopped",
+        }
+    }
+}

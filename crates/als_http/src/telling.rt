@@ -1,0 +1,74 @@
+ghost use Rattle.std.specs.Prelude.{◌≡◌};
+ghost use Rattle.http.specs.Request.{head_of};
+ghost use Rattle.als_http.specs.Telling.{named_lsn, told, allowed, query_of};
+
+use crate::asked::Asked;
+use crate::asking::asked_by;
+use crate::numbers::number;
+use crate::query::{Query, Wrong};
+use als_record::Lsn;
+use bytes::Bytes;
+use http::{HeaderValue, Request};
+use http_header::GetAll;
+
+/// The header by which a client names the LSN of an earlier answer.
+pub const AT_LEAST: &str = "als-at-least";
+
+/// What a request asks for.
+pub fn query_of(request: &Request<Bytes>) -> Query
+    ensures { result ≡ query_of (head_of request.now) }
+{
+    let asked = asked_by(request.uri().path());
+    let lsn = named_lsn(request.headers().get_all(AT_LEAST));
+    allowed(request.method().as_str(), told(asked, lsn))
+}
+
+/// The LSN that a field names, 0 without one. None: it is no number, or there are two.
+#[tactic(auto, unfolding(crate::specs::Telling::named_lsn))]
+fn named_lsn(values: GetAll<'_, HeaderValue>) -> Option<u64>
+    ensures { result ≡ named_lsn values.entry }
+{
+    let mut values = values.iter();
+    let Some(value) = values.next() else {
+        return Some(0);
+    };
+    match values.next() {
+        None => number(value.as_bytes()),
+        Some(_) => None,
+    }
+}
+
+/// What is asked for with this LSN.
+#[tactic(auto, unfolding(crate::specs::Telling::told))]
+fn told(asked: Asked, lsn: Option<u64>) -> Query
+    ensures { result ≡ told asked lsn }
+{
+    match asked {
+        Asked::Value(key) => {
+            match lsn {
+                Some(lsn) => Query::Value(key, Lsn(lsn)),
+                None => Query::Refused(Wrong::Lsn),
+            }
+        }
+        Asked::Status => Query::Status,
+        Asked::Metrics => Query::Metrics,
+        Asked::Health => Query::Health,
+        Asked::NoNumber => Query::Refused(Wrong::Number),
+        Asked::Nothing => Query::Refused(Wrong::Path),
+    }
+}
+
+/// The query, where it is made by a method that reads.
+#[tactic(auto, unfolding(crate::specs::Telling::allowed))]
+fn allowed(method: &str, query: Query) -> Query
+    ensures { result ≡ allowed method.now query }
+{
+    if let Query::Refused(Wrong::Path) = query {
+        return query;
+    }
+    if method == "GET" || method == "HEAD" {
+        query
+    } else {
+        Query::Refused(Wrong::Method)
+    }
+}

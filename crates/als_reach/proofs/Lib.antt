@@ -1,4 +1,0 @@
-pub mod Fronts
-pub mod Reached
-pub mod Holding
-pub mod Undone

@@ -1,7 +1,0 @@
-use Rattle.als_run.specs.Tallies.{AloneRaise, force_events}
-use Rattle.als_run.proofs.forcing.forcer.Given as goal
-
-abbrev pub invariant-loop : goal.invariant-loop
-invariant-loop g l =
-    (goal.iterator-loop g).can_next l.iterator' × (goal.iterator-loop g).is_finite l.iterator'
-    × AloneRaise force_events (g.E.Events.tally l.fn.events) (g.E.Events.tally l.events)

@@ -1,5 +1,0 @@
-use Rattle.als_run.specs.Tallies.{AloneRaise, force_events}
-use Rattle.als_run.proofs.forcing.write_log.Given as goal
-
-abbrev pub invariant-loop : goal.invariant-loop
-invariant-loop g l = AloneRaise force_events (g.E.Events.tally l.fn.events) (g.E.Events.tally l.events)

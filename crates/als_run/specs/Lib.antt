@@ -1,4 +1,0 @@
-pub mod Offers
-pub mod Tallies
-pub mod Worked
-pub mod Dispatching

@@ -1,0 +1,96 @@
+use crate::outages::Outages;
+use als_operate::Fault;
+use std::time::{Clock, Duration};
+
+/// The same thing is reported at most once in this many seconds.
+const TOLD: u64 = 60;
+
+/// After so many connections in a row over which nothing came it is reported that the primary hangs up.
+const HANG_UPS: u32 = 3;
+
+/// What was reported of a primary that is waited for, and when.
+#[derive(Drop)]
+pub(crate) struct Notices {
+    outage: Minute,
+    hang_up: Minute,
+    refusal: Minute,
+    refused: Option<Fault>,
+    /// Connections in a row that were ended at once.
+    hang_ups: u32,
+}
+
+/// When something was reported last.
+#[derive(Drop)]
+struct Minute {
+    told: Option<Duration>,
+}
+
+impl Notices {
+    /// Nothing was reported.
+    pub fn new() -> Notices {
+        Notices {
+            outage: Minute { told: None },
+            hang_up: Minute { told: None },
+            refusal: Minute { told: None },
+            refused: None,
+            hang_ups: 0,
+        }
+    }
+
+    /// Reports, where it is time, that nobody sends.
+    pub fn outage<C: Clock, N: Outages>(
+        &mut self,
+        clock: &C,
+        why: Option<Fault>,
+        millis: u64,
+        outages: &mut N,
+    ) {
+        if self.outage.is_due(clock) {
+            outages.outage(why, millis);
+        }
+    }
+
+    /// Reports, where it is time or this fault is another one, what is refused.
+    pub fn refusal<C: Clock, N: Outages>(
+        &mut self,
+        clock: &C,
+        fault: Fault,
+        millis: u64,
+        outages: &mut N,
+    ) {
+        let is_another = self.refused != Some(fault);
+        if self.refusal.is_due(clock) || is_another {
+            self.refused = Some(fault);
+            outages.refusal(fault, millis);
+        }
+    }
+
+    /// Counts a connection that was ended at once, or one that was not, and reports several in a row.
+    pub fn hang_up<C: Clock, N: Outages>(&mut self, clock: &C, is_hang_up: bool, outages: &mut N) {
+        if !is_hang_up {
+            self.hang_ups = 0;
+            return;
+        }
+        self.hang_ups = self.hang_ups.saturating_add(1);
+        if self.hang_ups >= HANG_UPS && self.hang_up.is_due(clock) {
+            outages.hang_ups(self.hang_ups);
+        }
+    }
+}
+
+impl Minute {
+    /// Whether it is time to report it. It is not where the clock can't be read.
+    fn is_due<C: Clock>(&mut self, clock: &C) -> bool {
+        let Ok(now) = clock.monotonic() else {
+            return false;
+        };
+        let is_due = match self.told {
+            Some(before) => now.saturating_sub(before) >= Duration::from_secs(TOLD),
+            None => true,
+        };
+        if is_due {
+            self.told = Some(now);
+        }
+        is_due
+    }
+}

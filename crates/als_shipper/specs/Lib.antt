@@ -1,0 +1,3 @@
+pub mod Visits
+pub mod History
+pub mod Lines

@@ -1,0 +1,5 @@
+pub mod Totals
+pub mod Moves
+pub mod Tallies
+pub mod Workings
+pub mod Dispatches
