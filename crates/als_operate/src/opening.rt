@@ -5,9 +5,7 @@ ghost use Rattle.als_operate.specs.FaultNames.{kind_of};
 use crate::fault::Fault;
 use als_ckpt::{Phase, read_state};
 use als_disk::{BlockDisk, FileDisk};
-use als_engine::{
-    CONTROL_BLOCKS, Config, Disks, Engine, Fault as EngineFault, Reader, Refused,
-};
+use als_engine::{CONTROL_BLOCKS, Config, Disks, Engine, Fault as EngineFault, Reader, Refused};
 use als_fault::FaultKind;
 use als_folder::{Devices, Fault as FolderFault, Folder, LOG_LIMIT, Part, Sizes, Trouble, Wrong};
 use als_record::LogHeader;

@@ -119,10 +119,7 @@ fn connect<R: AllocGlobal + Net + Wait, P: Progress>(
         None => {
             let writer = dial(rt, following)?;
             let reader = writer.try_clone()?;
-            Ok((
-                Line::new(rt.alloc(), reader),
-                Line::new(rt.alloc(), writer),
-            ))
+            Ok((Line::new(rt.alloc(), reader), Line::new(rt.alloc(), writer)))
         }
     }
 }

@@ -9,7 +9,7 @@ use Rattle.als_store.specs.Stored.{acknowledged}
 use Rattle.als_share.specs.Reaching.{Reaches}
 use Rattle.als_share.proofs.Reached.{reached-kept}
 use Rattle.als_ship.specs.Vouching.{TellsVouched}
-use Rattle.als_ship.proofs.Vouching.{told_higher}
+use Rattle.als_ship.proofs.Vouching.{told_higher, told_nothing}
 use Rattle.als_service.specs.Sessions.{Session, begins, ends, refuses, IsVouched, VouchesLast, VouchesAll}
 
 -- the streams of a session are those of the last one
@@ -21,7 +21,7 @@ vouches_last floor ended told after start came gone comes_first goes_then tells 
 -- where there was no connection, nobody was told anything
 pub vouches_nobody : (floor : ℕ) (fault : Fault) (start gone : List Session) → gone ≡ refuses fault start → VouchesLast floor start gone
 vouches_nobody floor fault start gone e =
-    (record { told = None; after = None; ended = Some (Some (Err fault)) }, e, (0, 0, [], [], tt, ([], _, refl, tt)))
+    (record { told = None; after = None; ended = Some (Some (Err fault)) }, e, told_nothing floor None)
 
 pub vouches_none : (floor : ℕ) (met : List Session) → VouchesAll floor met met
 vouches_none floor met = ([], refl, tt)

@@ -1,4 +1,4 @@
-ghost use Rattle.std.specs.Prelude.{◌≡◌, false, true, Some, Err, IfSome, MatchOption};
+ghost use Rattle.std.specs.Prelude.{◌≡◌, false, true, Some, Err, IfSome, IfNone};
 ghost use Rattle.als_operate.specs.FaultNames.{kind_of};
 ghost use Rattle.als_service.specs.Endings.{is_final, ends_it};
 ghost use Rattle.als_service.specs.Losses.{IsLost};
@@ -11,15 +11,15 @@ use als_ship::Fault as SessionFault;
 pub(crate) fn final_fault(ended: Option<Result<(), Fault>>) -> Option<Fault>
     ensures ends { IfSome result (λ fault. ended ≡ Some (Err fault)) }
     ensures over { IfSome result (λ fault. is_final (kind_of fault) ≡ true) }
-    ensures goes_on { MatchOption result (λ fault. Unit {0}) (ends_it ended ≡ false) }
+    ensures goes_on { IfNone result (ends_it ended ≡ false) }
 {
     match ended {
         Some(Err(fault)) => {
+            let mut found = None;
             if is_final(fault.kind()) {
-                Some(fault)
-            } else {
-                None
+                found = Some(fault);
             }
+            found
         }
         Some(Ok(())) => None,
         None => None,

@@ -55,6 +55,8 @@ impl<'a, I, C> Heard<'a, I, C> {
 }
 
 impl<I: Read, C: Clock> Read for Heard<'_, I, C> {
+    ghost remaining = { λ heard. I.remaining heard.stream };
+
     fn read(&mut self, into: &mut [u8]) -> io::Result<usize> {
         match self.stream.read(into) {
             Ok(count) => {

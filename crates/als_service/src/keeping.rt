@@ -40,7 +40,7 @@ pub struct Kept<E, F> {
 /// after a connection that was lost, it connects again: at once after a session that brought
 /// something, else after a pause. After a refusal it asks again for what was refused, after a longer
 /// pause. Only what asking again can't mend ends it.
-#[tactic(auto, using(crate::proofs::Chains::reaches_self, crate::proofs::Chains::reaches_both, crate::proofs::Vouched::vouches_none, crate::proofs::Vouched::vouches_more, crate::proofs::Endings::goes_on_none, crate::proofs::Endings::goes_on_more, crate::proofs::Endings::ends_last, crate::proofs::Endings::final_is_not_lost))]
+#[tactic(auto, using(crate::proofs::Chains::reaches_self, crate::proofs::Chains::reaches_both, crate::proofs::Vouched::vouches_none, crate::proofs::Vouched::vouches_more, crate::proofs::Endings::goes_on_none))]
 pub fn keep_following<
     E: Counts + Send + Drop,
     R: Threads + Wait + Sync + Clock,

@@ -20,8 +20,8 @@ use std::sync::Wait;
 use std::thread::Threads;
 use std::time::{Clock, Duration};
 
-/// A connection that ends within this time is one that was ended at once.
-const SOON: Duration = Duration::from_secs(1);
+/// A connection that ends within so many seconds is one that was ended at once.
+const SOON: u64 = 1;
 
 /// What a session leaves, and how it ended. None: a thread could not be started, or allocation failed,
 /// and no frame was asked for.
@@ -136,7 +136,7 @@ fn is_hang_up(
     match ended {
         Some(Err(Fault::Session(SessionFault::Cut))) => true,
         Some(Err(Fault::Session(SessionFault::Stream))) => match (begun, now) {
-            (Some(begun), Some(now)) => now.saturating_sub(begun) < SOON,
+            (Some(begun), Some(now)) => now.saturating_sub(begun) < Duration::from_secs(SOON),
             _ => false,
         },
         _ => false,

@@ -267,7 +267,12 @@ fn a_standby_follows_and_takes_over(rt: HostRuntime) {
     assert!(rt; holds(&rt, FOLLOWING) || holds(&rt, FOLLOWING));
     assert!(rt; takes_over(&rt) || takes_over(&rt));
     assert!(rt; holds(&rt, PRIMARY) || holds(&rt, PRIMARY));
-    for option in ["--keep", "--serve=127.0.0.1:0", "--workers=0", "--workers=2"] {
+    for option in [
+        "--keep",
+        "--serve=127.0.0.1:0",
+        "--workers=0",
+        "--workers=2",
+    ] {
         assert!(rt; follows_no_more(&rt, option) || follows_no_more(&rt, option));
     }
     assert!(rt; fs::remove_dir_all(&rt, "followed").is_ok());

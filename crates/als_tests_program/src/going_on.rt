@@ -56,7 +56,15 @@ fn is_hung_up_on<
         + 'static,
 >(rt: &R, addr: &str) -> bool {
     let words = [
-        "als", "standby", "--dir", "another", "--from", addr, "--pages", "5", "--serve",
+        "als",
+        "standby",
+        "--dir",
+        "another",
+        "--from",
+        addr,
+        "--pages",
+        "5",
+        "--serve",
         "127.0.0.1:0",
     ];
     let status = ["als", "status", "another"];

@@ -267,5 +267,7 @@ fn asks_again_in_memory<R: Threads + Wait + Sync + Clock + Clone + Drop + Abort>
 #[test]
 fn a_refused_record_is_asked_for_again(rt: HostRuntime) {
     let alloc = rt.alloc();
-    assert!(rt; asks_again_in_memory(&rt, alloc).is_some() || asks_again_in_memory(&rt, alloc).is_some());
+    assert!(rt;
+        asks_again_in_memory(&rt, alloc).is_some() || asks_again_in_memory(&rt, alloc).is_some()
+    );
 }
