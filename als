@@ -29,12 +29,12 @@ version() {
 
 # The page of help that the words ask for; returns 1 where they ask for something else.
 tell() {
-    local page
-    case "$*" in
+    local words="$*" page
+    case "$words" in
         --version | -V) version && return 0 ;;
         --help | -h | help) page=als ;;
-        *' --help' | *' -h') page=${*% *} ;;
-        'help '*) page=${*#help } ;;
+        *' --help' | *' -h') page=${words% *} ;;
+        'help '*) page=${words#help } ;;
         *) return 1 ;;
     esac
     [[ $page != *[!a-z-]* && -r $top/docs/help/$page.txt ]] || return 1

@@ -1,5 +1,5 @@
 -- How a session begins, and why it does not.
-use Rattle.std.proofs.Common.{◌≡◌, ◌≢◌, ◌<◌, ◌≤◌, ◌-◌, ℕ, List, [], ◌++◌, length, take, Option, Ok, Err, refl, sym, ap, subst, ◌∙◌, inl, inr, arith}
+use Rattle.std.proofs.Common.{◌≡◌, ◌≢◌, ◌<◌, ◌≤◌, ◌-◌, ◌^◌, ℕ, List, [], ◌++◌, length, take, Option, Ok, Err, refl, sym, ap, subst, ◌∙◌, inl, inr, arith}
 use Rattle.std.specs.Io.KnownBytes.{Consumes, Appends}
 use Rattle.als_record.specs.declared.header.LogHeader.{LogHeader}
 use Rattle.als_record.specs.declared.lsn.Lsn.{Lsn}
@@ -19,9 +19,9 @@ use Rattle.als_wire.specs.Sending.{Puts}
 use Rattle.als_ship.specs.declared.fault.Fault.{Fault}
 use Rattle.als_ship.specs.declared.fault.Fault.TheVariants.{BadHeader, Memory, Gap, BadFrame, Diverged, Cut, Stream, OtherEpoch, Refused}
 use Rattle.als_ship.specs.Faults.{of_wire, of_epochs}
-use Rattle.als_ship.specs.Wire.{FailsToAsk, FailsToServe, IsNotAdmitted, IsOfTheWay, IsMet, Pours, Ships}
+use Rattle.als_ship.specs.Wire.{FailsToAsk, FailsToServe, FailsToPour, IsNotAdmitted, IsMet, Pours, Ships}
 use Rattle.als_ship.specs.Meeting.{IsHeaderOf, MeetsOne, MeetsInVain}
-use Rattle.als_ship.proofs.Pieces.{puts_none, puts_all}
+use Rattle.als_ship.proofs.Pieces.{Answered, no_answer, puts_none, puts_all}
 
 -- ---- the header
 
@@ -47,7 +47,7 @@ asks_another header theirs from seals old new is other read = inr (from, theirs,
 -- so it is not served
 pub serves_unasked : (header : LogHeader) (own : List ℕ) (end : ℕ) (f : Fault) (old new : Option (List ℕ)) → FailsToAsk header f old new → FailsToServe header own end f old
 serves_unasked header own end BadHeader old new fails = (new, fails)
-serves_unasked header own end BadFrame old new fails = tt
+serves_unasked header own end BadFrame old new fails = inl (new, fails)
 serves_unasked header own end Cut old new fails = tt
 serves_unasked header own end Stream old new fails = tt
 serves_unasked header own end Memory old new fails = absurd fails
@@ -76,33 +76,38 @@ serves_not header theirs own from end (Refused cause) old new history read not =
 
 -- ---- the way
 
-pub way_serves : (header : LogHeader) (own : List ℕ) (end : ℕ) (f : Fault) (old : Option (List ℕ)) → IsOfTheWay f → FailsToServe header own end f old
-way_serves header own end Memory old is = tt
-way_serves header own end BadFrame old is = tt
-way_serves header own end Cut old is = tt
-way_serves header own end Stream old is = tt
-way_serves header own end BadHeader old is = absurd is
-way_serves header own end Gap old is = absurd is
-way_serves header own end (Diverged seal) old is = absurd is
-way_serves header own end (OtherEpoch epoch) old is = absurd is
-way_serves header own end (Refused cause) old is = absurd is
+-- once the follower was met
+pub serves_unanswered : (header : LogHeader) (own theirs : List ℕ) (from end : ℕ) (f : Fault) (old new : Option (List ℕ)) → IsHistory theirs → Consumes old new (resume_bytes from header.pages theirs) → FailsToPour f new → FailsToServe header own end f old
+serves_unanswered header own theirs from end BadFrame old new history read fails = inr (record { from = from; seals = theirs; history = history; between = new; read = read; none = fails })
+serves_unanswered header own theirs from end Memory old new history read fails = tt
+serves_unanswered header own theirs from end Cut old new history read fails = tt
+serves_unanswered header own theirs from end Stream old new history read fails = tt
+serves_unanswered header own theirs from end BadHeader old new history read fails = absurd fails
+serves_unanswered header own theirs from end Gap old new history read fails = absurd fails
+serves_unanswered header own theirs from end (Diverged seal) old new history read fails = absurd fails
+serves_unanswered header own theirs from end (OtherEpoch epoch) old new history read fails = absurd fails
+serves_unanswered header own theirs from end (Refused cause) old new history read fails = absurd fails
+
+-- the own history was not told
+serves_untold : (header : LogHeader) (own : List ℕ) (end : ℕ) (f : WireFault) (old : Option (List ℕ)) → f ≡ wire.Stream → FailsToServe header own end (of_wire f) old
+serves_untold header own end f old is = subst (λ (x : WireFault). FailsToServe header own end (of_wire x) old) (sym is) tt
 
 -- no answer was read
-pub way_answer : (f : WireFault) (old new : Option (List ℕ)) → FailsToRead tag.Acknowledged f old new → IsOfTheWay (of_wire f)
-way_answer wire.BadHeader old new fails = cc fails.1.for_resume
-way_answer wire.Memory old new fails = tt
-way_answer wire.BadFrame old new fails = tt
-way_answer wire.Cut old new fails = tt
-way_answer wire.Stream old new fails = tt
+pub way_answer : (text : List ℕ) (epoch from at : ℕ) (written sent asked old new : Option (List ℕ)) (kept : Option Lsn) (f : WireFault) → Answered text epoch from at written sent asked old kept → FailsToRead tag.Acknowledged f old new → FailsToPour (of_wire f) asked
+way_answer text epoch from at written sent asked old new kept wire.BadHeader a fails = cc fails.1.for_resume
+way_answer text epoch from at written sent asked old new kept wire.Memory a fails = tt
+way_answer text epoch from at written sent asked old new kept wire.BadFrame a fails = no_answer text epoch from at written sent asked old new kept a fails
+way_answer text epoch from at written sent asked old new kept wire.Cut a fails = tt
+way_answer text epoch from at written sent asked old new kept wire.Stream a fails = tt
 
-pub way_stream : (f : WireFault) → f ≡ wire.Stream → IsOfTheWay (of_wire f)
-way_stream f is = subst (λ (x : WireFault). IsOfTheWay (of_wire x)) (sym is) tt
+pub way_stream : (f : WireFault) (asked : Option (List ℕ)) → f ≡ wire.Stream → FailsToPour (of_wire f) asked
+way_stream f asked is = subst (λ (x : WireFault). FailsToPour (of_wire x) asked) (sym is) tt
 
-pub way_of : (f : Fault) → f ≡ Stream → IsOfTheWay f
-way_of f is = subst IsOfTheWay (sym is) tt
+pub way_of : (f : Fault) (asked : Option (List ℕ)) → f ≡ Stream → FailsToPour f asked
+way_of f asked is = subst (λ (x : Fault). FailsToPour x asked) (sym is) tt
 
-pub way_memory : (f : Fault) → f ≡ Memory → IsOfTheWay f
-way_memory f is = subst IsOfTheWay (sym is) tt
+pub way_memory : (f : Fault) (asked : Option (List ℕ)) → f ≡ Memory → FailsToPour f asked
+way_memory f asked is = subst (λ (x : Fault). FailsToPour x asked) (sym is) tt
 
 -- ---- meeting
 
@@ -116,7 +121,7 @@ vain_unasked text own header f old new written is fails = (header, is, serves_un
 -- the own history was not written
 pub vain_untold : (text own : List ℕ) (header : LogHeader) (f : WireFault) (old written more : Option (List ℕ)) → IsHeaderOf text header → f ≡ wire.Stream → Puts (epochs_bytes own) written more → MeetsInVain text own (of_wire f) old written more
 vain_untold text own header f old written more is failed puts =
-    (header, is, way_serves header own (length text) (of_wire f) old (way_stream f failed), puts)
+    (header, is, serves_untold header own (length text) f old failed, puts)
 
 -- it is not admitted
 pub vain_judged : (text own theirs : List ℕ) (header : LogHeader) (from end : ℕ) (f : Fault) (old new written more : Option (List ℕ)) → IsHeaderOf text header → end ≡ length text → IsHistory theirs → Consumes old new (resume_bytes from header.pages theirs)
@@ -125,9 +130,9 @@ vain_judged text own theirs header from end f old new written more is whole hist
     (header, is, subst (λ (n : ℕ). FailsToServe header own n f old) whole (serves_not header theirs own from end f old new history read not), puts_all (epochs_bytes own) written more told)
 
 pub meets : (text own theirs : List ℕ) (header : LogHeader) (from end : ℕ) (step : Step) (old new written more : Option (List ℕ)) → IsHeaderOf text header → end ≡ length text → IsHistory theirs → Consumes old new (resume_bytes from header.pages theirs)
-    → Judges theirs own from (Ok step) → from ≤ end → Appends written more (epochs_bytes own) → MeetsOne text own from old new written more
-meets text own theirs header from end step old new written more is whole history read judges within told =
-    (header, is, record { theirs = theirs; history = history; step = step; judged = judges; within = omega (arith, within, whole); heard = read; told = told })
+    → Judges theirs own from (Ok step) → from < 2 ^ 64 → from ≤ end → Appends written more (epochs_bytes own) → MeetsOne text own from old new written more
+meets text own theirs header from end step old new written more is whole history read judges fits within told =
+    (header, is, record { theirs = theirs; history = history; step = step; judged = judges; fits = fits; range = is.range; within = omega (arith, within, whole); heard = read; told = told })
 
 -- ---- a whole session
 
@@ -147,3 +152,9 @@ ships_all text own header from n asked between behind old then new kept begins s
 pub served_in_vain : (text own : List ℕ) (header : LogHeader) (f : Fault) (asked old new : Option (List ℕ)) → take 16 text ≡ header_bytes header.pages → header.pages ≤ 4096 → MeetsInVain text own f asked old new → FailsToServe header own (length text) f asked
 served_in_vain text own header f asked old new begins small (mine, is, fails, puts) =
     subst (λ (h : LogHeader). FailsToServe h own (length text) f asked) (same_header text mine header is.begins begins is.range.1 small) fails
+
+-- and one that ended once the follower was met
+pub served_part : (text own : List ℕ) (header : LogHeader) (from : ℕ) (f : Fault) (asked between old then : Option (List ℕ)) → take 16 text ≡ header_bytes header.pages → header.pages ≤ 4096 → MeetsOne text own from asked between old then → FailsToPour f between
+    → FailsToServe header own (length text) f asked
+served_part text own header from f asked between old then begins small (mine, is, met) fails =
+    subst (λ (h : LogHeader). FailsToServe h own (length text) f asked) (same_header text mine header is.begins begins is.range.1 small) (serves_unanswered mine own met.theirs from (length text) f asked between met.history met.heard fails)

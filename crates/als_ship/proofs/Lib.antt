@@ -10,3 +10,4 @@ pub mod Schedules
 pub mod Stopping
 pub mod Sessions
 pub mod Vouching
+pub mod Hearing

@@ -1,5 +1,5 @@
 -- Pieces of a text that follow one another.
-use Rattle.std.proofs.Common.{◌≡◌, ℕ, ◌+◌, ◌-◌, ◌<◌, ◌≤◌, List, [], ◌∷◌, ◌++◌, length, drop, Option, Some, None, suc, refl, subst, sym, ap, ◌∙◌, append_assoc, append-nil, arith, take-append-drop, drop_of_length-le, length-append}
+use Rattle.std.proofs.Common.{◌≡◌, ℕ, ◌+◌, ◌-◌, ◌^◌, ◌<◌, ◌≤◌, List, [], ◌∷◌, ◌++◌, length, drop, Option, Some, None, suc, refl, subst, sym, ap, ◌∙◌, append_assoc, append-nil, arith, take-append-drop, drop_of_length-le, length-append}
 use Rattle.std.proofs.lemmas.List.{length-take, length-drop, drop-drop, take_all}
 use Rattle.std.specs.Io.KnownBytes.{Appends, Consumes}
 use Rattle.std.proofs.KnownBytes.{Appends-trans, Appends-nil, Consumes-trans, Consumes-nil}
@@ -7,8 +7,11 @@ use Rattle.std.specs.List.{flat_map}
 use Rattle.std.proofs.lemmas.List.Concat.{flat_map-cons, flat_map-append}
 use Rattle.als_record.specs.declared.lsn.Lsn.{Lsn}
 use Rattle.als_wire.specs.Frames.{data_bytes, acknowledged_bytes, answers_bytes}
+use Rattle.als_wire.specs.declared.fault.Fault.TheVariants as wire
+use Rattle.als_wire.specs.declared.tag.Tag.TheVariants as tag
+use Rattle.als_wire.specs.Reading.{FailsToRead}
 use Rattle.als_wire.specs.Sending.{Puts}
-use Rattle.als_ship.specs.Wire.{bytes_at, pieces_bytes, ArePieces, joined, last_answer, Pours, PoursPart}
+use Rattle.als_ship.specs.Wire.{bytes_at, pieces_bytes, ArePieces, joined, last_answer, AreLsns, HasNoAnswer, Pours, PoursPart}
 
 pub pieces_push : (text : List ℕ) (at to end : ℕ) (pieces : List (List ℕ)) (piece : List ℕ) → ArePieces text at pieces to → 0 < length piece → length piece ≤ 65536 → piece ≡ bytes_at text to (length piece) → to + length piece ≡ end
     → ArePieces text at (pieces ++ piece ∷ []) end
@@ -42,23 +45,28 @@ pub record Answered (text : List ℕ) (epoch from at : ℕ) (old new asked behin
   pub are : ArePieces text from pieces at
   pub sent : Appends old new (pieces_bytes epoch from pieces)
   pub each : length answers ≡ length pieces
+  pub fit : AreLsns answers
   pub heard : Consumes asked behind (answers_bytes answers)
   pub last : kept ≡ last_answer answers
 
 pub answered_none : (text : List ℕ) (epoch from : ℕ) (old asked : Option (List ℕ)) (kept : Option Lsn) → kept ≡ None → Answered text epoch from from old old asked asked kept
-answered_none text epoch from old asked kept none = record { pieces = []; answers = []; are = refl; sent = Appends-nil old; each = refl; heard = Consumes-nil asked; last = none }
+answered_none text epoch from old asked kept none = record { pieces = []; answers = []; are = refl; sent = Appends-nil old; each = refl; fit = tt; heard = Consumes-nil asked; last = none }
 
 heard_more : (asked between behind : Option (List ℕ)) (answers : List Lsn) (lsn : Lsn) → Consumes asked between (answers_bytes answers) → Consumes between behind (acknowledged_bytes lsn.0) → Consumes asked behind (answers_bytes (answers ++ lsn ∷ []))
 heard_more asked between behind answers lsn so_far more =
     subst (Consumes asked behind) (sym (answers_push answers lsn)) (Consumes-trans asked between behind (answers_bytes answers) (acknowledged_bytes lsn.0) so_far more)
 
+fit_push : (answers : List Lsn) (lsn : Lsn) → AreLsns answers → lsn.0 < 2 ^ 64 → AreLsns (answers ++ lsn ∷ [])
+fit_push [] lsn all one = (one, tt)
+fit_push (a ∷ answers) lsn all one = (all.0, fit_push answers lsn all.1 one)
+
 length_push : {X : Type 0} (xs : List X) (x : X) → length (xs ++ x ∷ []) ≡ suc (length xs)
 length_push xs x = omega (arith, length-append xs (x ∷ []))
 
 pub answered_more : (text : List ℕ) (epoch from at len : ℕ) (old mid new asked between behind : Option (List ℕ)) (kept : Option Lsn) (lsn : Lsn)
-    → Answered text epoch from at old mid asked between kept → 0 < len → len ≤ 65536 → at + len ≤ length text → Appends mid new (data_bytes epoch at (bytes_at text at len)) → Consumes between behind (acknowledged_bytes lsn.0)
+    → Answered text epoch from at old mid asked between kept → 0 < len → len ≤ 65536 → at + len ≤ length text → Appends mid new (data_bytes epoch at (bytes_at text at len)) → lsn.0 < 2 ^ 64 → Consumes between behind (acknowledged_bytes lsn.0)
     → Answered text epoch from (at + len) old new asked behind (Some lsn)
-answered_more text epoch from at len old mid new asked between behind kept lsn so_far some few inside more answer =
+answered_more text epoch from at len old mid new asked between behind kept lsn so_far some few inside more fits answer =
     let piece = bytes_at text at len in
     let long : length piece ≡ len = long_enough text at len inside in
     record {
@@ -67,6 +75,7 @@ answered_more text epoch from at len old mid new asked between behind kept lsn s
       are = pieces_push text from at (at + len) so_far.pieces piece so_far.are (omega (arith, long, some)) (omega (arith, long, few)) (ap (λ (k : ℕ). bytes_at text at k) (sym long)) (ap (λ (k : ℕ). at + k) long);
       sent = subst (Appends old new) (sym (bytes_push text epoch from at so_far.pieces piece so_far.are)) (Appends-trans old mid new (pieces_bytes epoch from so_far.pieces) (data_bytes epoch at piece) so_far.sent more);
       each = length_push so_far.answers lsn ∙ ap suc so_far.each ∙ sym (length_push so_far.pieces piece);
+      fit = fit_push so_far.answers lsn so_far.fit fits;
       heard = heard_more asked between behind so_far.answers lsn so_far.heard answer;
       last = sym (last_push so_far.answers lsn);
     }
@@ -90,6 +99,7 @@ pours_part text epoch from at len old mid new asked behind kept a more = record 
   told = a.sent;
   more = more;
   each = a.each;
+  fit = a.fit;
   heard = a.heard;
   last = a.last;
 }
@@ -101,8 +111,8 @@ pours_none text epoch from old asked kept none =
 
 -- all of it was sent, and the empty frame, and each frame answered
 pub pours_all : (text : List ℕ) (epoch from end : ℕ) (old mid new asked between behind : Option (List ℕ)) (kept : Option Lsn) (lsn : Lsn)
-    → end ≡ length text → Answered text epoch from end old mid asked between kept → Appends mid new (data_bytes epoch end []) → Consumes between behind (acknowledged_bytes lsn.0) → Pours text epoch from asked behind old new (Some lsn)
-pours_all text epoch from end old mid new asked between behind kept lsn whole a closing answer = record {
+    → end ≡ length text → Answered text epoch from end old mid asked between kept → Appends mid new (data_bytes epoch end []) → lsn.0 < 2 ^ 64 → Consumes between behind (acknowledged_bytes lsn.0) → Pours text epoch from asked behind old new (Some lsn)
+pours_all text epoch from end old mid new asked between behind kept lsn whole a closing fits answer = record {
   pieces = a.pieces;
   answers = a.answers ++ lsn ∷ [];
   sent = mid;
@@ -110,9 +120,14 @@ pours_all text epoch from end old mid new asked between behind kept lsn whole a 
   told = a.sent;
   closed = subst (λ (k : ℕ). Appends mid new (data_bytes epoch k [])) whole closing;
   each = length_push a.answers lsn ∙ ap suc a.each;
+  fit = fit_push a.answers lsn a.fit fits;
   heard = heard_more asked between behind a.answers lsn a.heard answer;
   last = sym (last_push a.answers lsn);
 }
+
+-- no answer was read where one should be
+pub no_answer : (text : List ℕ) (epoch from at : ℕ) (old mid asked between behind : Option (List ℕ)) (kept : Option Lsn) → Answered text epoch from at old mid asked between kept → FailsToRead tag.Acknowledged wire.BadFrame between behind → HasNoAnswer asked
+no_answer text epoch from at old mid asked between behind kept a fails = record { answers = a.answers; between = between; behind = behind; heard = a.heard; fails = fails }
 
 -- the rest of a text from an offset on
 rest_is : (text : List ℕ) (at : ℕ) → bytes_at text at (length text - at) ≡ drop at text

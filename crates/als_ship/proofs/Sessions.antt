@@ -12,7 +12,7 @@ use Rattle.als_engine.specs.declared.fault.Fault.{Fault as EngineFault}
 use Rattle.als_engine.specs.Machine.{Machine}
 use Rattle.als_wire.specs.declared.frame.Frame.{Frame}
 use Rattle.als_wire.specs.declared.frame.Frame.TheVariants.{Epochs}
-use Rattle.als_wire.specs.Frames.{frame_bytes, epochs_bytes, acknowledged_bytes, answers_bytes, resume_bytes}
+use Rattle.als_wire.specs.Frames.{frame_bytes, epochs_bytes, acknowledged_bytes, answers_bytes, resume_bytes, IsFrame}
 use Rattle.als_wire.specs.Sending.{Puts}
 use Rattle.als_ship.specs.declared.fault.Fault.{Fault}
 use Rattle.als_ship.specs.declared.fault.Fault.TheVariants.{BadHeader, Memory, Gap, BadFrame, Diverged, Cut, Stream, OtherEpoch, Refused}
@@ -147,10 +147,10 @@ follows_all alone header from seals last first before between behind asking writ
     }
 
 -- the next frame was not answered
-pub stops_early : (alone : Type 0) (refuses : EngineFault → Machine → Type 0) (header : LogHeader) (from : Lsn) (seals : List ℕ) (first before between asking written then more : Option (List ℕ)) (start old mid new : Machine) (f : Fault)
-    → Appends asking written (resume_bytes from.0 header.pages seals) → Asks alone start from seals → Joins alone start old first before → SoFar alone before between written then old mid → (alone → Stops refuses mid f new) → TellsPart alone mid new then more
+pub stops_early : (alone : Type 0) (refuses : EngineFault → Machine → Type 0) (header : LogHeader) (from : Lsn) (seals : List ℕ) (first before between rest asking written then more : Option (List ℕ)) (start old mid new : Machine) (f : Fault)
+    → Appends asking written (resume_bytes from.0 header.pages seals) → Asks alone start from seals → Joins alone start old first before → SoFar alone before between written then old mid → Stops alone refuses mid f new between rest → TellsPart alone mid new between rest then more
     → EndsAt alone refuses header f start new first asking more
-stops_early alone refuses header from seals first before between asking written then more start old mid new f resume asks joins (frames, answers, read, told, session) stops part =
+stops_early alone refuses header from seals first before between rest asking written then more start old mid new f resume asks joins (frames, answers, read, told, session) stops part =
     inr (inr (record {
       from = from;
       seals = seals;
@@ -166,18 +166,20 @@ stops_early alone refuses header from seals first before between asking written 
       told = Appends-trans asking written then (resume_bytes from.0 header.pages seals) (answers_bytes answers) resume told;
       taken = mid;
       session = session;
+      rest = rest;
       stops = stops;
       part = part;
     }))
 
 -- ---- what was told of the frame at which a session ends
 
-pub tells_nothing : (alone : Type 0) (old new : Machine) (written : Option (List ℕ)) → TellsPart alone old new written written
-tells_nothing alone old new written = inl (Appends-nil written)
+pub tells_nothing : (alone : Type 0) (old new : Machine) (before behind written : Option (List ℕ)) → TellsPart alone old new before behind written written
+tells_nothing alone old new before behind written = inl (Appends-nil written)
 
 pub turned : (old taken forced new : Machine) (frame : Frame) (position answer : Lsn) → Handles old frame (Ok position) taken → Forces taken answer forced → SameText forced new → Turns old frame answer new
 turned old taken forced new frame position answer handles forces keeps = record { position = position; taken = taken; forced = forced; handles = handles; forces = forces; keeps = keeps }
 
 -- a front of the answer, or all of it
-pub tells_part : (alone : Type 0) (old new : Machine) (written more : Option (List ℕ)) (frame : Frame) (answer : Lsn) → Puts (acknowledged_bytes answer.0) written more → (alone → Turns old frame answer new) → TellsPart alone old new written more
-tells_part alone old new written more frame answer puts turns = inr (answer, puts, λ a. (frame, turns a))
+pub tells_part : (alone : Type 0) (old new : Machine) (before behind written more : Option (List ℕ)) (frame : Frame) (answer : Lsn) → IsFrame frame → Consumes before behind (frame_bytes frame) → Puts (acknowledged_bytes answer.0) written more → (alone → Turns old frame answer new)
+    → TellsPart alone old new before behind written more
+tells_part alone old new before behind written more frame answer is read puts turns = inr (answer, puts, record { frame = frame; is = is; read = read; came = turns })

@@ -89,6 +89,19 @@ Takes old epoch offset bytes (Err (Diverged seal)) new = ⊥
 Takes old epoch offset bytes (Err Cut) new = ⊥
 Takes old epoch offset bytes (Err Stream) new = ⊥
 
+-- What is said against a Data frame, whoever drives the standby: it may not come, or it may, and is of another epoch or behind a gap, or
+-- an event is refused.
+abbrev pub IsSaidOfData : ℕ → ℕ → ℕ → Fault → Type 0
+IsSaidOfData epoch offset len BadFrame = IsHead epoch offset len → ⊥
+IsSaidOfData epoch offset len (OtherEpoch other) = IsHead epoch offset len × (other ≡ epoch)
+IsSaidOfData epoch offset len Gap = IsHead epoch offset len
+IsSaidOfData epoch offset len (Refused cause) = IsHead epoch offset len
+IsSaidOfData epoch offset len BadHeader = ⊥
+IsSaidOfData epoch offset len Memory = ⊥
+IsSaidOfData epoch offset len (Diverged seal) = ⊥
+IsSaidOfData epoch offset len Cut = ⊥
+IsSaidOfData epoch offset len Stream = ⊥
+
 -- an offered history was adopted, and the control block synced
 abbrev pub AdoptsSynced : Machine → List ℕ → Machine → Type 0
 AdoptsSynced old history new = (adopted : Machine) × (mark : Lsn) × Adopts old history (Ok tt) adopted × ControlSyncs adopted (Ok mark) new
@@ -119,6 +132,17 @@ Handles old (Data epoch offset bytes) result new = Takes old epoch offset bytes 
 Handles old (Acknowledged lsn) result new = (result ≡ Err BadFrame) × WasResynced old new
 Handles old (Resume from header history) result new = (result ≡ Err BadFrame) × WasResynced old new
 Handles old (Epochs history) result new = TakesUp old history result new
+
+-- an event was refused
+abbrev pub IsOfEvent : Fault → Type 0
+IsOfEvent fault = (cause : EngineFault) × (fault ≡ Refused cause)
+
+-- what is said against any frame, whoever drives the standby
+abbrev pub IsSaidOf : Frame → Fault → Type 0
+IsSaidOf (Data epoch offset bytes) fault = IsSaidOfData epoch offset (length bytes) fault
+IsSaidOf (Acknowledged lsn) fault = fault ≡ BadFrame
+IsSaidOf (Resume from header history) fault = fault ≡ BadFrame
+IsSaidOf (Epochs history) fault = IsOfEvent fault
 
 -- the log, the partial record and the history are as they were, and a standby that has stopped still has
 pub record SameText (old new : Machine) : Type 0 where

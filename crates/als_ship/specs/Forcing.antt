@@ -38,6 +38,10 @@ abbrev pub IsRefused : EngineFault → Machine → Type 0
 IsRefused cause new =
     (old : Machine) × ((LogWrites old (Err cause) new × (cause ≢ NothingToDo)) ⊎ (LogSyncs old (Err cause) new ⊎ ((MarkWrites old (Err cause) new × (cause ≢ NothingToDo)) ⊎ ControlSyncs old (Err cause) new)))
 
+-- why a force was not done, whoever drives the standby: an event was refused, or the log has too many blocks
+abbrev pub IsOfForce : Fault → Type 0
+IsOfForce fault = (fault ≡ Stream) ⊎ ((cause : EngineFault) × (fault ≡ Refused cause))
+
 -- Why a force was not done: an event was refused. A log has fewer than 2^64 blocks.
 abbrev pub FailsToForce : Fault → Machine → Type 0
 FailsToForce fault new = (fault ≡ Stream) ⊎ ((cause : EngineFault) × (fault ≡ Refused cause) × IsRefused cause new)

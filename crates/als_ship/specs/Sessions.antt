@@ -9,13 +9,16 @@ use Rattle.als_epochs.specs.Histories.{IsHistory}
 use Rattle.als_store.specs.Takeover.{history_of}
 use Rattle.als_engine.specs.declared.fault.Fault.{Fault as EngineFault}
 use Rattle.als_engine.specs.Machine.{Machine}
+use Rattle.als_wire.specs.declared.fault.Fault.TheVariants as wire
 use Rattle.als_wire.specs.declared.frame.Frame.{Frame}
-use Rattle.als_wire.specs.Frames.{frame_bytes, epochs_bytes, acknowledged_bytes, answers_bytes, resume_bytes, is_last}
+use Rattle.als_wire.specs.declared.tag.Tag.TheVariants as tag
+use Rattle.als_wire.specs.Frames.{frame_bytes, epochs_bytes, acknowledged_bytes, answers_bytes, resume_bytes, is_last, IsFrame}
+use Rattle.als_wire.specs.Reading.{FailsToRead}
 use Rattle.als_wire.specs.Sending.{Puts}
 use Rattle.als_ship.specs.declared.fault.Fault.{Fault}
 use Rattle.als_ship.specs.declared.fault.Fault.TheVariants.{BadHeader, Memory, Gap, BadFrame, Diverged, Cut, Stream, OtherEpoch, Refused}
 use Rattle.als_ship.specs.Epochs.{AreEpochs}
-use Rattle.als_ship.specs.Follows.{HoldsFront, IsTrueFrame, Handles, TakesUp, SameText, WasResynced}
+use Rattle.als_ship.specs.Follows.{HoldsFront, IsTrueFrame, IsSaidOf, Handles, TakesUp, SameText, WasResynced}
 use Rattle.als_ship.specs.Forcing.{Forces, FailsToForce}
 
 -- the bytes of frames, one behind the other
@@ -86,36 +89,52 @@ pub record Follows (alone : Type 0) (header : LogHeader) (old new : Machine) (be
   pub session : alone → Session joined (frames ++ last ∷ []) answers new
 
 -- the frame was taken, and the log perhaps forced
-abbrev pub TakesUnanswered : Machine → Machine → Type 0
-TakesUnanswered old new = (frame : Frame) × (lsn : Lsn) × (mid : Machine) × Handles old frame (Ok lsn) mid × SameText mid new
+abbrev pub TakesUnanswered : Machine → Frame → Machine → Type 0
+TakesUnanswered old frame new = (lsn : Lsn) × (mid : Machine) × Handles old frame (Ok lsn) mid × SameText mid new
 
 -- the frame was refused, or the force that followed it
-abbrev pub TakesRefused : Machine → Fault → Machine → Type 0
-TakesRefused old fault new =
-    (frame : Frame) × (Handles old frame (Err fault) new ⊎ ((lsn : Lsn) × (mid : Machine) × Handles old frame (Ok lsn) mid × SameText mid new × FailsToForce fault new))
+abbrev pub TakesRefused : Machine → Frame → Fault → Machine → Type 0
+TakesRefused old frame fault new =
+    Handles old frame (Err fault) new ⊎ ((lsn : Lsn) × (mid : Machine) × Handles old frame (Ok lsn) mid × SameText mid new × FailsToForce fault new)
 
 -- the frame was taken and its answer told, and then the upkeep was refused
-abbrev pub KeepsRefused : (EngineFault → Machine → Type 0) → Machine → EngineFault → Machine → Type 0
-KeepsRefused refuses old cause new = (frame : Frame) × (answer : Lsn) × Turns old frame answer new × refuses cause new
+abbrev pub KeepsRefused : (EngineFault → Machine → Type 0) → Machine → Frame → EngineFault → Machine → Type 0
+KeepsRefused refuses old frame cause new = (answer : Lsn) × Turns old frame answer new × refuses cause new
 
--- Why a session ended at a frame, and what that made of the standby: nothing where the frame is of another epoch or behind a gap, and
--- where no frame was read.
-abbrev pub Stops : (EngineFault → Machine → Type 0) → Machine → Fault → Machine → Type 0
-Stops refuses old BadHeader new = ⊥
-Stops refuses old Memory new = new ≡ old
-Stops refuses old Gap new = (frame : Frame) × Handles old frame (Err Gap) new
-Stops refuses old BadFrame new = new ≡ old
-Stops refuses old (Diverged seal) new = ⊥
-Stops refuses old Cut new = new ≡ old
-Stops refuses old Stream new = (new ≡ old) ⊎ TakesUnanswered old new
-Stops refuses old (OtherEpoch epoch) new = (frame : Frame) × Handles old frame (Err (OtherEpoch epoch)) new
-Stops refuses old (Refused cause) new = TakesRefused old (Refused cause) new ⊎ KeepsRefused refuses old cause new
+-- a whole frame that may go over a stream was read, and this came of it
+pub record AtFrame (alone : Type 0) (before behind : Option (List ℕ)) (comes : Frame → Type 0) : Type 0 where
+  pub frame : Frame
+  pub is : IsFrame frame
+  pub read : Consumes before behind (frame_bytes frame)
+  pub came : alone → comes frame
 
--- What was told of the frame at which a session ended: nothing, or a front of its answer, where the frame was taken and the log
+-- a whole frame was read, against which this is said
+pub record RefusesFrame (alone : Type 0) (old : Machine) (fault : Fault) (new : Machine) (before behind : Option (List ℕ)) : Type 0 where
+  pub frame : Frame
+  pub is : IsFrame frame
+  pub read : Consumes before behind (frame_bytes frame)
+  pub said : IsSaidOf frame fault
+  pub handles : alone → Handles old frame (Err fault) new
+
+-- Why a session ended at a frame, what was read of it, and what that made of the standby: nothing where the frame is of another epoch
+-- or behind a gap, and where no frame was read.
+abbrev pub Stops : Type 0 → (EngineFault → Machine → Type 0) → Machine → Fault → Machine → Option (List ℕ) → Option (List ℕ) → Type 0
+Stops alone refuses old BadHeader new before behind = ⊥
+Stops alone refuses old Memory new before behind = FailsToRead tag.Data wire.Memory before behind × (alone → new ≡ old)
+Stops alone refuses old Gap new before behind = RefusesFrame alone old Gap new before behind
+Stops alone refuses old BadFrame new before behind = FailsToRead tag.Data wire.BadFrame before behind × (alone → new ≡ old)
+Stops alone refuses old (Diverged seal) new before behind = ⊥
+Stops alone refuses old Cut new before behind = alone → new ≡ old
+Stops alone refuses old Stream new before behind = (alone → new ≡ old) ⊎ AtFrame alone before behind (λ frame. TakesUnanswered old frame new)
+Stops alone refuses old (OtherEpoch epoch) new before behind = RefusesFrame alone old (OtherEpoch epoch) new before behind
+Stops alone refuses old (Refused cause) new before behind =
+    AtFrame alone before behind (λ frame. TakesRefused old frame (Refused cause) new ⊎ KeepsRefused refuses old frame cause new)
+
+-- What was told of the frame at which a session ended: nothing, or a front of its answer, where the frame was read and taken and the log
 -- forced, which gave that answer.
-abbrev pub TellsPart : Type 0 → Machine → Machine → Option (List ℕ) → Option (List ℕ) → Type 0
-TellsPart alone old new written more =
-    Appends written more [] ⊎ ((answer : Lsn) × Puts (acknowledged_bytes answer.0) written more × (alone → (frame : Frame) × Turns old frame answer new))
+abbrev pub TellsPart : Type 0 → Machine → Machine → Option (List ℕ) → Option (List ℕ) → Option (List ℕ) → Option (List ℕ) → Type 0
+TellsPart alone old new before behind written more =
+    Appends written more [] ⊎ ((answer : Lsn) × Puts (acknowledged_bytes answer.0) written more × AtFrame alone before behind (λ frame. Turns old frame answer new))
 
 -- then resync is called, after a fault of the stream alone
 abbrev pub GivesUp : Machine → Fault → Machine → Type 0
@@ -138,26 +157,28 @@ pub record AsksInVain (alone : Type 0) (header : LogHeader) (fault : Fault) (old
   pub told : Puts (resume_bytes from.0 header.pages seals) written more
   pub same : alone → new ≡ old
 
--- Why the source's history was not taken up: no Epochs frame was read, which changes nothing; or its history is refused, or an event
--- that takes it up.
-abbrev pub FailsToJoin : Machine → Fault → Machine → Type 0
-FailsToJoin old BadFrame new = new ≡ old
-FailsToJoin old Cut new = new ≡ old
-FailsToJoin old Stream new = new ≡ old
-FailsToJoin old (Refused cause) new = (offered : List ℕ) × IsHistory offered × TakesUp old offered (Err (Refused cause)) new
-FailsToJoin old BadHeader new = ⊥
-FailsToJoin old Memory new = ⊥
-FailsToJoin old Gap new = ⊥
-FailsToJoin old (Diverged seal) new = ⊥
-FailsToJoin old (OtherEpoch epoch) new = ⊥
+-- Why the source's history was not taken up, and what was read of it: no Epochs frame, which changes nothing; or its history is refused,
+-- or an event that takes it up.
+abbrev pub FailsToJoin : Type 0 → Machine → Fault → Machine → Option (List ℕ) → Option (List ℕ) → Type 0
+FailsToJoin alone old BadFrame new before behind = FailsToRead tag.Epochs wire.BadFrame before behind × (alone → new ≡ old)
+FailsToJoin alone old Cut new before behind = alone → new ≡ old
+FailsToJoin alone old Stream new before behind = alone → new ≡ old
+FailsToJoin alone old (Refused cause) new before behind =
+    (offered : List ℕ) × IsHistory offered × Consumes before behind (epochs_bytes offered) × (alone → TakesUp old offered (Err (Refused cause)) new)
+FailsToJoin alone old BadHeader new before behind = ⊥
+FailsToJoin alone old Memory new before behind = ⊥
+FailsToJoin alone old Gap new before behind = ⊥
+FailsToJoin alone old (Diverged seal) new before behind = ⊥
+FailsToJoin alone old (OtherEpoch epoch) new before behind = ⊥
 
 -- A session that asked, and ended before any frame of log bytes. Nothing but the Resume frame was written.
-pub record JoinsInVain (alone : Type 0) (header : LogHeader) (fault : Fault) (old new : Machine) (written more : Option (List ℕ)) : Type 0 where
+pub record JoinsInVain (alone : Type 0) (header : LogHeader) (fault : Fault) (old new : Machine) (before written more : Option (List ℕ)) : Type 0 where
   pub from : Lsn
   pub seals : List ℕ
   pub asks : Asks alone old from seals
   pub told : Appends written more (resume_bytes from.0 header.pages seals)
-  pub fails : alone → FailsToJoin old fault new
+  pub behind : Option (List ℕ)
+  pub fails : FailsToJoin alone old fault new before behind
 
 -- A session that ended early: it asked and took up the source's history, so many frames were taken and answered in order, and then
 -- one was not, of whose answer a front may have been written. Nothing else was.
@@ -176,13 +197,14 @@ pub record StopsEarly (alone : Type 0) (refuses : EngineFault → Machine → Ty
   pub told : Appends written then (resume_bytes from.0 header.pages seals ++ answers_bytes answers)
   pub taken : Machine
   pub session : alone → Session joined frames answers taken
-  pub stops : alone → Stops refuses taken fault new
-  pub part : TellsPart alone taken new then more
+  pub rest : Option (List ℕ)
+  pub stops : Stops alone refuses taken fault new behind rest
+  pub part : TellsPart alone taken new behind rest then more
 
 -- a session that ended before the follower gave up
 abbrev pub EndsAt : Type 0 → (EngineFault → Machine → Type 0) → LogHeader → Fault → Machine → Machine → Option (List ℕ) → Option (List ℕ) → Option (List ℕ) → Type 0
 EndsAt alone refuses header fault old new before written more =
-    AsksInVain alone header fault old new written more ⊎ (JoinsInVain alone header fault old new written more ⊎ StopsEarly alone refuses header fault old new before written more)
+    AsksInVain alone header fault old new written more ⊎ (JoinsInVain alone header fault old new before written more ⊎ StopsEarly alone refuses header fault old new before written more)
 
 -- and then the follower gave up
 abbrev pub EndsEarly : Type 0 → (EngineFault → Machine → Type 0) → LogHeader → Fault → Machine → Machine → Option (List ℕ) → Option (List ℕ) → Option (List ℕ) → Type 0

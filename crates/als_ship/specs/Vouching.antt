@@ -1,8 +1,9 @@
 -- What a session tells, for each answer of which a voucher stands.
-use Rattle.std.specs.Prelude.{◌≤◌, ℕ, List, ◌++◌, Option}
+use Rattle.std.specs.Prelude.{◌≤◌, ◌<◌, ◌^◌, ℕ, List, ◌++◌, Option, IfSome}
 use Rattle.std.specs.List.{AllByRecursion}
 use Rattle.std.specs.Io.KnownBytes.{Appends}
 use Rattle.als_record.specs.declared.lsn.Lsn.{Lsn}
+use Rattle.als_epochs.specs.Histories.{IsHistory}
 use Rattle.als_wire.specs.Frames.{acknowledged_bytes, answers_bytes, resume_bytes}
 use Rattle.als_wire.specs.Sending.{Puts}
 
@@ -22,8 +23,16 @@ AnswersOne floor old new = (answer : Lsn) × (answer.0 ≤ floor) × Appends old
 abbrev pub AnswersPart : ℕ → Option (List ℕ) → Option (List ℕ) → Type 0
 AnswersPart floor old new = (answer : Lsn) × (answer.0 ≤ floor) × Puts (acknowledged_bytes answer.0) old new
 
+-- the numbers of a Resume frame fit their bytes, and its seals are a history: no other Resume frame has its bytes
+abbrev pub IsAsking : ℕ → ℕ → List ℕ → Type 0
+IsAsking from pages seals = (from < 2 ^ 64) × (pages < 2 ^ 32) × IsHistory seals
+
 -- A Resume frame was written, and behind it Acknowledged frames, each of an LSN that is at most the floor; or a front of all that.
 abbrev pub TellsVouched : ℕ → Option (List ℕ) → Option (List ℕ) → Type 0
 TellsVouched floor old new =
-    (from pages : ℕ) × (seals : List ℕ) × (answers : List Lsn) × AreVouched floor answers
+    (from pages : ℕ) × (seals : List ℕ) × (answers : List Lsn) × IsAsking from pages seals × AreVouched floor answers
     × Puts (resume_bytes from pages seals ++ answers_bytes answers) old new
+
+-- the answer that a shipper kept, if it read one, is at most the floor
+abbrev pub IsVouched : ℕ → Option Lsn → Type 0
+IsVouched floor kept = IfSome kept (λ lsn. lsn.0 ≤ floor)

@@ -1,5 +1,6 @@
 -- What goes over the wire, as a list of frames of a text in an epoch.
-use Rattle.std.specs.Prelude.{◌≡◌, ◌≢◌, ◌≤◌, ◌<◌, ◌+◌, ◌-◌, ◌⊎◌, ℕ, suc, List, [], ◌∷◌, ◌++◌, length, take, drop, Option, Some, None, Ok, Err}
+use Rattle.std.specs.Prelude.{◌≡◌, ◌≢◌, ◌≤◌, ◌<◌, ◌+◌, ◌-◌, ◌^◌, ◌⊎◌, ℕ, suc, List, [], ◌∷◌, ◌++◌, length, take, drop, Option, Some, None, Ok, Err}
+use Rattle.std.specs.List.{AllByRecursion}
 use Rattle.std.specs.Io.KnownBytes.{Consumes, Appends}
 use Rattle.als_record.specs.declared.header.LogHeader.{LogHeader}
 use Rattle.als_record.specs.declared.lsn.Lsn.{Lsn}
@@ -41,6 +42,10 @@ last_answer [] = None
 last_answer (lsn ∷ []) = Some lsn
 last_answer (lsn ∷ next ∷ rest) = last_answer (next ∷ rest)
 
+-- each of these LSNs is spelled in eight bytes
+abbrev pub AreLsns : List Lsn → Type 0
+AreLsns answers = AllByRecursion (λ lsn. lsn.0 < 2 ^ 64) answers
+
 -- All of a text from an offset on was sent, as Data frames of an epoch, an empty one last. An answer to each of them was read, and the
 -- LSN of the last one is kept.
 pub record Pours (text : List ℕ) (epoch from : ℕ) (asked behind old new : Option (List ℕ)) (kept : Option Lsn) : Type 0 where
@@ -51,6 +56,7 @@ pub record Pours (text : List ℕ) (epoch from : ℕ) (asked behind old new : Op
   pub told : Appends old sent (pieces_bytes epoch from pieces)
   pub closed : Appends sent new (data_bytes epoch (length text) [])
   pub each : length answers ≡ suc (length pieces)
+  pub fit : AreLsns answers
   pub heard : Consumes asked behind (answers_bytes answers)
   pub last : kept ≡ last_answer answers
 
@@ -67,6 +73,7 @@ pub record PoursPart (text : List ℕ) (epoch from : ℕ) (asked old new : Optio
   pub told : Appends old sent (pieces_bytes epoch from pieces)
   pub more : Puts (data_bytes epoch at (bytes_at text at len)) sent new
   pub each : length answers ≡ length pieces
+  pub fit : AreLsns answers
   pub heard : Consumes asked behind (answers_bytes answers)
   pub last : kept ≡ last_answer answers
 
@@ -77,6 +84,8 @@ pub record IsMet (text own : List ℕ) (from pages : ℕ) (asked between old the
   pub history : IsHistory theirs
   pub step : Step
   pub judged : Judges theirs own from (Ok step)
+  pub fits : from < 2 ^ 64
+  pub range : IsHeader (record { pages = pages })
   pub within : from ≤ length text
   pub heard : Consumes asked between (resume_bytes from pages theirs)
   pub told : Appends old then (epochs_bytes own)
@@ -173,20 +182,38 @@ IsNotAdmitted theirs own from end Cut = ⊥
 IsNotAdmitted theirs own from end Stream = ⊥
 IsNotAdmitted theirs own from end (Refused cause) = ⊥
 
--- a growth was refused, a frame was none that may come, or the stream or the source ended or failed
-abbrev pub IsOfTheWay : Fault → Type 0
-IsOfTheWay Memory = Unit {0}
-IsOfTheWay BadFrame = Unit {0}
-IsOfTheWay Cut = Unit {0}
-IsOfTheWay Stream = Unit {0}
-IsOfTheWay BadHeader = ⊥
-IsOfTheWay Gap = ⊥
-IsOfTheWay (Diverged seal) = ⊥
-IsOfTheWay (OtherEpoch epoch) = ⊥
-IsOfTheWay (Refused cause) = ⊥
+-- answers were read, and behind them what is none
+pub record HasNoAnswer (asked : Option (List ℕ)) : Type 0 where
+  pub answers : List Lsn
+  pub between : Option (List ℕ)
+  pub behind : Option (List ℕ)
+  pub heard : Consumes asked between (answers_bytes answers)
+  pub fails : FailsToRead tag.Acknowledged wire.BadFrame between behind
+
+-- Why the text was not sent to its end: a growth was refused, what should be an answer is none, or the stream or the source ended or failed.
+abbrev pub FailsToPour : Fault → Option (List ℕ) → Type 0
+FailsToPour Memory asked = Unit {0}
+FailsToPour BadFrame asked = HasNoAnswer asked
+FailsToPour Cut asked = Unit {0}
+FailsToPour Stream asked = Unit {0}
+FailsToPour BadHeader asked = ⊥
+FailsToPour Gap asked = ⊥
+FailsToPour (Diverged seal) asked = ⊥
+FailsToPour (OtherEpoch epoch) asked = ⊥
+FailsToPour (Refused cause) asked = ⊥
+
+-- a whole Resume frame with this header, answers, and behind them what is no answer
+pub record IsUnanswered (header : LogHeader) (asked : Option (List ℕ)) : Type 0 where
+  pub from : ℕ
+  pub seals : List ℕ
+  pub history : IsHistory seals
+  pub between : Option (List ℕ)
+  pub read : Consumes asked between (resume_bytes from header.pages seals)
+  pub none : HasNoAnswer between
 
 -- Why a session was not served to its end. The first cause is found before anything is sent, the next three once the own history was
--- told, in this order. A growth may be refused, a frame may be none that may come, and the stream or the source may fail.
+-- told, in this order. BadFrame is answered where no Resume frame came, or where what should be an answer is none. A growth may be refused, and
+-- the stream or the source may fail.
 abbrev pub FailsToServe : LogHeader → List ℕ → ℕ → Fault → Option (List ℕ) → Type 0
 FailsToServe header own end BadHeader asked =
     (behind : Option (List ℕ)) × (FailsToRead tag.Resume wire.BadHeader asked behind ⊎ HasOtherHeader header asked behind)
@@ -194,7 +221,7 @@ FailsToServe header own end (OtherEpoch epoch) asked = (behind : Option (List �
 FailsToServe header own end (Diverged seal) asked = (behind : Option (List ℕ)) × HasDiverged header own seal asked behind
 FailsToServe header own end Gap asked = (behind : Option (List ℕ)) × IsPastEnd header own end asked behind
 FailsToServe header own end Memory asked = Unit {0}
-FailsToServe header own end BadFrame asked = Unit {0}
+FailsToServe header own end BadFrame asked = ((behind : Option (List ℕ)) × FailsToRead tag.Resume wire.BadFrame asked behind) ⊎ IsUnanswered header asked
 FailsToServe header own end Cut asked = Unit {0}
 FailsToServe header own end Stream asked = Unit {0}
 FailsToServe header own end (Refused cause) asked = ⊥

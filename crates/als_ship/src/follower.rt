@@ -1,11 +1,17 @@
-ghost use Rattle.std.specs.Prelude.{◌≡◌, ◌≤◌, ◌<◌, ◌+◌, ◌⊎◌, ℕ, Option, List, length, IfOk};
+ghost use Rattle.std.specs.Prelude.{◌≡◌, ◌≤◌, ◌<◌, ◌+◌, ◌^◌, ◌⊎◌, ℕ, Option, List, length, IfOk};
 ghost use Rattle.std.specs.Prelude.{IfErr, OnOk, OnErr};
 ghost use Rattle.std.specs.Prelude.{Ok, Err};
+ghost use Rattle.std.specs.Io.KnownBytes.{Appends};
+ghost use Rattle.als_epochs.specs.Histories.{IsHistory};
 ghost use Rattle.als_engine.specs.declared.fault.Fault.{Fault as AnyFault};
+ghost use Rattle.als_wire.specs.Frames.{resume_bytes};
+ghost use Rattle.als_wire.specs.Sending.{Puts};
+ghost use Rattle.als_ship.specs.declared.fault.Fault.TheVariants as fault;
 ghost use Rattle.als_ship.specs.declared.fault.Fault.TheVariants.{Refused};
 ghost use Rattle.als_ship.specs.Epochs.{AreEpochs};
 ghost use Rattle.als_ship.specs.Follows.{HoldsFront, IsTrueFrame, FeedsRest};
 ghost use Rattle.als_ship.specs.Follows.{position, SameText, Takes, Handles, WasResynced};
+ghost use Rattle.als_ship.specs.Follows.{IsSaidOf, IsSaidOfData};
 ghost use Rattle.als_ship.specs.Sessions.{KeepsFront, TakesOne, Follows, Stops, EndsAt};
 ghost use Rattle.als_ship.specs.Sessions.{TellsPart, GivesUp, EndsEarly};
 ghost use Rattle.als_ship.specs.Vouching.{AnswersOne, AnswersPart, TellsVouched};
@@ -17,6 +23,7 @@ use crate::joining::{join, take_up};
 use crate::upkeep::{NoUpkeep, Upkeep};
 use crate::voucher::Voucher;
 use als_engine::Events;
+use als_epochs::History;
 use als_record::{LogHeader, Lsn};
 use als_wire::{Frame, Tag, is_head, write_acknowledged, write_resume};
 use std::alloc::Global;
@@ -180,7 +187,7 @@ fn session<E: Events, V: Voucher<E>, U: Upkeep, R: Read, W: Write>(
 {
     let from = events.status().end;
     let own = events.history();
-    write_resume(writer, from, header, &own)?;
+    ask(writer, from, header, &own)?;
     join(events, reader)?;
     for _ in 1..FRAME_LIMIT {
         let last = turn(alloc, events, voucher, upkeep, reader, writer)?;
@@ -189,6 +196,23 @@ fn session<E: Events, V: Voucher<E>, U: Upkeep, R: Read, W: Write>(
         }
     }
     Err(Fault::Stream)
+}
+
+/// Asks for what is behind an offset of the log, with the own header and history.
+fn ask<W: Write>(writer: &mut W, from: Lsn, header: LogHeader, own: &History) -> Result<(), Fault>
+    ensures all { OnOk result (Appends (W.contents writer.old) (W.contents writer.new)
+        (resume_bytes from.0 header.pages own.now)) }
+    ensures part { Puts (resume_bytes from.0 header.pages own.now) (W.contents writer.old)
+        (W.contents writer.new) }
+    ensures fails { IfErr result (λ f. f ≡ fault.Stream) }
+    // The numbers fit their bytes, and the seals are a history.
+    ensures low { from.0 < 2 ^ 64 }
+    ensures narrow { header.pages < 2 ^ 32 }
+    ensures history { IsHistory own.now }
+{
+    let _epoch = own.epoch();
+    write_resume(writer, from, header, own)?;
+    Ok(())
 }
 
 /// Takes one frame, forces the log, acknowledges, and then does the upkeep. It answers whether that
@@ -204,10 +228,11 @@ fn turn<E: Events, V: Voucher<E>, U: Upkeep, R: Read, W: Write>(
     ensures ok { IfOk result (λ last. TakesOne E.alone last (E.machine events.old)
         (E.machine events.new) (R.remaining reader.old)
         (R.remaining reader.new) (W.contents writer.old) (W.contents writer.new)) }
-    ensures fails { IfErr result (λ f. E.alone
-        → Stops U.refuses (E.machine events.old) f (E.machine events.new)) }
+    ensures fails { IfErr result (λ f. Stops E.alone U.refuses (E.machine events.old) f
+        (E.machine events.new) (R.remaining reader.old) (R.remaining reader.new)) }
     ensures part { IfErr result (λ f. TellsPart E.alone (E.machine events.old)
-        (E.machine events.new) (W.contents writer.old) (W.contents writer.new)) }
+        (E.machine events.new) (R.remaining reader.old) (R.remaining reader.new)
+        (W.contents writer.old) (W.contents writer.new)) }
     ensures front { (behind : Option (List ℕ))
         × KeepsFront E.alone (R.remaining reader.old) behind (E.machine events.old)
         (E.machine events.new) }
@@ -240,7 +265,9 @@ fn keep_up<E: Events, U: Upkeep>(events: &mut E, upkeep: &mut U) -> Result<(), F
 
 /// Takes one frame, and answers the position after it.
 fn handle<E: Events>(events: &mut E, frame: Frame) -> Result<Lsn, Fault>
-    ensures { E.alone → Handles (E.machine events.old) frame result (E.machine events.new) }
+    ensures handles { E.alone → Handles (E.machine events.old) frame result
+        (E.machine events.new) }
+    ensures says { IfErr result (λ f. IsSaidOf frame f) }
 {
     match frame {
         Frame::Data {
@@ -273,8 +300,9 @@ fn resync<E: Events>(events: &mut E)
 
 /// Takes bytes of an epoch that stand at an offset, and answers the position after them.
 fn take<E: Events>(events: &mut E, epoch: u32, offset: u64, bytes: &[u8]) -> Result<Lsn, Fault>
-    ensures { E.alone → Takes (E.machine events.old) epoch offset bytes.now result
+    ensures takes { E.alone → Takes (E.machine events.old) epoch offset bytes.now result
         (E.machine events.new) }
+    ensures says { IfErr result (λ f. IsSaidOfData epoch offset (length bytes.now) f) }
 {
     if !is_head(epoch, offset, bytes.len()) {
         resync(events);

@@ -1,7 +1,7 @@
 ghost use Rattle.std.specs.Prelude.{◌≡◌, ◌≤◌, IfOk, IfErr, OnOk, Ok};
 ghost use Rattle.als_engine.specs.Events.{ControlSyncs};
 ghost use Rattle.als_ship.specs.Follows.{SameText};
-ghost use Rattle.als_ship.specs.Forcing.{WritesAll, Syncs, Forces, FailsToForce};
+ghost use Rattle.als_ship.specs.Forcing.{WritesAll, Syncs, Forces, FailsToForce, IsOfForce};
 
 use crate::direct::Direct;
 use crate::fault::Fault;
@@ -30,6 +30,7 @@ pub(crate) fn force_by<E: Events, V: Voucher<E>>(
     ensures forces { IfOk result (λ lsn. E.alone
         → Forces (E.machine events.old) lsn (E.machine events.new)) }
     ensures fails { IfErr result (λ f. E.alone → FailsToForce f (E.machine events.new)) }
+    ensures says { IfErr result IsOfForce }
     ensures vouched { IfOk result (λ lsn. lsn.0 ≤ V.floor voucher.new) }
     ensures rises { V.floor voucher.old ≤ V.floor voucher.new }
 {
@@ -45,6 +46,7 @@ fn write_log<E: Events>(events: &mut E) -> Result<(), Fault>
     ensures writes { OnOk result (E.alone
         → WritesAll (E.machine events.old) (E.machine events.new)) }
     ensures fails { IfErr result (λ f. E.alone → FailsToForce f (E.machine events.new)) }
+    ensures says { IfErr result IsOfForce }
 {
     for _ in 0..u64::MAX {
         match events.log_write() {
@@ -62,6 +64,7 @@ fn sync_log<E: Events>(events: &mut E) -> Result<(), Fault>
     ensures same { E.alone → SameText (E.machine events.old) (E.machine events.new) }
     ensures syncs { OnOk result (E.alone → Syncs (E.machine events.old) (E.machine events.new)) }
     ensures fails { IfErr result (λ f. E.alone → FailsToForce f (E.machine events.new)) }
+    ensures says { IfErr result IsOfForce }
 {
     match events.log_sync() {
         Ok(()) => {}
@@ -81,6 +84,7 @@ fn acknowledge<E: Events, V: Voucher<E>>(events: &mut E, voucher: &mut V) -> Res
     ensures acknowledges { IfOk result (λ lsn. E.alone
         → ControlSyncs (E.machine events.old) (Ok lsn) (E.machine events.new)) }
     ensures fails { IfErr result (λ f. E.alone → FailsToForce f (E.machine events.new)) }
+    ensures says { IfErr result IsOfForce }
     ensures vouched { IfOk result (λ lsn. lsn.0 ≤ V.floor voucher.new) }
     ensures rises { V.floor voucher.old ≤ V.floor voucher.new }
 {

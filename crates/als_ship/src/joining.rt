@@ -1,7 +1,7 @@
 ghost use Rattle.std.specs.Prelude.{◌≡◌, ℕ, List, Option, OnOk, IfErr};
 ghost use Rattle.als_engine.specs.declared.fault.Fault.{Fault as AnyFault};
 ghost use Rattle.als_ship.specs.declared.fault.Fault.TheVariants.{Refused};
-ghost use Rattle.als_ship.specs.Follows.{TakesUp, AdoptsSynced, NotAdopted};
+ghost use Rattle.als_ship.specs.Follows.{TakesUp, AdoptsSynced, NotAdopted, IsOfEvent};
 ghost use Rattle.als_ship.specs.Sessions.{Joins, FailsToJoin, KeepsFront};
 
 use crate::fault::Fault;
@@ -16,8 +16,8 @@ use std::io::Read;
 pub(crate) fn join<E: Events, R: Read>(events: &mut E, reader: &mut R) -> Result<(), Fault>
     ensures ok { OnOk result (Joins E.alone (E.machine events.old) (E.machine events.new)
         (R.remaining reader.old) (R.remaining reader.new)) }
-    ensures fails { IfErr result (λ f. E.alone
-        → FailsToJoin (E.machine events.old) f (E.machine events.new)) }
+    ensures fails { IfErr result (λ f. FailsToJoin E.alone (E.machine events.old) f
+        (E.machine events.new) (R.remaining reader.old) (R.remaining reader.new)) }
     ensures front { (behind : Option (List ℕ))
         × KeepsFront E.alone (R.remaining reader.old) behind (E.machine events.old)
         (E.machine events.new) }
@@ -29,7 +29,9 @@ pub(crate) fn join<E: Events, R: Read>(events: &mut E, reader: &mut R) -> Result
 
 /// Adopts a history that is not the own one, and answers the position then.
 pub(crate) fn take_up<E: Events>(events: &mut E, history: History) -> Result<Lsn, Fault>
-    ensures { E.alone → TakesUp (E.machine events.old) history result (E.machine events.new) }
+    ensures takes { E.alone → TakesUp (E.machine events.old) history result
+        (E.machine events.new) }
+    ensures says { IfErr result IsOfEvent }
 {
     let own = events.history();
     if !own.is(&history) {

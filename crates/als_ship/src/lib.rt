@@ -29,7 +29,7 @@ pub use direct::Direct;
 pub use fault::Fault;
 pub use follower::Follower;
 pub use forcing::force;
-pub use laws::{held_text_stays_a_front, sent_bytes_are_the_source};
+pub use laws::{held_text_stays_a_front, sent_bytes_are_the_source, what_is_heard_was_told};
 pub use node_log::acknowledged_log;
 pub use shipper::Shipper;
 pub use source::{LogBytes, Source};

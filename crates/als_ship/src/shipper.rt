@@ -1,22 +1,28 @@
-ghost use Rattle.std.specs.Prelude.{◌≡◌, ◌≤◌, ◌<◌, ◌+◌, false, true, None, Some, Ok, [], length, take};
+ghost use Rattle.std.specs.Prelude.{◌≡◌, ◌≤◌, ◌<◌, ◌+◌, ◌^◌, false, true, None, Some, Ok, [], length};
+ghost use Rattle.std.specs.Prelude.{take};
 ghost use Rattle.std.specs.Prelude.{IfOk, IfErr, OnOk, OnErr};
 ghost use Rattle.std.specs.Io.KnownBytes.{Appends, Consumes};
 ghost use Rattle.als_record.specs.LogText.{header_bytes};
 ghost use Rattle.als_epochs.specs.declared.step.Step.{Step as AnyStep};
 ghost use Rattle.als_epochs.specs.Histories.{IsHistory};
 ghost use Rattle.als_epochs.specs.Judging.{Judges};
+ghost use Rattle.als_wire.specs.declared.tag.Tag.TheVariants as tag;
 ghost use Rattle.als_wire.specs.Frames.{data_bytes, epochs_bytes, resume_bytes};
+ghost use Rattle.als_wire.specs.Frames.{acknowledged_bytes};
+ghost use Rattle.als_wire.specs.Reading.{FailsToRead};
 ghost use Rattle.als_wire.specs.Sending.{Puts};
 ghost use Rattle.als_ship.specs.declared.fault.Fault.TheVariants as fault;
 ghost use Rattle.als_ship.specs.Wire.{bytes_at, Pours, PoursPart, Ships, SendsTrue, EndsServing};
-ghost use Rattle.als_ship.specs.Wire.{FailsToAsk, IsNotAdmitted, IsOfTheWay, FailsToServe};
+ghost use Rattle.als_ship.specs.Wire.{FailsToAsk, IsNotAdmitted, FailsToPour, FailsToServe};
 ghost use Rattle.als_ship.specs.Meeting.{MeetsOne, MeetsInVain};
 
 use crate::fault::Fault;
 use crate::source::Source;
 use als_epochs::{History, judge};
 use als_record::{LogHeader, Lsn};
-use als_wire::{PIECE_LIMIT, read_acknowledged, read_resume, write_data, write_epochs};
+use als_wire::{
+    Fault as WireFault, PIECE_LIMIT, read_acknowledged, read_resume, write_data, write_epochs,
+};
 use std::alloc::Global;
 use std::io::{Read, Write};
 
@@ -148,7 +154,7 @@ impl Shipper {
         ensures begun { self.new.begun ≡ self.old.begun }
         ensures same { S.text source.new ≡ S.text source.old }
         ensures kept { S.seals source.new ≡ S.seals source.old }
-        ensures fails { IfErr result IsOfTheWay }
+        ensures fails { IfErr result (λ f. FailsToPour f (R.remaining reader.old)) }
     {
         let end = source.end();
         let epoch = source.history().epoch();
@@ -159,14 +165,28 @@ impl Shipper {
         while at < end {
             let len = (end - at).min(PIECE_LIMIT as u64);
             send(source, writer, epoch, at, &mut room[..len as usize])?;
-            let lsn = read_acknowledged(reader)?;
+            let lsn = hear(reader)?;
             self.acknowledged = Some(lsn);
             at += len;
         }
         write_data(writer, epoch, end, &[])?;
-        let last = read_acknowledged(reader)?;
+        let last = hear(reader)?;
         self.acknowledged = Some(last);
         Ok(())
+    }
+}
+
+/// Reads the answer to a frame.
+fn hear<R: Read>(reader: &mut R) -> Result<Lsn, WireFault>
+    ensures found { IfOk result (λ lsn. Consumes (R.remaining reader.old) (R.remaining reader.new)
+        (acknowledged_bytes lsn.0)) }
+    ensures fits { IfOk result (λ lsn. lsn.0 < 2 ^ 64) }
+    ensures fails { IfErr result (λ f. FailsToRead tag.Acknowledged f (R.remaining reader.old)
+        (R.remaining reader.new)) }
+{
+    match read_acknowledged(reader) {
+        Ok(lsn) => Ok(lsn),
+        Err(fault) => Err(fault),
     }
 }
 
@@ -198,6 +218,7 @@ fn ask<R: Read>(reader: &mut R, header: LogHeader) -> Result<(u64, History), Fau
     ensures found { IfOk result (λ p. IsHistory p.1
         × Consumes (R.remaining reader.old) (R.remaining reader.new)
         (resume_bytes p.0 header.pages p.1)) }
+    ensures fits { IfOk result (λ p. p.0 < 2 ^ 64) }
     ensures fails { IfErr result (λ f. FailsToAsk header f (R.remaining reader.old)
         (R.remaining reader.new)) }
 {

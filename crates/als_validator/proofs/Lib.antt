@@ -1,6 +1,7 @@
 pub mod Bounds
 pub mod CommitLaws
 pub mod HolderSteps
+pub mod HoldersNow
 pub mod Judged
 pub mod KeySteps
 pub mod ListSteps

@@ -228,7 +228,7 @@ pub(crate) fn is_wrong_compensation(past: &Past, logged: &RecordView<'_>) -> boo
 }
 
 /// What is kept of a key.
-fn kept_of(keys: &[KeyState], key: Key) -> Option<&KeyState>
+pub(crate) fn kept_of(keys: &[KeyState], key: Key) -> Option<&KeyState>
     ensures { (pages : ℕ) (log : List Record) → AreKeysOf keys.now pages log → IsKey pages key
         → MatchOption result (true ≡ false) (λ kept. IsKeyOf kept.now log key) }
 {
@@ -240,7 +240,7 @@ fn kept_of(keys: &[KeyState], key: Key) -> Option<&KeyState>
 }
 
 /// Whether a transaction is unended and has not committed.
-fn is_still_open(table: &TransTable, trans: TransId) -> bool
+pub(crate) fn is_still_open(table: &TransTable, trans: TransId) -> bool
     ensures { (log : List Record) → IsTableOf table.now log → result ≡ is_open log trans.0 }
 {
     match table.open_of(trans) {

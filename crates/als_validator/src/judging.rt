@@ -1,14 +1,16 @@
 ghost use Rattle.std.specs.Prelude.{◌≡◌, ◌<◌, ℕ, List, [], ◌∷◌, ◌++◌, None, true, false};
 ghost use Rattle.std.specs.Prelude.{vec_len, vec_capacity, OnOk, OnErr, IfOk, IfErr, IsOk, MatchOption};
+ghost use Rattle.std.specs.Prelude.{IsTrue};
 ghost use Rattle.als_record.specs.declared.record.Body.{Body as AnyBody};
 ghost use Rattle.als_record.specs.declared.record.Record.{Record};
 ghost use Rattle.als_record.specs.Shown.{shown, shown_body, shown_image};
-ghost use Rattle.als_record.specs.Spelling.{IsRecord};
+ghost use Rattle.als_record.specs.Spelling.{IsRecord, IsKey};
 ghost use Rattle.als_record.specs.Transactions.{is_unended, greatest_trans};
-ghost use Rattle.als_record.specs.Validity.{first_bad, open_checkpoint, IsValidLog};
+ghost use Rattle.als_record.specs.Validity.{first_bad, open_checkpoint, is_valid, IsValidLog};
 ghost use Rattle.als_analysis.specs.Noted.{IsTableOf, StandsAt};
 ghost use Rattle.als_validator.specs.declared.fault.Fault.TheVariants.{Memory};
 ghost use Rattle.als_validator.specs.Keys.{AreKeysOf};
+ghost use Rattle.als_validator.specs.KeysNow.{TellsOfKey};
 ghost use Rattle.als_validator.specs.Lists.{AreSurvivorsOf, survivors_in};
 ghost use Rattle.als_validator.specs.Seen.{AreCommitted};
 ghost use Rattle.als_validator.specs.Validated.{IsJudgingOf, MayNote, may_note};
@@ -19,6 +21,7 @@ use crate::causes::{
     is_wrong_compensation, is_wrong_state, is_wrong_undo_next,
 };
 use crate::fault::Fault;
+use crate::key_now::{KeyNow, key_now};
 use crate::key_state::KeyState;
 use crate::keys::{note_change, note_update, unwritten_keys};
 use crate::past::past_of;
@@ -215,5 +218,14 @@ impl Judging {
             Some(at) => self.survivors.at(at),
             None => &[],
         }
+    }
+
+    /// What a key of the database has now, and which transaction of this table holds it.
+    pub(crate) fn key_now(&self, table: &TransTable, key: Key) -> Option<KeyNow>
+        ensures { (pages : ℕ) (log : List Record) → IsJudgingOf pages self.now log
+            → IsTableOf table.now log → IsTrue (is_valid log) → IsKey pages key
+            → MatchOption result (true ≡ false) (λ told. TellsOfKey log key told) }
+    {
+        key_now(self.keys.as_slice(), table, key)
     }
 }

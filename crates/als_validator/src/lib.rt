@@ -12,6 +12,8 @@ mod committing;
 mod fault;
 // What only judging needs.
 mod judging;
+// What a key has now, and who holds it.
+mod key_now;
 // What is kept of a key.
 mod key_state;
 // What is kept of all keys.
@@ -26,4 +28,5 @@ mod updates;
 mod validator;
 
 pub use fault::Fault;
+pub use key_now::KeyNow;
 pub use validator::Validator;

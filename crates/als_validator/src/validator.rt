@@ -26,7 +26,7 @@ ghost use Rattle.std.specs.Prelude.{None, Ok, Err, IsOk, OnOk, OnErr, IfOk, IfEr
 ghost use Rattle.std.specs.Prelude.{is_some};
 ghost use Rattle.als_record.specs.declared.record.Body.{Body as AnyBody};
 ghost use Rattle.als_record.specs.declared.record.Record.{Record};
-ghost use Rattle.als_record.specs.Spelling.{IsRecord};
+ghost use Rattle.als_record.specs.Spelling.{IsRecord, IsKey};
 ghost use Rattle.als_record.specs.Shown.{shown, shown_body, shown_image};
 ghost use Rattle.als_record.specs.LogText.{end_of};
 ghost use Rattle.als_record.specs.Tail.{reserve_of};
@@ -38,12 +38,14 @@ ghost use Rattle.als_analysis.specs.Noted.{IsTableOf, StandsAt, survivor_count};
 ghost use Rattle.als_analysis.specs.Open.{rows_of, left_of};
 ghost use Rattle.als_validator.specs.declared.fault.Fault.TheVariants.{Memory};
 ghost use Rattle.als_validator.specs.FaultNames.{answer_of};
+ghost use Rattle.als_validator.specs.KeysNow.{TellsOfKey};
 ghost use Rattle.als_validator.specs.Lists.{survivors_in};
 ghost use Rattle.als_validator.specs.Validated.{IsJudgedBy, IsValidatorOf, HasRoom, judges};
 ghost use Rattle.als_validator.specs.Validated.{room_in};
 
 use crate::fault::Fault;
 use crate::judging::Judging;
+use crate::key_now::KeyNow;
 use als_analysis::{OpenRow, TransTable};
 use als_record::{BodyView, Cause, ImageView, KeptUpdate, Key, Lsn, RecordView, TransId};
 use std::alloc::Global;
@@ -297,6 +299,21 @@ impl Validator {
     {
         match &self.judging {
             Some(judging) => judging.survivors_of(&self.table, trans),
+            // It judges.
+            None => unreachable!(),
+        }
+    }
+
+    /// What a key of the database has now, and which open transaction holds it: its writer has to
+    /// wait for that one's end. The cost does not depend on how much is kept.
+    pub fn key_now(&self, key: Key) -> Option<KeyNow>
+        requires { judges self.now ≡ true }
+        ensures { (pages : ℕ) (log : List Record) → IsValidatorOf pages self.now log
+            → IsValidLog pages log → IsKey pages key
+            → MatchOption result (true ≡ false) (λ told. TellsOfKey log key told) }
+    {
+        match &self.judging {
+            Some(judging) => judging.key_now(&self.table, key),
             // It judges.
             None => unreachable!(),
         }

@@ -6,6 +6,7 @@ use Rattle.als_wire.specs.Frames.{data_bytes}
 use Rattle.als_wire.specs.Sending.{Puts}
 use Rattle.als_ship.specs.Wire.{bytes_at, Pours, PoursPart}
 use Rattle.als_ship.proofs.Pieces.{Answered, answered_none, answered_more, pours_none, pours_part, pours_all, puts_all}
+use Rattle.als_ship.proofs.Beginning.{way_answer}
 use Rattle.als_ship.proofs.shipper.Shipper.pour.Goals as goal
 
 pub loop-at-init : goal.loop-at-init
@@ -40,8 +41,8 @@ loop-at-preserved g c =
       low = omega (arith, c.loop-at.invariant.low);
       high = inside;
       begun = c.loop-at.invariant.begun;
-      sent = answered_more text epoch c.args.from at len (g.W.Write.contents c.args.writer.now) (g.W.Write.contents c.loop-at.writer) (g.W.Write.contents c.send.new.writer) (g.R.Read.remaining c.args.reader.now) (g.R.Read.remaining c.loop-at.reader) (g.R.Read.remaining c.read_acknowledged.new.reader) c.loop-at.self.acknowledged c.in_ok-lsn.lsn c.loop-at.invariant.sent some few (omega (arith, inside, c.end-end.ensures))
-          (subst (λ xs. Appends (g.W.Write.contents c.loop-at.writer) (g.W.Write.contents c.send.new.writer) (data_bytes epoch at xs)) (ap (λ k. bytes_at (g.S.Source.text c.loop-at.source) at k) part ∙ ap (λ t. bytes_at t at len) c.loop-at.invariant.text) c.in_ok-send.ensures.sent) c.in_ok-lsn.ensures.found;
+      sent = answered_more text epoch c.args.from at len (g.W.Write.contents c.args.writer.now) (g.W.Write.contents c.loop-at.writer) (g.W.Write.contents c.send.new.writer) (g.R.Read.remaining c.args.reader.now) (g.R.Read.remaining c.loop-at.reader) (g.R.Read.remaining c.hear.new.reader) c.loop-at.self.acknowledged c.in_ok-lsn.lsn c.loop-at.invariant.sent some few (omega (arith, inside, c.end-end.ensures))
+          (subst (λ xs. Appends (g.W.Write.contents c.loop-at.writer) (g.W.Write.contents c.send.new.writer) (data_bytes epoch at xs)) (ap (λ k. bytes_at (g.S.Source.text c.loop-at.source) at k) part ∙ ap (λ t. bytes_at t at len) c.loop-at.invariant.text) c.in_ok-send.ensures.sent) c.in_ok-lsn.ensures.fits c.in_ok-lsn.ensures.found;
     }
 
 pub returns-in_err-resize-clause-part : goal.returns-in_err-resize-clause-part
@@ -136,7 +137,17 @@ returns-clause-all g c =
     let at = c.loop-at.at in
     let new = g.W.Write.contents c.write_data.new.writer in
     let there : c.end-end.result ≡ at = omega (arith, c.loop-at.invariant.high, c.loop-at-test.false) in
-    let behind-last = g.R.Read.remaining c.read_acknowledged-2.new.reader in
+    let behind-last = g.R.Read.remaining c.hear-2.new.reader in
     subst (λ e. Pours text e from asked behind-last old new (Some c.in_ok-last.last)) c.loop-at.invariant.epoch
     (pours_all text epoch from c.end-end.result old mid new asked behind behind-last kept c.in_ok-last.last c.end-end.ensures
-    (subst (λ k. Answered text epoch from k old mid asked behind kept) (sym there) c.loop-at.invariant.sent) c.in_ok-write_data.ensures.all c.in_ok-last.ensures.found)
+    (subst (λ k. Answered text epoch from k old mid asked behind kept) (sym there) c.loop-at.invariant.sent) c.in_ok-write_data.ensures.all c.in_ok-last.ensures.fits c.in_ok-last.ensures.found)
+
+pub returns-in_err-lsn-clause-fails : goal.returns-in_err-lsn-clause-fails
+returns-in_err-lsn-clause-fails g c =
+    let found = way_answer (g.S.Source.text c.args.source.now) c.epoch-epoch.result c.args.from c.loop-at.at (g.W.Write.contents c.args.writer.now) (g.W.Write.contents c.loop-at.writer) (g.R.Read.remaining c.args.reader.now) (g.R.Read.remaining c.loop-at.reader) (g.R.Read.remaining c.hear.new.reader) c.loop-at.self.acknowledged c.in_err-lsn.field-0.0 c.loop-at.invariant.sent c.in_err-lsn.ensures.fails in
+    let p = err_from_is_err_and c.from_residual-in_err-lsn.result c.from_residual-in_err-lsn.ensures.1 in rw (p.1, p.2) found
+
+pub returns-in_err-last-clause-fails : goal.returns-in_err-last-clause-fails
+returns-in_err-last-clause-fails g c =
+    let found = way_answer (g.S.Source.text c.args.source.now) c.epoch-epoch.result c.args.from c.loop-at.at (g.W.Write.contents c.args.writer.now) (g.W.Write.contents c.loop-at.writer) (g.R.Read.remaining c.args.reader.now) (g.R.Read.remaining c.loop-at.reader) (g.R.Read.remaining c.hear-2.new.reader) c.loop-at.self.acknowledged c.in_err-last.field-0.0 c.loop-at.invariant.sent c.in_err-last.ensures.fails in
+    let p = err_from_is_err_and c.from_residual-in_err-last.result c.from_residual-in_err-last.ensures.1 in rw (p.1, p.2) found
