@@ -117,6 +117,7 @@ impl<'a, L: OpenListener<Stream = S>, S: Read + Write + OpenStream + Drop, C: Cl
     Bounded<'a, S, C>,
 > for Callers<'a, L, S, C> {
     ghost use Rattle.als_shipper.specs.History.{visits_of};
+    ghost use Rattle.als_shipper.specs.declared.bounded.Bounded.{Bounded};
 
     ghost met = { λ callers. visits_of (λ (b : Bounded S C). S.remaining b.stream) (λ (b : Bounded S C). S.contents b.stream) callers.met };
 
