@@ -114,6 +114,10 @@ pub(crate) const LINES: [Line; 10] = [
                 help: "Threads that answer them, 1 to 8 [default: 2]",
                 is_wanted: false,
             },
+            Word::Flag {
+                name: "forget-unreached",
+                help: "Forget the takeovers of which DIR holds nothing",
+            },
             EXPLAIN,
         ],
         choice: &[],

@@ -6,9 +6,6 @@ use clap::{ArgMatches, Command as Language, Error};
 use std::alloc::{AllocError, Global};
 use std::convert::AsStr;
 
-/// The log blocks of a new database, where the command line does not say.
-const LOG_BLOCKS: u64 = 2_048;
-
 /// The megabytes of log from one checkpoint to the next, where the command line does not say.
 const CHECKPOINT_MB: u64 = 4;
 
@@ -132,13 +129,14 @@ fn standby<'a>(matches: &ArgMatches<'a>) -> Option<Command<'a>> {
         dir: matches.get_str("dir")?,
         from: matches.get_str("from")?,
         pages: matches.get_one("pages")?,
-        log_blocks: matches.get_one("log-blocks").unwrap_or(LOG_BLOCKS),
+        log_blocks: matches.get_one("log-blocks"),
         checkpoint_mb: matches.get_one("checkpoint-mb").unwrap_or(CHECKPOINT_MB),
         workers: matches.get_one("workers").unwrap_or(WORKERS),
         timeout: matches.get_one("timeout").unwrap_or(TIMEOUT),
         keep: matches.get_flag("keep"),
         serve: matches.get_str("serve"),
         readers: matches.get_one("readers").unwrap_or(READERS),
+        forget_unreached: matches.get_flag("forget-unreached"),
         explain: matches.get_flag("explain"),
     })
 }

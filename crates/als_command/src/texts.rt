@@ -136,6 +136,9 @@ standard error says once a minute at most that nothing comes.
 With --serve it answers over HTTP: GET /keys/P/S, /status, /metrics and /health. Nothing is
 encrypted, and nobody is asked who he is.
 With --keep or --serve one thread redoes at least: --workers 0 is 1.
+With --forget-unreached it first forgets the takeovers that were sealed at the end of the log in
+DIR or above it, of which DIR holds nothing, and says so on standard error. So it follows its old
+primary again, where the node that took over is gone for good.
 
 Example:
   mkdir standby
@@ -157,7 +160,7 @@ Exit statuses: 0 done, 2 a fault of the command line, 3 `als: refused N Name`:
   44  nobody serves at ADDR, the network or standard output failed, or the primary was
       silent for longer than SECONDS: run it again
   42  the log in DIR goes past the takeover of the node that serves: the two parted there
-  48  the takeovers of that node do not go on from those of DIR";
+  48  the takeovers of that node do not go on from those of DIR; see --forget-unreached";
 
 pub const TAKEOVER_ABOUT: &str = "Makes a primary of the standby of a folder";
 
@@ -166,6 +169,8 @@ pub const TAKEOVER_HELP: &str =
 writes no more: nothing here can do that.
 Redoes what was not redone, seals the log at its end, undoes each transaction that was not
 committed, and ends the takeover. From then on the folder follows no primary.
+Where DIR adopted a takeover that its log never reached, that takeover is dropped first, and a line
+on standard error says so.
 Writes standard output: `end=E`, where the log ends, and a line `P/S VALUE` for each record
 of the database, or `empty`; standard error: a line for each transaction in doubt, which was
 prepared and neither committed nor rolled back. Its updates stay until `als resolve` decides.

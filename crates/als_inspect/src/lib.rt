@@ -18,6 +18,8 @@ mod restarting;
 mod standing;
 // What a key of it has.
 mod getting;
+// The pages of a folder against its log.
+mod page_checking;
 // What is not sound.
 mod unsound;
 // Whether all is sound.
@@ -27,5 +29,6 @@ pub use als_scan::Wanted;
 pub use dumping::dump;
 pub use fault::Fault;
 pub use getting::get;
+pub use page_checking::check_pages;
 pub use standing::status;
 pub use verifying::verify;

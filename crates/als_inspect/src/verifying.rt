@@ -1,5 +1,6 @@
 use crate::fault::Fault;
 use crate::log_text::{LogText, database_of, text_of_file, text_of_folder};
+use crate::page_checking::check_folder;
 use crate::restarting::restarted;
 use crate::telling::told;
 use crate::unsound::Unsound;
@@ -70,8 +71,8 @@ fn is_folder<R: Files<File = File>>(rt: &R, path: &str) -> Result<bool, Fault> {
     Ok(fs::metadata(rt, path)?.is_dir())
 }
 
-/// Reads the log of a folder's standby, and then opens a copy of it as a restart does, with each of
-/// its pages.
+/// Reads the log of a folder's standby, opens a copy of it as a restart does, with each of its
+/// pages, and checks the pages against the log.
 fn judge_folder<R: AllocGlobal + Files<File = File> + Wait>(
     rt: &R,
     path: &str,
@@ -79,6 +80,7 @@ fn judge_folder<R: AllocGlobal + Files<File = File> + Wait>(
     let folder = hold(rt, path)?;
     let found = judge_text(text_of_folder(rt, &folder)?, false)?;
     restart(rt, &folder)?;
+    check_folder(rt, &folder)?;
     Ok(found)
 }
 

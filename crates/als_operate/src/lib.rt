@@ -30,6 +30,8 @@ mod following;
 mod standby_command;
 // A transaction in doubt is decided.
 mod deciding;
+// Takeovers that a folder's log never reached.
+mod forgetting;
 // A standby that becomes a primary.
 mod takeover_command;
 // A primary that decides a transaction in doubt.
@@ -37,6 +39,7 @@ mod resolve_command;
 
 pub use checkpointing::checkpoint;
 pub use deciding::decide;
+pub use forgetting::{Forgets, forget};
 pub use fault::Fault;
 pub use following::follow;
 pub use greeting::call;

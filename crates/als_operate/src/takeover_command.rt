@@ -1,7 +1,9 @@
 use crate::fault::Fault;
+use crate::forgetting::{Forgets, forget_in};
 use crate::opening::{named, reopen};
 use crate::standby_command::PENDING;
 use crate::taking_over::take_over_telling;
+use als_ckpt::Unreached;
 use als_drive::{Progress, listing};
 use als_engine::Events;
 use als_folder::Folder;
@@ -22,11 +24,12 @@ pub struct TakenOver {
 
 /// Makes a primary of the standby of a folder, and then prints `end=E` and each record of its
 /// database. It may be called again after a stop: the takeover then goes on. `progress` receives the
-/// progress of its redo.
+/// progress of its redo, and the takeovers that are forgotten first, since the folder's log never
+/// reached them.
 ///
 /// Device: the folder or one of its files failed, it has no database, or another program has it.
 /// Stream: the output failed. Memory: allocation failed. Else as `Engine::open` says, or the first refusal of an event.
-pub fn takeover<R: AllocGlobal + Files<File = File> + Wait, P: Progress, O: Write>(
+pub fn takeover<R: AllocGlobal + Files<File = File> + Wait, P: Progress + Forgets, O: Write>(
     rt: &R,
     dir: &str,
     progress: &mut P,
@@ -40,12 +43,13 @@ pub fn takeover<R: AllocGlobal + Files<File = File> + Wait, P: Progress, O: Writ
 }
 
 /// The takeover of a folder that is held.
-fn takeover_in<R: AllocGlobal + Files<File = File> + Wait, P: Progress, O: Write>(
+fn takeover_in<R: AllocGlobal + Files<File = File> + Wait, P: Progress + Forgets, O: Write>(
     rt: &R,
     folder: &Folder,
     progress: &mut P,
     output: &mut O,
 ) -> Result<TakenOver, Fault> {
+    forget_in(rt, folder, Unreached::AboveEnd, progress)?;
     let mut engine = reopen(rt, folder, PENDING)?;
     take_over_telling(rt, &mut engine, progress)?;
     print_database(rt.alloc(), &mut engine, output)?;

@@ -6,15 +6,15 @@ use crate::meeting_lines::MeetingLines;
 use crate::redo_lines::RedoLines;
 use crate::refusal::Refusal;
 use crate::terminals::Terminals;
-use crate::{partings, troubles};
+use crate::{log_sizes, partings, troubles};
 use als_command::Command;
 use als_drive::Progress;
 use als_engine::Decision;
 use als_fault::FaultKind;
 use als_folder::Trouble;
 use als_follow::standby as standby_with_workers;
-use als_inspect::{Wanted, dump, get, status, verify};
-use als_operate::{Following, TakenOver, Verdict, resolve, standby, takeover};
+use als_inspect::{Wanted, check_pages, dump, get, status, verify};
+use als_operate::{Following, TakenOver, Verdict, forget, resolve, standby, takeover};
 use als_record::{Key, Lsn, TransId};
 use als_service::{Service, standby as serve_standby};
 use als_shipper::{Lasting, NodeShipping, Shipping, ship, ship_node, ship_node_on, ship_on};
@@ -30,6 +30,9 @@ use std::time::Clock;
 
 /// The most threads that redo pages beside the one that follows.
 const WORKER_LIMIT: u64 = 8;
+
+/// The log blocks of a new database, where the command line does not say.
+const LOG_BLOCKS: u64 = 2_048;
 
 /// A command on files, that reads no standard input. More is said of a refusal where that was asked
 /// for, or a person sees it.
@@ -154,17 +157,25 @@ fn attempt<
             keep,
             serve,
             readers,
+            forget_unreached,
             explain,
         } => {
+            if let Some(asked) = log_blocks {
+                log_sizes::tell(rt, dir, asked, errors);
+            }
             let following = Following {
                 dir,
                 from,
                 pages,
-                log_blocks,
+                log_blocks: log_blocks.unwrap_or(LOG_BLOCKS),
                 checkpoint_mb,
                 timeout,
             };
             let mut lines = RedoLines::new(errors, seen, explain);
+            if forget_unreached {
+                forget(rt, dir, &mut lines)?
+            }
+            check_pages(rt, dir)?;
             if keep || serve.is_some() {
                 let service = Service {
                     workers: workers_of(workers)?,
@@ -179,6 +190,7 @@ fn attempt<
         }
         Command::Takeover { dir, .. } => {
             let mut lines = RedoLines::new(&mut *errors, seen, false);
+            check_pages(rt, dir)?;
             let TakenOver { doubts, is_empty } = takeover(rt, dir, &mut lines, output)?;
             if is_empty {
                 tell_emptiness(dir, output, errors)?;

@@ -7,6 +7,8 @@ mod terminals;
 mod remarks;
 // Why a command on files is refused.
 mod refusal;
+// A log that has another size than was asked for.
+mod log_sizes;
 // Which file is wrong, in plain words.
 mod troubles;
 // How a long redo goes on.

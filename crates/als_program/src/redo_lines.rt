@@ -1,5 +1,6 @@
 use als_drive::Progress;
-use als_operate::Fault;
+use als_operate::{Fault, Forgets};
+use als_record::Lsn;
 use als_service::Outages;
 use std::io::Write;
 
@@ -9,8 +10,8 @@ const LONG: u64 = 100_000;
 /// Into so many parts a long redo is divided.
 const PARTS: u64 = 20;
 
-/// Says how a long redo goes on, a line at its beginning and one after each part of it at most; and
-/// that nobody sends.
+/// Says how a long redo goes on, a line at its beginning and one after each part of it at most;
+/// which takeovers are forgotten; and that nobody sends.
 #[derive(Drop)]
 pub struct RedoLines<W: Write> {
     errors: W,
@@ -69,6 +70,17 @@ impl<W: Write> Progress for RedoLines<W> {
             // Where it can't be said, the redo goes on.
             let _ = writeln!(self.errors, "als: redo: {changes} changes wait");
         }
+    }
+}
+
+impl<W: Write> Forgets for RedoLines<W> {
+    fn forgot(&mut self, seal: Lsn) {
+        // Where it can't be said, `als status` shows the history.
+        let _ = writeln!(
+            self.errors,
+            "als: dropped the takeover at {}, which this folder never reached",
+            seal.0
+        );
     }
 }
 

@@ -26,9 +26,10 @@ fn say<W: Write>(errors: &mut W, trouble: Trouble) -> io::Result<()> {
         Wrong::Missing => "the file is missing, or a link that leads nowhere",
         Wrong::NoFolder => "this is no folder",
         Wrong::Denied => "it may not be opened or written",
-        Wrong::Locked => {
+        Wrong::Locked if of_folder => {
             "another program has the folder; a standby with --serve answers GET /status and /keys/P/S"
         }
+        Wrong::Locked => "another program has the file, by a name in another folder",
         Wrong::ReadOnly => "its file system is read-only",
         Wrong::Kept => "there is a database already",
         Wrong::NoControl => {

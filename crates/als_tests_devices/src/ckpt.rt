@@ -395,3 +395,5 @@ mod refusals;
 mod crashes;
 // What is read back from a device.
 mod reading;
+// What is written while the node is stopped.
+mod again;

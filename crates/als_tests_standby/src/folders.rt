@@ -9,6 +9,8 @@ use std::rt::Files;
 mod calls;
 // A folder of which a file was lost.
 mod losing;
+// Two folders with names of one file.
+mod locking;
 
 const SIZES: Sizes = Sizes {
     log: 3,

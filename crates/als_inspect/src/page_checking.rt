@@ -1,0 +1,127 @@
+ghost use Rattle.std.specs.Prelude.{◌≤◌};
+
+use crate::copying::copy;
+use crate::fault::Fault;
+use crate::log_text::{Database, database_of, text_of_folder};
+use crate::telling::told;
+use als_ckpt::{Fault as ControlFault, read_said};
+use als_disk::{BlockDisk, MemDisk};
+use als_engine::{CONTROL_BLOCKS, Fault as EngineFault};
+use als_folder::{DeviceFiles, Fault as FolderFault, Folder, LOG_LIMIT, Part};
+use als_page::Page;
+use als_pages_check::Checks;
+use als_record::{FIRST_LSN, LoggedPage, Lsn};
+use als_scan::Scan;
+use std::alloc::Global;
+use std::fs::File;
+use std::os::unix::fs::FileExt;
+use std::rt::Files;
+
+/// Checks the pages of a folder's node against its log, as far as that is acknowledged: no page may
+/// lack a change that a restart would not redo, and each block has to hold what the log makes of its
+/// page up to the page_LSN. The folder is only read. Where it has no database nothing is checked.
+///
+/// Standby(BadPage): the first page that is not so. Else as a restart refuses the folder. Memory:
+/// there was none for a copy of the log.
+pub fn check_pages<R: AllocGlobal + Files<File = File>>(rt: &R, dir: &str) -> Result<(), Fault> {
+    let folder = Folder::hold_to_read(rt, dir)?;
+    if !folder.is_kept(rt)? {
+        return Ok(());
+    }
+    check_folder(rt, &folder)
+}
+
+/// The same of a folder that is held.
+pub(crate) fn check_folder<R: AllocGlobal + Files<File = File>>(
+    rt: &R,
+    folder: &Folder,
+) -> Result<(), Fault> {
+    let files = folder.open_to_read(rt)?;
+    let database = database_of(rt.alloc(), &files)?;
+    let mut checks = checks_of(rt.alloc(), &files, database)?;
+    let mut text = text_of_folder(rt, folder)?;
+    note_all(&mut text.records, &mut checks)?;
+    judge(&checks)
+}
+
+/// Takes each record of a log.
+fn note_all<D: BlockDisk>(records: &mut Scan<D>, checks: &mut Checks) -> Result<(), Fault> {
+    for _ in 0..u64::MAX {
+        match records.next() {
+            Ok(Some(logged)) => checks.note(&logged),
+            Ok(None) => return Ok(()),
+            Err(fault) => return Err(told(fault, false)),
+        }
+    }
+    Ok(())
+}
+
+/// Refuses the first page that is not what it should be.
+fn judge(checks: &Checks) -> Result<(), Fault> {
+    if let Some(page) = checks.first_lacking() {
+        return Err(Fault::Standby(EngineFault::BadPage { page }));
+    }
+    match checks.first_other() {
+        Some(page) => Err(Fault::Standby(EngineFault::BadPage { page })),
+        None => Ok(()),
+    }
+}
+
+/// Each page as its block holds it, with the LSN from which on a restart redoes its changes.
+fn checks_of(alloc: Global, files: &DeviceFiles, database: Database) -> Result<Checks, Fault> {
+    let (from, rows) = rows_of(alloc, files, database)?;
+    let mut checks = Checks::new(alloc);
+    for page in 0..database.pages {
+        let found = page_of(files, page)?;
+        let redone_from = redone_from(rows.as_slice(), page, from);
+        checks.add(found, redone_from)?;
+    }
+    Ok(checks)
+}
+
+/// From where on a restart redoes the changes of a page: the RecLSN of its row, or else the
+/// checkpoint's position.
+fn redone_from(rows: &[LoggedPage], page: u32, from: Lsn) -> Lsn {
+    for row in rows {
+        if row.page == page {
+            return row.rec_lsn;
+        }
+    }
+    from
+}
+
+/// The position of the checkpoint that a folder publishes, and its rows; without one the first
+/// record's place, and no rows.
+fn rows_of(
+    alloc: Global,
+    files: &DeviceFiles,
+    database: Database,
+) -> Result<(Lsn, Vec<LoggedPage>), Fault> {
+    let mut rows = Vec::new(alloc);
+    let mut disk = match copy(alloc, &files.control, CONTROL_BLOCKS * 512, CONTROL_BLOCKS) {
+        Ok(disk) => disk,
+        Err(e) => return Err(Fault::Folder(FolderFault::of(Part::Control, e))),
+    };
+    match read_said(alloc, &mut disk, database.pages, LOG_LIMIT) {
+        Ok((_, None)) => Ok((FIRST_LSN, rows)),
+        Ok((_, Some(checkpoint))) => {
+            rows.extend_from_slice(checkpoint.pages.as_slice())?;
+            Ok((checkpoint.numbers.position, rows))
+        }
+        Err(ControlFault::Memory) => Err(Fault::Memory),
+        Err(_) => Err(Fault::BadControl),
+    }
+}
+
+/// A page as its block holds it.
+fn page_of(files: &DeviceFiles, page: u32) -> Result<Page, Fault> {
+    let mut block = [0; 512];
+    match files.pages.read_exact_at(block.as_mut_slice(), u64::from(page) * 512) {
+        Ok(()) => {}
+        Err(e) => return Err(Fault::Folder(FolderFault::of(Part::Pages, e))),
+    }
+    match Page::read_block(page, &block) {
+        Ok(found) => Ok(found),
+        Err(_) => Err(Fault::Standby(EngineFault::BadPage { page })),
+    }
+}
