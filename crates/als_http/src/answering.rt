@@ -79,9 +79,8 @@ impl<S: Standing> Answering<S> {
     /// Fills a response by the reply to a query.
     fn respond(&mut self, query: Query, response: &mut Response)
         requires { IsBlank response.old }
-        ensures answers { Answers (S.tells self.old.standing) query self.old.reader response.new
+        ensures { Answers (S.tells self.old.standing) query self.old.reader response.new
             self.new.reader }
-        ensures standing { self.new.standing ≡ self.old.standing }
     {
         let made = self.reply(query);
         show(self.alloc, &made, response);
