@@ -14,12 +14,12 @@ returns-in-Some-final_fault-clause-vouched g c = λ alone.
 
 pub returns-in-Some-final_fault-clause-last : goal.returns-in-Some-final_fault-clause-last
 returns-in-Some-final_fault-clause-last g c =
-    ends_last c.in-Some.fault c.follow_next-back.result.ended
+    ends_last c.in-Some-final_fault.fault c.follow_next-back.result.ended
     (g.L.Primaries.met c.args.primaries.now) (g.L.Primaries.met c.loop.primaries) (g.L.Primaries.met c.follow_next-back.new.primaries)
-    c.loop.invariant.5 c.follow_next-back.ensures.ended c.in-Some.ensures.ends c.in-Some.ensures.over
+    c.loop.invariant.5 c.follow_next-back.ensures.ended c.in-Some-final_fault.ensures.ends c.in-Some-final_fault.ensures.over
 
 pub returns-in-Some-final_fault-clause-ended : goal.returns-in-Some-final_fault-clause-ended
-returns-in-Some-final_fault-clause-ended g c = final_is_not_lost c.in-Some.fault c.in-Some.ensures.over
+returns-in-Some-final_fault-clause-ended g c = final_is_not_lost c.in-Some-final_fault.fault c.in-Some-final_fault.ensures.over
 
 pub loop-preserved : goal.loop-preserved
 loop-preserved g c = (
@@ -35,5 +35,5 @@ loop-preserved g c = (
       (c.follow_next-back.ensures.vouched alone)),
   goes_on_more c.follow_next-back.result.ended
   (g.L.Primaries.met c.args.primaries.now) (g.L.Primaries.met c.loop.primaries) (g.L.Primaries.met c.follow_next-back.new.primaries)
-  c.loop.invariant.5 c.follow_next-back.ensures.ended c.in-None.ensures.goes_on,
+  c.loop.invariant.5 c.follow_next-back.ensures.ended c.in_default.ensures.goes_on,
 )
