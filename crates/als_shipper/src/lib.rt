@@ -15,6 +15,8 @@ mod visitors;
 mod history;
 // Who came and is to ask.
 mod asker;
+// All who came and are to ask.
+mod askers;
 // A stream of a session, of which a frame takes limited time.
 mod bounded;
 // Since when an end of a session is waited for.
