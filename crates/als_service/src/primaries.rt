@@ -89,7 +89,7 @@ impl<'a, R: AllocGlobal + Files<File = File> + Net> Dialled<'a, R> {
 impl<R: AllocGlobal + Files<File = File> + Net> Primaries<Line<R::Stream>> for Dialled<'_, R> {
     ghost use Rattle.als_service.specs.Met.{sessions_of};
 
-    ghost met = { λ dialled. sessions_of (Line (R.Stream)).contents dialled.met };
+    ghost met = { λ dialled. sessions_of ⟦<Line<R::Stream> as Write>⟧.contents dialled.met };
 
     fn next(&mut self) -> Result<(Line<R::Stream>, Line<R::Stream>), Fault> {
         match self.connect() {

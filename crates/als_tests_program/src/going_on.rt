@@ -158,8 +158,10 @@ fn tells_of_nothing<
     let mut output = Vec::new(rt.alloc());
     let mut errors = Vec::new(rt.alloc());
     let status = program(rt, &takeover, io::empty(), &mut output, &mut errors);
-    let told = b"als: nothing holds no record: nothing was ever followed there\n";
-    status == 0 && output.as_slice() == b"end=16\nempty\n" && errors.as_slice() == told
+    let told = "als: nothing holds no record: nothing was ever followed there\n";
+    status == 0
+        && output.as_slice() == "end=16\nempty\n".as_bytes()
+        && errors.as_slice() == told.as_bytes()
 }
 
 /// A takeover of a folder in which nothing was ever followed says so.
