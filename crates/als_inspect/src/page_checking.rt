@@ -1,14 +1,11 @@
-ghost use Rattle.std.specs.Prelude.{◌≤◌};
-
 use crate::copying::copy;
 use crate::fault::Fault;
 use crate::log_text::{Database, database_of, text_of_folder};
 use crate::telling::told;
 use als_ckpt::{Fault as ControlFault, read_said};
-use als_disk::{BlockDisk, MemDisk};
+use als_disk::BlockDisk;
 use als_engine::{CONTROL_BLOCKS, Fault as EngineFault};
 use als_folder::{DeviceFiles, Fault as FolderFault, Folder, LOG_LIMIT, Part};
-use als_page::Page;
 use als_pages_check::Checks;
 use als_record::{FIRST_LSN, LoggedPage, Lsn};
 use als_scan::Scan;
@@ -18,8 +15,7 @@ use std::os::unix::fs::FileExt;
 use std::rt::Files;
 
 /// Checks the pages of a folder's node against its log, as far as that is acknowledged: no page may
-/// lack a change that a restart would not redo, and each block has to hold what the log makes of its
-/// page up to the page_LSN. The folder is only read. Where it has no database nothing is checked.
+/// lack a change that a restart would not redo. The folder is only read. Where it has no database nothing is checked.
 ///
 /// Standby(BadPage): the first page that is not so. Else as a restart refuses the folder. Memory:
 /// there was none for a copy of the log.
@@ -41,7 +37,10 @@ pub(crate) fn check_folder<R: AllocGlobal + Files<File = File>>(
     let mut checks = checks_of(rt.alloc(), &files, database)?;
     let mut text = text_of_folder(rt, folder)?;
     note_all(&mut text.records, &mut checks)?;
-    judge(&checks)
+    match checks.first_lacking() {
+        Some(page) => Err(Fault::Standby(EngineFault::BadPage { page })),
+        None => Ok(()),
+    }
 }
 
 /// Takes each record of a log.
@@ -56,25 +55,14 @@ fn note_all<D: BlockDisk>(records: &mut Scan<D>, checks: &mut Checks) -> Result<
     Ok(())
 }
 
-/// Refuses the first page that is not what it should be.
-fn judge(checks: &Checks) -> Result<(), Fault> {
-    if let Some(page) = checks.first_lacking() {
-        return Err(Fault::Standby(EngineFault::BadPage { page }));
-    }
-    match checks.first_other() {
-        Some(page) => Err(Fault::Standby(EngineFault::BadPage { page })),
-        None => Ok(()),
-    }
-}
-
-/// Each page as its block holds it, with the LSN from which on a restart redoes its changes.
+/// Each page with the page_LSN of its block, and with the LSN from which on a restart redoes its
+/// changes.
 fn checks_of(alloc: Global, files: &DeviceFiles, database: Database) -> Result<Checks, Fault> {
     let (from, rows) = rows_of(alloc, files, database)?;
     let mut checks = Checks::new(alloc);
     for page in 0..database.pages {
-        let found = page_of(files, page)?;
-        let redone_from = redone_from(rows.as_slice(), page, from);
-        checks.add(found, redone_from)?;
+        let page_lsn = page_lsn_of(files, page)?;
+        checks.add(page_lsn, redone_from(rows.as_slice(), page, from))?;
     }
     Ok(checks)
 }
@@ -113,15 +101,11 @@ fn rows_of(
     }
 }
 
-/// A page as its block holds it.
-fn page_of(files: &DeviceFiles, page: u32) -> Result<Page, Fault> {
-    let mut block = [0; 512];
-    match files.pages.read_exact_at(block.as_mut_slice(), u64::from(page) * 512) {
-        Ok(()) => {}
-        Err(e) => return Err(Fault::Folder(FolderFault::of(Part::Pages, e))),
-    }
-    match Page::read_block(page, &block) {
-        Ok(found) => Ok(found),
-        Err(_) => Err(Fault::Standby(EngineFault::BadPage { page })),
+/// The page_LSN at the front of a page's block: 0 where no record has changed the page.
+fn page_lsn_of(files: &DeviceFiles, page: u32) -> Result<Lsn, Fault> {
+    let mut front = [0; 8];
+    match files.pages.read_exact_at(front.as_mut_slice(), u64::from(page) * 512) {
+        Ok(()) => Ok(Lsn(u64::from_be_bytes(front))),
+        Err(e) => Err(Fault::Folder(FolderFault::of(Part::Pages, e))),
     }
 }

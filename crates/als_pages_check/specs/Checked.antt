@@ -4,7 +4,6 @@ use Rattle.std.specs.List.{fold}
 use Rattle.als_record.specs.declared.change.Change.{Change}
 use Rattle.als_record.specs.declared.record.Record.{Record}
 use Rattle.als_record.specs.Pages.{change_of}
-use Rattle.als_page.specs.Page.{state_of}
 use Rattle.als_pages_check.specs.declared.page_check.PageCheck.{PageCheck}
 
 -- the last LSN below a bound, once another change of the page is read
@@ -26,4 +25,4 @@ AreChecked pages log = (page : ℕ) (c : PageCheck) → slice_get pages page ≡
 
 -- each page has it: its page_LSN is no smaller
 abbrev pub HaveAll : List PageCheck → List Record → Type 0
-HaveAll pages log = (page : ℕ) (c : PageCheck) → slice_get pages page ≡ Some c → last_below page c.redone_from.0 log ≤ (state_of c.found).lsn
+HaveAll pages log = (page : ℕ) (c : PageCheck) → slice_get pages page ≡ Some c → last_below page c.redone_from.0 log ≤ c.page_lsn.0

@@ -3,7 +3,6 @@ ghost use Rattle.als_record.specs.declared.record.Record.{Record as AnyRecord};
 ghost use Rattle.als_pages_check.specs.Checked.{AreChecked, HaveAll};
 
 use crate::page_check::PageCheck;
-use als_page::Page;
 use als_record::{Lsn, Record};
 use std::alloc::{AllocError, Global};
 
@@ -30,12 +29,12 @@ impl Checks {
         }
     }
 
-    /// Puts the next page in, as its block holds it, with the LSN from which on a restart redoes its
-    /// changes. Pages come before records.
-    pub fn add(&mut self, found: Page, redone_from: Lsn) -> Result<(), AllocError>
+    /// Puts the next page in: the page_LSN of its block, and the LSN from which on a restart redoes
+    /// its changes. Pages come before records.
+    pub fn add(&mut self, page_lsn: Lsn, redone_from: Lsn) -> Result<(), AllocError>
         ensures { OnOk result (AreChecked self.old.pages.items [] → AreChecked self.new.pages.items []) }
     {
-        self.pages.push(PageCheck::new(found, redone_from))?;
+        self.pages.push(PageCheck::new(page_lsn, redone_from))?;
         Ok(())
     }
 
@@ -63,19 +62,6 @@ impl Checks {
         let mut page = 0_u32;
         for check in self.pages.iter() {
             if !check.has_all() {
-                return Some(page);
-            }
-            page = page.saturating_add(1);
-        }
-        None
-    }
-
-    /// The first page whose block holds something else than what the log makes of it. None: no page
-    /// does.
-    pub fn first_other(&self) -> Option<u32> {
-        let mut page = 0_u32;
-        for check in self.pages.iter() {
-            if !check.is_same() {
                 return Some(page);
             }
             page = page.saturating_add(1);

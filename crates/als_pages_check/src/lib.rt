@@ -1,5 +1,5 @@
 //! The pages of a stopped node against its log: whether a page lacks a change that no restart will
-//! redo, and whether its block holds what the log makes of it.
+//! redo.
 #![tactic(auto)]
 
 // One page.
