@@ -3,3 +3,4 @@ pub mod Upkeep
 pub mod Following
 pub mod Building
 pub mod Deciding
+pub mod TakingOver

@@ -1,10 +1,10 @@
 ghost use Rattle.std.specs.Prelude.{OnOk};
-ghost use Rattle.als_operate.specs.Deciding.{IsDecided, IsStable};
+ghost use Rattle.als_operate.specs.Deciding.{IsDecided};
 
 use crate::fault::Fault;
-use crate::taking_over::undo_all;
+use crate::taking_over::{check_stable, undo_all};
 use als_drive::{Progress, drain, recover_telling};
-use als_engine::{Decision, Events, Fault as EngineFault};
+use als_engine::{Decision, Events};
 use als_record::TransId;
 use als_ship::force;
 use std::sync::Wait;
@@ -22,8 +22,9 @@ pub fn decide<R: Wait, E: Events, P: Progress>(
     verdict: Decision,
     progress: &mut P,
 ) -> Result<(), Fault>
-    // Then it was in doubt, its commit or rollback record stands next in the log with what that
-    // left to append, nothing more is left, and all of it is acknowledged and redone.
+    // Then it was in doubt, its commit or rollback record is next in the log, and behind it the tail
+    // that this leaves and nothing else: no other transaction is decided. All of it is acknowledged
+    // and redone.
     ensures done { OnOk result (E.alone
         → IsDecided (E.machine events.old) trans verdict (E.machine events.new)) }
 {
@@ -33,16 +34,5 @@ pub fn decide<R: Wait, E: Events, P: Progress>(
     force(events)?;
     drain(events)?;
     check_stable(events)?;
-    Ok(())
-}
-
-/// Refused as NotDrained, unless the log is acknowledged to its end.
-fn check_stable<E: Events>(events: &E) -> Result<(), EngineFault>
-    ensures { OnOk result (E.alone → IsStable (E.machine events.now)) }
-{
-    let status = events.status();
-    if status.acknowledged.0 < status.end.0 {
-        return Err(EngineFault::NotDrained);
-    }
     Ok(())
 }

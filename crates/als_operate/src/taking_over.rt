@@ -1,8 +1,9 @@
 ghost use Rattle.std.specs.Prelude.{◌≡◌, true, OnOk};
 ghost use Rattle.als_record.specs.Tail.{is_undone};
+ghost use Rattle.als_drive.specs.Driving.{IsDrained};
 ghost use Rattle.als_engine.specs.declared.status.State.TheVariants.{Primary};
 ghost use Rattle.als_engine.specs.Machine.{state_of};
-ghost use Rattle.als_operate.specs.Deciding.{GrowsOn};
+ghost use Rattle.als_operate.specs.TakingOver.{GoesAlong, IsStable, IsSynced, TakesOver};
 
 use crate::fault::Fault;
 use als_drive::{Progress, Silent, drain, recover_telling};
@@ -17,6 +18,10 @@ use std::sync::Wait;
 pub fn take_over<R: Wait, E: Events>(rt: &R, events: &mut E) -> Result<(), Fault>
     // Only a primary is answered.
     ensures done { OnOk result (E.alone → state_of (E.machine events.new) ≡ Primary) }
+    // Its log is the one that it came in with and the whole tail of that, and nothing else: no
+    // transaction in doubt is decided. All of it is acknowledged and redone.
+    ensures taken { OnOk result (E.alone
+        → TakesOver (E.machine events.old) (E.machine events.new)) }
 {
     take_over_telling(rt, events, &mut Silent)
 }
@@ -28,6 +33,8 @@ pub fn take_over_telling<R: Wait, E: Events, P: Progress>(
     progress: &mut P,
 ) -> Result<(), Fault>
     ensures done { OnOk result (E.alone → state_of (E.machine events.new) ≡ Primary) }
+    ensures taken { OnOk result (E.alone
+        → TakesOver (E.machine events.old) (E.machine events.new)) }
 {
     recover_telling(rt, events, progress)?;
     force(events)?;
@@ -37,6 +44,7 @@ pub fn take_over_telling<R: Wait, E: Events, P: Progress>(
     drain(events)?;
     finish(events)?;
     check_primary(events)?;
+    check_stable(events)?;
     Ok(())
 }
 
@@ -50,8 +58,23 @@ fn check_primary<E: Events>(events: &E) -> Result<(), EngineFault>
     }
 }
 
+/// Refused as NotDrained, unless the log is acknowledged to its end.
+pub(crate) fn check_stable<E: Events>(events: &E) -> Result<(), EngineFault>
+    ensures { OnOk result (E.alone → IsStable (E.machine events.now)) }
+{
+    let status = events.status();
+    if status.acknowledged.0 < status.end.0 {
+        return Err(EngineFault::NotDrained);
+    }
+    Ok(())
+}
+
 /// Seals the log, where it was not sealed.
-fn seal<E: Events>(events: &mut E) -> Result<(), EngineFault> {
+#[tactic(auto, using(crate::proofs::Takeovers::sealed_log))]
+fn seal<E: Events>(events: &mut E) -> Result<(), EngineFault>
+    ensures { OnOk result (E.alone
+        → (E.machine events.new).held.log ≡ (E.machine events.old).held.log) }
+{
     match events.status().state {
         State::Following | State::Refusing { .. } => {
             events.seal()?;
@@ -63,9 +86,9 @@ fn seal<E: Events>(events: &mut E) -> Result<(), EngineFault> {
 }
 
 /// Holds each record of the log's tail.
-#[tactic(auto, using(crate::proofs::Decisions::grows_none, crate::proofs::Decisions::grows_more, crate::proofs::Decisions::undo_grows, crate::proofs::Decisions::undone_all))]
+#[tactic(auto, using(crate::proofs::Takeovers::along_none, crate::proofs::Takeovers::along_more, crate::proofs::Takeovers::undo_along, crate::proofs::Takeovers::undone_all))]
 pub(crate) fn undo_all<E: Events>(events: &mut E) -> Result<(), EngineFault>
-    ensures grows { E.alone → GrowsOn (E.machine events.old) (E.machine events.new) }
+    ensures along { E.alone → GoesAlong (E.machine events.old) (E.machine events.new) }
     ensures done { OnOk result (E.alone → is_undone (E.machine events.new).held.log ≡ true) }
 {
     for _ in 0..u64::MAX {
@@ -78,8 +101,16 @@ pub(crate) fn undo_all<E: Events>(events: &mut E) -> Result<(), EngineFault>
     Err(EngineFault::LogFull)
 }
 
-/// Ends the takeover, where it was not ended.
-fn finish<E: Events>(events: &mut E) -> Result<(), EngineFault> {
+/// Ends the takeover, where it was not ended. The control block is synced then, if it was before.
+#[tactic(auto, using(crate::proofs::Takeovers::finished_log, crate::proofs::Takeovers::finished_drained, crate::proofs::Takeovers::finished_synced))]
+fn finish<E: Events>(events: &mut E) -> Result<(), EngineFault>
+    ensures log { OnOk result (E.alone
+        → (E.machine events.new).held.log ≡ (E.machine events.old).held.log) }
+    ensures drained { OnOk result (E.alone → IsDrained (E.machine events.old)
+        → IsDrained (E.machine events.new)) }
+    ensures synced { OnOk result (E.alone → IsSynced (E.machine events.old)
+        → IsSynced (E.machine events.new)) }
+{
     match events.status().state {
         State::Primary => Ok(()),
         _ => {
