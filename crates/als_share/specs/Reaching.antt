@@ -10,7 +10,9 @@ use Rattle.als_engine.specs.declared.step.Step.{Step}
 use Rattle.als_engine.specs.declared.step.Reply.{Reply}
 use Rattle.als_engine.specs.Events.{ShowsPage, Reads}
 use Rattle.als_engine.specs.Leases.{Lends, Gives}
+use Rattle.als_view.specs.declared.front.Front.{Front}
 use Rattle.als_engine.specs.Machine.{Machine, Keeps}
+use Rattle.als_engine.specs.Publishing.{TellsReaders}
 use Rattle.als_engine.specs.Runs.{Steps}
 use Rattle.als_engine.specs.Telling.{Stands}
 
@@ -76,3 +78,7 @@ pub record Reaches (start now : Machine) : Type 0 where
 abbrev pub ReachesFrom : Option Machine → Machine → Type 0
 ReachesFrom (Some start) now = Reaches start now
 ReachesFrom None now = ⊥
+
+-- What is told is what a machine has published that is reached from the one that was picked.
+abbrev pub IsToldFrom : Option Machine → Front → Type 0
+IsToldFrom from told = (m : Machine) × ReachesFrom from m × TellsReaders m told

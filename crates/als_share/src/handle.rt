@@ -1,4 +1,6 @@
 ghost use Rattle.std.specs.Prelude.{◌≡◌};
+ghost use Rattle.als_engine.specs.Readers.{book_told};
+ghost use Rattle.als_share.specs.Reaching.{IsToldFrom};
 
 use crate::acknowledger::Acknowledger;
 use crate::ledgers::Ledgers;
@@ -193,7 +195,12 @@ impl<L: Ledgers, E: Events, R: Wait> Events for Handle<'_, L, E, R> {
         self.shared.lock.lock(self.rt).engine.next_pending(from)
     }
 
-    fn tell(&self) -> Told {
+    fn tell(&self) -> Told
+        ensures book { book_told result ≡ L.book }
+        // Whoever drives the engine: it is what a machine has published that events made of the one
+        // that was shared.
+        ensures reached { E.alone → IsToldFrom L.start result }
+    {
         self.shared.lock.lock(self.rt).tell()
     }
 

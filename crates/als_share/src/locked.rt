@@ -4,7 +4,7 @@ ghost use Rattle.als_engine.specs.declared.event.Event.TheVariants as event;
 ghost use Rattle.als_engine.specs.Tally.{TellsOk, TellsTaken};
 ghost use Rattle.als_engine.specs.Readers.{book_told};
 ghost use Rattle.als_engine.specs.Telling.{Stands};
-ghost use Rattle.als_share.specs.Reaching.{ReachesFrom};
+ghost use Rattle.als_share.specs.Reaching.{ReachesFrom, IsToldFrom};
 
 use crate::acknowledger::Acknowledger;
 use crate::books::Books;
@@ -439,7 +439,9 @@ impl<L: Ledgers, E: Events> Locked<L, E> {
 
     /// What its readers are told.
     pub fn tell(&self) -> Told
-        ensures { book_told result ≡ L.book }
+        ensures book { book_told result ≡ L.book }
+        // It is what a machine has published that events made of the one that was shared.
+        ensures reached { E.alone → IsToldFrom L.start result }
     {
         self.engine.tell()
     }
