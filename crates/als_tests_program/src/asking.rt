@@ -106,6 +106,10 @@ fn faults_are_told(rt: HostRuntime) {
         &["als", "ship", "--keep", "--keep"],
         "cannot be used multiple times",
     );
+    let parted = [
+        "als", "ship", "--dir", "db", "--listen", "0", "--follow", "--keep",
+    ];
+    errs(&rt, &parted, "'--follow' cannot be used with '--dir <DIR>'");
 }
 
 fn asks<
