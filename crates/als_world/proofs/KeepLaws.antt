@@ -1,6 +1,6 @@
 -- What is kept over events, crashes and restarts.
 use Rattle.std.proofs.lemmas.Bool.{cases_Bool}
-use Rattle.std.proofs.Common.{true, true≢false, ◌≡◌, ℕ, ◌≤◌, ◌⊎◌, List, [], ◌∷◌, ◌++◌, length, Option, inl, inr, refl, sym, ap, subst, ◌∙◌, append_assoc, append-nil, arith}
+use Rattle.std.proofs.Common.{true, true≢false, ◌≡◌, ℕ, ◌≤◌, ◌⊎◌, List, [], ◌∷◌, ◌++◌, length, Option, Some, inl, inr, refl, sym, ap, subst, ◌∙◌, append_assoc, append-nil, arith}
 use Rattle.als_record.specs.declared.record.Record.{Record}
 use Rattle.als_record.specs.LogText.{end_of}
 use Rattle.als_record.specs.Validity.{is_valid}
@@ -9,12 +9,16 @@ use Rattle.als_commits.specs.Counting.{ended_count}
 use Rattle.als_commits.proofs.Counting.{count-kept, ended_count-rises}
 use Rattle.als_lease.specs.Lease.{Leased}
 use Rattle.als_ckpt.specs.declared.control_state.ControlState.{ControlState}
-use Rattle.als_store.specs.Stored.{acknowledged}
-use Rattle.als_epochs.specs.HistoryLaws.{GoesOn-refl, GoesOn-trans}
+use Rattle.als_ckpt.specs.Control.{Continues}
+use Rattle.als_ckpt.proofs.StateLaws.{Contains-head, Continues-same, Continues-trans}
+use Rattle.als_store.specs.Stored.{acknowledged, newest}
+use Rattle.als_epochs.specs.Histories.{next_seal}
+use Rattle.als_epochs.specs.HistoryLaws.{GoesOn-refl, GoesOn-trans, next_seal-longer}
 use Rattle.als_store.specs.Takeover.{GoesOn}
 use Rattle.als_engine.specs.declared.config.Config.{Config}
 use Rattle.als_engine.specs.Machine.{Machine, Keeps as EngineKeeps}
 use Rattle.als_engine.specs.Readers.{ended_in}
+use Rattle.als_engine.specs.Telling.{IsGrown}
 use Rattle.als_reopen.specs.Node.{Node}
 use Rattle.als_engine.specs.Restarts.{IsMadeWith, Leaves, IsStarted}
 use Rattle.als_world.specs.declared.step.WorldReply.{WorldReply}
@@ -71,13 +75,30 @@ goes_on_both a b c p q = record {
   history = GoesOn-trans a.history b.history c.history p.history q.history;
 }
 
+-- ---- seals
+
+-- the synced control state of the later standing continues that of the earlier one
+continues : (a b : Standing) → Keeps a b → Continues (control_of a) (control_of b)
+continues a b k = record { history = k.takeover.history; below = k.below }
+
+-- the log that ends at the mark of the synced state ends at or below the next seal of a state that a crash may leave
+below-left : (m : Machine) (n : Node) → IsGrown m → Leaves m n → (seal : ℕ) → next_seal m.held.control.history n.said.state.history ≡ Some seal → m.held.control.mark.0 ≤ seal
+below-left m n grown l seal is =
+    let left = grown n.said.state l.may.state in
+    let synced = grown m.held.control (Contains-head m.held.control m.held.since) in
+    elim (next_seal-longer m.held.control.history n.said.state.history (newest m.held).history l.may.goes_on.history left.history) [
+      | inl same ↦ (Continues-same m.held.control n.said.state same).below seal is
+      | inr same ↦ synced.below seal (same ∙ is)
+    ]
+
 -- ---- what is counted
 
--- what readers have seen of a log is acknowledged
+-- what readers have seen of a log is acknowledged, and the history goes on from that of each state that a crash may leave
 pub record IsCounted (m : Machine) : Type 0 where
   pub valid : is_valid m.held.log ≡ true
   pub stable : acknowledged m.held ≤ end_of m.held.log
   pub published : m.published ≤ ended_in m.held
+  pub grown : IsGrown m
 
 -- no more is counted than has ended at what is acknowledged
 counted-ends : (m : Machine) (slots : List (Option Leased)) → m.published ≤ ended_in m.held → counted (Up m slots) ≤ ended_in m.held
@@ -122,10 +143,11 @@ keeps-both a b c p q = record {
   text = agree-both (log_of a) (log_of b) (log_of c) (control_of a).mark.0 (control_of b).mark.0 p.acknowledged p.text q.text;
   takeover = goes_on_both (control_of a) (control_of b) (control_of c) p.takeover q.takeover;
   counted = omega (arith, p.counted, q.counted);
+  below = (Continues-trans (control_of a) (control_of b) (control_of c) p.acknowledged (continues a b p) (continues b c q)).below;
 }
 
 pub keeps-same : (s : Standing) → (control_of s).mark.0 ≤ end_of (log_of s) → Keeps s s
-keeps-same s reaches = record { acknowledged = omega arith; text = agree-same (log_of s) (control_of s).mark.0 reaches; takeover = goes_on_same (control_of s); counted = omega arith }
+keeps-same s reaches = record { acknowledged = omega arith; text = agree-same (log_of s) (control_of s).mark.0 reaches; takeover = goes_on_same (control_of s); counted = omega arith; below = (Continues-same (control_of s) (control_of s) refl).below }
 
 -- an engine on which nothing was done
 pub stays : (m : Machine) → EngineKeeps m m
@@ -142,6 +164,7 @@ stays m = record {
   listed = λ l. l;
   published = omega arith;
   shown = λ n y. absurd (true≢false (sym y ∙ n));
+  below = (Continues-same m.held.control m.held.control refl).below;
 }
 
 pub keeps-event : (old new : Machine) (slots after : List (Option Leased)) → IsCounted old → is_valid new.held.log ≡ true → EngineKeeps old new → Keeps (Up old slots) (Up new after)
@@ -150,6 +173,7 @@ keeps-event old new slots after c valid k = record {
   text = record { front = old.held.log; lost = []; more = k.more; old = sym (append-nil old.held.log); new = k.log; reaches = c.stable };
   takeover = k.takeover;
   counted = counted-event old new slots after c valid k;
+  below = k.below;
 }
 
 pub made-still : (config : Config) (old new : Machine) → EngineKeeps old new → IsMadeWith config old → IsMadeWith config new
@@ -161,6 +185,7 @@ keeps-left old slots n workers c l = record {
   text = record { front = n.log; lost = l.may.rest; more = []; old = l.may.front; new = sym (append-nil n.log); reaches = omega (arith, l.may.above, l.ends) };
   takeover = l.may.goes_on;
   counted = counted-left old slots n workers c l;
+  below = below-left old n c.grown l;
 }
 
 keeps-started : (config : Config) (n : Node) (workers : ℕ) (new : Machine) (slots : List (Option Leased)) → end_of n.log ≡ n.said.state.mark.0 → IsStarted config n new
@@ -170,6 +195,7 @@ keeps-started config n workers new slots ends s = record {
   text = record { front = n.log; lost = []; more = []; old = sym (append-nil n.log); new = s.log ∙ sym (append-nil n.log); reaches = omega (arith, ends) };
   takeover = subst (λ (c : ControlState). GoesOn n.said.state c) (sym s.control) (goes_on_same n.said.state);
   counted = counted-started config n workers new slots s;
+  below = (Continues-same n.said.state new.held.control (ap (λ (c : ControlState). c.history) s.control)).below;
 }
 
 pub keeps-opened : (config : Config) (n : Node) (workers : ℕ) (answer : WorldReply) (new : Standing) → end_of n.log ≡ n.said.state.mark.0 → Opens config n workers answer new

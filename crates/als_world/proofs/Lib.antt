@@ -2,6 +2,6 @@ pub mod KeepLaws
 pub mod RunLaws
 pub mod StepLaws
 pub mod AskLaws
-mod SealLaws
+pub mod SealLaws
 mod SlotLaws
 mod ActLaws

@@ -112,7 +112,7 @@ module _ {D : Type 0} (slot : D → ℕ → Slot) (count : D → ℕ) (config : 
       → StepsTo slot count config (Up old slots) (step.Crash picks) answer after
   unfolding Steps
   steps-crash old picks n answer after counts leaves picked opens =
-      let crash : Crashes config old slots picks.now answer opens.0 = record { left = n; leaves = leaves; picked = picked; opens = opens.2 } in
+      let crash : Crashes config old slots picks.now answer opens.0 = record { left = n; leaves = leaves; picked = picked; opens = opens.2; continued = counts.grown n.said.state leaves.may.state } in
       (opens.0, opens.1, crash, keeps-crash config old slots picks.now answer opens.0 counts crash)
 
   refused-down : (n : Node) (workers : ℕ) (event : WorldStep) → is_crash event ≡ false → Steps config (Down n workers) event (reply.Refused fault.Stopped) (Down n workers)

@@ -3,6 +3,8 @@ use Rattle.std.specs.Prelude.{◌≡◌, ℕ, ◌⊎◌, Bool, true, false, List
 use Rattle.als_record.specs.declared.key.Key.{Key}
 use Rattle.als_record.specs.LogText.{end_of}
 use Rattle.als_lease.specs.Lease.{Leased}
+use Rattle.als_ckpt.specs.Control.{Continues}
+use Rattle.als_store.specs.Stored.{newest}
 use Rattle.als_engine.specs.declared.config.Config.{Config}
 use Rattle.als_engine.specs.declared.fault.Fault.TheVariants as fault
 use Rattle.als_engine.specs.declared.step.Step.{Step as Event}
@@ -38,12 +40,14 @@ pub record IsPicked (config : Config) (old : Machine) (picks : List ℕ) (left :
   pub state : old.held.broken ≡ false → NamesState old.held picks disks
   pub holds : IsNode config.pages disks.log.blocks disks.log.slot disks.control.slot disks.pages.slot left
 
--- A crash leaves something of the machine, as the picks name it, which is taken up again. It leaves no lease.
+-- A crash leaves something of the machine, as the picks name it, which is taken up again. It leaves no lease. The history goes on from that of the
+-- control state that is left, and the log that this state acknowledges ends at or below the next seal.
 pub record Crashes (config : Config) (old : Machine) (slots : List (Option Leased)) (picks : List ℕ) (answer : WorldReply) (new : Standing) : Type 0 where
   pub left : Node
   pub leaves : Leaves old left
   pub picked : IsPicked config old picks left
   pub opens : Opens config left (length slots) answer new
+  pub continued : Continues left.said.state (newest old.held)
 
 -- an event is the small machine's
 abbrev pub AnswersEvent : Machine → Event → WorldReply → Machine → Type 0

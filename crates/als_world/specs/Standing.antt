@@ -1,10 +1,11 @@
 -- What a world shows: the small machine and the worker slots while it is up; what its devices hold while it is down.
-use Rattle.std.specs.Prelude.{◌≡◌, ℕ, true, false, List, ◌++◌, ◌<◌, ◌≤◌, if◌then◌else◌, Option}
+use Rattle.std.specs.Prelude.{◌≡◌, ℕ, true, false, List, ◌++◌, ◌<◌, ◌≤◌, if◌then◌else◌, Option, Some}
 use Rattle.als_record.specs.declared.record.Record.{Record}
 use Rattle.als_record.specs.LogText.{end_of}
 use Rattle.als_record.specs.Commits.{commits_of}
 use Rattle.als_disk.specs.Slot.{Slot}
 use Rattle.als_lease.specs.Lease.{Leased}
+use Rattle.als_epochs.specs.Histories.{next_seal}
 use Rattle.als_ckpt.specs.declared.control_state.ControlState.{ControlState}
 use Rattle.als_ckpt.specs.Control.{phase_byte}
 use Rattle.als_reopen.specs.Taken.{IsTakenFrom}
@@ -84,12 +85,14 @@ pub record IsSealedAt (s : Standing) (sealed : List Record) : Type 0 where
   pub acknowledged : (control_of s).seal.0 ≤ (control_of s).mark.0
 
 -- What is acknowledged stays so, over crashes too, and the text below it stands. What is acknowledged of a takeover stays so too: the phase
--- never falls, and past Following the seal stays. A commit that was counted stays counted.
+-- never falls, and past Following the seal stays. A commit that was counted stays counted. What was acknowledged before a seal ends at or below it:
+-- the first seal of the later history that the earlier one lacks.
 pub record Keeps (old new : Standing) : Type 0 where
   pub acknowledged : (control_of old).mark.0 ≤ (control_of new).mark.0
   pub text : Agree (log_of old) (log_of new) (control_of old).mark.0
   pub takeover : GoesOn (control_of old) (control_of new)
   pub counted : counted old ≤ counted new
+  pub below : (seal : ℕ) → next_seal (control_of old).history (control_of new).history ≡ Some seal → (control_of old).mark.0 ≤ seal
 
 -- What each control state says of the log is true: past Following the log is the sealed one and a front of its tail, in Primary its whole tail
 -- and what was decided since of the transactions in doubt; and the seal is acknowledged. A finished takeover holds exactly what the transactions

@@ -68,6 +68,7 @@ fn step_up<R: Wait, D: Restart>(
     let mut slots = slots;
     // For the prover alone: what always holds of the engine.
     let _ = standby.engine().status();
+    let _ = standby.engine().history();
     if let WorldStep::Crash(picks) = step {
         let engine = standby.into_engine();
         let (disks, _) = engine.crash(rt, picks);

@@ -5,6 +5,7 @@ use Rattle.als_engine.specs.Leases.{Gives}
 use Rattle.als_world.specs.Slots.{lease_at, without_lease, with_lease}
 use Rattle.als_world.specs.declared.step.WorldStep.TheVariants as step
 use Rattle.als_world.proofs.SlotLaws.{put_back, given_back, acts_by_slot}
+use Rattle.als_world.proofs.KeepLaws.{stays}
 use Rattle.als_world.proofs.leasing.give.Goals as goal
 
 -- the lease that the engine refused is in its slot again
@@ -24,3 +25,7 @@ returns-in-Err-clause-gives g c =
     ∙ ap (λ (s : List (Option Leased)). with_lease s c.args.from lease) c.take.ensures.emptied ∙ put_back slots c.args.from lease full in
     acts_by_slot slots (step.Give c.args.from) _ _ _ (ap (λ (l : Option Leased). is_some l) full)
     (lease, full, subst (λ (r : NotGiven). Gives old lease (Err r) new) back gives, stays)
+
+-- the slot refused the step before the engine was asked
+pub returns-in_default-clause-keeps : goal.returns-in_default-clause-keeps
+returns-in_default-clause-keeps g c = stays c.args.engine.now.machine

@@ -1,5 +1,9 @@
-use Rattle.std.proofs.Common.{◌≡◌, true, sym, subst, length}
+use Rattle.std.proofs.Common.{◌≡◌, ◌≤◌, true, sym, subst, length}
+use Rattle.als_record.specs.LogText.{end_of}
 use Rattle.als_record.specs.Validity.{is_valid}
+use Rattle.als_store.specs.Stored.{acknowledged}
+use Rattle.als_engine.specs.Readers.{ended_in}
+use Rattle.als_engine.specs.Telling.{IsGrown}
 use Rattle.als_engine.specs.Restarts.{IsMadeWith, IsWarm}
 use Rattle.als_engine.specs.Serving.{Serving}
 use Rattle.als_world.specs.declared.step.WorldStep.{WorldStep}
@@ -18,7 +22,12 @@ pub returns-in-Crash-clause-steps : goal.returns-in-Crash-clause-steps
 returns-in-Crash-clause-steps g c = λ made warm.
     let before = c.status.ensures in
     let counts : IsCounted c.args.standby.machine =
-    subst (λ (e : Serving). IsCounted e.machine) c.engine.ensures (record { valid = before.valid; stable = before.stable; published = before.counted }) in
+    record {
+      valid = subst (λ (e : Serving). is_valid e.machine.held.log ≡ true) c.engine.ensures before.valid;
+      stable = subst (λ (e : Serving). acknowledged e.machine.held ≤ end_of e.machine.held.log) c.engine.ensures before.stable;
+      published = subst (λ (e : Serving). e.machine.published ≤ ended_in e.machine.held) c.engine.ensures before.counted;
+      grown = subst (λ (e : Serving). IsGrown e.machine) c.engine-2.ensures c.history.ensures.grown;
+    } in
     let engine = c.into_engine-engine.result in
     let left = c.crash-disks.ensures.leaves c.args.config
     (subst (λ (e : Serving). IsMadeWith c.args.config e.machine) (sym c.into_engine-engine.ensures) made)
@@ -35,7 +44,12 @@ pub returns-clause-steps : goal.returns-clause-steps
 returns-clause-steps g c = λ made warm.
     let before = c.status.ensures in
     let counts : IsCounted c.args.standby.machine =
-    subst (λ (e : Serving). IsCounted e.machine) c.engine.ensures (record { valid = before.valid; stable = before.stable; published = before.counted }) in
-    let valid = subst (λ (e : Serving). is_valid e.machine.held.log ≡ true) c.engine-2.ensures c.status-2.ensures.valid in
+    record {
+      valid = subst (λ (e : Serving). is_valid e.machine.held.log ≡ true) c.engine.ensures before.valid;
+      stable = subst (λ (e : Serving). acknowledged e.machine.held ≤ end_of e.machine.held.log) c.engine.ensures before.stable;
+      published = subst (λ (e : Serving). e.machine.published ≤ ended_in e.machine.held) c.engine.ensures before.counted;
+      grown = subst (λ (e : Serving). IsGrown e.machine) c.engine-2.ensures c.history.ensures.grown;
+    } in
+    let valid = subst (λ (e : Serving). is_valid e.machine.held.log ≡ true) c.engine-3.ensures c.status-2.ensures.valid in
     rw c.up.ensures (steps-up g.D.BlockDisk.slot g.D.BlockDisk.block_count c.args.config c.args.slots c.args.standby.machine c.args.step.now c.act-reply.result c.act-reply.new.self c.act-reply.new.slots
     made warm c.act-reply.ensures.acts c.act-reply.ensures.keeps counts valid)
