@@ -1,3 +1,4 @@
+pub mod AgainLaws
 pub mod BlockLaws
 pub mod DeviceLaws
 pub mod HeldLaws

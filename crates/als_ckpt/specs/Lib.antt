@@ -1,3 +1,4 @@
+pub mod Again
 pub mod Control
 pub mod FaultNames
 pub mod Holding

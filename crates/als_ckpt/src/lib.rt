@@ -33,9 +33,16 @@ mod device;
 mod reading;
 // The control block of a database that is running.
 mod control;
+// Which seals of a history a node has not reached.
+mod unreached;
+// A control state, and the one that took its place.
+mod restated;
+// A control state that is written while the node is stopped.
+mod again;
 // That a block is the control block of one state.
 mod laws;
 
+pub use again::{follow_again, forget_unreached};
 pub use control::Control;
 pub use control_state::ControlState;
 pub use device::{clear, read_state};
@@ -45,3 +52,5 @@ pub use phase::Phase;
 pub use reading::read_said;
 pub use refused::Refused;
 pub use region::Region;
+pub use restated::Restated;
+pub use unreached::Unreached;
