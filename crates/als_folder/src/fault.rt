@@ -63,6 +63,17 @@ impl Fault {
         }
     }
 
+    /// What it means that a file could not be locked.
+    pub(crate) fn of_file_lock(part: Part, e: TryLockError) -> Fault
+        ensures { IsOf part result }
+    {
+        let wrong = match e {
+            TryLockError::WouldBlock => Wrong::Locked,
+            TryLockError::Error(_) => Wrong::Failed,
+        };
+        Fault::Device(Trouble { part, wrong })
+    }
+
     /// The fault's number.
     pub fn number(self) -> u32
         ensures { result ≡ number_of (kind_of self) }

@@ -11,6 +11,8 @@
 //!    their names, control.blk last, and syncs the folder before that and behind it. So a stop on
 //!    the way leaves only what the next layout takes away.
 //! 4. `open` syncs the folder first: what `keep` renamed may not be on the disk yet.
+//! 5. Who takes the folder locks its files too. So no two programs write one file that has a name in
+//!    two folders.
 ghost use Rattle.std.specs.Prelude.{◌≡◌, ℕ, IfOk, IfErr};
 ghost use Rattle.als_disk.specs.Slot.{IsSettled};
 ghost use Rattle.als_folder.specs.declared.part.Part.TheVariants.{Itself};
@@ -20,6 +22,7 @@ use crate::devices::{DeviceFiles, Devices};
 use crate::errors::Errors;
 use crate::fault::Fault;
 use crate::holding::{Holding, check_room};
+use crate::locks::{Locks, Sharing};
 use crate::part::Part;
 use crate::trouble::Trouble;
 use crate::zeros::is_zero_from;
@@ -38,6 +41,8 @@ pub struct Folder<F = File> {
     path: PathBuf,
     /// The folder itself, open and locked.
     held: F,
+    /// The files that were there when it was taken, open and locked.
+    locks: Locks<F>,
     /// The first errors of the devices that are open.
     errors: Errors,
 }
@@ -45,9 +50,15 @@ pub struct Folder<F = File> {
 // Written out: a derived drop is proved wherever a folder is dropped, this one only here.
 impl<F: Drop> Drop for Folder<F> {
     fn drop(self) {
-        let Folder { path, held, errors } = self;
+        let Folder {
+            path,
+            held,
+            locks,
+            errors,
+        } = self;
         drop(path);
         drop(held);
+        drop(locks);
         drop(errors);
     }
 }
@@ -55,15 +66,17 @@ impl<F: Drop> Drop for Folder<F> {
 impl Folder<File> {
     /// Takes a folder, which is there, for this program alone.
     ///
-    /// Busy: another program has it. Device: it can't be opened. Memory: there was none for its
-    /// name.
+    /// Busy: another program has it. Device: it can't be opened, or another program has one of its
+    /// files. Memory: there was none for a name.
     pub fn hold<R: Files<File = File> + AllocGlobal, P: AsPath>(
         rt: &R,
         path: P,
     ) -> Result<Folder, Fault> {
         let held = open_folder(rt, path.path_text())?;
         held.try_lock()?;
-        Folder::over(rt.alloc(), path, held)
+        let mut folder = Folder::over(rt.alloc(), path, held)?;
+        folder.lock_files(rt, Sharing::Alone)?;
+        Ok(folder)
     }
 
     /// Takes a folder for programs that read it alone: no other may write it meanwhile.
@@ -75,7 +88,52 @@ impl Folder<File> {
     ) -> Result<Folder, Fault> {
         let held = open_folder(rt, path.path_text())?;
         held.try_lock_shared()?;
-        Folder::over(rt.alloc(), path, held)
+        let mut folder = Folder::over(rt.alloc(), path, held)?;
+        folder.lock_files(rt, Sharing::ToRead)?;
+        Ok(folder)
+    }
+
+    /// Locks the files that are there.
+    fn lock_files<R: Files<File = File> + AllocGlobal>(
+        &mut self,
+        rt: &R,
+        sharing: Sharing,
+    ) -> Result<(), Fault> {
+        let log = self.lock_file(rt, Part::Log, sharing)?;
+        let control = self.lock_file(rt, Part::Control, sharing)?;
+        let pages = self.lock_file(rt, Part::Pages, sharing)?;
+        self.locks = Locks {
+            log,
+            control,
+            pages,
+        };
+        Ok(())
+    }
+
+    /// Opens one file and locks it. None: there is no such file, or it can't be opened, which `open`
+    /// will report.
+    fn lock_file<R: Files<File = File> + AllocGlobal>(
+        &self,
+        rt: &R,
+        part: Part,
+        sharing: Sharing,
+    ) -> Result<Option<File>, Fault> {
+        let path = self.path_of(rt, part)?;
+        match fs::metadata(rt, path.as_path()) {
+            Ok(found) if found.is_file() => {}
+            Ok(_) | Err(_) => return Ok(None),
+        }
+        let Ok(file) = File::open(rt, path.as_path()) else {
+            return Ok(None);
+        };
+        let locked = match sharing {
+            Sharing::Alone => file.try_lock(),
+            Sharing::ToRead => file.try_lock_shared(),
+        };
+        match locked {
+            Ok(()) => Ok(Some(file)),
+            Err(e) => Err(Fault::of_file_lock(part, e)),
+        }
     }
 }
 
@@ -96,7 +154,13 @@ impl<F: OpenFile + FileExt + Drop> Folder<F> {
     {
         let path = PathBuf::from_str(alloc, path.path_text())?;
         let errors = Errors::new(alloc)?;
-        Ok(Folder { path, held, errors })
+        let locks = Locks::none();
+        Ok(Folder {
+            path,
+            held,
+            locks,
+            errors,
+        })
     }
 
     /// Whether there is a whole database. Where there is none, a new one may be laid out.
@@ -140,6 +204,23 @@ impl<F: OpenFile + FileExt + Drop> Folder<F> {
             control,
             pages,
         })
+    }
+
+    /// Opens the control block's device of a database alone, as `open` opens all three.
+    ///
+    /// Device: the folder failed, or the file is missing or failed. Memory: there was none for what
+    /// the file holds.
+    pub fn open_control<R: Files<File = F> + AllocGlobal>(
+        &self,
+        rt: &R,
+    ) -> Result<FileDisk<F>, Fault>
+        ensures settled { IfOk result (λ disk. (k : ℕ)
+            → IsSettled (⟦<FileDisk<F> as BlockDisk>⟧.slot disk k)) }
+        ensures fails { IfErr result IsOfOpening }
+    {
+        self.sync()?;
+        let control = self.open_device(rt, Part::Control, &self.errors.control)?;
+        Ok(control)
     }
 
     /// Opens the files of a database to be read alone: nothing is written, as `open` does.

@@ -21,6 +21,8 @@ mod errors;
 mod zeros;
 // Where a new database may be laid out.
 mod holding;
+// The files that are locked with their folder.
+mod locks;
 // The folder.
 mod folder;
 
