@@ -6,3 +6,4 @@ mod WholeLogs
 mod Steps
 mod Texts
 mod Refusals
+mod Restated

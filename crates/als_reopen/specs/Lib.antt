@@ -1,3 +1,4 @@
+pub mod Again
 pub mod FaultNames
 pub mod Node
 pub mod Outcomes

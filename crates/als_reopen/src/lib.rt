@@ -34,7 +34,13 @@ mod syncing;
 mod read_back;
 // Both.
 mod reopening;
+// Devices to which another control state was written.
+mod again;
 
+pub use again::{
+    a_node_forgets_or_not, a_node_forgets_what_it_never_reached, a_primary_follows_again,
+    a_primary_follows_again_or_not,
+};
 pub use disks::Disks;
 pub use fault::Fault;
 pub use reopened::Reopened;
