@@ -1,9 +1,10 @@
-ghost use Rattle.std.specs.Prelude.{◌≡◌, ◌+◌, ◌<◌, ◌≤◌, OnOk, IfSome, Some};
+ghost use Rattle.std.specs.Prelude.{◌≡◌, ◌+◌, ◌<◌, ◌≤◌, OnOk, IfSome, Some, None, Ok};
 ghost use Rattle.als_store.specs.Stored.{acknowledged};
 ghost use Rattle.als_share.specs.Reaching.{Reaches, ReachesFrom};
 ghost use Rattle.als_ship.specs.Vouching.{TellsVouched};
 ghost use Rattle.als_operate.specs.Upkeep.{IsQuiet};
 ghost use Rattle.als_share.specs.Ledgers.{AreNamed};
+ghost use Rattle.als_follow.specs.Answered.{IsAnswered};
 
 use crate::conducting::{Conducted, conduct};
 use crate::desk::Desk;
@@ -51,6 +52,12 @@ pub fn follow_beside<
     // Then nothing waits, no page is dirty, and the log is acknowledged to its end.
     ensures quiet { IfSome result.ended (λ ended. OnOk ended
         (E.alone → IsQuiet (E.machine result.engine))) }
+    // Ok: it asked, and read a history and frames up to one with no bytes, and wrote answers.
+    ensures answered { IfSome result.ended (λ ended. OnOk ended (IsAnswered (I.remaining reader)
+        (I.remaining result.reader) (O.contents writer) (O.contents result.writer))) }
+    // None: nothing was read or written.
+    ensures reader { result.ended ≡ None → result.reader ≡ reader }
+    ensures writer { result.ended ≡ None → result.writer ≡ writer }
 {
     let workers = workers.clamp(1, 8);
     let blanks = Blanks::new((workers + OTHERS) as u64);
@@ -85,6 +92,10 @@ fn beside<
         (O.contents writer) (O.contents result.writer) }
     ensures quiet { IfSome result.ended (λ ended. OnOk ended
         (E.alone → IsQuiet (E.machine result.engine))) }
+    ensures answered { IfSome result.ended (λ ended. OnOk ended (IsAnswered (I.remaining reader)
+        (I.remaining result.reader) (O.contents writer) (O.contents result.writer))) }
+    ensures reader { result.ended ≡ None → result.reader ≡ reader }
+    ensures writer { result.ended ≡ None → result.writer ≡ writer }
 {
     let Ok((queue, pass)) = HandOff::new(alloc) else {
         return not_followed(engine, reader, writer);
@@ -125,6 +136,7 @@ fn beside<
 /// Allocation failed, and no frame was asked for.
 fn not_followed<E, I, O>(engine: E, reader: I, writer: O) -> Followed<E, I, O>
     ensures engine { result.engine ≡ engine }
+    ensures reader { result.reader ≡ reader }
     ensures writer { result.writer ≡ writer }
     ensures ended { result.ended ≡ None }
 {
@@ -139,6 +151,8 @@ fn not_followed<E, I, O>(engine: E, reader: I, writer: O) -> Followed<E, I, O>
 /// The engine that nobody shares any more. Where all was put away, it is asked whether that is so.
 fn checked<E: Events>(engine: E, ended: Option<Result<(), Fault>>) -> (E, Option<Result<(), Fault>>)
     ensures same { result.0 ≡ engine }
+    ensures ok { IfSome result.1 (λ after. OnOk after (ended ≡ Some (Ok tt))) }
+    ensures none { result.1 ≡ None → ended ≡ None }
     ensures quiet { IfSome result.1 (λ ended. OnOk ended (E.alone → IsQuiet (E.machine result.0))) }
 {
     let ended = match ended {

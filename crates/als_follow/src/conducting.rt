@@ -1,8 +1,10 @@
-ghost use Rattle.std.specs.Prelude.{◌≡◌, ◌+◌, ◌<◌, ◌≤◌, vec_len, vec_capacity};
+ghost use Rattle.std.specs.Prelude.{◌≡◌, ◌+◌, ◌<◌, ◌≤◌, true, false, Some, None};
+ghost use Rattle.std.specs.Prelude.{vec_len, vec_capacity, IfSome, OnOk};
 ghost use Rattle.crossbeam_channel.specs.Claims.{view};
 ghost use Rattle.als_workers.specs.Rule.{new_pass};
 ghost use Rattle.als_workers.specs.Passes.{IsPassOf};
 ghost use Rattle.als_ship.specs.Vouching.{TellsVouched};
+ghost use Rattle.als_follow.specs.Answered.{IsAnswered, IsLed};
 
 use crate::crew::{dismiss, seat, work};
 use crate::putting_away::put_away;
@@ -55,6 +57,7 @@ pub(crate) struct Conducted<L: Ledgers, I, O> {
 
 /// Follows one session with all threads, joins them, recalls what they left lent, and puts all that
 /// is held on the devices. The shares come back, the first of them with the session.
+#[tactic(auto, using(crate::proofs::Telling::led_vouched, crate::proofs::Telling::led_ended, crate::proofs::Telling::still_reader, crate::proofs::Telling::still_writer))]
 pub(crate) fn conduct<
     L: Ledgers + Send + Sync,
     E: Events + Send,
@@ -77,6 +80,13 @@ pub(crate) fn conduct<
     // What it told its primary, the acknowledger stands for.
     ensures vouched { TellsVouched result.session.acknowledger (O.contents writer)
         (O.contents result.session.writer) }
+    // Ok: frames were read to the last one, and answered.
+    ensures answered { IfSome result.ended (λ ended. OnOk ended
+        (IsAnswered (I.remaining reader) (I.remaining result.session.reader) (O.contents writer)
+        (O.contents result.session.writer))) }
+    // None: nothing was read or written.
+    ensures reader { result.ended ≡ None → result.session.reader ≡ reader }
+    ensures writer { result.ended ≡ None → result.session.writer ≡ writer }
 {
     let mut pass = pass;
     let mut shares = shares;
@@ -101,8 +111,9 @@ pub(crate) fn conduct<
         move || work(stage.rt, stage.desk, crew),
         move || -> Ended<L, I, O>
             requires { IsPassOf stage.now.queue.now pass × (0 < (view pass).parts) × (workers ≤ 8) }
-            ensures { TellsVouched result.session.acknowledger (O.contents session.writer)
-                (O.contents result.session.writer) }
+            ensures { IsLed I.remaining O.contents result.session.acknowledger result.begun
+                result.refusal session.reader result.session.reader session.writer
+                result.session.writer }
         { beside_workers(stage, cast, session, pass, workers) },
     );
     let Ended {
@@ -127,8 +138,10 @@ fn not_begun<L: Ledgers, I, O>(
     others: Vec<Share<L>>,
 ) -> Conducted<L, I, O>
     ensures acknowledger { result.session.acknowledger ≡ session.acknowledger }
+    ensures reader { result.session.reader ≡ session.reader }
     ensures writer { result.session.writer ≡ session.writer }
     ensures others { result.others ≡ others }
+    ensures ended { result.ended ≡ None }
 {
     Conducted {
         session,
@@ -145,7 +158,11 @@ fn conclude<L: Ledgers, E: Events, R: Wait, I, O>(
     begun: bool,
 ) -> (Session<L, I, O>, Option<Result<(), Fault>>)
     ensures acknowledger { result.0.acknowledger ≡ session.acknowledger }
+    ensures reader { result.0.reader ≡ session.reader }
     ensures writer { result.0.writer ≡ session.writer }
+    ensures begun { IfSome result.1 (λ ended. begun ≡ true) }
+    ensures ok { IfSome result.1 (λ ended. OnOk ended (refusal ≡ None)) }
+    ensures none { result.1 ≡ None → begun ≡ false }
 {
     let Session {
         share,
@@ -207,6 +224,7 @@ fn put_back<L: Ledgers>(cast: Cast<L>, shares: &mut Vec<Share<L>>)
 }
 
 /// All but the workers: the others in threads of their own, the follower in this one.
+#[tactic(auto, using(crate::proofs::Telling::led_first))]
 fn beside_workers<
     L: Ledgers + Send + Sync,
     E: Events + Send,
@@ -222,8 +240,8 @@ fn beside_workers<
 ) -> Ended<L, I, O>
     requires queue { IsPassOf stage.now.queue.now pass × (0 < (view pass).parts) }
     requires workers { workers ≤ 8 }
-    ensures { TellsVouched result.session.acknowledger (O.contents session.writer)
-        (O.contents result.session.writer) }
+    ensures { IsLed I.remaining O.contents result.session.acknowledger result.begun
+        result.refusal session.reader result.session.reader session.writer result.session.writer }
 {
     let Cast {
         dispatcher,
@@ -235,8 +253,9 @@ fn beside_workers<
         move || flush(stage, flusher),
         move || -> (Back<L>, Redone<L, I, O>)
             requires { IsPassOf stage.now.queue.now pass × (0 < (view pass).parts) × (workers ≤ 8) }
-            ensures { TellsVouched result.1.led.session.acknowledger (O.contents session.writer)
-                (O.contents result.1.led.session.writer) }
+            ensures { IsLed I.remaining O.contents result.1.led.session.acknowledger
+                result.1.begun result.1.led.refusal session.reader result.1.led.session.reader
+                session.writer result.1.led.session.writer }
         { beside_flusher(stage, checkpointer, dispatcher, session, pass, workers) },
     );
     let Redone {
@@ -275,16 +294,18 @@ fn beside_flusher<
 ) -> (Back<L>, Redone<L, I, O>)
     requires queue { IsPassOf stage.now.queue.now pass × (0 < (view pass).parts) }
     requires workers { workers ≤ 8 }
-    ensures { TellsVouched result.1.led.session.acknowledger (O.contents session.writer)
-        (O.contents result.1.led.session.writer) }
+    ensures { IsLed I.remaining O.contents result.1.led.session.acknowledger result.1.begun
+        result.1.led.refusal session.reader result.1.led.session.reader session.writer
+        result.1.led.session.writer }
 {
     thread::join(
         stage.rt,
         move || checkpoint(stage, checkpointer),
         move || -> Redone<L, I, O>
             requires { IsPassOf stage.now.queue.now pass × (0 < (view pass).parts) × (workers ≤ 8) }
-            ensures { TellsVouched result.led.session.acknowledger (O.contents session.writer)
-                (O.contents result.led.session.writer) }
+            ensures { IsLed I.remaining O.contents result.led.session.acknowledger result.begun
+                result.led.refusal session.reader result.led.session.reader session.writer
+                result.led.session.writer }
         { lead_and_redo(stage, dispatcher, session, pass, workers) },
     )
 }
@@ -307,8 +328,9 @@ fn lead_and_redo<
 ) -> Redone<L, I, O>
     requires queue { IsPassOf stage.now.queue.now pass × (0 < (view pass).parts) }
     requires workers { workers ≤ 8 }
-    ensures { TellsVouched result.led.session.acknowledger (O.contents session.writer)
-        (O.contents result.led.session.writer) }
+    ensures { IsLed I.remaining O.contents result.led.session.acknowledger result.begun
+        result.led.refusal session.reader result.led.session.reader session.writer
+        result.led.session.writer }
 {
     let (dispatcher, (begun, led)) = thread::join(
         stage.rt,
@@ -317,8 +339,9 @@ fn lead_and_redo<
         { dispatch(stage, dispatcher, pass, workers) },
         move || -> (bool, Led<L, I, O>)
             requires { workers ≤ 8 }
-            ensures { TellsVouched result.1.session.acknowledger (O.contents session.writer)
-                (O.contents result.1.session.writer) }
+            ensures { IsLed I.remaining O.contents result.1.session.acknowledger result.0
+                result.1.refusal session.reader result.1.session.reader session.writer
+                result.1.session.writer }
         { begin(stage, session, workers as u64 + 3) },
     );
     stage.desk.close();
@@ -331,14 +354,15 @@ fn lead_and_redo<
 
 /// Follows the session, once so many threads have started. False: they have not, and no frame was
 /// asked for.
-#[tactic(auto, using(als_ship::proofs::Vouching::told_nothing))]
+#[tactic(auto, using(crate::proofs::Telling::led_begun))]
 fn begin<L: Ledgers, E: Events, R: Wait, I: Read + Drop, O: Write + Drop>(
     stage: &Stage<'_, L, E, R>,
     session: Session<L, I, O>,
     threads: u64,
 ) -> (bool, Led<L, I, O>)
-    ensures { TellsVouched result.1.session.acknowledger (O.contents session.writer)
-        (O.contents result.1.session.writer) }
+    ensures { IsLed I.remaining O.contents result.1.session.acknowledger result.0
+        result.1.refusal session.reader result.1.session.reader session.writer
+        result.1.session.writer }
 {
     if stage.desk.have_started(threads) {
         return (true, lead(stage, session));
@@ -349,7 +373,9 @@ fn begin<L: Ledgers, E: Events, R: Wait, I: Read + Drop, O: Write + Drop>(
 }
 
 /// The first refusal of a thread, or else that of putting away what is held.
-fn answer(refusal: Option<Refusal>, put_away: Result<(), Fault>) -> Result<(), Fault> {
+fn answer(refusal: Option<Refusal>, put_away: Result<(), Fault>) -> Result<(), Fault>
+    ensures { OnOk result (refusal ≡ None) }
+{
     match refusal {
         Some(refusal) => Err(Fault::Session(refusal.fault())),
         None => put_away,

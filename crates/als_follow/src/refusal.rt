@@ -1,4 +1,4 @@
-ghost use Rattle.std.specs.Prelude.{◌≡◌};
+ghost use Rattle.std.specs.Prelude.{◌≡◌, None};
 
 use crate::desk::Desk;
 use als_engine::Fault;
@@ -37,7 +37,9 @@ impl Refusal {
 }
 
 /// The first of two refusals.
-pub(crate) fn first(one: Option<Refusal>, other: Option<Refusal>) -> Option<Refusal> {
+pub(crate) fn first(one: Option<Refusal>, other: Option<Refusal>) -> Option<Refusal>
+    ensures { result ≡ None → one ≡ None }
+{
     match (one, other) {
         (Some(a), Some(b)) => Some(if b.place < a.place { b } else { a }),
         (Some(a), None) => Some(a),

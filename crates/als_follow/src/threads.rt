@@ -1,7 +1,8 @@
-ghost use Rattle.std.specs.Prelude.{◌≡◌, ◌<◌};
+ghost use Rattle.std.specs.Prelude.{◌≡◌, ◌<◌, None};
 ghost use Rattle.crossbeam_channel.specs.Claims.{view};
 ghost use Rattle.als_workers.specs.Passes.{IsPassOf};
 ghost use Rattle.als_ship.specs.Vouching.{TellsVouched};
+ghost use Rattle.als_follow.specs.Answered.{IsAnswered};
 
 use crate::paced::Paced;
 use crate::publishing::Publishing;
@@ -93,11 +94,15 @@ fn refusal_of<L: Ledgers, E: Events, R: Wait>(
 }
 
 /// Follows the session. What it leaves for redo is then due.
+#[tactic(auto, using(crate::proofs::Telling::is_answered))]
 pub(crate) fn lead<L: Ledgers, E: Events, R: Wait, I: Read + Drop, O: Write + Drop>(
     stage: &Stage<'_, L, E, R>,
     session: Session<L, I, O>,
 ) -> Led<L, I, O>
-    ensures { TellsVouched result.session.acknowledger (O.contents session.writer)
+    ensures vouched { TellsVouched result.session.acknowledger (O.contents session.writer)
+        (O.contents result.session.writer) }
+    ensures answered { result.refusal ≡ None → IsAnswered (I.remaining session.reader)
+        (I.remaining result.session.reader) (O.contents session.writer)
         (O.contents result.session.writer) }
 {
     let Session {

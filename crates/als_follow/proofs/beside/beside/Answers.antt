@@ -4,7 +4,7 @@ use Rattle.als_share.specs.Reaching.{ReachesFrom}
 use Rattle.als_share.proofs.Reached.{from-none}
 use Rattle.als_ship.specs.Vouching.{TellsVouched}
 use Rattle.als_ship.proofs.Vouching.{told_higher}
-use Rattle.als_follow.proofs.Telling.{told_same}
+use Rattle.als_follow.proofs.Telling.{told_same, asked_again}
 use Rattle.als_follow.proofs.beside.beside.Goals as goal
 
 pub returns-in_default-clause-reached : goal.returns-in_default-clause-reached
@@ -33,3 +33,14 @@ returns-in-Ok-share-clause-vouched g c = λ alone.
     let new = g.O.Write.contents session.writer in
     subst (λ e. TellsVouched (acknowledged (g.E.Events.machine e).held) old new) (sym c.checked-engine.ensures.same)
     (told_higher session.acknowledger (acknowledged (g.E.Events.machine c.settle.result).held) old new (c.settle.ensures.floor alone) c.conduct-session.ensures.vouched)
+
+pub returns-in-Ok-share-clause-answered : goal.returns-in-Ok-share-clause-answered
+returns-in-Ok-share-clause-answered g c =
+    let session = c.conduct-session.result.session in
+    asked_again g.I.Read.remaining g.O.Write.contents c.args.reader session.reader c.args.writer session.writer c.conduct-session.result.ended c.checked-engine.result.1 c.conduct-session.ensures.answered c.checked-engine.ensures.ok
+
+pub returns-in-Ok-share-clause-reader : goal.returns-in-Ok-share-clause-reader
+returns-in-Ok-share-clause-reader g c = λ none. c.conduct-session.ensures.reader (c.checked-engine.ensures.none none)
+
+pub returns-in-Ok-share-clause-writer : goal.returns-in-Ok-share-clause-writer
+returns-in-Ok-share-clause-writer g c = λ none. c.conduct-session.ensures.writer (c.checked-engine.ensures.none none)
