@@ -6,6 +6,7 @@ use Rattle.als_engine.specs.declared.step.Step.TheVariants as step
 use Rattle.als_engine.specs.declared.step.Reply.{Reply}
 use Rattle.als_engine.specs.declared.step.Reply.TheVariants as reply
 use Rattle.als_engine.specs.Events.{Resyncs}
+use Rattle.als_engine.specs.Publishing.{PublishesView}
 use Rattle.als_engine.specs.Machine.{Machine, Keeps}
 use Rattle.als_engine.specs.Telling.{Stands}
 use Rattle.als_share.specs.Reaching.{Run, Begins, Goes, Lending, Giving, Queries, Reaches}
@@ -33,3 +34,9 @@ reaches_resync old new (Ok tt) acts keeps stands =
     reaches-event old old step.Resync reply.Done new (reaches-none old) (record { steps = acts; keeps = keeps; stands = stands })
 reaches_resync old new (Err fault) acts keeps stands =
     reaches-event old old step.Resync (reply.Refused fault) new (reaches-none old) (record { steps = acts; keeps = keeps; stands = stands })
+
+pub reaches_publish : (old new : Machine) (answer : Result (Unit {0}) Fault) → PublishesView old answer new → Keeps old new → Stands new → Reaches old new
+reaches_publish old new (Ok tt) acts keeps stands =
+    reaches-event old old step.PublishView reply.Done new (reaches-none old) (record { steps = acts; keeps = keeps; stands = stands })
+reaches_publish old new (Err fault) acts keeps stands =
+    reaches-event old old step.PublishView (reply.Refused fault) new (reaches-none old) (record { steps = acts; keeps = keeps; stands = stands })

@@ -52,7 +52,7 @@ pub(crate) fn follow_next<
     ensures ended { EndsOne result.ended (L.met primaries.old) (L.met primaries.new) }
 {
     let mut events = events;
-    take_again(&mut events);
+    make_ready(rt, &mut events);
     let begun = moment(rt);
     match primaries.next() {
         Ok((reader, writer)) => {
@@ -87,6 +87,17 @@ pub(crate) fn follow_next<
     }
 }
 
+/// Takes the log again, if a record of it was refused, and publishes what the session before left
+/// unpublished.
+#[tactic(auto, using(crate::proofs::Chains::reaches_both))]
+fn make_ready<R: Wait, E: Events>(rt: &R, events: &mut E)
+    ensures reached { E.alone → Reaches (E.machine events.old) (E.machine events.new) }
+    ensures book { E.book events.new ≡ E.book events.old }
+{
+    take_again(events);
+    publish(rt, events);
+}
+
 /// Takes the log again, if a record of it was refused.
 #[tactic(auto, using(crate::proofs::Chains::reaches_self))]
 fn take_again<E: Events>(events: &mut E)
@@ -110,6 +121,18 @@ fn resync<E: Events>(events: &mut E)
     ensures book { E.book events.new ≡ E.book events.old }
 {
     let answer = events.resync();
+    stands(events);
+    drop(answer);
+}
+
+/// Publishes for readers the commits that are acknowledged. Where it is refused, as where there are no more
+/// than before, the next session does so again.
+#[tactic(auto, using(crate::proofs::Chains::reaches_publish))]
+fn publish<R: Wait, E: Events>(rt: &R, events: &mut E)
+    ensures reached { E.alone → Reaches (E.machine events.old) (E.machine events.new) }
+    ensures book { E.book events.new ≡ E.book events.old }
+{
+    let answer = events.publish_view(rt);
     stands(events);
     drop(answer);
 }

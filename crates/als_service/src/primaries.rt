@@ -66,24 +66,28 @@ impl<'a, R: AllocGlobal + Files<File = File> + Net> Dialled<'a, R> {
             met: Met::Nobody,
         }
     }
+}
 
-    /// The next connection. Where the folder has no database, the primary is asked for its history, and
-    /// once that came the folder has the new one.
-    fn connect(&mut self) -> Result<(Line<R::Stream>, Line<R::Stream>), Fault> {
-        if let Some(lines) = self.greeted.take() {
-            return Ok(lines);
-        }
-        if let Some(folder) = self.unkept {
-            let lines = call(self.rt, self.following)?;
-            folder.keep(self.rt)?;
-            self.unkept = None;
-            return Ok(lines);
-        }
-        let writer = dial(self.rt, self.following)?;
-        let reader = writer.try_clone()?;
-        let alloc = self.rt.alloc();
-        Ok((Line::new(alloc, reader), Line::new(alloc, writer)))
+/// The next connection: the one that was greeted, or else a new one. Where the folder has no database, the
+/// primary is asked for its history first, and once that came the folder has the new one.
+fn connect<R: AllocGlobal + Files<File = File> + Net>(
+    rt: &R,
+    following: Following<'_>,
+    unkept: Option<&Folder>,
+    greeted: Option<(Line<R::Stream>, Line<R::Stream>)>,
+) -> Result<(Line<R::Stream>, Line<R::Stream>), Fault> {
+    if let Some(lines) = greeted {
+        return Ok(lines);
     }
+    if let Some(folder) = unkept {
+        let lines = call(rt, following)?;
+        folder.keep(rt)?;
+        return Ok(lines);
+    }
+    let writer = dial(rt, following)?;
+    let reader = writer.try_clone()?;
+    let alloc = rt.alloc();
+    Ok((Line::new(alloc, reader), Line::new(alloc, writer)))
 }
 
 impl<R: AllocGlobal + Files<File = File> + Net> Primaries<Line<R::Stream>> for Dialled<'_, R> {
@@ -92,8 +96,10 @@ impl<R: AllocGlobal + Files<File = File> + Net> Primaries<Line<R::Stream>> for D
     ghost met = { λ dialled. sessions_of ⟦<Line<R::Stream> as Write>⟧.contents dialled.met };
 
     fn next(&mut self) -> Result<(Line<R::Stream>, Line<R::Stream>), Fault> {
-        match self.connect() {
+        let greeted = self.greeted.take();
+        match connect(self.rt, self.following, self.unkept, greeted) {
             Ok((reader, writer)) => {
+                self.unkept = None;
                 self.met.begin(&writer);
                 Ok((reader, writer))
             }

@@ -34,6 +34,6 @@ loop-preserved g c = (
       (c.position-before.ensures alone) (c.follow_next-back.ensures.reached alone) (c.loop.invariant.4 alone)
       (c.follow_next-back.ensures.vouched alone)),
   goes_on_more c.follow_next-back.result.ended
-  (g.L.Primaries.met c.args.primaries.now) (g.L.Primaries.met c.loop.primaries) (g.L.Primaries.met c.follow_next-back.new.primaries)
-  c.loop.invariant.5 c.follow_next-back.ensures.ended c.in_default.ensures.goes_on,
+      (g.L.Primaries.met c.args.primaries.now) (g.L.Primaries.met c.loop.primaries) (g.L.Primaries.met c.follow_next-back.new.primaries)
+      c.loop.invariant.5 c.follow_next-back.ensures.ended c.in_default.ensures.goes_on,
 )
