@@ -58,9 +58,10 @@ fn note_all<D: BlockDisk>(records: &mut Scan<D>, checks: &mut Checks) -> Result<
 /// Each page with the page_LSN of its block, and with the LSN from which on a restart redoes its
 /// changes.
 fn checks_of(alloc: Global, files: &DeviceFiles, database: Database) -> Result<Checks, Fault> {
-    let (from, rows) = rows_of(alloc, files, database)?;
+    let pages = database.pages;
+    let (from, rows) = rows_of(alloc, files, pages)?;
     let mut checks = Checks::new(alloc);
-    for page in 0..database.pages {
+    for page in 0..pages {
         let page_lsn = page_lsn_of(files, page)?;
         checks.add(page_lsn, redone_from(rows.as_slice(), page, from))?;
     }
@@ -83,14 +84,14 @@ fn redone_from(rows: &[LoggedPage], page: u32, from: Lsn) -> Lsn {
 fn rows_of(
     alloc: Global,
     files: &DeviceFiles,
-    database: Database,
+    pages: u32,
 ) -> Result<(Lsn, Vec<LoggedPage>), Fault> {
     let mut rows = Vec::new(alloc);
     let mut disk = match copy(alloc, &files.control, CONTROL_BLOCKS * 512, CONTROL_BLOCKS) {
         Ok(disk) => disk,
         Err(e) => return Err(Fault::Folder(FolderFault::of(Part::Control, e))),
     };
-    match read_said(alloc, &mut disk, database.pages, LOG_LIMIT) {
+    match read_said(alloc, &mut disk, pages, LOG_LIMIT) {
         Ok((_, None)) => Ok((FIRST_LSN, rows)),
         Ok((_, Some(checkpoint))) => {
             rows.extend_from_slice(checkpoint.pages.as_slice())?;
