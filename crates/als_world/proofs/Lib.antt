@@ -5,3 +5,4 @@ pub mod AskLaws
 pub mod SealLaws
 mod SlotLaws
 mod ActLaws
+mod CrashLaws

@@ -24,7 +24,7 @@ mod running;
 // Laws of the definitions.
 mod laws;
 
-pub use laws::one_sealed_log;
+pub use laws::{a_restart_is_a_crash_on_the_wire, one_sealed_log};
 pub use running::run;
 pub use step::{WorldReply, WorldStep};
 pub use world::World;
