@@ -1,5 +1,7 @@
 ghost use Rattle.std.specs.Prelude.{◌≡◌};
 ghost use Rattle.als_engine.specs.Readers.{book_told};
+ghost use Rattle.als_engine.specs.Publishing.{TellsReaders};
+ghost use Rattle.als_share.specs.Ledgers.{nobody_sees};
 ghost use Rattle.als_share.specs.Reaching.{IsToldFrom};
 
 use crate::acknowledger::Acknowledger;
@@ -196,6 +198,7 @@ impl<L: Ledgers, E: Events, R: Wait> Events for Handle<'_, L, E, R> {
     }
 
     fn tell(&self) -> Told
+        ensures tells { ⊥ → TellsReaders nobody_sees result }
         ensures book { book_told result ≡ L.book }
         // Whoever drives the engine: it is what a machine has published that events made of the one
         // that was shared.
