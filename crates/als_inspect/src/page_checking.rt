@@ -105,7 +105,10 @@ fn rows_of(
 /// The page_LSN at the front of a page's block: 0 where no record has changed the page.
 fn page_lsn_of(files: &DeviceFiles, page: u32) -> Result<Lsn, Fault> {
     let mut front = [0; 8];
-    match files.pages.read_exact_at(front.as_mut_slice(), u64::from(page) * 512) {
+    match files
+        .pages
+        .read_exact_at(front.as_mut_slice(), u64::from(page) * 512)
+    {
         Ok(()) => Ok(Lsn(u64::from_be_bytes(front))),
         Err(e) => Err(Fault::Folder(FolderFault::of(Part::Pages, e))),
     }

@@ -39,9 +39,9 @@ mod resolve_command;
 
 pub use checkpointing::checkpoint;
 pub use deciding::decide;
-pub use forgetting::{Forgets, forget};
 pub use fault::Fault;
 pub use following::follow;
+pub use forgetting::{Forgets, forget};
 pub use greeting::call;
 pub use holding::{Held, hold};
 pub use line::Line;

@@ -131,11 +131,7 @@ fn forgets_failing(alloc: Global, call: u64) -> Option<Result<(), Fault>>
 fn each_call_of_a_step_at_rest_fails_in_turn(rt: HostRuntime) {
     let alloc = rt.alloc();
     for call in 1..5 {
-        let wanted = if call < 4 {
-            Err(Fault::Device)
-        } else {
-            Ok(())
-        };
+        let wanted = if call < 4 { Err(Fault::Device) } else { Ok(()) };
         let found = forgets_failing(alloc, call);
         assert!(rt; found == Some(wanted) || found.is_none(), "{call}");
     }
