@@ -1,9 +1,10 @@
 // Control states that are written while the node is stopped.
 ghost use Rattle.std.specs.Prelude.{◌<◌};
+ghost use Rattle.als_disk.specs.Slot.{IsSettled};
 
 use super::{disk_of, sealed_block};
 use als_ckpt::{ControlState, Fault, Phase, Unreached, follow_again, forget_unreached, read_state};
-use als_disk::{BlockDisk, FailingDisk, Fuse, MemDisk};
+use als_disk::{FailingDisk, Fuse, Restart};
 use als_record::Lsn;
 use std::alloc::Global;
 
@@ -33,6 +34,13 @@ fn primary_block() -> [u8; 512] {
     block
 }
 
+/// A device after a crash, and how many picks were used. Each block has one content.
+fn stopped<D: Restart>(disk: D) -> (D, usize)
+    ensures settled { IsSettled (D.slot result.0 0) }
+{
+    disk.crash(&[])
+}
+
 /// How many takeovers a block had, and what it says once these are forgotten.
 fn forgotten(
     alloc: Global,
@@ -41,7 +49,7 @@ fn forgotten(
 ) -> Result<(u32, ControlState), Fault> {
     let mut disk = disk_of(alloc, block)?;
     let restated = forget_unreached(&mut disk, 4, 4096, which)?;
-    disk.sync()?;
+    let (mut disk, _) = stopped(disk);
     let now = read_state(&mut disk, 4, 4096)?;
     if now != restated.after {
         return Err(Fault::BadControl);
@@ -90,7 +98,7 @@ fn read_again(alloc: Global, block: &[u8; 512]) -> Result<ControlState, Fault> {
 fn followed(alloc: Global, block: &[u8; 512]) -> Result<ControlState, Fault> {
     let mut disk = disk_of(alloc, block)?;
     let restated = follow_again(&mut disk, 4, 4096)?;
-    disk.sync()?;
+    let (mut disk, _) = stopped(disk);
     let now = read_state(&mut disk, 4, 4096)?;
     if now != restated.after {
         return Err(Fault::BadControl);
@@ -122,7 +130,7 @@ fn forgets_failing(alloc: Global, call: u64) -> Option<Result<(), Fault>>
 {
     let disk = disk_of(alloc, &unreached_block()).ok()?;
     let fuse = Fuse::new(alloc).ok()?;
-    let mut disk = FailingDisk::new(disk, fuse.clone().ok()?);
+    let (mut disk, _) = stopped(FailingDisk::new(disk, fuse.clone().ok()?));
     fuse.fail_at(call);
     Some(forget_unreached(&mut disk, 4, 4096, Unreached::AboveEnd).map(|_| ()))
 }
