@@ -13,6 +13,7 @@ use std::process::Abort;
 use std::rt::Files;
 use std::sync::Wait;
 use std::test::Fail;
+use std::time::Clock;
 use std::{fs, io, thread};
 
 // Serves the next follower that comes, as `ship` does.
@@ -78,7 +79,7 @@ fn shipping<'a>(log: &'a str, listen: &'a str) -> Shipping<'a> {
 
 // Whether shipping a file with these bytes to an address is refused so, with nothing printed. A
 // growth is refused once at most.
-fn refuses<R: AllocGlobal + Files + Net>(
+fn refuses<R: AllocGlobal + Files + Net + Clock>(
     rt: &R,
     bytes: &[u8],
     listen: &str,

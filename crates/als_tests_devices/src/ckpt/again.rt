@@ -1,5 +1,5 @@
 // Control states that are written while the node is stopped.
-ghost use Rattle.std.specs.Prelude.{◌<◌};
+ghost use Rattle.std.specs.Prelude.{◌≡◌, ◌<◌};
 ghost use Rattle.als_disk.specs.Slot.{IsSettled};
 
 use super::{disk_of, sealed_block};
@@ -36,6 +36,7 @@ fn primary_block() -> [u8; 512] {
 
 /// A device after a crash, and how many picks were used. Each block has one content.
 fn stopped<D: Restart>(disk: D) -> (D, usize)
+    ensures count { D.block_count result.0 ≡ D.block_count disk }
     ensures settled { IsSettled (D.slot result.0 0) }
 {
     disk.crash(&[])
