@@ -175,7 +175,7 @@ fn attempt<
             if forget_unreached {
                 forget(rt, dir, &mut lines)?
             }
-            check_pages(rt, dir)?;
+            check_sound(rt, dir)?;
             if keep || serve.is_some() {
                 let service = Service {
                     workers: workers_of(workers)?,
@@ -190,7 +190,7 @@ fn attempt<
         }
         Command::Takeover { dir, .. } => {
             let mut lines = RedoLines::new(&mut *errors, seen, false);
-            check_pages(rt, dir)?;
+            check_sound(rt, dir)?;
             let TakenOver { doubts, is_empty } = takeover(rt, dir, &mut lines, output)?;
             if is_empty {
                 tell_emptiness(dir, output, errors)?;
@@ -262,6 +262,18 @@ fn stand_by<
         }
     }
     Ok(())
+}
+
+/// Refuses a page that lacks a change of its log, before anything is written. What else is wrong with the
+/// folder the command itself reports, in its own order.
+fn check_sound<R: AllocGlobal + Files<File = File>>(rt: &R, dir: &str) -> Result<(), Refusal> {
+    match check_pages(rt, dir) {
+        Ok(()) => Ok(()),
+        Err(fault) => match fault.kind() {
+            FaultKind::BadPage { page: _ } => Err(Refusal::from(fault)),
+            _ => Ok(()),
+        },
+    }
 }
 
 /// How many threads redo. BadConfig: more than `WORKER_LIMIT`.

@@ -182,7 +182,7 @@ const STATUS: [&str; 3] = ["als", "status", "doubted"];
 
 /// What the folder of the new primary holds.
 const HELD: &str =
-    "phase=Primary pages=4 end=186 ack=186 checkpoint=0 behind=170 transactions=1 capacity=1048576 left=1048390
+    "phase=Primary pages=4 end=186 ack=186 checkpoint=0 behind=170 transactions=1 capacity=1024 left=838
 epoch 1 seals 116
 trans 1 prepared last=52 undo=16
 ";
