@@ -135,9 +135,10 @@ fn holds<E: Events>(events: &E, end: u64) -> bool {
         && events.dirty(0).is_none()
 }
 
-/// Whether it was told that something came.
+/// Whether frames came that were acknowledged, and the last session, which was refused, changed no
+/// state.
 fn is_heard(report: Report) -> bool {
-    report.state == State::Following && report.silence.is_some()
+    report.state == State::Waiting && report.silence.is_some()
 }
 
 /// Follows connections of which some are lost. `None`: it ended otherwise, as where allocation fails.
