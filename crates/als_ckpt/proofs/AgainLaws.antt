@@ -1,9 +1,9 @@
 -- Laws of a control state that is written in the place of another one.
-use Rattle.std.proofs.Common.{◌≡◌, ◌≢◌, ℕ, ◌+◌, ◌<◌, ◌≤◌, ◌^◌, Bool, true, false, List, [], ◌∷◌, ◌++◌, length, Option, None, Some, refl, sym, ap, subst, ◌∙◌, arith, inl, inr, append_assoc, append-nil, length-append}
+use Rattle.std.proofs.Common.{◌≡◌, ◌≢◌, ℕ, ◌+◌, ◌<◌, ◌≤◌, ◌^◌, Bool, true, false, List, [], ◌∷◌, length, Option, None, Some, refl, sym, ap, subst, ◌∙◌, arith, inl, inr}
 use Rattle.std.specs.Prelude.{Contains, ◌⊎◌, nat_lt, cond}
 use Rattle.als_disk.specs.Slot.{Slot, only, written, FailsToWrite, KeepsReadable, KeepsCandidate, SameBlocks, SameBlocksBut, GivesCandidates}
 use Rattle.als_disk.specs.SlotLaws.{Contains-one, candidates-fail}
-use Rattle.als_epochs.specs.Histories.{IsHistory, RisesFrom, GoesOn, last_from, last_seal}
+use Rattle.als_epochs.specs.Histories.{IsHistory, RisesFrom, last_from}
 use Rattle.als_epochs.specs.HistoryLaws.{RisesFrom-last}
 use Rattle.als_ckpt_codec.specs.declared.checkpoint.Checkpoint.{Checkpoint}
 use Rattle.als_ckpt.specs.declared.phase.Phase.{Phase}
@@ -11,10 +11,10 @@ use Rattle.als_ckpt.specs.declared.phase.Phase.TheVariants.{Following, Sealed, P
 use Rattle.als_ckpt.specs.declared.region.Region.{Region}
 use Rattle.als_ckpt.specs.declared.unreached.Unreached.{Unreached}
 use Rattle.als_ckpt.specs.declared.control_state.ControlState.{ControlState}
-use Rattle.als_ckpt.specs.Regions.{Said, first_block, IsPublished, HoldsPublished}
+use Rattle.als_ckpt.specs.Regions.{Said, first_block, HoldsPublished}
 use Rattle.als_ckpt.specs.Control.{Spells, HoldsState, control_block, IsLastSeal, IsControlState}
 use Rattle.als_ckpt.specs.Holding.{HoldsControl}
-use Rattle.als_ckpt.specs.Again.{seals_below, bound_of, history_left, forgetting, followed_by, followed, following_again, saying, LeavesSaid, LeavesEither, MayRestate, Restates, RestatesOrNot}
+use Rattle.als_ckpt.specs.Again.{seals_below, bound_of, history_left, forgetting, followed_by, followed, following_again, without_checkpoint, unpublished, saying, LeavesSaid, LeavesEither, MayRestate, Restates, RestatesOrNot}
 use Rattle.als_ckpt.proofs.DeviceLaws.{only-synced, candidates-unsynced}
 use Rattle.als_ckpt.proofs.RegionLaws.{block-above, HoldsContent-fewer}
 
@@ -102,6 +102,17 @@ followed-fits log_bytes Following s h = h
 followed-fits log_bytes Sealed s h = h
 followed-fits log_bytes Primary s h = following_again-fits log_bytes s h
 
+pub without_checkpoint-fits : (log_bytes : ℕ) (s : ControlState) → IsControlState log_bytes s → IsControlState log_bytes (without_checkpoint s)
+without_checkpoint-fits log_bytes s h = record {
+  begins = h.begins;
+  in_log = h.in_log;
+  position = refl;
+  seal = h.seal;
+  history = h.history;
+  lsns = h.lsns;
+  last = h.last;
+}
+
 pub followed-published : (phase : Phase) (s : ControlState) → (followed_by phase s).published ≡ s.published
 followed-published Following s = refl
 followed-published Sealed s = refl
@@ -134,23 +145,24 @@ picked-candidate old new content keeps has =
 same-candidate : (old new : Slot) (content : List ℕ) → new ≡ old → Contains new.candidates content → Contains old.candidates content
 same-candidate old new content same has = subst (λ (s : Slot). Contains s.candidates content) same has
 
-module _ (pages log_bytes : ℕ) (old new : ℕ → Slot) (said : Said) (s : ControlState) (holds : HoldsControl pages log_bytes old said)
-    (fits : IsControlState log_bytes s) (same_region : s.published ≡ said.state.published) (same_position : s.position ≡ said.state.position)
+module _ (pages log_bytes : ℕ) (old new : ℕ → Slot) (before : ControlState) (said told : Said) (may : MayRestate pages log_bytes before old said told)
     (fewer : (k : ℕ) → k ≢ 0 → (content : List ℕ) → Contains (new k).candidates content → Contains (old k).candidates content) where
-  region-said : HoldsPublished new said.state.published said.checkpoint
-  region-said = HoldsPublished-fewer old new said.state.published said.checkpoint fewer holds.region
-
   -- block 0 is as it was
   pub says-before : HoldsState pages (new 0) said.state → HoldsControl pages log_bytes new said
-  says-before block = record { block = block; fits = holds.fits; published = holds.published; region = region-said }
+  says-before block = record {
+    block = block;
+    fits = may.holds.fits;
+    published = may.holds.published;
+    region = HoldsPublished-fewer old new said.state.published said.checkpoint fewer may.holds.region;
+  }
 
   -- block 0 is that of the other state
-  pub says-after : HoldsState pages (new 0) s → HoldsControl pages log_bytes new (saying said s)
+  pub says-after : HoldsState pages (new 0) told.state → HoldsControl pages log_bytes new told
   says-after block = record {
     block = block;
-    fits = fits;
-    published = rw (same_region, same_position) holds.published;
-    region = rw same_region region-said;
+    fits = may.fits;
+    published = may.published;
+    region = HoldsPublished-fewer old new told.state.published told.checkpoint fewer may.region;
   }
 
 -- what a crash leaves of blocks that say something says it too
@@ -174,40 +186,39 @@ HoldsControl-same pages log_bytes old new said same holds = record {
 }
 
 -- a state is written in the place of another one
-module _ (pages log_bytes : ℕ) (old new : ℕ → Slot) (said : Said) (s : ControlState) (holds : HoldsControl pages log_bytes old said)
-    (fits : IsControlState log_bytes s) (same_region : s.published ≡ said.state.published) (same_position : s.position ≡ said.state.position) where
+module _ (pages log_bytes : ℕ) (old new : ℕ → Slot) (before : ControlState) (said told : Said) (may : MayRestate pages log_bytes before old said told) where
   -- where it may have come to nothing, a crash leaves one of the two
-  pub LeavesEither-tried : SameBlocksBut 0 old new → ((content : List ℕ) → Contains (new 0).candidates content → Contains (old 0).candidates content ⊎ (control_block pages s ≡ content))
-      → LeavesEither pages log_bytes new said (saying said s)
+  pub LeavesEither-tried : SameBlocksBut 0 old new → ((content : List ℕ) → Contains (new 0).candidates content → Contains (old 0).candidates content ⊎ (control_block pages told.state ≡ content))
+      → LeavesEither pages log_bytes new said told
   LeavesEither-tried others either left keeps =
       elim (either (keeps 0).content (keeps 0).was_candidate) [
-        | inl before ↦
-            let same : holds.block.content ≡ (keeps 0).content = Contains-one (subst (λ (t : Slot). Contains t.candidates (keeps 0).content) holds.block.block before) in
-            inl (says-before pages log_bytes old left said s holds fits same_region same_position fewer
-            (record { content = (keeps 0).content; block = (keeps 0).left; spelled = subst (Spells pages said.state) same holds.block.spelled }))
+        | inl was ↦
+            let same : may.holds.block.content ≡ (keeps 0).content = Contains-one (subst (λ (t : Slot). Contains t.candidates (keeps 0).content) may.holds.block.block was) in
+            inl (says-before pages log_bytes old left before said told may fewer
+            (record { content = (keeps 0).content; block = (keeps 0).left; spelled = subst (Spells pages said.state) same may.holds.block.spelled }))
         | inr now ↦
-            inr (says-after pages log_bytes old left said s holds fits same_region same_position fewer
+            inr (says-after pages log_bytes old left before said told may fewer
             (record { content = (keeps 0).content; block = (keeps 0).left; spelled = inl (sym now) }))
       ] where
         fewer : (k : ℕ) → k ≢ 0 → (content : List ℕ) → Contains (left k).candidates content → Contains (old k).candidates content
         fewer k other content has = same-candidate (old k) (new k) content (others k other) (picked-candidate (new k) (left k) content (keeps k) has)
 
-  pub LeavesEither-failed : SameBlocksBut 0 old new → FailsToWrite (old 0) (new 0) (control_block pages s) → LeavesEither pages log_bytes new said (saying said s)
-  LeavesEither-failed others fails = LeavesEither-tried others (λ content has. candidates-fail (old 0) (new 0) (control_block pages s) content fails has)
+  pub LeavesEither-failed : SameBlocksBut 0 old new → FailsToWrite (old 0) (new 0) (control_block pages told.state) → LeavesEither pages log_bytes new said told
+  LeavesEither-failed others fails = LeavesEither-tried others (λ content has. candidates-fail (old 0) (new 0) (control_block pages told.state) content fails has)
 
   -- it is written, and the sync fails
-  pub LeavesEither-unsynced : (after : ℕ → Slot) → SameBlocksBut 0 old new → new 0 ≡ written (old 0) (control_block pages s) → SameBlocks new after
-      → LeavesEither pages log_bytes after said (saying said s)
+  pub LeavesEither-unsynced : (after : ℕ → Slot) → SameBlocksBut 0 old new → new 0 ≡ written (old 0) (control_block pages told.state) → SameBlocks new after
+      → LeavesEither pages log_bytes after said told
   LeavesEither-unsynced after others is same left keeps =
-      LeavesEither-tried others (λ content has. candidates-unsynced (old 0) (new 0) (new 0) (control_block pages s) is refl content has) left
+      LeavesEither-tried others (λ content has. candidates-unsynced (old 0) (new 0) (new 0) (control_block pages told.state) is refl content has) left
       (λ k. subst (λ (t : Slot). KeepsCandidate t (left k)) (same k) (keeps k))
 
   -- it is written and synced
-  pub HoldsControl-restated : (after : ℕ → Slot) → SameBlocksBut 0 old new → new 0 ≡ written (old 0) (control_block pages s) → GivesCandidates new
-      → ((k : ℕ) → KeepsReadable (new k) (after k)) → HoldsControl pages log_bytes after (saying said s)
+  pub HoldsControl-restated : (after : ℕ → Slot) → SameBlocksBut 0 old new → new 0 ≡ written (old 0) (control_block pages told.state) → GivesCandidates new
+      → ((k : ℕ) → KeepsReadable (new k) (after k)) → HoldsControl pages log_bytes after told
   HoldsControl-restated after others is gives keeps =
-      says-after pages log_bytes old after said s holds fits same_region same_position fewer
-      (record { content = control_block pages s; block = only-synced (old 0) (new 0) (after 0) (control_block pages s) is (keeps 0); spelled = inl refl }) where
+      says-after pages log_bytes old after before said told may fewer
+      (record { content = control_block pages told.state; block = only-synced (old 0) (new 0) (after 0) (control_block pages told.state) is (keeps 0); spelled = inl refl }) where
         fewer : (k : ℕ) → k ≢ 0 → (content : List ℕ) → Contains (after k).candidates content → Contains (old k).candidates content
         fewer k other content has =
             let same : (keeps k).content ≡ content = Contains-one (subst (λ (t : Slot). Contains t.candidates content) (keeps k).left has) in
@@ -216,77 +227,125 @@ module _ (pages log_bytes : ℕ) (old new : ℕ → Slot) (said : Said) (s : Con
 -- ---- a state that was read, and the one that takes its place
 
 module _ (pages : ℕ) (before after : ControlState) (old new : ℕ → Slot) where
+  -- where it is the same state, nothing is written
   pub Restates-same : after ≡ before → SameBlocks old new → Restates pages before after old new
-  Restates-same same blocks log_bytes said may =
-      HoldsControl-same pages log_bytes old new (saying said after) blocks
-      (subst (λ (s : ControlState). HoldsControl pages log_bytes old (saying said s)) (sym (same ∙ may.says)) may.holds)
+  Restates-same same blocks log_bytes said told is may =
+      HoldsControl-same pages log_bytes old new told blocks
+      (record {
+        block = subst (λ (s : ControlState). HoldsState pages (old 0) s) (sym may.says ∙ sym same ∙ is) may.holds.block;
+        fits = may.fits;
+        published = may.published;
+        region = may.region;
+      })
 
   pub Restates-synced : (between : ℕ → Slot) → SameBlocksBut 0 old between → between 0 ≡ written (old 0) (control_block pages after) → GivesCandidates between
       → ((k : ℕ) → KeepsReadable (between k) (new k)) → Restates pages before after old new
-  Restates-synced between others is gives keeps log_bytes said may =
-      HoldsControl-restated pages log_bytes old between said after may.holds may.fits (may.published ∙ ap (λ (s : ControlState). s.published) may.says)
-      (may.position ∙ ap (λ (s : ControlState). s.position) may.says) new others is gives keeps
+  Restates-synced between others is gives keeps log_bytes said told same may =
+      HoldsControl-restated pages log_bytes old between before said told may new others
+      (subst (λ (s : ControlState). between 0 ≡ written (old 0) (control_block pages s)) same is) gives keeps
 
   pub RestatesOrNot-failed : SameBlocksBut 0 old new → FailsToWrite (old 0) (new 0) (control_block pages after) → RestatesOrNot pages before after old new
-  RestatesOrNot-failed others fails log_bytes said may =
-      LeavesEither-failed pages log_bytes old new said after may.holds may.fits (may.published ∙ ap (λ (s : ControlState). s.published) may.says)
-      (may.position ∙ ap (λ (s : ControlState). s.position) may.says) others fails
+  RestatesOrNot-failed others fails log_bytes said told same may =
+      LeavesEither-failed pages log_bytes old new before said told may others
+      (subst (λ (s : ControlState). FailsToWrite (old 0) (new 0) (control_block pages s)) same fails)
 
   pub RestatesOrNot-unsynced : (between : ℕ → Slot) → SameBlocksBut 0 old between → between 0 ≡ written (old 0) (control_block pages after) → SameBlocks between new
       → RestatesOrNot pages before after old new
-  RestatesOrNot-unsynced between others is same log_bytes said may =
-      LeavesEither-unsynced pages log_bytes old between said after may.holds may.fits (may.published ∙ ap (λ (s : ControlState). s.published) may.says)
-      (may.position ∙ ap (λ (s : ControlState). s.position) may.says) new others is same
+  RestatesOrNot-unsynced between others is blocks log_bytes said told same may =
+      LeavesEither-unsynced pages log_bytes old between before said told may new others
+      (subst (λ (s : ControlState). between 0 ≡ written (old 0) (control_block pages s)) same is) blocks
 
--- the device was read before
-module _ (pages log_bytes : ℕ) (old read : ℕ → Slot) (same : SameBlocks old read) (before : ControlState) (said : Said) (holds : HoldsControl pages log_bytes old said) (says : before ≡ said.state) where
-  may-forget : (which : Unreached) (after : ControlState) → after ≡ forgetting which before → MayRestate pages log_bytes before after read said
-  may-forget which after is = record {
-    holds = HoldsControl-same pages log_bytes old read said same holds;
+-- the device was read before, and another state may be written
+module _ (pages log_bytes : ℕ) (old read : ℕ → Slot) (blocks : SameBlocks old read) (before : ControlState) (said : Said) (holds : HoldsControl pages log_bytes old said) (says : before ≡ said.state) where
+  same : HoldsControl pages log_bytes read said
+  same = HoldsControl-same pages log_bytes old read said blocks holds
+
+  may-forget : (which : Unreached) → MayRestate pages log_bytes before read said (saying said (forgetting which said.state))
+  may-forget which = record {
+    holds = same;
     says = says;
-    fits = rw (is, says) (forgetting-fits log_bytes which said.state holds.fits);
-    published = ap (λ (s : ControlState). s.published) is;
-    position = ap (λ (s : ControlState). s.position) is;
+    fits = forgetting-fits log_bytes which said.state holds.fits;
+    published = holds.published;
+    region = same.region;
   }
 
-  may-follow : (after : ControlState) → after ≡ followed_by before.phase before → MayRestate pages log_bytes before after read said
-  may-follow after is = record {
-    holds = HoldsControl-same pages log_bytes old read said same holds;
+  may-follow : MayRestate pages log_bytes before read said (saying said (followed said.state))
+  may-follow = record {
+    holds = same;
     says = says;
-    fits = rw (is, says) (followed-fits log_bytes said.state.phase said.state holds.fits);
-    published = ap (λ (s : ControlState). s.published) is ∙ followed-published before.phase before;
-    position = ap (λ (s : ControlState). s.position) is ∙ followed-position before.phase before;
+    fits = followed-fits log_bytes said.state.phase said.state holds.fits;
+    published = rw (followed-published said.state.phase said.state, followed-position said.state.phase said.state) holds.published;
+    region = rw (followed-published said.state.phase said.state) same.region;
   }
 
-  pub forgets : (which : Unreached) (after : ControlState) (new : ℕ → Slot) → after ≡ forgetting which before → Restates pages before after read new
-      → (before ≡ said.state) × (after ≡ forgetting which said.state) × HoldsControl pages log_bytes new (saying said after)
-  forgets which after new is restates = (says, is ∙ ap (forgetting which) says, restates log_bytes said (may-forget which after is))
+  may-unpublish : MayRestate pages log_bytes before read said (unpublished said)
+  may-unpublish = record {
+    holds = same;
+    says = says;
+    fits = without_checkpoint-fits log_bytes said.state holds.fits;
+    published = refl;
+    region = tt;
+  }
 
-  pub forgets_leaves : (which : Unreached) (after : ControlState) (new : ℕ → Slot) → after ≡ forgetting which before → Restates pages before after read new
-      → LeavesSaid pages log_bytes new (saying said (forgetting which said.state))
-  forgets_leaves which after new is restates =
-      subst (λ (s : ControlState). LeavesSaid pages log_bytes new (saying said s)) (is ∙ ap (forgetting which) says)
-      (LeavesSaid-held pages log_bytes new (saying said after) (restates log_bytes said (may-forget which after is)))
+  -- what a call writes in its place
+  module _ (told : Said) (f : ControlState → ControlState) (is_told : told.state ≡ f said.state) (may : MayRestate pages log_bytes before read said told)
+      (after : ControlState) (new : ℕ → Slot) (is : after ≡ f before) where
+    after-is : after ≡ told.state
+    after-is = is ∙ ap f says ∙ sym is_told
 
-  pub forgets_or_not : (which : Unreached) (after : ControlState) (new : ℕ → Slot) → after ≡ forgetting which before → RestatesOrNot pages before after read new
-      → LeavesEither pages log_bytes new said (saying said (forgetting which said.state))
-  forgets_or_not which after new is either =
-      subst (λ (s : ControlState). LeavesEither pages log_bytes new said (saying said s)) (is ∙ ap (forgetting which) says) (either log_bytes said (may-forget which after is))
+    restated_holds : Restates pages before after read new → HoldsControl pages log_bytes new told
+    restated_holds restates = restates log_bytes said told after-is may
 
-  pub follows : (after : ControlState) (new : ℕ → Slot) → after ≡ followed_by before.phase before → Restates pages before after read new
-      → (before ≡ said.state) × (after ≡ followed said.state) × HoldsControl pages log_bytes new (saying said after)
-  follows after new is restates = (says, is ∙ ap followed says, restates log_bytes said (may-follow after is))
+    restated_leaves : Restates pages before after read new → LeavesSaid pages log_bytes new told
+    restated_leaves restates = LeavesSaid-held pages log_bytes new told (restated_holds restates)
 
-  pub follows_leaves : (after : ControlState) (new : ℕ → Slot) → after ≡ followed_by before.phase before → Restates pages before after read new
-      → LeavesSaid pages log_bytes new (saying said (followed said.state))
-  follows_leaves after new is restates =
-      subst (λ (s : ControlState). LeavesSaid pages log_bytes new (saying said s)) (is ∙ ap followed says)
-      (LeavesSaid-held pages log_bytes new (saying said after) (restates log_bytes said (may-follow after is)))
+    restated_or_not : RestatesOrNot pages before after read new → LeavesEither pages log_bytes new said told
+    restated_or_not either = either log_bytes said told after-is may
 
-  pub follows_or_not : (after : ControlState) (new : ℕ → Slot) → after ≡ followed_by before.phase before → RestatesOrNot pages before after read new
-      → LeavesEither pages log_bytes new said (saying said (followed said.state))
-  follows_or_not after new is either =
-      subst (λ (s : ControlState). LeavesEither pages log_bytes new said (saying said s)) (is ∙ ap followed says) (either log_bytes said (may-follow after is))
+  module _ (which : Unreached) (after : ControlState) (new : ℕ → Slot) (is : after ≡ forgetting which before) where
+    pub forgets : Restates pages before after read new
+        → (before ≡ said.state) × (after ≡ forgetting which said.state) × HoldsControl pages log_bytes new (saying said after)
+    forgets restates =
+        let same : after ≡ forgetting which said.state = is ∙ ap (forgetting which) says in (
+          says,
+          same,
+          subst (λ (s : ControlState). HoldsControl pages log_bytes new (saying said s)) (sym same)
+              (restated_holds (saying said (forgetting which said.state)) (forgetting which) refl (may-forget which) after new is restates),
+        )
+
+    pub forgets_leaves : Restates pages before after read new → LeavesSaid pages log_bytes new (saying said (forgetting which said.state))
+    forgets_leaves restates = restated_leaves (saying said (forgetting which said.state)) (forgetting which) refl (may-forget which) after new is restates
+
+    pub forgets_or_not : RestatesOrNot pages before after read new → LeavesEither pages log_bytes new said (saying said (forgetting which said.state))
+    forgets_or_not either = restated_or_not (saying said (forgetting which said.state)) (forgetting which) refl (may-forget which) after new is either
+
+  module _ (after : ControlState) (new : ℕ → Slot) (is : after ≡ followed before) where
+    pub follows : Restates pages before after read new
+        → (before ≡ said.state) × (after ≡ followed said.state) × HoldsControl pages log_bytes new (saying said after)
+    follows restates =
+        let same : after ≡ followed said.state = is ∙ ap followed says in (
+          says,
+          same,
+          subst (λ (s : ControlState). HoldsControl pages log_bytes new (saying said s)) (sym same)
+              (restated_holds (saying said (followed said.state)) followed refl may-follow after new is restates),
+        )
+
+    pub follows_leaves : Restates pages before after read new → LeavesSaid pages log_bytes new (saying said (followed said.state))
+    follows_leaves restates = restated_leaves (saying said (followed said.state)) followed refl may-follow after new is restates
+
+    pub follows_or_not : RestatesOrNot pages before after read new → LeavesEither pages log_bytes new said (saying said (followed said.state))
+    follows_or_not either = restated_or_not (saying said (followed said.state)) followed refl may-follow after new is either
+
+  module _ (after : ControlState) (new : ℕ → Slot) (is : after ≡ without_checkpoint before) where
+    pub unpublishes : Restates pages before after read new
+        → (before ≡ said.state) × (after ≡ without_checkpoint said.state) × HoldsControl pages log_bytes new (unpublished said)
+    unpublishes restates = (says, is ∙ ap without_checkpoint says, restated_holds (unpublished said) without_checkpoint refl may-unpublish after new is restates)
+
+    pub unpublishes_leaves : Restates pages before after read new → LeavesSaid pages log_bytes new (unpublished said)
+    unpublishes_leaves restates = restated_leaves (unpublished said) without_checkpoint refl may-unpublish after new is restates
+
+    pub unpublishes_or_not : RestatesOrNot pages before after read new → LeavesEither pages log_bytes new said (unpublished said)
+    unpublishes_or_not either = restated_or_not (unpublished said) without_checkpoint refl may-unpublish after new is either
 
 -- a read that fails changes nothing
 pub unread_leaves : (pages log_bytes : ℕ) (old new : ℕ → Slot) (said after : Said) → SameBlocks old new → HoldsControl pages log_bytes old said → LeavesEither pages log_bytes new said after

@@ -1,12 +1,12 @@
 -- Control states that are written while the node is stopped: seals that the log never reached go away, and a primary follows again.
-use Rattle.std.specs.Prelude.{◌≡◌, ◌⊎◌, ℕ, ◌+◌, List, [], ◌∷◌, nat_lt, if◌then◌else◌}
+use Rattle.std.specs.Prelude.{◌≡◌, ◌⊎◌, ℕ, ◌+◌, List, [], ◌∷◌, None, nat_lt, if◌then◌else◌}
 use Rattle.als_disk.specs.Slot.{Slot, KeepsCandidate}
 use Rattle.als_ckpt.specs.declared.phase.Phase.{Phase}
 use Rattle.als_ckpt.specs.declared.phase.Phase.TheVariants.{Following, Sealed, Primary}
 use Rattle.als_ckpt.specs.declared.unreached.Unreached.{Unreached}
 use Rattle.als_ckpt.specs.declared.unreached.Unreached.TheVariants.{AboveEnd, FromEnd}
 use Rattle.als_ckpt.specs.declared.control_state.ControlState.{ControlState}
-use Rattle.als_ckpt.specs.Regions.{Said}
+use Rattle.als_ckpt.specs.Regions.{Said, IsPublished, HoldsPublished}
 use Rattle.als_ckpt.specs.Control.{IsControlState}
 use Rattle.als_ckpt.specs.Holding.{HoldsControl}
 
@@ -56,20 +56,28 @@ abbrev pub LeavesEither : ℕ → ℕ → (ℕ → Slot) → Said → Said → T
 LeavesEither pages log_bytes slots before after
     = (left : ℕ → Slot) → ((k : ℕ) → KeepsCandidate (slots k) (left k)) → HoldsControl pages log_bytes left before ⊎ HoldsControl pages log_bytes left after
 
--- Another state may be written in the place of the one that the device says: the format admits it, and it publishes the same checkpoint.
-pub record MayRestate (pages log_bytes : ℕ) (before after : ControlState) (slots : ℕ → Slot) (said : Said) : Type 0 where
+-- the state of a node whose pages are laid out anew: it publishes no checkpoint, so a restart redoes its whole log
+abbrev pub without_checkpoint : ControlState → ControlState
+without_checkpoint s = record s { published = None; position = record { 0 = 0 } }
+
+-- what the device says then
+abbrev pub unpublished : Said → Said
+unpublished said = record { state = without_checkpoint said.state; checkpoint = None }
+
+-- The format admits what is to be said in the place of what the device says, and a region holds the checkpoint that it publishes.
+pub record MayRestate (pages log_bytes : ℕ) (before : ControlState) (slots : ℕ → Slot) (said told : Said) : Type 0 where
   pub holds : HoldsControl pages log_bytes slots said
   pub says : before ≡ said.state
-  pub fits : IsControlState log_bytes after
-  pub published : after.published ≡ before.published
-  pub position : after.position ≡ before.position
+  pub fits : IsControlState log_bytes told.state
+  pub published : IsPublished pages told.state.published told.state.position.0 told.checkpoint
+  pub region : HoldsPublished slots told.state.published told.checkpoint
 
--- then the device says it
+-- then the device says it, once its state is written
 abbrev pub Restates : ℕ → ControlState → ControlState → (ℕ → Slot) → (ℕ → Slot) → Type 0
 Restates pages before after old new
-    = (log_bytes : ℕ) (said : Said) → MayRestate pages log_bytes before after old said → HoldsControl pages log_bytes new (saying said after)
+    = (log_bytes : ℕ) (said told : Said) → after ≡ told.state → MayRestate pages log_bytes before old said told → HoldsControl pages log_bytes new told
 
 -- or a crash leaves one of the two
 abbrev pub RestatesOrNot : ℕ → ControlState → ControlState → (ℕ → Slot) → (ℕ → Slot) → Type 0
 RestatesOrNot pages before after old new
-    = (log_bytes : ℕ) (said : Said) → MayRestate pages log_bytes before after old said → LeavesEither pages log_bytes new said (saying said after)
+    = (log_bytes : ℕ) (said told : Said) → after ≡ told.state → MayRestate pages log_bytes before old said told → LeavesEither pages log_bytes new said told

@@ -5,7 +5,7 @@ ghost use Rattle.als_ckpt.specs.declared.control_state.ControlState.{ControlStat
 ghost use Rattle.als_ckpt.specs.Regions.{Said};
 ghost use Rattle.als_ckpt.specs.Holding.{HoldsControl};
 ghost use Rattle.als_ckpt.specs.Again.{seals_below, bound_of, history_left, forgetting, followed_by};
-ghost use Rattle.als_ckpt.specs.Again.{followed};
+ghost use Rattle.als_ckpt.specs.Again.{followed, without_checkpoint, unpublished};
 ghost use Rattle.als_ckpt.specs.Again.{saying, LeavesSaid, LeavesEither, Restates, RestatesOrNot};
 
 use crate::control_state::ControlState;
@@ -75,8 +75,18 @@ fn followed_by(phase: Phase, state: &ControlState) -> ControlState
     }
 }
 
-/// Writes a state in the place of the one that the device says, and syncs the device. The two
-/// publish the same checkpoint.
+/// The state that publishes no checkpoint.
+fn without_checkpoint(state: &ControlState) -> ControlState
+    ensures { result ≡ without_checkpoint state.now }
+{
+    ControlState {
+        published: None,
+        position: Lsn(0),
+        ..*state
+    }
+}
+
+/// Writes a state in the place of the one that the device says, and syncs the device.
 ///
 /// `Device`: the disk failed, and a crash leaves one of the two.
 fn restate<D: BlockDisk>(disk: &mut D, pages: u32, after: &ControlState) -> Result<(), Fault>
@@ -162,6 +172,40 @@ pub fn follow_again<D: BlockDisk>(
 {
     let before = read_state(disk, pages, log_bytes)?;
     let after = followed_by(before.phase, &before);
+    restate(disk, pages, &after)?;
+    Ok(Restated { before, after })
+}
+
+/// Forgets the checkpoint of a stopped node whose pages are laid out anew: what the pages lack is
+/// then looked for from the first record of the log on. Phase, mark, seal and history stay. It
+/// answers what the device said and what it says now.
+///
+/// `Device`: the disk failed, and a crash leaves one of the two. `BadControl`: the block is no
+/// control block.
+pub fn forget_checkpoint<D: BlockDisk>(
+    disk: &mut D,
+    pages: u32,
+    log_bytes: u64,
+) -> Result<Restated, Fault>
+    requires settled { IsSettled (D.slot disk.old 0) }
+    requires room { 1 ≤ D.block_count disk.old }
+    // The device says the same state without a checkpoint.
+    ensures ok { IfOk result (λ r. (said : Said)
+        → HoldsControl pages log_bytes (D.slot disk.old) said
+        → (r.before ≡ said.state) × (r.after ≡ without_checkpoint said.state)
+        × HoldsControl pages log_bytes (D.slot disk.new) (unpublished said)) }
+    // So says whatever a crash leaves.
+    ensures leaves { IfOk result (λ r. (said : Said)
+        → HoldsControl pages log_bytes (D.slot disk.old) said
+        → LeavesSaid pages log_bytes (D.slot disk.new) (unpublished said)) }
+    ensures err { OnErr result ((said : Said)
+        → HoldsControl pages log_bytes (D.slot disk.old) said
+        → LeavesEither pages log_bytes (D.slot disk.new) said (unpublished said)) }
+    ensures fault { IfErr result (λ fault. (fault ≡ Fault.Device) ⊎ (fault ≡ Fault.BadControl)) }
+    ensures count { D.block_count disk.new ≡ D.block_count disk.old }
+{
+    let before = read_state(disk, pages, log_bytes)?;
+    let after = without_checkpoint(&before);
     restate(disk, pages, &after)?;
     Ok(Restated { before, after })
 }

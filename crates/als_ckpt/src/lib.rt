@@ -42,7 +42,7 @@ mod again;
 // That a block is the control block of one state.
 mod laws;
 
-pub use again::{follow_again, forget_unreached};
+pub use again::{follow_again, forget_checkpoint, forget_unreached};
 pub use control::Control;
 pub use control_state::ControlState;
 pub use device::{clear, read_state};

@@ -47,6 +47,20 @@ pub enum Command<'a> {
         dir: &'a str,
         explain: bool,
     },
+    /// Transactions of JSON lines into the log of a folder's primary.
+    Commit {
+        dir: &'a str,
+        pages: Option<u64>,
+        log_blocks: u64,
+        batch: u64,
+        skip_bad: bool,
+        explain: bool,
+    },
+    /// The pages of a folder's node anew from its log.
+    RebuildPages {
+        dir: &'a str,
+        explain: bool,
+    },
     /// A transaction in doubt commits, or rolls back.
     Resolve {
         dir: &'a str,

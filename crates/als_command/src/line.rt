@@ -15,7 +15,7 @@ pub(crate) struct Line {
 }
 
 /// The command lines that the program knows, in the order of its help.
-pub(crate) const LINES: [Line; 10] = [
+pub(crate) const LINES: [Line; 12] = [
     Line {
         name: "make",
         about: texts::MAKE_ABOUT,
@@ -130,6 +130,38 @@ pub(crate) const LINES: [Line; 10] = [
         choice: &[],
     },
     Line {
+        name: "commit",
+        about: texts::COMMIT_ABOUT,
+        help: texts::COMMIT_HELP,
+        words: &[
+            DIR,
+            Word::Long {
+                name: "pages",
+                value: "N",
+                help: "Pages of a new database, 1 to 4096",
+                is_wanted: false,
+            },
+            Word::Long {
+                name: "log-blocks",
+                value: "B",
+                help: "Blocks of the log of a new database [default: 2048]",
+                is_wanted: false,
+            },
+            Word::Long {
+                name: "batch",
+                value: "L",
+                help: "Lines that one force makes durable, 1 to 1000 [default: 1]",
+                is_wanted: false,
+            },
+            Word::Flag {
+                name: "skip-bad",
+                help: "Pass over a line that is no transaction",
+            },
+            EXPLAIN,
+        ],
+        choice: &[],
+    },
+    Line {
         name: "resolve",
         about: texts::RESOLVE_ABOUT,
         help: texts::RESOLVE_HELP,
@@ -152,6 +184,13 @@ pub(crate) const LINES: [Line; 10] = [
             EXPLAIN,
         ],
         choice: &["commit", "rollback"],
+    },
+    Line {
+        name: "rebuild-pages",
+        about: texts::REBUILD_PAGES_ABOUT,
+        help: texts::REBUILD_PAGES_HELP,
+        words: &[DIR, EXPLAIN],
+        choice: &[],
     },
     Line {
         name: "dump",

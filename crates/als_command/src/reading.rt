@@ -18,6 +18,9 @@ const READERS: u64 = 2;
 /// The seconds that the other end may be silent, where the command line does not say.
 const TIMEOUT: u64 = 60;
 
+/// The log blocks of a new database, where the command line does not say.
+const LOG_BLOCKS: u64 = 2_048;
+
 /// What is said of words of which one is of a file, and the other of a folder.
 const PARTED: &str =
     "the argument '--follow' cannot be used with '--dir <DIR>': a node's log does not grow while it is shipped; --keep can";
@@ -90,7 +93,9 @@ fn asked<'a>(name: &str, matches: &ArgMatches<'a>) -> Option<Command<'a>> {
         "ship" => ship(matches),
         "standby" => standby(matches),
         "takeover" => takeover(matches),
+        "commit" => commit(matches),
         "resolve" => resolve(matches),
+        "rebuild-pages" => rebuild_pages(matches),
         "dump" => dump(matches),
         "verify" => verify(matches),
         "status" => status(matches),
@@ -148,11 +153,29 @@ fn takeover<'a>(matches: &ArgMatches<'a>) -> Option<Command<'a>> {
     })
 }
 
+fn commit<'a>(matches: &ArgMatches<'a>) -> Option<Command<'a>> {
+    Some(Command::Commit {
+        dir: matches.get_str("dir")?,
+        pages: matches.get_one("pages"),
+        log_blocks: matches.get_one("log-blocks").unwrap_or(LOG_BLOCKS),
+        batch: matches.get_one("batch").unwrap_or(1),
+        skip_bad: matches.get_flag("skip-bad"),
+        explain: matches.get_flag("explain"),
+    })
+}
+
 fn resolve<'a>(matches: &ArgMatches<'a>) -> Option<Command<'a>> {
     Some(Command::Resolve {
         dir: matches.get_str("dir")?,
         trans: matches.get_one("trans")?,
         is_commit: matches.get_flag("commit"),
+        explain: matches.get_flag("explain"),
+    })
+}
+
+fn rebuild_pages<'a>(matches: &ArgMatches<'a>) -> Option<Command<'a>> {
+    Some(Command::RebuildPages {
+        dir: matches.get_str("dir")?,
         explain: matches.get_flag("explain"),
     })
 }

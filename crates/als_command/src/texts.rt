@@ -184,6 +184,44 @@ Exit statuses: 0 done, 2 a fault of the command line, 3 `als: refused N Name`:
   33, 34, 1 to 16 a file of it is damaged
   37  log.blk is longer than the largest log";
 
+pub const COMMIT_ABOUT: &str = "Writes transactions into the log of a primary";
+
+pub const COMMIT_HELP: &str =
+    "Needs DIR, a folder that is there, for itself alone: an empty one (then give --pages: a new
+database of N pages with a log of B blocks of 512 bytes is laid out), one that `als commit`
+wrote before, or one that `als takeover` made a primary. The file `role` in it says that it is a
+primary's.
+Reads standard input: a transaction a line, in JSON:
+  {\"if\":[{\"key\":[P,S],\"is\":\"ab\"},{\"key\":[P,S],\"unchanged_since\":L}],
+   \"set\":[{\"key\":[P,S],\"to\":\"cd\"},{\"key\":[P,S],\"to\":null}]}
+on one line. A key is page P, slot S (0 to 14); a value is up to 31 bytes in hexadecimal, null is
+none. All comparisons of `if` hold and all of `set` is written, or nothing is; `if` may be left
+out. `unchanged_since` asks that no commit above LSN L wrote the key.
+Writes standard output: for each line, in order, once it is durable,
+  lsn=L trans=T           it committed; L is its commit record, T its number
+  not as asked [P,S]=VALUE  the first comparison that fails, and what the key has (`-` none,
+                          `.` the empty value)
+  refused N Name          nothing was written; the next line may be
+A line that is no transaction ends it: `line N: ` and what is wrong go to standard error; the
+lines in front of it stay written. With --skip-bad it goes on.
+One force of the log makes a line durable, or L lines with --batch.
+At its end the pages and a checkpoint are put on the files. `als ship --dir DIR` serves the log.
+
+Example:
+  mkdir a
+  echo '{\"set\":[{\"key\":[0,0],\"to\":\"aa\"}]}' | als commit --dir a --pages 4
+
+Exit statuses: 0 done, 2 a fault of the command line or a line that is no transaction, 3
+`als: refused N Name`:
+  21  a takeover of DIR is not at its end: `als takeover` goes on with it
+  30  DIR or a file of it failed, or another program has DIR; or control.blk is missing,
+      but log.blk or pages.blk has data: nothing was touched
+  33, 34, 1 to 16 a file of it is damaged
+  37  N is missing for a new database or not 1 to 4,096, B not 1 to 4,194,304, or L not 1 to
+      1,000; no file was touched
+  44  standard input or output failed
+  46  DIR is the folder of a standby: take it over first";
+
 pub const RESOLVE_ABOUT: &str = "Decides a transaction in doubt after a takeover";
 
 pub const RESOLVE_HELP: &str =
@@ -204,6 +242,27 @@ Exit statuses: 0 done, 2 a fault of the command line, 3 `als: refused N Name`:
   33, 34, 1 to 16 a file of it is damaged
   46  DIR was not taken over: `als takeover` does that
   47  T is not in doubt";
+
+pub const REBUILD_PAGES_ABOUT: &str = "Lays the pages of a folder out anew from its log";
+
+pub const REBUILD_PAGES_HELP: &str =
+    "Needs DIR, the folder of a node that does not run: a standby or a primary. Its log holds all that
+its pages do, so a pages.blk that is lost, damaged or an old one is no loss: it need not be there.
+Reads the log first; where that or control.blk is refused, nothing is written. Then lays pages.new
+out, drops the checkpoint, gives pages.new the name pages.blk, redoes the whole log, and puts the
+pages and a checkpoint on the files. Log, phase and history stay. Takes as long as the redo of
+the whole log. Where pages.blk is a link, the link goes away and the pages stand in DIR.
+Writes standard output: `end=E ack=A`, where the log ends, and up to where no crash can lose it.
+After a crash run it again: it begins anew.
+
+Example:
+  als rebuild-pages --dir standby
+
+Exit statuses: 0 done, 2 a fault of the command line, 3 `als: refused N Name`:
+  30  DIR or log.blk or control.blk failed, or another program has DIR
+  29  the log leaves no room for what a takeover would append
+  34, 1 to 16 log.blk or control.blk is damaged; nothing was written
+  37  log.blk is longer than the largest log";
 
 pub const DUMP_ABOUT: &str = "Prints the records of a log file or of a standby";
 
@@ -228,7 +287,8 @@ pub const VERIFY_ABOUT: &str = "Tells whether a log file or a standby is sound";
 pub const VERIFY_HELP: &str =
     "Reads PATH and changes nothing: a log file, or the folder of a standby that does not run.
 Of a log each record has to be one, and has to follow those in front of it. Of a folder the
-control block, the checkpoint and the pages are read too, as a restart does.
+control block, the checkpoint and the pages are read too, as a restart does, and each page is
+compared with what the log makes of it: `als rebuild-pages` mends one that differs (33).
 Writes standard output: `sound records=R end=E`, or `unsound lsn=L N Name`: where the first
 record that is not sound begins, and why. What is wrong in no record has lsn=0.
 
@@ -245,8 +305,9 @@ Writes standard output: a line
   phase=F pages=N end=E ack=A checkpoint=Q behind=B transactions=T capacity=C left=L
 with F Following, Sealed or Primary; E, where the held log ends; A, up to where no crash can
 lose it; Q, where the log ended at the last checkpoint, 0 without one; B, the bytes of log that
-a restart redoes; C, the bytes that the log takes at most; and L, those that it still takes. Then
-a line for each unended transaction, in rising TransID:
+a restart redoes; C, the bytes that the log takes at most; and L, those that it still takes.
+After takeovers a line `epoch N seals S ..`; of a primary's folder a line `role primary epoch=N`.
+Then a line for each unended transaction, in rising TransID:
   trans T STATE last=L undo=U      (STATE active, prepared, committed or rollback)
 The whole log and the checkpoint are read as a restart reads them, in a copy in memory.
 

@@ -1,6 +1,6 @@
 -- What the writes and the syncs of a device make of its blocks.
 use Rattle.std.specs.Prelude.{◌≡◌, nat_eq, ℕ, Bool, true, false, List, [], ◌∷◌, Contains, if◌then◌else◌}
-use Rattle.std.proofs.Common.{arith, refl, subst}
+use Rattle.std.proofs.Common.{arith, refl, subst, sym, ap, ◌∙◌}
 use Rattle.std.proofs.lemmas.List.Elements.{Contains-push}
 use Rattle.als_disk.specs.declared.trail.Trail.{Trail}
 use Rattle.als_disk.specs.declared.trail.Trail.TheVariants.{Start, Wrote', Synced'}
@@ -53,3 +53,9 @@ slot_in-gives_candidates trail = record {
 -- a sync leaves what a read gives
 pub KeepsReadable-last : (trail : Trail) (k : ℕ) (new : Slot) → new ≡ only (newest_in trail k) → KeepsReadable (slot_in trail k) new
 KeepsReadable-last trail k new left = record { content = newest_in trail k; was_readable = rw (readable_in trail k) (0, omega arith, refl); left = left }
+
+-- the last content of a block with one content
+pub newest_of_only : (trail : Trail) (k : ℕ) (content : List ℕ) → slot_in trail k ≡ only content → newest_in trail k ≡ content
+newest_of_only trail k content is =
+    let one : newest_in trail k ∷ [] ≡ content ∷ [] = sym (readable_in trail k) ∙ ap (λ (s : Slot). s.readable) is in
+    Contains-one (subst (λ (xs : List (List ℕ)). Contains xs content) (sym one) (0, omega arith, refl))

@@ -5,22 +5,30 @@
 //! 1. `open` reads the file once, piece by piece, and writes each piece back that is not all zeros.
 //!    After a failed sync a file system may show bytes that are not on the disk, and take them for
 //!    synced; the sync that follows brings to the disk what was read.
+//!    `open_below` is for a file that is written in rising order, and of which a mark is kept
+//!    elsewhere: a mark was written only once each byte below it was synced. It reads the blocks below
+//!    the mark. The last of them alone may have been written since, and it is written back. What lies
+//!    above was never promised: it is neither read nor written, and taken as zeros.
 //! 2. A write goes to the mirror. Blocks that are written in a row wait, and go to the file by one
 //!    write where the row or its piece of 64 KiB ends, or at the sync. A sync hands over what waits,
 //!    syncs the file, and then settles the mirror. So a write that the file refuses may be answered
 //!    by a later call.
-//! 3. Once the file has failed, each call fails, and the first error is kept.
+//! 3. Once the file has failed, each call fails, and the first failure is kept. A sync fails too
+//!    where the file lost its last name or was cut, since nobody would find there what it holds.
 //! 4. A device that forgets old blocks (`forget_old`) fails a read of one, and goes on.
 //!
-//! One premise is left, which no clause can say: the next opening reads in each block one of the
-//! candidates of this run. The calls are generic, so that a test records them and their order.
-ghost use Rattle.std.specs.Prelude.{◌≡◌, ◌<◌, ◌+◌, ◌*◌, ◌^◌, ℕ, IfOk};
+//! One premise is left, which no clause can say: the next opening reads, in each block that it reads,
+//! one of the candidates of this run. Below the mark that it finds, `open_below` reads each block. The calls are generic, so that a test records them and their order.
+ghost use Rattle.std.specs.Prelude.{◌≡◌, ◌<◌, ◌≤◌, ◌+◌, ◌*◌, ◌^◌, ℕ, IfOk};
 ghost use Rattle.als_disk.specs.Count.{number};
 ghost use Rattle.als_disk.specs.Mirror.{mirror_blocks, mirror_slot};
 ghost use Rattle.als_disk.specs.Slot.{only, IsSettled, SameBlocks};
 ghost use Rattle.als_disk.specs.Store.{zeros};
 
 use crate::count::Count;
+use crate::extent::Extent;
+use crate::failure::Failure;
+use crate::intact::Intact;
 use crate::mirror::Mirror;
 use crate::piece::PIECE_BLOCKS;
 use crate::pieces::write_zeros;
@@ -28,7 +36,7 @@ use crate::reading::mirror_of;
 use crate::run::Run;
 use crate::{BlockDisk, DeviceError, FirstError};
 use std::alloc::Global;
-use std::fs::{File, OpenFile, OpenOptions};
+use std::fs::{File, OpenFile, OpenOptions, TryLockError};
 use std::io;
 use std::os::unix::fs::{FileExt, OpenOptionsExt};
 use std::path::AsPath;
@@ -37,6 +45,7 @@ use std::rt::Files;
 /// A device over a file, of its length / 512 blocks.
 pub struct FileDisk<F = File> {
     file: F,
+    intact: Intact,
     mirror: Mirror,
     /// What the mirror has and the file has not.
     run: Run,
@@ -52,6 +61,7 @@ impl<F: Drop> Drop for FileDisk<F> {
     fn drop(self) {
         let FileDisk {
             file,
+            intact: _,
             mirror,
             run: _,
             first_error,
@@ -62,6 +72,13 @@ impl<F: Drop> Drop for FileDisk<F> {
         drop(file);
         drop(mirror);
         drop(first_error);
+    }
+}
+
+impl FileDisk<File> {
+    /// Locks the file for this program alone, until the device is dropped.
+    pub fn try_lock(&self) -> Result<(), TryLockError> {
+        self.file.try_lock()
     }
 }
 
@@ -93,15 +110,9 @@ impl<F: OpenFile + FileExt + Drop> FileDisk<F> {
         write_zeros(rt.alloc(), &file, blocks)?;
         file.sync_all()?;
         let mirror = Mirror::zeros(rt.alloc(), blocks)?;
-        Ok(FileDisk {
-            file,
-            mirror,
-            run: Run::NONE,
-            first_error,
-            broken: false,
-            failed: Count::Zero,
-            attempted: Count::Zero,
-        })
+        let found = file.metadata()?;
+        let intact = Intact::of(&found, blocks);
+        Ok(FileDisk::with(file, intact, mirror, first_error))
     }
 
     /// Opens a file, whatever it holds, and makes what it read last: each piece that is not all
@@ -122,24 +133,80 @@ impl<F: OpenFile + FileExt + Drop> FileDisk<F> {
         FileDisk::over(rt.alloc(), file, first_error)
     }
 
+    /// Opens a file of which the first bytes alone are known to hold something. The blocks that have
+    /// one of them are read, and the last of these is written back; each block above is taken as
+    /// zeros, whatever the file has there. It fails where the file does, or where there is no memory.
+    ///
+    /// Each block below the last one was synced before anybody could know of it, and was not written
+    /// since. So it lasts as it is read.
+    pub fn open_below<R: Files<File = F> + AllocGlobal, P: AsPath>(
+        rt: &R,
+        path: P,
+        first_error: FirstError,
+        bytes: u64,
+    ) -> io::Result<FileDisk<F>>
+        ensures settled { IfOk result (λ disk. (k : ℕ)
+            → IsSettled (⟦<FileDisk<F> as BlockDisk>⟧.slot disk k)) }
+        ensures above { IfOk result (λ disk. (k : ℕ) → bytes ≤ k * 512
+            → ⟦<FileDisk<F> as BlockDisk>⟧.slot disk k ≡ only zeros) }
+    {
+        let file = OpenOptions::new()
+            .read(true)
+            .write(true)
+            .open(rt, path.path_text())?;
+        FileDisk::over_below(rt.alloc(), file, first_error, bytes)
+    }
+
     /// A device over a file that is open, as `open` makes it.
     pub fn over(alloc: Global, file: F, first_error: FirstError) -> io::Result<FileDisk<F>>
         ensures settled { IfOk result (λ disk. (k : ℕ)
             → IsSettled (⟦<FileDisk<F> as BlockDisk>⟧.slot disk k)) }
     {
-        let blocks = file.metadata()?.len() / 512;
-        let mirror = mirror_of(alloc, &file, blocks)?;
+        let found = file.metadata()?;
+        let blocks = found.len() / 512;
+        let intact = Intact::of(&found, blocks);
+        let mirror = mirror_of(alloc, &file, blocks, Extent::whole(blocks))?;
         // What is read has to be on the disk: an earlier run's writes may still be on their way.
         file.sync_all()?;
-        Ok(FileDisk {
+        Ok(FileDisk::with(file, intact, mirror, first_error))
+    }
+
+    /// A device over a file that is open, as `open_below` makes it.
+    pub fn over_below(
+        alloc: Global,
+        file: F,
+        first_error: FirstError,
+        bytes: u64,
+    ) -> io::Result<FileDisk<F>>
+        ensures settled { IfOk result (λ disk. (k : ℕ)
+            → IsSettled (⟦<FileDisk<F> as BlockDisk>⟧.slot disk k)) }
+        ensures above { IfOk result (λ disk. (k : ℕ) → bytes ≤ k * 512
+            → ⟦<FileDisk<F> as BlockDisk>⟧.slot disk k ≡ only zeros) }
+    {
+        let found = file.metadata()?;
+        let blocks = found.len() / 512;
+        let intact = Intact::of(&found, blocks);
+        let mirror = mirror_of(alloc, &file, blocks, Extent::below(blocks, bytes))?;
+        // The last block has to be on the disk: an earlier run may have written it again.
+        file.sync_all()?;
+        Ok(FileDisk::with(file, intact, mirror, first_error))
+    }
+
+    /// A device of which no call has failed.
+    fn with(file: F, intact: Intact, mirror: Mirror, first_error: FirstError) -> FileDisk<F>
+        requires { mirror_blocks mirror * 512 < 2 ^ 64 }
+        ensures mirror { result.mirror ≡ mirror }
+    {
+        FileDisk {
             file,
+            intact,
             mirror,
             run: Run::NONE,
             first_error,
             broken: false,
             failed: Count::Zero,
             attempted: Count::Zero,
-        })
+        }
     }
 
     /// From now on each sync forgets blocks that lie far below the highest one that was written, and
@@ -215,13 +282,21 @@ impl<F: OpenFile + FileExt + Drop> FileDisk<F> {
         Ok(())
     }
 
+    /// Makes what the file was given last, and sees that it is still the file that was opened.
+    fn make_last(&self) -> Result<(), Failure> {
+        match self.file.sync_data() {
+            Ok(()) => self.intact.check(&self.file),
+            Err(error) => Err(Failure::of_call(&error)),
+        }
+    }
+
     /// Notes that the file has failed: each call fails from now on.
-    fn break_off(&mut self, error: io::Error)
+    fn break_off(&mut self, failure: Failure)
         ensures mirror { self.new.mirror ≡ self.old.mirror }
         ensures failed { number self.new.failed ≡ number self.old.failed + 1 }
         ensures attempted { self.new.attempted ≡ self.old.attempted }
     {
-        self.first_error.note(&error);
+        self.first_error.note(failure);
         self.broken = true;
         self.failed.step();
     }
@@ -270,7 +345,7 @@ impl<F: OpenFile + FileExt + Drop> BlockDisk for FileDisk<F> {
             return Err(DeviceError);
         }
         if let Err(error) = self.end_run(i) {
-            self.break_off(error);
+            self.break_off(Failure::of_call(&error));
             return Err(DeviceError);
         }
         if self.mirror.write(i, block).is_err() {
@@ -280,7 +355,7 @@ impl<F: OpenFile + FileExt + Drop> BlockDisk for FileDisk<F> {
         match self.take(i, block) {
             Ok(()) => Ok(()),
             Err(error) => {
-                self.break_off(error);
+                self.break_off(Failure::of_call(&error));
                 Err(DeviceError)
             }
         }
@@ -293,10 +368,10 @@ impl<F: OpenFile + FileExt + Drop> BlockDisk for FileDisk<F> {
             return Err(DeviceError);
         }
         if let Err(error) = self.hand_over() {
-            self.break_off(error);
+            self.break_off(Failure::of_call(&error));
             return Err(DeviceError);
         }
-        match self.file.sync_data() {
+        match self.make_last() {
             Ok(()) => {
                 self.mirror.settle();
                 Ok(())

@@ -28,7 +28,11 @@ mod countdown;
 mod fuse;
 // a device that fails where its fuse burns
 mod failing_disk;
-// the first error of a file
+// why a file failed
+mod failure;
+// whether a file is still the one that was opened
+mod intact;
+// why a file failed first
 mod first_error;
 // files, piece by piece
 mod pieces;
@@ -36,6 +40,8 @@ mod pieces;
 mod trail;
 // 64 KiB of a file
 mod piece;
+// which blocks of a file an opening reads
+mod extent;
 // how much of a file stays in memory
 mod keeps;
 // what a device over a file keeps in memory
@@ -50,6 +56,7 @@ mod file_disk;
 pub use block_disk::BlockDisk;
 pub use device_error::DeviceError;
 pub use failing_disk::FailingDisk;
+pub use failure::Failure;
 pub use file_disk::FileDisk;
 pub use first_error::FirstError;
 pub use fuse::Fuse;

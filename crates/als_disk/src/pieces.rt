@@ -9,7 +9,7 @@ use std::os::unix::fs::FileExt;
 pub(crate) const PIECE: u64 = 2048;
 
 /// A piece of zeros.
-pub(crate) fn zeros(alloc: Global) -> Result<Vec<[u8; 512]>, AllocError>
+pub(crate) fn zero_piece(alloc: Global) -> Result<Vec<[u8; 512]>, AllocError>
     ensures { IfOk result (λ piece. vec_len piece ≡ 2048) }
 {
     vec![in alloc; [0; 512]; PIECE as usize]
@@ -19,7 +19,7 @@ pub(crate) fn zeros(alloc: Global) -> Result<Vec<[u8; 512]>, AllocError>
 pub(crate) fn write_zeros<F: FileExt>(alloc: Global, file: &F, blocks: u64) -> io::Result<()>
     requires { blocks * 512 < 2 ^ 64 }
 {
-    let piece = zeros(alloc)?;
+    let piece = zero_piece(alloc)?;
     let mut first = 0;
     while first < blocks {
         let count = (blocks - first).min(PIECE);

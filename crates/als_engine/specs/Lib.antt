@@ -18,3 +18,4 @@ pub mod Publishing
 pub mod Runs
 pub mod Telling
 pub mod Restarts
+pub mod WritingOwn

@@ -65,6 +65,8 @@ mod stepping;
 mod taking_over;
 // Transactions in doubt are decided after it.
 mod resolving;
+// What a writer of transactions of its own asks.
+mod writing_own;
 
 use crate::config::Config;
 use crate::fault::Fault;

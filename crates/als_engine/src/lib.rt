@@ -29,6 +29,8 @@ mod engine;
 mod events;
 // An engine's events.
 mod engine_events;
+// What a writer asks.
+mod writes;
 // One step of the small machine, and its reply.
 mod step;
 // Laws of the small machine.
@@ -36,7 +38,7 @@ mod laws;
 
 pub use als_epochs::History;
 pub use als_lease::PageLease;
-pub use als_store::{Decision, Disks};
+pub use als_store::{Decision, Disks, KeyNow, WritingNow};
 pub use als_view::{Answer, Reader};
 pub use config::{CONTROL_BLOCKS, Config, LOG_BLOCK_LIMIT};
 pub use engine::Engine;
@@ -49,3 +51,4 @@ pub use not_given::NotGiven;
 pub use refused::Refused;
 pub use status::{State, Status};
 pub use step::{Reply, Step};
+pub use writes::Writes;

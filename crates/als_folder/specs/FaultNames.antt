@@ -43,6 +43,10 @@ IsOfNewDevice f = IsOf part.NewLog f ⊎ IsOf part.NewControl f ⊎ IsOf part.Ne
 abbrev pub IsOfLayout : Fault → Type 0
 IsOfLayout f = IsOfOpening f ⊎ IsOfNewDevice f
 
+-- the folder failed, or the file of its role
+abbrev pub IsOfRole : Fault → Type 0
+IsOfRole f = IsOf part.Itself f ⊎ IsOf part.Role f ⊎ IsOf part.NewRole f
+
 -- another program has the lock, or it failed
 abbrev pub IsOfLock : Fault → Type 0
 IsOfLock f = (f ≡ fault.Busy) ⊎ (f ≡ fault.Device (record { part = part.Itself; wrong = wrong.Failed }))

@@ -1,8 +1,11 @@
-ghost use Rattle.std.specs.Prelude.{◌≡◌, ◌<◌, ◌*◌, ◌^◌, IfOk};
+ghost use Rattle.std.specs.Prelude.{◌≡◌, ◌<◌, ◌*◌, ◌^◌, IfOk, IfErr};
 ghost use Rattle.als_disk.specs.Slot.{SameBlocks};
+ghost use Rattle.als_folder.specs.FaultNames.{IsOf, IsOfNewDevice};
 
+use crate::fault::Fault;
 use crate::lengths::Sizes;
 use crate::limit::FOLLOWED_PIECES;
+use crate::part::Part;
 use als_disk::{BlockDisk, FileDisk};
 use std::fs::{File, OpenFile};
 use std::io;
@@ -16,6 +19,31 @@ pub struct Devices<F = File> {
     pub control: FileDisk<F>,
     /// The pages'.
     pub pages: FileDisk<F>,
+}
+
+impl Devices<File> {
+    /// Locks the files of a database that was just laid out, for as long as their devices are there.
+    /// Those that `Folder::hold` found are locked already.
+    ///
+    /// Device: another program has one of them.
+    pub fn lock_new(&self) -> Result<(), Fault>
+        ensures { IfErr result IsOfNewDevice }
+    {
+        lock(&self.log, Part::NewLog)?;
+        lock(&self.control, Part::NewControl)?;
+        lock(&self.pages, Part::NewPages)?;
+        Ok(())
+    }
+}
+
+/// Locks the file of one device.
+fn lock(disk: &FileDisk, part: Part) -> Result<(), Fault>
+    ensures { IfErr result (IsOf part) }
+{
+    match disk.try_lock() {
+        Ok(()) => Ok(()),
+        Err(e) => Err(Fault::of_file_lock(part, e)),
+    }
 }
 
 impl<F: OpenFile + FileExt + Drop> Devices<F> {

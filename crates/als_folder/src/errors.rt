@@ -1,5 +1,5 @@
 use crate::part::Part;
-use crate::trouble::{Trouble, wrong_of};
+use crate::trouble::{Trouble, wrong_of_failure};
 use als_disk::FirstError;
 use std::alloc::{AllocError, Global};
 
@@ -37,16 +37,14 @@ impl Errors {
     /// What is wrong with a file that failed.
     pub(crate) fn trouble(&self) -> Option<Trouble> {
         let failed = [
-            (Part::Log, self.log.error()),
-            (Part::Control, self.control.error()),
-            (Part::Pages, self.pages.error()),
+            (Part::Log, self.log.failure()),
+            (Part::Control, self.control.failure()),
+            (Part::Pages, self.pages.failure()),
         ];
-        for (part, error) in &failed {
-            if let Some(error) = error {
-                return Some(Trouble {
-                    part: *part,
-                    wrong: wrong_of(error),
-                });
+        for (part, failure) in failed {
+            if let Some(failure) = failure {
+                let wrong = wrong_of_failure(failure);
+                return Some(Trouble { part, wrong });
             }
         }
         None

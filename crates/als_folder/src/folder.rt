@@ -13,9 +13,10 @@
 //! 4. `open` syncs the folder first: what `keep` renamed may not be on the disk yet.
 //! 5. Who takes the folder locks its files too. So no two programs write one file that has a name in
 //!    two folders.
-ghost use Rattle.std.specs.Prelude.{◌≡◌, ℕ, IfOk, IfErr};
-ghost use Rattle.als_disk.specs.Slot.{IsSettled};
-ghost use Rattle.als_folder.specs.declared.part.Part.TheVariants.{Itself};
+ghost use Rattle.std.specs.Prelude.{◌≡◌, ◌≤◌, ◌*◌, ℕ, IfOk, IfErr};
+ghost use Rattle.als_disk.specs.Slot.{only, IsSettled};
+ghost use Rattle.als_disk.specs.Store.{zeros};
+ghost use Rattle.als_folder.specs.declared.part.Part.TheVariants.{Itself, Log};
 ghost use Rattle.als_folder.specs.FaultNames.{IsOf, IsOfDevice, IsOfOpening};
 
 use crate::devices::{DeviceFiles, Devices};
@@ -25,6 +26,7 @@ use crate::holding::{Holding, check_room};
 use crate::locks::{Locks, Sharing};
 use crate::part::Part;
 use crate::trouble::Trouble;
+use crate::vacancy::{Found, Vacancy};
 use crate::zeros::is_zero_from;
 use als_disk::{BlockDisk, FileDisk, FirstError};
 use std::alloc::{AllocError, Global};
@@ -35,6 +37,7 @@ use std::path::{AsPath, PathBuf};
 use std::rt::Files;
 
 mod layout;
+mod role_file;
 
 /// The folder of a standby.
 pub struct Folder<F = File> {
@@ -163,6 +166,26 @@ impl<F: OpenFile + FileExt + Drop> Folder<F> {
         })
     }
 
+    /// Whether there is a whole database, or else a place for a new one.
+    ///
+    /// As `is_kept`.
+    pub fn find<R: Files<File = F> + AllocGlobal>(&self, rt: &R) -> Result<Found<'_, F>, Fault>
+        ensures fails { IfErr result IsOfOpening }
+    {
+        if self.has_control(rt)? {
+            return Ok(Found::Kept);
+        }
+        // The log's header is the same in an empty database.
+        let log = self.holding(rt, Part::Log, 16)?;
+        let pages = self.holding(rt, Part::Pages, 0)?;
+        check_room(log, pages)?;
+        Ok(Found::Vacant(Vacancy {
+            folder: self,
+            log,
+            pages,
+        }))
+    }
+
     /// Whether there is a whole database. Where there is none, a new one may be laid out.
     ///
     /// Device: the folder can't be asked, the control block is a link that leads nowhere, or there
@@ -171,14 +194,10 @@ impl<F: OpenFile + FileExt + Drop> Folder<F> {
     pub fn is_kept<R: Files<File = F> + AllocGlobal>(&self, rt: &R) -> Result<bool, Fault>
         ensures fails { IfErr result IsOfOpening }
     {
-        if self.has_control(rt)? {
-            return Ok(true);
+        match self.find(rt)? {
+            Found::Kept => Ok(true),
+            Found::Vacant(_) => Ok(false),
         }
-        // The log's header is the same in an empty database.
-        let log = self.holding(rt, Part::Log, 16)?;
-        let pages = self.holding(rt, Part::Pages, 0)?;
-        check_room(log, pages)?;
-        Ok(false)
     }
 
     /// Opens the devices of a database, which have length / 512 blocks each, once the folder is
@@ -221,6 +240,35 @@ impl<F: OpenFile + FileExt + Drop> Folder<F> {
         self.sync()?;
         let control = self.open_device(rt, Part::Control, &self.errors.control)?;
         Ok(control)
+    }
+
+    /// Opens the log's and the pages' devices of a database beside that of its control block, which
+    /// `open_control` gave. Of the log's, the blocks that have one of its first bytes are read, and
+    /// those above are taken as zeros: nothing is known to be there.
+    ///
+    /// Device: a file is missing or failed. Memory: there was none for what the files hold.
+    pub fn open_beside<R: Files<File = F> + AllocGlobal>(
+        &self,
+        rt: &R,
+        control: FileDisk<F>,
+        log_bytes: u64,
+    ) -> Result<Devices<F>, Fault>
+        ensures log { IfOk result (λ d. (k : ℕ)
+            → IsSettled (⟦<FileDisk<F> as BlockDisk>⟧.slot d.log k)) }
+        ensures above { IfOk result (λ d. (k : ℕ) → log_bytes ≤ k * 512
+            → ⟦<FileDisk<F> as BlockDisk>⟧.slot d.log k ≡ only zeros) }
+        ensures control { IfOk result (λ d. d.control ≡ control) }
+        ensures pages { IfOk result (λ d. (k : ℕ)
+            → IsSettled (⟦<FileDisk<F> as BlockDisk>⟧.slot d.pages k)) }
+        ensures fails { IfErr result IsOfDevice }
+    {
+        let log = self.open_log(rt, log_bytes)?;
+        let pages = self.open_device(rt, Part::Pages, &self.errors.pages)?;
+        Ok(Devices {
+            log,
+            control,
+            pages,
+        })
     }
 
     /// Opens the files of a database to be read alone: nothing is written, as `open` does.
@@ -312,6 +360,25 @@ impl<F: OpenFile + FileExt + Drop> Folder<F> {
         match FileDisk::open(rt, path.as_path(), first_error.clone()?) {
             Ok(disk) => Ok(disk),
             Err(e) => Err(Fault::of(part, e)),
+        }
+    }
+
+    /// Opens the log's device below its first bytes.
+    fn open_log<R: Files<File = F> + AllocGlobal>(
+        &self,
+        rt: &R,
+        bytes: u64,
+    ) -> Result<FileDisk<F>, Fault>
+        ensures settled { IfOk result (λ disk. (k : ℕ)
+            → IsSettled (⟦<FileDisk<F> as BlockDisk>⟧.slot disk k)) }
+        ensures above { IfOk result (λ disk. (k : ℕ) → bytes ≤ k * 512
+            → ⟦<FileDisk<F> as BlockDisk>⟧.slot disk k ≡ only zeros) }
+        ensures fails { IfErr result (IsOf Log) }
+    {
+        let path = self.path_of(rt, Part::Log)?;
+        match FileDisk::open_below(rt, path.as_path(), self.errors.log.clone()?, bytes) {
+            Ok(disk) => Ok(disk),
+            Err(e) => Err(Fault::of(Part::Log, e)),
         }
     }
 

@@ -21,6 +21,10 @@ mod errors;
 mod zeros;
 // Where a new database may be laid out.
 mod holding;
+// What a folder was found to be.
+mod vacancy;
+// Which epoch the primary of a folder writes.
+mod role;
 // The files that are locked with their folder.
 mod locks;
 // The folder.
@@ -33,4 +37,6 @@ pub use lengths::Sizes;
 pub use limit::{FOLLOWED_PIECES, LOG_LIMIT};
 pub use part::Part;
 pub use refusal::trouble_of;
+pub use role::{EPOCH_LIMIT, Role};
 pub use trouble::{Trouble, Wrong};
+pub use vacancy::{Found, Vacancy};

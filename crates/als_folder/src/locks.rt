@@ -1,5 +1,5 @@
-/// The files of a database, open and locked for as long as their folder is held. A file that was
-/// not there when the folder was taken is not locked.
+/// The files of a database, open and locked for as long as their folder is held. Those of one that is
+/// laid out later are locked by their devices.
 pub(crate) struct Locks<F> {
     pub(crate) log: Option<F>,
     pub(crate) control: Option<F>,

@@ -18,6 +18,10 @@ pub enum Part {
     NewControl,
     /// Its pages' device.
     NewPages,
+    /// Which epoch a primary writes. A standby has none.
+    Role,
+    /// The same, before it is whole.
+    NewRole,
 }
 
 impl Part {
@@ -33,6 +37,8 @@ impl Part {
             Part::NewLog => "log.new",
             Part::NewControl => "control.new",
             Part::NewPages => "pages.new",
+            Part::Role => "role",
+            Part::NewRole => "role.new",
         }
     }
 }

@@ -1,4 +1,5 @@
 use crate::part::Part;
+use als_disk::Failure;
 use std::io;
 use std::io::ErrorKind;
 
@@ -35,6 +36,10 @@ pub enum Wrong {
     Gone,
     /// It is shorter than what it has to hold.
     Short,
+    /// It was removed while it was open, or another file took its name.
+    Removed,
+    /// It was cut to this length while it was open.
+    Cut { bytes: u64 },
     /// It could not be opened, locked, read, written or synced.
     Failed,
     /// The log does not begin with the header of its database.
@@ -47,6 +52,19 @@ pub enum Wrong {
     BadControl,
     /// The block of this page is damaged.
     BadPage { page: u32 },
+    /// The file that says which epoch a primary writes says something else.
+    BadRole,
+    /// The folder is a primary's, and nobody took over from it.
+    OfPrimary,
+}
+
+/// What the failure of a device's file says of it.
+pub(crate) fn wrong_of_failure(failure: Failure) -> Wrong {
+    match failure {
+        Failure::Call { number } => wrong_of(&io::Error::from_raw_os_error(number)),
+        Failure::Removed => Wrong::Removed,
+        Failure::Cut { bytes } => Wrong::Cut { bytes },
+    }
 }
 
 /// EIO, ENXIO and ENODEV, which have no kind of their own.

@@ -15,7 +15,7 @@ pub record IsAnswered (before behind written more : Option (List ℕ)) : Type 0 
 
 -- What a follower made of both ends of its stream. It told what its voucher stands for. Where it began and nothing was refused, that
 -- was a whole session; where it did not begin, both ends are as they were.
-pub record IsLed {I O Refusal : Type 0} (remaining : I → Option (List ℕ)) (contents : O → Option (List ℕ)) (floor : ℕ) (begun : Bool) (refusal : Option Refusal)
+pub record IsFollowed {I O Refusal : Type 0} (remaining : I → Option (List ℕ)) (contents : O → Option (List ℕ)) (floor : ℕ) (begun : Bool) (refusal : Option Refusal)
     (before behind : I) (written more : O) : Type 0 where
   pub vouched : TellsVouched floor (contents written) (contents more)
   pub answered : begun ≡ true → refusal ≡ None → IsAnswered (remaining before) (remaining behind) (contents written) (contents more)

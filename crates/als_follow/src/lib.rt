@@ -5,14 +5,14 @@
 //!     primary --frames--> follower: feed, force, publish, acknowledge
 //!                            |  what waits, how far the log is acknowledged
 //!                            v
-//!                          Desk --redo is due--> dispatcher --leases--> workers
-//!                            |----flush is due--> flusher --then--> checkpointer
+//!                        Scheduler --redo is due--> dispatcher --leases--> workers
+//!                            |------flush is due--> flusher --then--> checkpointer
 //! ```
 //!
 //! 1. The follower never redoes: what it feeds waits until so much waits that leases are deep, and
 //!    then workers redo it outside the engine. It waits itself where too much waits.
-//! 2. Each thread asks the desk before each step, and sleeps there while nothing is due.
-//! 3. The first refusal closes the desk, which ends all threads, and is what the session answers.
+//! 2. Each thread asks the scheduler before each step, and sleeps there while nothing is due.
+//! 3. The first refusal closes the scheduler, which ends all threads, and is what the session answers.
 //! 4. However the session ended, every thread is joined, leases that are out are recalled, all that
 //!    is held is put on the devices, and the engine comes back. It is reached from the one that was
 //!    handed in by events of the small machine, and has all that the follower acknowledged.
@@ -21,38 +21,36 @@
 #![tactic(auto)]
 
 // What threads sleep on.
-mod bell;
+mod signal;
 // What each thread asks, and what the follower tells.
-mod desk;
-// Events that tell the desk what waits.
-mod paced;
+mod scheduler;
+// An observer that tells the scheduler what waits.
+mod pacing;
 // What is done after each acknowledgement.
 mod publishing;
-// A voucher of paced events.
-mod through;
 // What the follower has to itself.
 mod session;
 // Why a thread ended.
 mod refusal;
 // What all threads work with.
-mod stage;
+mod context;
 // A worker and what it works with.
 mod worker;
 // All workers.
-mod crew;
+mod pool;
 // The other threads, each in a function of its own.
 mod threads;
 // What is held, onto the devices.
 mod putting_away;
 // All threads, and what follows them.
-mod conducting;
+mod coordinator;
 // What a session leaves.
 mod followed;
 // A session over an engine that threads share.
 mod beside;
 // The standby of a folder that follows with threads.
-mod standing_by;
+mod standby_command;
 
 pub use beside::follow_beside;
 pub use followed::Followed;
-pub use standing_by::standby;
+pub use standby_command::standby;

@@ -1,6 +1,6 @@
 ghost use Rattle.std.specs.Prelude.{◌≡◌, None};
 
-use crate::desk::Desk;
+use crate::scheduler::Scheduler;
 use als_engine::Fault;
 use als_ship::Fault as SessionFault;
 use std::sync::Wait;
@@ -14,11 +14,11 @@ pub(crate) struct Refusal {
 
 impl Refusal {
     /// The next refusal. Stopped is never the first: another refusal stopped the engine, or closed
-    /// the desk.
-    pub fn new<R: Wait>(desk: &Desk<'_, R>, fault: SessionFault) -> Refusal
+    /// the scheduler.
+    pub fn new<R: Wait>(scheduler: &Scheduler<'_, R>, fault: SessionFault) -> Refusal
         ensures { result.fault ≡ fault }
     {
-        let place = desk.next_refusal();
+        let place = scheduler.next_refusal();
         match fault {
             SessionFault::Refused(Fault::Stopped) => Refusal {
                 place: u64::MAX,

@@ -2,20 +2,20 @@ ghost use Rattle.std.specs.Prelude.{◌≡◌, ◌<◌};
 ghost use Rattle.crossbeam_channel.specs.Claims.{view};
 ghost use Rattle.als_workers.specs.Passes.{IsPassOf};
 
-use crate::desk::Desk;
 use crate::refusal::Refusal;
+use crate::scheduler::Scheduler;
 use als_engine::{Events, Fault};
 use als_ship::Fault as SessionFault;
 use als_workers::{Ended, GhostOffers, HandOff, Pass, Via, apply_worker};
 use std::sync::Wait;
 
-/// A worker: its seat at the queue of leases, its way to the engine, and why it ended early.
+/// A worker: its pass of the queue of leases, its way to the engine, and why it ended early.
 pub(crate) struct Worker<'a, E> {
     queue: &'a HandOff,
     pass: Pass,
     via: Via<E, GhostOffers>,
     refusal: Option<Refusal>,
-    ghost seated: { IsPassOf queue.now pass },
+    ghost taken: { IsPassOf queue.now pass },
     ghost parts: { 0 < (view pass).parts },
 }
 
@@ -45,13 +45,13 @@ impl<'a, E: Events> Worker<'a, E> {
         }
     }
 
-    /// Redoes leases until it takes a stop or the desk closes.
-    pub fn work<R: Wait>(&mut self, rt: &R, desk: &Desk<'_, R>) {
-        desk.enter();
-        let ended = apply_worker(rt, self.queue, &mut self.pass, &mut self.via, desk);
+    /// Redoes leases until it takes a stop or the scheduler closes.
+    pub fn work<R: Wait>(&mut self, rt: &R, scheduler: &Scheduler<'_, R>) {
+        scheduler.enter();
+        let ended = apply_worker(rt, self.queue, &mut self.pass, &mut self.via, scheduler);
         if ended == Ended::Memory {
-            self.refusal = Some(Refusal::new(desk, SessionFault::Refused(Fault::Memory)));
-            desk.close();
+            self.refusal = Some(Refusal::new(scheduler, SessionFault::Refused(Fault::Memory)));
+            scheduler.close();
         }
     }
 

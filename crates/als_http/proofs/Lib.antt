@@ -1,5 +1,6 @@
 mod WorkedPaths
 mod WorkedHealth
+mod WorkedHosts
 pub mod AnswerLaws
 pub mod NumberLaws
 pub mod AskingLaws

@@ -2,6 +2,7 @@ pub mod States
 pub mod Health
 pub mod Numbers
 pub mod Asking
+pub mod Hosts
 pub mod Telling
 pub mod Reading
 pub mod Texts

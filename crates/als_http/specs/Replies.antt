@@ -14,7 +14,7 @@ use Rattle.als_http.specs.Reading.{IsRead, IsUnread, count_in}
 use Rattle.als_http.specs.declared.query.Query.{Query}
 use Rattle.als_http.specs.declared.query.Query.TheVariants as query
 use Rattle.als_http.specs.declared.query.Wrong.{Wrong}
-use Rattle.als_http.specs.declared.query.Wrong.TheVariants.{Path, Method, Number, Lsn}
+use Rattle.als_http.specs.declared.query.Wrong.TheVariants.{Path, Method, Number, Lsn, Host}
 use Rattle.als_http.specs.declared.reply.Reply.{Reply}
 use Rattle.als_http.specs.declared.reply.Reply.TheVariants.{Value, Unread, Status, Metrics, Health, Refused}
 
@@ -28,6 +28,7 @@ status_of (Refused Path) = 404
 status_of (Refused Method) = 405
 status_of (Refused Number) = 400
 status_of (Refused Lsn) = 400
+status_of (Refused Host) = 421
 
 -- the methods that are answered, where another one was asked with
 abbrev pub fields_of_wrong : Wrong → List Header
@@ -35,6 +36,7 @@ fields_of_wrong Path = []
 fields_of_wrong Method = (codes "allow", codes "GET, HEAD") ∷ []
 fields_of_wrong Number = []
 fields_of_wrong Lsn = []
+fields_of_wrong Host = []
 
 -- the header fields beside those of every reply
 abbrev pub own_fields : Reply → List Header

@@ -10,7 +10,7 @@ use Rattle.als_http.specs.declared.report.Report.{Report}
 use Rattle.als_http.specs.declared.unread.Unread.{Unread}
 use Rattle.als_http.specs.declared.unread.Unread.TheVariants.{Warming, Stopped, Older}
 use Rattle.als_http.specs.declared.query.Wrong.{Wrong}
-use Rattle.als_http.specs.declared.query.Wrong.TheVariants.{Path, Method, Number, Lsn}
+use Rattle.als_http.specs.declared.query.Wrong.TheVariants.{Path, Method, Number, Lsn, Host}
 
 -- an image in lower case hexadecimal
 abbrev pub image_token : Image → Token
@@ -72,3 +72,4 @@ why_wrong Path = codes "no such path: /keys/P/S, /status, /metrics, /health"
 why_wrong Method = codes "GET and HEAD alone are answered"
 why_wrong Number = codes "a page and a slot are decimal numbers below 2^32"
 why_wrong Lsn = codes "Als-At-Least is one decimal number below 2^64"
+why_wrong Host = codes "this node has no such host: localhost, 127.0.0.1, [::1]"

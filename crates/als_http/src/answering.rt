@@ -3,6 +3,7 @@ ghost use Rattle.http_server.specs.Response.{IsBlank};
 ghost use Rattle.als_http.specs.Replies.{Replies, GoesOn, Answers};
 
 use crate::filling::show;
+use crate::hosts::Hosts;
 use crate::query::Query;
 use crate::reading::{published, read};
 use crate::reply::Reply;
@@ -20,6 +21,7 @@ pub struct Answering<S: Standing> {
     alloc: Global,
     reader: Reader,
     standing: S,
+    hosts: Hosts,
 }
 
 // Written out: a derived drop is proved wherever a value is dropped, this one only here.
@@ -29,6 +31,7 @@ impl<S: Standing + Drop> Drop for Answering<S> {
             alloc: _,
             reader,
             standing,
+            hosts: _,
         } = self;
         drop(reader);
         drop(standing);
@@ -36,15 +39,24 @@ impl<S: Standing + Drop> Drop for Answering<S> {
 }
 
 impl<S: Standing> Answering<S> {
-    /// It answers by this reader.
+    /// It answers by this reader, whatever host a request names.
     pub fn new(alloc: Global, reader: Reader, standing: S) -> Answering<S>
-        ensures { result.reader ≡ reader }
+        ensures reader { result.reader ≡ reader }
+        ensures hosts { result.hosts ≡ Hosts.Any }
     {
         Answering {
             alloc,
             reader,
             standing,
+            hosts: Hosts::Any,
         }
+    }
+
+    /// From now on it answers requests that name these hosts alone.
+    pub fn answer_for(&mut self, hosts: Hosts)
+        ensures { self.new ≡ record self.old { hosts = hosts } }
+    {
+        self.hosts = hosts;
     }
 
     /// What a query is answered.
@@ -92,14 +104,16 @@ impl<S: Standing> Service for Answering<S> {
     ghost use Rattle.als_http.specs.Telling.{query_of};
 
     ghost answers = { λ old request response new.
-        Answers (S.tells old.standing) (query_of (head_of request)) old.reader response new.reader };
+        Answers (S.tells old.standing) (query_of old.hosts (head_of request)) old.reader response
+        new.reader };
 
     fn call(
         &mut self,
         request: &Request<Bytes>,
         response: &mut Response,
     ) -> Result<(), AllocError> {
-        self.respond(query_of(request), response);
+        let query = query_of(request, self.hosts);
+        self.respond(query, response);
         Ok(())
     }
 }

@@ -102,6 +102,11 @@ impl Board {
         self.capacity.store(bytes, Ordering::SeqCst);
     }
 
+    /// The bytes of the log's device. None: not known yet.
+    pub fn capacity(&self) -> Option<u64> {
+        known(&self.capacity)
+    }
+
     /// The history of its log is of this epoch.
     pub fn set_epoch(&self, epoch: u64) {
         self.epoch.store(epoch.saturating_add(1), Ordering::SeqCst);

@@ -96,7 +96,7 @@ fn add_methods(why: Wrong, response: &mut Response) -> Result<(), AllocError>
         Wrong::Method => {
             response.add_header(HeaderName::from_static("allow"), methods())?;
         }
-        Wrong::Path | Wrong::Number | Wrong::Lsn => {}
+        Wrong::Path | Wrong::Number | Wrong::Lsn | Wrong::Host => {}
     }
     Ok(())
 }

@@ -1,11 +1,25 @@
+use crate::limits::THREADS;
+use std::net::{IpAddr, SocketAddr};
 use std::sync::atomic::{AtomicBool, AtomicU64, Ordering};
 
-/// Whether the threads go on, and how many of them have a connection.
+/// Whether the threads go on, and whose connections they have.
 #[derive(Drop)]
 pub struct Gate {
     closed: AtomicBool,
-    busy: AtomicU64,
+    /// The peer of each connection, 0 where there is none.
+    peers: [AtomicU64; THREADS],
     threads: u64,
+}
+
+/// The number of a peer, which is never 0: one of each address, and of each network of IPv6.
+pub(crate) fn peer_of(addr: &SocketAddr) -> u64 {
+    match addr.ip() {
+        IpAddr::V4(ip) => u64::from(u32::from_be_bytes(ip.octets())) | 1 << 63,
+        IpAddr::V6(ip) => {
+            let [a, b, c, d, e, f, g, h, ..] = ip.octets();
+            u64::from_be_bytes([a, b, c, d, e, f, g, h]) >> 1 | 1
+        }
+    }
 }
 
 impl Gate {
@@ -13,7 +27,16 @@ impl Gate {
     pub fn new(threads: u64) -> Gate {
         Gate {
             closed: AtomicBool::new(false),
-            busy: AtomicU64::new(0),
+            peers: [
+                AtomicU64::new(0),
+                AtomicU64::new(0),
+                AtomicU64::new(0),
+                AtomicU64::new(0),
+                AtomicU64::new(0),
+                AtomicU64::new(0),
+                AtomicU64::new(0),
+                AtomicU64::new(0),
+            ],
             threads,
         }
     }
@@ -27,18 +50,44 @@ impl Gate {
         self.closed.load(Ordering::SeqCst)
     }
 
-    /// A thread has a connection.
-    pub(crate) fn enter(&self) {
-        self.busy.fetch_add(1, Ordering::SeqCst);
+    /// A thread takes a connection of a peer. None: the peer would have one of each thread.
+    pub(crate) fn enter(&self, peer: u64) -> Option<usize> {
+        for place in 0..THREADS {
+            let cell = &self.peers[place];
+            if cell
+                .compare_exchange(0, peer, Ordering::SeqCst, Ordering::SeqCst)
+                .is_ok()
+            {
+                if self.threads > 1 && self.count(peer) >= self.threads {
+                    cell.store(0, Ordering::SeqCst);
+                    return None;
+                }
+                return Some(place);
+            }
+        }
+        None
     }
 
     /// A thread has let go of its connection.
-    pub(crate) fn leave(&self) {
-        self.busy.fetch_sub(1, Ordering::SeqCst);
+    pub(crate) fn leave(&self, place: usize) {
+        if place < THREADS {
+            self.peers[place].store(0, Ordering::SeqCst);
+        }
     }
 
     /// Whether every thread has a connection.
     pub(crate) fn is_crowded(&self) -> bool {
-        self.busy.load(Ordering::SeqCst) >= self.threads
+        (THREADS as u64).saturating_sub(self.count(0)) >= self.threads
+    }
+
+    /// How many connections this peer has. 0: how many there could still be.
+    fn count(&self, peer: u64) -> u64 {
+        let mut count: u64 = 0;
+        for cell in self.peers.iter() {
+            if cell.load(Ordering::SeqCst) == peer {
+                count = count.saturating_add(1);
+            }
+        }
+        count
     }
 }

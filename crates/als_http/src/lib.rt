@@ -23,6 +23,8 @@ mod asked;
 mod asking;
 // A response is filled by a reply.
 mod filling;
+// Which hosts a request may name.
+mod hosts;
 // Members of a JSON object.
 mod members;
 // A report as metrics.
@@ -67,6 +69,7 @@ pub use asked::Asked;
 pub use asking::asked_by;
 pub use board::{Board, Watch};
 pub use gate::Gate;
+pub use hosts::Hosts;
 pub use limits::{THREADS, config};
 pub use listening::listen;
 pub use metrics_text::VERSION;

@@ -22,4 +22,6 @@ pub enum Wrong {
     Number,
     /// Its `Als-At-Least` is no number of 64 bits, or stands there twice.
     Lsn,
+    /// Its `Host` is none of the node's own.
+    Host,
 }

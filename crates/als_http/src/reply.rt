@@ -43,6 +43,7 @@ impl Reply {
             Reply::Refused(Wrong::Path) => StatusCode::NOT_FOUND,
             Reply::Refused(Wrong::Method) => StatusCode::METHOD_NOT_ALLOWED,
             Reply::Refused(Wrong::Number | Wrong::Lsn) => StatusCode::BAD_REQUEST,
+            Reply::Refused(Wrong::Host) => StatusCode::MISDIRECTED_REQUEST,
         }
     }
 }

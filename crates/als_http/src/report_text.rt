@@ -126,6 +126,7 @@ fn why_wrong(why: Wrong) -> &'static str
         Wrong::Method => "GET and HEAD alone are answered",
         Wrong::Number => "a page and a slot are decimal numbers below 2^32",
         Wrong::Lsn => "Als-At-Least is one decimal number below 2^64",
+        Wrong::Host => "this node has no such host: localhost, 127.0.0.1, [::1]",
     }
 }
 

@@ -1,5 +1,6 @@
 use crate::answering::Answering;
 use crate::gate::Gate;
+use crate::hosts::Hosts;
 use crate::limits::THREADS;
 use crate::serving::serve_until_closed;
 use crate::spare::answer_guests;
@@ -30,7 +31,7 @@ impl Drop for Servers {
 
 impl Servers {
     /// Starts a thread for each of these, up to eight, which serve the listener until `close`. Each
-    /// has a clock of its own. Where there are two and more, the last one is spare: it waits for nobody,
+    /// has a clock of its own. Over the loopback they answer its own hosts alone. Where there are two and more, the last one is spare: it waits for nobody,
     /// and answers while each other one has a connection.
     ///
     /// An error: allocation failed, or the system refused a thread. Then none goes on.
@@ -53,7 +54,10 @@ impl Servers {
             gate,
             handles: Vec::with_capacity(alloc, count)?,
         };
+        let hosts = Hosts::at(listener);
         for seat in seats {
+            let mut seat = seat;
+            seat.0.answer_for(hosts);
             if servers.handles.len() < count {
                 let is_spare = servers.handles.len() >= waiting;
                 servers.add(rt, alloc, listener.try_clone()?, keys, seat, is_spare)?;

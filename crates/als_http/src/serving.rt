@@ -1,18 +1,21 @@
 use crate::answering::Answering;
-use crate::gate::Gate;
+use crate::gate::{Gate, peer_of};
 use crate::limits::{LEFTOVERS, NAP, RESPONSE, TICK, config};
 use crate::peer::Peer;
+use crate::spare::{attend, welcome};
 use crate::standing::Standing;
 use crate::turn::Turn;
 use http_server::{Connection, serve};
 use std::alloc::Global;
 use std::hash::RandomState;
 use std::io::{Read, Write};
-use std::net::{OpenListener, OpenStream, Shutdown};
+use std::net::{OpenListener, OpenStream, Shutdown, SocketAddr};
 use std::time::{Clock, Duration};
 use std::{io, thread};
 
-/// Serves one connection after another, until the gate closes. The listener does not block.
+/// Serves one connection after another, until the gate closes. The listener does not block. A peer
+/// that has a connection of each other thread is a guest: it is waited for no longer than what is
+/// there of it is read. While there is a guest, so is whoever comes.
 pub fn serve_until_closed<
     L: OpenListener<Stream = T>,
     T: Read + Write + OpenStream + Drop,
@@ -26,21 +29,36 @@ pub fn serve_until_closed<
     clock: &C,
     gate: &Gate,
 ) {
+    let mut guests = Vec::new(alloc);
     for _ in 0..u64::MAX {
         if gate.is_closed() {
             break;
         }
+        let Ok(now) = clock.monotonic() else {
+            break;
+        };
         match listener.accept() {
-            Ok((stream, _)) => {
-                gate.enter();
-                // What ends a connection is its own affair.
-                let _ = serve_one(alloc, stream, answering, keys, clock, gate);
-                gate.leave();
-            }
+            Ok((stream, addr)) => match seat_of(gate, &addr, guests.is_empty()) {
+                Some(place) => {
+                    // What ends a connection is its own affair.
+                    let _ = serve_one(alloc, stream, answering, keys, clock, gate);
+                    gate.leave(place);
+                }
+                None => welcome(alloc, stream, &mut guests, now),
+            },
             // Nobody wants to connect, or the system refuses for now.
             Err(_) => thread::sleep(clock, Duration::from_millis(NAP)),
         }
+        guests = attend(alloc, guests, answering, keys, now);
     }
+}
+
+/// The place of a connection that may be waited for. None: it is a guest's.
+fn seat_of(gate: &Gate, addr: &SocketAddr, is_free: bool) -> Option<usize> {
+    if !is_free {
+        return None;
+    }
+    gate.enter(peer_of(addr))
 }
 
 /// Serves the requests of a connection.

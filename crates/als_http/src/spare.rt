@@ -43,8 +43,7 @@ pub(crate) fn answer_guests<
     }
 }
 
-/// Takes the next who wants to connect. Where too many are there, the first of them goes. It answers
-/// whether one came.
+/// Takes the next who wants to connect. It answers whether one came.
 fn admit<L: OpenListener<Stream = T>, T: OpenStream + Drop>(
     alloc: Global,
     listener: &L,
@@ -54,19 +53,29 @@ fn admit<L: OpenListener<Stream = T>, T: OpenStream + Drop>(
     let Ok((stream, _)) = listener.accept() else {
         return false;
     };
+    welcome(alloc, stream, guests, now);
+    true
+}
+
+/// Takes a connection that is not waited for. Where too many are there, the first of them goes.
+pub(crate) fn welcome<T: OpenStream + Drop>(
+    alloc: Global,
+    stream: T,
+    guests: &mut Vec<Guest<T>>,
+    now: Duration,
+) {
     if stream.set_nonblocking(true).is_err() {
-        return true;
+        return;
     }
     if guests.len() >= GUESTS {
         drop(guests.remove(0));
     }
     // Where there is no memory for it, it is dropped.
     let _ = guests.push(Guest::new(alloc, stream, now));
-    true
 }
 
 /// Looks at each of them. Those stay who have not said all, and those who have to read their answer.
-fn attend<T: Read + Write + OpenStream + Drop, S: Standing>(
+pub(crate) fn attend<T: Read + Write + OpenStream + Drop, S: Standing>(
     alloc: Global,
     guests: Vec<Guest<T>>,
     answering: &mut Answering<S>,

@@ -1,9 +1,10 @@
 ghost use Rattle.std.specs.Prelude.{◌≡◌};
 ghost use Rattle.http.specs.Request.{head_of};
-ghost use Rattle.als_http.specs.Telling.{named_lsn, told, allowed, query_of};
+ghost use Rattle.als_http.specs.Telling.{named_lsn, told, allowed, directed, query_of};
 
 use crate::asked::Asked;
 use crate::asking::asked_by;
+use crate::hosts::{Hosts, is_own};
 use crate::numbers::number;
 use crate::query::{Query, Wrong};
 use als_record::Lsn;
@@ -14,13 +15,17 @@ use http_header::GetAll;
 /// The header by which a client names the LSN of an earlier answer.
 pub const AT_LEAST: &str = "als-at-least";
 
-/// What a request asks for.
-pub fn query_of(request: &Request<Bytes>) -> Query
-    ensures { result ≡ query_of (head_of request.now) }
+/// The header by which a client names the node that it means.
+const HOST: &str = "host";
+
+/// What a request asks a node for, which has these hosts.
+pub fn query_of(request: &Request<Bytes>, hosts: Hosts) -> Query
+    ensures { result ≡ query_of hosts (head_of request.now) }
 {
     let asked = asked_by(request.uri().path());
     let lsn = named_lsn(request.headers().get_all(AT_LEAST));
-    allowed(request.method().as_str(), told(asked, lsn))
+    let query = allowed(request.method().as_str(), told(asked, lsn));
+    directed(is_own(hosts, request.headers().get_all(HOST)), query)
 }
 
 /// The LSN that a field names, 0 without one. None: it is no number, or there are two.
@@ -55,6 +60,18 @@ fn told(asked: Asked, lsn: Option<u64>) -> Query
         Asked::Health => Query::Health,
         Asked::NoNumber => Query::Refused(Wrong::Number),
         Asked::Nothing => Query::Refused(Wrong::Path),
+    }
+}
+
+/// The query, where its host is the node's own.
+#[tactic(auto, unfolding(crate::specs::Telling::directed))]
+fn directed(is_own: bool, query: Query) -> Query
+    ensures { result ≡ directed is_own query }
+{
+    if is_own {
+        query
+    } else {
+        Query::Refused(Wrong::Host)
     }
 }
 

@@ -7,18 +7,19 @@ use als_disk::BlockDisk;
 use als_engine::{CONTROL_BLOCKS, Fault as EngineFault};
 use als_folder::{DeviceFiles, Fault as FolderFault, Folder, LOG_LIMIT, Part};
 use als_pages_check::Checks;
-use als_record::{FIRST_LSN, LoggedPage, Lsn};
+use als_record::{BLOCK_LEN, FIRST_LSN, LoggedPage, Lsn};
 use als_scan::Scan;
 use std::alloc::Global;
 use std::fs::File;
 use std::os::unix::fs::FileExt;
 use std::rt::Files;
 
-/// Checks the pages of a folder's node against its log, as far as that is acknowledged: no page may
-/// lack a change that a restart would not redo. The folder is only read. Where it has no database nothing is checked.
+/// Checks the pages of a folder's node against its log, as far as that is acknowledged: the block of
+/// each page has to be what the log makes of the page at the block's page_LSN, and may lack no change
+/// that a restart would not redo. The folder is only read. Where it has no database nothing is checked.
 ///
 /// Standby(BadPage): the first page that is not so. Else as a restart refuses the folder. Memory:
-/// there was none for a copy of the log.
+/// there was none for a copy of the log, or for 1,032 bytes a page.
 pub fn check_pages<R: AllocGlobal + Files<File = File>>(rt: &R, dir: &str) -> Result<(), Fault> {
     let folder = Folder::hold_to_read(rt, dir)?;
     if !folder.is_kept(rt)? {
@@ -37,7 +38,7 @@ pub(crate) fn check_folder<R: AllocGlobal + Files<File = File>>(
     let mut checks = checks_of(rt.alloc(), &files, database)?;
     let mut text = text_of_folder(rt, folder)?;
     note_all(&mut text.records, &mut checks)?;
-    match checks.first_lacking() {
+    match checks.first_differing() {
         Some(page) => Err(Fault::Standby(EngineFault::BadPage { page })),
         None => Ok(()),
     }
@@ -55,15 +56,14 @@ fn note_all<D: BlockDisk>(records: &mut Scan<D>, checks: &mut Checks) -> Result<
     Ok(())
 }
 
-/// Each page with the page_LSN of its block, and with the LSN from which on a restart redoes its
-/// changes.
+/// Each page with its block, and with the LSN from which on a restart redoes its changes.
 fn checks_of(alloc: Global, files: &DeviceFiles, database: Database) -> Result<Checks, Fault> {
     let pages = database.pages;
     let (from, rows) = rows_of(alloc, files, pages)?;
     let mut checks = Checks::new(alloc);
     for page in 0..pages {
-        let page_lsn = page_lsn_of(files, page)?;
-        checks.add(page_lsn, redone_from(rows.as_slice(), page, from))?;
+        let block = block_of(files, page)?;
+        checks.add(&block, redone_from(rows.as_slice(), page, from))?;
     }
     Ok(checks)
 }
@@ -102,14 +102,14 @@ fn rows_of(
     }
 }
 
-/// The page_LSN at the front of a page's block: 0 where no record has changed the page.
-fn page_lsn_of(files: &DeviceFiles, page: u32) -> Result<Lsn, Fault> {
-    let mut front = [0; 8];
+/// A page's block.
+fn block_of(files: &DeviceFiles, page: u32) -> Result<[u8; BLOCK_LEN], Fault> {
+    let mut block = [0; BLOCK_LEN];
     match files
         .pages
-        .read_exact_at(front.as_mut_slice(), u64::from(page) * 512)
+        .read_exact_at(block.as_mut_slice(), u64::from(page) * 512)
     {
-        Ok(()) => Ok(Lsn(u64::from_be_bytes(front))),
+        Ok(()) => Ok(block),
         Err(e) => Err(Fault::Folder(FolderFault::of(Part::Pages, e))),
     }
 }

@@ -3,7 +3,7 @@ use crate::log_text::{Database, database_of};
 use crate::restarting::restarted;
 use als_ckpt::Phase;
 use als_engine::{Events, History};
-use als_folder::Folder;
+use als_folder::{Folder, Role};
 use als_text::ShownRow;
 use std::alloc::Global;
 use std::fs::File;
@@ -13,7 +13,8 @@ use std::sync::Wait;
 
 /// Prints what the standby of a folder holds: its phase, its page count, where its log ends and up
 /// to where that is acknowledged, where its checkpoint stands and how many bytes of log lie behind
-/// it, how many bytes the log takes at most, and how many more it takes; the seals of the takeovers before it, if there are any, as `show epochs` does; and then each
+/// it, how many bytes the log takes at most, and how many more it takes; the seals of the takeovers
+/// before it, if there are any, as `show epochs` does; its role, if it is a primary's; and then each
 /// unended transaction, as `show table` does. The folder is only read.
 ///
 /// Folder: the folder or a file of it failed, or another program has it. Stream: the output failed.
@@ -25,12 +26,13 @@ pub fn status<R: AllocGlobal + Files<File = File> + Wait, O: Write>(
     output: &mut O,
 ) -> Result<(), Fault> {
     let folder = Folder::hold_to_read(rt, dir)?;
+    let role = folder.role(rt)?;
     let files = folder.open_to_read(rt)?;
     let database = database_of(rt.alloc(), &files)?;
     let (engine, readers) = restarted(rt, &files, database)?;
     drop(readers);
     let capacity = files.sizes()?.log.saturating_mul(BLOCK);
-    tell(rt.alloc(), &database, &engine, capacity, output)
+    tell(rt.alloc(), &database, &engine, capacity, role, output)
 }
 
 /// Prints the state of a standby and its open transactions.
@@ -39,6 +41,7 @@ fn tell<E: Events, O: Write>(
     database: &Database,
     events: &E,
     capacity: u64,
+    role: Option<Role>,
     output: &mut O,
 ) -> Result<(), Fault> {
     let rows = events.table(alloc)?;
@@ -55,6 +58,9 @@ fn tell<E: Events, O: Write>(
         capacity.saturating_sub(end)
     )?;
     seals(&events.history(), output)?;
+    if let Some(Role { epoch }) = role {
+        writeln!(output, "role primary epoch={epoch}")?;
+    }
     for row in rows.iter() {
         writeln!(output, "{}", ShownRow(row))?;
     }

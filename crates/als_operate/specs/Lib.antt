@@ -1,4 +1,5 @@
 pub mod FaultNames
+pub mod NearlyFull
 pub mod Upkeep
 pub mod Following
 pub mod Building

@@ -17,9 +17,9 @@ pub trait Forgets {
 
 /// The control block's page count and the log device's bytes, as a folder's files have them.
 #[derive(Clone, Copy)]
-struct Extent {
-    pages: u32,
-    log_bytes: u64,
+pub struct Extent {
+    pub pages: u32,
+    pub log_bytes: u64,
 }
 
 /// Makes the standby of a folder forget the takeovers of which its log holds nothing: those that
@@ -80,7 +80,7 @@ fn tell<F: Forgets>(restated: &Restated, forgets: &mut F) {
 }
 
 /// What the log's header and its length say. None: there is no header.
-fn extent_of<R: AllocGlobal + Files<File = File>>(
+pub fn extent_of<R: AllocGlobal + Files<File = File>>(
     rt: &R,
     folder: &Folder,
 ) -> Result<Option<Extent>, Fault> {

@@ -4,13 +4,16 @@ ghost use Rattle.als_engine.specs.Config.{IsConfig};
 ghost use Rattle.als_operate.specs.declared.fault.Fault.TheVariants.{Refused};
 
 use crate::fault::Fault;
-use crate::greeting::call;
+use crate::greeting::{Lines, call};
+use crate::leading::give_up;
 use crate::line::Line;
 use crate::opening::{begin, named, open_kept};
 use crate::standby_command::{Following, PENDING};
 use als_disk::FileDisk;
 use als_engine::{Config, Engine, Fault as EngineFault, LOG_BLOCK_LIMIT, Reader};
-use als_folder::Folder;
+use als_epochs::History;
+use als_folder::{Folder, Found};
+use als_record::FIRST_LSN;
 use std::fs::File;
 use std::net::Net;
 use std::rt::Files;
@@ -24,7 +27,7 @@ pub struct Held<S> {
     /// It is a new database, which the folder does not have before `Folder::keep`.
     pub is_new: bool,
     /// The connection to its primary, to be read and to be written, where that was greeted before a new
-    /// database was laid out.
+    /// database was laid out, or before the folder gave up its role.
     pub greeted: Option<(Line<S>, Line<S>)>,
 }
 
@@ -33,8 +36,8 @@ pub struct Held<S> {
 /// folder has it; else the folder has it only once `Folder::keep` is called.
 ///
 /// BadConfig: a number is out of its range; no file was touched. Sealed: the database was taken over,
-/// and follows no more. Device: the folder or one of its files failed, or another program has the
-/// folder. Session, Stream: the primary was asked, and nobody serves at the address, what came is no
+/// and follows no more. Device: the folder or one of its files failed, another program has the
+/// folder, or it is a primary's and nobody took over from it. Session, Stream: the primary was asked, and nobody serves at the address, what came is no
 /// history, or the network failed. Memory: allocation failed. Else as `Engine::open` says.
 pub fn hold<R: AllocGlobal + Files<File = File> + Net + Wait>(
     rt: &R,
@@ -44,48 +47,108 @@ pub fn hold<R: AllocGlobal + Files<File = File> + Net + Wait>(
 ) -> Result<Held<R::Stream>, Fault> {
     let config = config_of(following.pages, following.log_blocks, readers)?;
     let folder = Folder::hold(rt, following.dir)?;
-    let is_new = !folder.is_kept(rt)?;
-    match hold_in(rt, &folder, config, following, is_new, is_asked) {
-        Ok((engine, readers, greeted)) => Ok(Held {
+    match hold_in(rt, &folder, config, following, is_asked) {
+        Ok(
+            Opened {
+                engine,
+                readers,
+                is_new,
+                greeted,
+            },
+        ) => Ok(Held {
             folder,
             engine,
             readers,
-            is_new: is_new && !is_asked,
+            is_new,
             greeted,
         }),
         Err(fault) => Err(named(&folder, fault)),
     }
 }
 
-/// A connection to a primary, to be read and to be written.
-type Lines<S> = (Line<S>, Line<S>);
+/// What a folder holds, opened, or a new database in it.
+struct Opened<S> {
+    engine: Engine<FileDisk>,
+    readers: Vec<Reader>,
+    is_new: bool,
+    greeted: Option<(Line<S>, Line<S>)>,
+}
 
 /// The engine of a folder that is held and its readers, and the connection to its primary, where that
-/// was greeted before a new database was laid out.
+/// was greeted before a new database was laid out. A new one is laid out where als_folder found a
+/// vacancy, and nowhere else.
 fn hold_in<R: AllocGlobal + Files<File = File> + Net + Wait>(
     rt: &R,
     folder: &Folder,
     config: Config,
     following: Following<'_>,
-    is_new: bool,
     is_asked: bool,
-) -> Result<(Engine<FileDisk>, Vec<Reader>, Option<Lines<R::Stream>>), Fault> {
-    if !is_new {
-        let (engine, readers) = open_kept(rt, folder, config)?;
-        return Ok((engine, readers, None));
+) -> Result<Opened<R::Stream>, Fault> {
+    let vacancy = match folder.find(rt)? {
+        Found::Kept => return open_found(rt, folder, config, following),
+        Found::Vacant(vacancy) => vacancy,
+    };
+    let led = give_up(rt, folder, following, FIRST_LSN, &History::empty())?;
+    let greeted = first_lines(rt, following, led, is_asked)?;
+    let (engine, readers) = begin(rt, vacancy, config, following.log_blocks)?;
+    if is_asked {
+        folder.keep(rt)?;
     }
+    Ok(Opened {
+        engine,
+        readers,
+        is_new: !is_asked,
+        greeted,
+    })
+}
+
+/// The connection to the primary of a new database, if that is to be asked first: the one over which it
+/// was asked already, or else a new one. None: it is asked later, and only then the folder has the
+/// database.
+fn first_lines<R: AllocGlobal + Net>(
+    rt: &R,
+    following: Following<'_>,
+    led: Option<Lines<R::Stream>>,
+    is_asked: bool,
+) -> Result<Option<Lines<R::Stream>>, Fault> {
     if !is_asked {
-        let (engine, readers) = begin(rt, folder, config, following.log_blocks)?;
-        return Ok((engine, readers, None));
+        drop(led);
+        return Ok(None);
     }
-    let lines = call(rt, following)?;
-    let (engine, readers) = begin(rt, folder, config, following.log_blocks)?;
-    folder.keep(rt)?;
-    Ok((engine, readers, Some(lines)))
+    match led {
+        Some(lines) => Ok(Some(lines)),
+        None => {
+            let lines = call(rt, following)?;
+            Ok(Some(lines))
+        }
+    }
+}
+
+/// The database that a folder has, and its readers.
+fn open_found<R: AllocGlobal + Files<File = File> + Net + Wait>(
+    rt: &R,
+    folder: &Folder,
+    config: Config,
+    following: Following<'_>,
+) -> Result<Opened<R::Stream>, Fault> {
+    let (engine, readers) = open_kept(rt, folder, config)?;
+    let greeted = give_up(
+        rt,
+        folder,
+        following,
+        engine.status().end,
+        &engine.history(),
+    )?;
+    Ok(Opened {
+        engine,
+        readers,
+        is_new: false,
+        greeted,
+    })
 }
 
 /// The configuration that is asked for. BadConfig: a number is out of its range.
-fn config_of(pages: u64, log_blocks: u64, readers: u64) -> Result<Config, Fault>
+pub(crate) fn config_of(pages: u64, log_blocks: u64, readers: u64) -> Result<Config, Fault>
     ensures ok { IfOk result (λ config. IsConfig config × (1 ≤ log_blocks)
         × (log_blocks ≤ 4194304)) }
     ensures fails { IfErr result (λ f. f ≡ Refused BadConfig) }

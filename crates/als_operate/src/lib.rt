@@ -22,6 +22,10 @@ mod opening;
 mod line;
 // A primary is asked before there is a database.
 mod greeting;
+// A primary's folder that becomes a standby's again.
+mod leading;
+// A log that has little room left.
+mod nearly_full;
 // The folder of a standby, held and opened.
 mod holding;
 // A session of a standby.
@@ -36,17 +40,21 @@ mod forgetting;
 mod takeover_command;
 // A primary that decides a transaction in doubt.
 mod resolve_command;
+// The engine of a primary's folder.
+mod primary_folder;
 
 pub use checkpointing::checkpoint;
 pub use deciding::decide;
 pub use fault::Fault;
 pub use following::follow;
-pub use forgetting::{Forgets, forget};
+pub use forgetting::{Extent, Forgets, extent_of, forget};
 pub use greeting::call;
 pub use holding::{Held, hold};
 pub use line::Line;
+pub use nearly_full::NearlyFull;
 pub use opening::{named, reopen};
 pub use patience::{bound, dial, silence};
+pub use primary_folder::{begin_primary, open_primary};
 pub use resolve_command::{Verdict, resolve};
 pub use settling::settle;
 pub use standby_command::{Following, PENDING, Prepared, conclude, prepare, standby};

@@ -1,1 +1,4 @@
 pub mod CheckLaws
+mod Ends
+mod Sound
+mod Walking

@@ -1,28 +1,61 @@
 -- What is known of the pages of a database once records of its log are read.
-use Rattle.std.specs.Prelude.{◌≡◌, ℕ, ◌≤◌, ◌<◌, List, length, Option, Some, None, nat_lt, ◌==◌, if◌then◌else◌, slice_get}
-use Rattle.std.specs.List.{fold}
+use Rattle.std.specs.Prelude.{◌≡◌, ℕ, ◌≤◌, ◌<◌, false, List, [], ◌∷◌, ◌++◌, length, Some, slice_get}
+use Rattle.std.specs.List.{AllByRecursion}
 use Rattle.als_record.specs.declared.change.Change.{Change}
+use Rattle.als_record.specs.declared.lsn.Lsn.{Lsn}
 use Rattle.als_record.specs.declared.record.Record.{Record}
-use Rattle.als_record.specs.Pages.{change_of}
+use Rattle.als_record.specs.LogText.{end_of, IsLog}
+use Rattle.als_record.specs.Pages.{PageState, empty_page, page_at, changes_above}
+use Rattle.als_page.specs.Block.{block_of}
+use Rattle.als_frames.specs.Images.{spelled_lsn}
+use Rattle.als_pool.specs.Restart.{IsImageFrom}
 use Rattle.als_pages_check.specs.declared.page_check.PageCheck.{PageCheck}
 
--- the last LSN below a bound, once another change of the page is read
-abbrev pub last_by : ℕ → ℕ → Change → ℕ
-last_by bound last c = if nat_lt c.lsn.0 bound then c.lsn.0 else last
+-- what the log makes of the page, as far as it was read
+abbrev pub repeated : PageCheck → PageState
+repeated c = record { lsn = c.last.0; slots = c.slots }
 
--- the same of what a record does, which may be of another page
-abbrev pub last_of_page : ℕ → ℕ → ℕ → Option Change → ℕ
-last_of_page page bound last None = last
-last_of_page page bound last (Some c) = if c.key.page == page then last_by bound last c else last
+-- each of some changes stands at an LSN or above
+abbrev pub AllFrom : ℕ → List Change → Type 0
+AllFrom from changes = AllByRecursion (λ d. from ≤ d.lsn.0) changes
 
--- the LSN of the last change of a page that a log has below a bound, 0 where it has none
-unfoldable pub last_below : ℕ → ℕ → List Record → ℕ
-last_below page bound log = fold (λ last r. last_of_page page bound last (change_of r)) 0 log
+-- What is known of a page: history repeated up to the page_LSN that its block spells, and whether a change above that LSN stands below
+-- where a restart redoes the page's changes.
+pub record IsChecked (log : List Record) (page : ℕ) (c : PageCheck) : Type 0 where
+  pub spelled : c.page_lsn.0 ≡ spelled_lsn c.block
+  pub none : c.lacks ≡ false → AllFrom c.redone_from.0 (changes_above log page c.page_lsn.0)
+  pub some : AllFrom c.redone_from.0 (changes_above log page c.page_lsn.0) → c.lacks ≡ false
+  pub is_repeated : (pages : ℕ) → IsLog pages log → repeated c ≡ page_at log page c.page_lsn.0
 
--- each page knows the last change that no restart redoes
+-- so it is with each page
 abbrev pub AreChecked : List PageCheck → List Record → Type 0
-AreChecked pages log = (page : ℕ) (c : PageCheck) → slice_get pages page ≡ Some c → c.last.0 ≡ last_below page c.redone_from.0 log
+AreChecked pages log = (page : ℕ) (c : PageCheck) → slice_get pages page ≡ Some c → IsChecked log page c
 
--- each page has it: its page_LSN is no smaller
-abbrev pub HaveAll : List PageCheck → List Record → Type 0
-HaveAll pages log = (page : ℕ) (c : PageCheck) → slice_get pages page ≡ Some c → last_below page c.redone_from.0 log ≤ c.page_lsn.0
+-- A page came behind some: its block, from where on a restart redoes its changes, and nothing redone.
+pub record IsAdded (old : List PageCheck) (block : List ℕ) (from : Lsn) (new : List PageCheck) : Type 0 where
+  pub added : PageCheck
+  pub is : new ≡ old ++ added ∷ []
+  pub has : added.block ≡ block
+  pub starts : added.redone_from ≡ from
+  pub spelled : added.page_lsn.0 ≡ spelled_lsn added.block
+  pub none : added.lacks ≡ false
+  pub empty : repeated added ≡ empty_page
+
+-- its block is that of history repeated, and it lacks no change that no restart redoes
+abbrev pub HasAgreed : ℕ → PageCheck → Type 0
+HasAgreed page c = (block_of page (repeated c) ≡ c.block) × (c.lacks ≡ false)
+
+-- a page's block is an image of the page in the log, which lacks no change from before where a restart redoes
+abbrev pub IsSound : List Record → ℕ → PageCheck → Type 0
+IsSound log page c = IsImageFrom log page (end_of log) c.redone_from c.block
+
+-- so it is with each page
+abbrev pub AreSound : List Record → List PageCheck → Type 0
+AreSound log pages = (page : ℕ) (c : PageCheck) → slice_get pages page ≡ Some c → IsSound log page c
+
+-- it is so with each page before this one, and not with this one
+abbrev pub IsFirstUnsound : List Record → List PageCheck → ℕ → Type 0
+IsFirstUnsound log pages page =
+    ((k : ℕ) (c : PageCheck) → k < page → slice_get pages k ≡ Some c → IsSound log k c)
+    × ((c : PageCheck) → slice_get pages page ≡ Some c → IsSound log page c → ⊥)
+    × (page < length pages)

@@ -1,12 +1,13 @@
-ghost use Rattle.std.specs.Prelude.{◌≡◌, ◌++◌, ◌∷◌, [], List, None, OnOk, IfSome, ◌<◌, length};
+ghost use Rattle.std.specs.Prelude.{◌≡◌, ◌++◌, ◌∷◌, ◌≤◌, [], ℕ, List, None, OnOk, IfSome, length};
 ghost use Rattle.als_record.specs.declared.record.Record.{Record as AnyRecord};
-ghost use Rattle.als_pages_check.specs.Checked.{AreChecked, HaveAll};
+ghost use Rattle.als_record.specs.LogText.{IsLog};
+ghost use Rattle.als_pages_check.specs.Checked.{AreChecked, IsAdded, AreSound, IsFirstUnsound};
 
 use crate::page_check::PageCheck;
-use als_record::{Lsn, Record};
+use als_record::{BLOCK_LEN, Lsn, Record};
 use std::alloc::{AllocError, Global};
 
-/// The pages of a database against its log, by their numbers.
+/// The pages of a database against its log, by their numbers. Each takes 1,032 bytes.
 pub struct Checks {
     pub(crate) pages: Vec<PageCheck>,
 }
@@ -22,20 +23,23 @@ impl Drop for Checks {
 impl Checks {
     /// No page is there yet, and no record is read.
     pub fn new(alloc: Global) -> Checks
-        ensures { AreChecked result.pages.items [] }
+        ensures checked { AreChecked result.pages.items [] }
+        ensures none { result.pages.items ≡ [] }
     {
         Checks {
             pages: Vec::new(alloc),
         }
     }
 
-    /// Puts the next page in: the page_LSN of its block, and the LSN from which on a restart redoes
-    /// its changes. Pages come before records.
-    pub fn add(&mut self, page_lsn: Lsn, redone_from: Lsn) -> Result<(), AllocError>
-        ensures { OnOk result (AreChecked self.old.pages.items [] → AreChecked self.new.pages.items []) }
+    /// Puts the next page in: its block, and the LSN from which on a restart redoes its changes.
+    /// Pages come before records.
+    pub fn add(&mut self, block: &[u8; BLOCK_LEN], redone_from: Lsn) -> Result<(), AllocError>
+        ensures checked { OnOk result (AreChecked self.old.pages.items []
+            → AreChecked self.new.pages.items []) }
+        ensures added { OnOk result (IsAdded self.old.pages.items block.now redone_from
+            self.new.pages.items) }
     {
-        self.pages.push(PageCheck::new(page_lsn, redone_from))?;
-        Ok(())
+        PageCheck::put(&mut self.pages, block, redone_from)
     }
 
     /// Takes the next record of the log.
@@ -48,20 +52,24 @@ impl Checks {
         };
         let place = change.key.page as usize;
         if place < self.pages.len() {
-            let mut check = self.pages[place];
-            check.note(&change);
-            self.pages[place] = check;
+            self.pages[place].note(&change);
         }
     }
 
-    /// The first page that lacks a change which no restart redoes. None: no page does.
-    pub fn first_lacking(&self) -> Option<u32>
-        ensures { result ≡ None → (log : List AnyRecord) → AreChecked self.now.pages.items log
-            → HaveAll self.now.pages.items log }
+    /// The first page whose block is not what the log makes of the page at the block's page_LSN, or
+    /// lacks a change which no restart redoes. None: no page is so.
+    pub fn first_differing(&self) -> Option<u32>
+        ensures none { result ≡ None → (pages : ℕ) (log : List AnyRecord) → IsLog pages log
+            → length self.now.pages.items ≤ 4294967295
+            → AreChecked self.now.pages.items log → AreSound log self.now.pages.items }
+        ensures some { IfSome result (λ page. (pages : ℕ) (log : List AnyRecord) → IsLog pages log
+            → length self.now.pages.items ≤ 4294967295
+            → AreChecked self.now.pages.items log
+            → IsFirstUnsound log self.now.pages.items page) }
     {
         let mut page = 0_u32;
         for check in self.pages.iter() {
-            if !check.has_all() {
+            if !check.agrees(page) {
                 return Some(page);
             }
             page = page.saturating_add(1);

@@ -1,5 +1,5 @@
-//! The pages of a stopped node against its log: whether a page lacks a change that no restart will
-//! redo.
+//! The pages of a stopped node against its log: whether the block of a page is what the log makes
+//! of the page, and lacks no change that no restart redoes.
 #![tactic(auto)]
 
 // One page.

@@ -15,6 +15,7 @@ use als_folder::Trouble;
 use als_follow::standby as standby_with_workers;
 use als_inspect::{Wanted, check_pages, dump, get, status, verify};
 use als_operate::{Following, TakenOver, Verdict, forget, resolve, standby, takeover};
+use als_rebuild::rebuild_pages;
 use als_record::{Key, Lsn, TransId};
 use als_service::{Service, standby as serve_standby};
 use als_shipper::{Lasting, NodeShipping, Shipping, ship, ship_node, ship_node_on, ship_on};
@@ -62,29 +63,39 @@ pub fn operate<
 {
     match attempt(rt, terminals.errors, command, output, errors) {
         Ok(()) => Ok(0),
-        Err(refusal) => {
-            let failure = Failure::from(refusal);
-            match told_of(command, terminals.errors) {
-                None => Err(failure),
-                Some(path) => {
-                    // What was printed stands before what is said of it.
-                    output.flush()?;
-                    let status = failure.report(errors);
-                    if let Some(trouble) = refusal.trouble {
-                        explain(rt, path, trouble, errors);
-                    }
-                    if matches!(command, Command::Standby { .. }) {
-                        // Where it can't be said, the status has to do.
-                        let _ = partings::tell(errors, path, refusal.kind);
-                    }
-                    Ok(status)
-                }
-            }
-        }
+        Err(refusal) => refused(rt, terminals, command, refusal, output, errors),
     }
 }
 
-/// Does what is asked for. A person who sees standard error is told how a long redo goes on.
+/// Reports a refusal, and says more of it where that was asked for, or a person sees it.
+pub fn refused<R: AllocGlobal + Files<File = File>, O: Write, E: Write>(
+    rt: &R,
+    terminals: Terminals,
+    command: Command,
+    refusal: Refusal,
+    output: &mut O,
+    errors: &mut E,
+) -> Result<u8, Failure>
+    ensures status { IfOk result IsStatus }
+{
+    let failure = Failure::from(refusal);
+    let Some(path) = told_of(command, terminals.errors) else {
+        return Err(failure);
+    };
+    // What was printed comes before what is said of it.
+    output.flush()?;
+    let status = failure.report(errors);
+    if let Some(trouble) = refusal.trouble {
+        explain(rt, path, trouble, errors);
+    }
+    if matches!(command, Command::Standby { .. }) {
+        // Where it can't be said, the status has to do.
+        let _ = partings::tell(errors, path, refusal.kind);
+    }
+    Ok(status)
+}
+
+/// Does what is asked for. A person who sees standard error reads there how a long redo goes on.
 fn attempt<
     R: AllocGlobal
         + Files<File = File>
@@ -102,7 +113,31 @@ fn attempt<
     E: Write,
 >(rt: &R, seen: bool, command: Command, output: &mut O, errors: &mut E) -> Result<(), Refusal> {
     match command {
-        Command::Make { .. } | Command::Sim { .. } => {}
+        // These read standard input.
+        Command::Make { .. } | Command::Sim { .. } | Command::Commit { .. } => Ok(()),
+        Command::Ship { .. } | Command::ShipNode { .. } => {
+            serve_log(rt, seen, command, output, errors)
+        }
+        Command::Standby { .. } => follow(rt, seen, command, output, errors),
+        Command::Takeover { .. } | Command::RebuildPages { .. } | Command::Resolve { .. } => {
+            lead(rt, seen, command, output, errors)
+        }
+        Command::Dump { .. }
+        | Command::Verify { .. }
+        | Command::Status { .. }
+        | Command::Get { .. } => inspect(rt, command, output),
+    }
+}
+
+/// `als ship`, of a log file or of a node's log.
+fn serve_log<R: AllocGlobal + Files<File = File> + Net + Wait + Clock, O: Write, E: Write>(
+    rt: &R,
+    seen: bool,
+    command: Command,
+    output: &mut O,
+    errors: &mut E,
+) -> Result<(), Refusal> {
+    match command {
         Command::Ship {
             log,
             listen,
@@ -116,12 +151,12 @@ fn attempt<
                 listen,
                 timeout,
             };
+            let lasting = Lasting {
+                keep,
+                grows: follow,
+            };
             let mut lines = MeetingLines::new(errors, seen || explain);
             if keep || follow {
-                let lasting = Lasting {
-                    keep,
-                    grows: follow,
-                };
                 ship_on(rt, shipping, lasting, &mut lines, output)?
             } else {
                 ship(rt, shipping, &mut lines, output)?
@@ -146,56 +181,96 @@ fn attempt<
                 ship_node(rt, shipping, &mut lines, output)?
             }
         }
-        Command::Standby {
-            dir,
-            from,
-            pages,
-            log_blocks,
-            checkpoint_mb,
-            workers,
-            timeout,
-            keep,
+        _ => {}
+    }
+    Ok(())
+}
+
+/// `als standby`.
+fn follow<
+    R: AllocGlobal
+        + Files<File = File>
+        + Net<Listener = TcpListener, Stream = TcpStream>
+        + Threads
+        + Wait
+        + Sync
+        + Clock
+        + RandomSource
+        + Clone
+        + Send
+        + Drop
+        + 'static,
+    O: Write,
+    E: Write,
+>(rt: &R, seen: bool, command: Command, output: &mut O, errors: &mut E) -> Result<(), Refusal> {
+    let Command::Standby {
+        dir,
+        from,
+        pages,
+        log_blocks,
+        checkpoint_mb,
+        workers,
+        timeout,
+        keep,
+        serve,
+        readers,
+        forget_unreached,
+        explain,
+    } = command
+    else {
+        return Ok(());
+    };
+    if let Some(asked) = log_blocks {
+        log_sizes::tell(rt, dir, asked, errors);
+    }
+    let following = Following {
+        dir,
+        from,
+        pages,
+        log_blocks: log_blocks.unwrap_or(LOG_BLOCKS),
+        checkpoint_mb,
+        timeout,
+    };
+    let mut lines = RedoLines::new(errors, seen, explain);
+    if forget_unreached {
+        forget(rt, dir, &mut lines)?
+    }
+    check_sound(rt, dir)?;
+    if keep || serve.is_some() {
+        let service = Service {
+            workers: workers_of(workers)?,
             serve,
             readers,
-            forget_unreached,
-            explain,
-        } => {
-            if let Some(asked) = log_blocks {
-                log_sizes::tell(rt, dir, asked, errors);
-            }
-            let following = Following {
-                dir,
-                from,
-                pages,
-                log_blocks: log_blocks.unwrap_or(LOG_BLOCKS),
-                checkpoint_mb,
-                timeout,
-            };
-            let mut lines = RedoLines::new(errors, seen, explain);
-            if forget_unreached {
-                forget(rt, dir, &mut lines)?
-            }
-            check_sound(rt, dir)?;
-            if keep || serve.is_some() {
-                let service = Service {
-                    workers: workers_of(workers)?,
-                    serve,
-                    readers,
-                    keep,
-                };
-                serve_standby(rt, following, service, &mut lines, output)?
-            } else {
-                stand_by(rt, following, workers, &mut lines, output)?
-            }
-        }
+            keep,
+        };
+        serve_standby(rt, following, service, &mut lines, output)?;
+        return Ok(());
+    }
+    stand_by(rt, following, workers, &mut lines, output)
+}
+
+/// `als takeover`, `als rebuild-pages` and `als resolve`.
+fn lead<R: AllocGlobal + Files<File = File> + Wait, O: Write, E: Write>(
+    rt: &R,
+    seen: bool,
+    command: Command,
+    output: &mut O,
+    errors: &mut E,
+) -> Result<(), Refusal> {
+    let mut lines = RedoLines::new(&mut *errors, seen, false);
+    match command {
         Command::Takeover { dir, .. } => {
-            let mut lines = RedoLines::new(&mut *errors, seen, false);
             check_sound(rt, dir)?;
             let TakenOver { doubts, is_empty } = takeover(rt, dir, &mut lines, output)?;
+            drop(lines);
             if is_empty {
                 tell_emptiness(dir, output, errors)?;
             }
-            tell_doubts(dir, doubts.as_slice(), output, errors)?
+            tell_doubts(dir, doubts.as_slice(), output, errors)
+        }
+        Command::RebuildPages { dir, .. } => {
+            rebuild_pages(rt, dir, &mut lines, output)?;
+            Ok(())
         }
         Command::Resolve {
             dir,
@@ -203,9 +278,20 @@ fn attempt<
             is_commit,
             ..
         } => {
-            let mut lines = RedoLines::new(errors, seen, false);
-            resolve(rt, verdict(dir, trans, is_commit), &mut lines, output)?
+            resolve(rt, verdict(dir, trans, is_commit), &mut lines, output)?;
+            Ok(())
         }
+        _ => Ok(()),
+    }
+}
+
+/// The commands that read a log or a folder and change nothing.
+fn inspect<R: AllocGlobal + Files<File = File> + Wait, O: Write>(
+    rt: &R,
+    command: Command,
+    output: &mut O,
+) -> Result<(), Refusal> {
+    match command {
         Command::Dump {
             path,
             from,
@@ -221,6 +307,7 @@ fn attempt<
             slot,
             ..
         } => get(rt, dir, Key { page, slot }, output)?,
+        _ => {}
     }
     Ok(())
 }
@@ -264,7 +351,7 @@ fn stand_by<
     Ok(())
 }
 
-/// Refuses a page that lacks a change of its log, before anything is written. What else is wrong with the
+/// Refuses a page that is not what its log makes of it, before anything is written. What else is wrong with the
 /// folder the command itself reports, in its own order.
 fn check_sound<R: AllocGlobal + Files<File = File>>(rt: &R, dir: &str) -> Result<(), Refusal> {
     match check_pages(rt, dir) {
@@ -364,6 +451,8 @@ fn told_of(command: Command<'_>, seen: bool) -> Option<&str> {
         Command::ShipNode { dir, explain, .. } => (dir, explain),
         Command::Standby { dir, explain, .. } => (dir, explain),
         Command::Takeover { dir, explain } => (dir, explain),
+        Command::Commit { dir, explain, .. } => (dir, explain),
+        Command::RebuildPages { dir, explain } => (dir, explain),
         Command::Resolve { dir, explain, .. } => (dir, explain),
         Command::Dump { path, explain, .. } => (path, explain),
         Command::Verify { path, explain } => (path, explain),

@@ -27,6 +27,8 @@ mod input_fault;
 mod input;
 // The commands that read standard input.
 mod lines;
+// `als commit`.
+mod committing;
 // The commands on files.
 mod files;
 // What the command line asks for is done.

@@ -1,7 +1,10 @@
+use als_commit::BadLines;
 use als_drive::Progress;
 use als_operate::{Fault, Forgets};
 use als_record::Lsn;
+use als_request::Mistake;
 use als_service::Outages;
+use als_writer::Flaw;
 use std::io::Write;
 
 /// Nothing is said of a redo of fewer changes.
@@ -84,6 +87,37 @@ impl<W: Write> Forgets for RedoLines<W> {
     }
 }
 
+// Where it can't be said, the status has to do.
+impl<W: Write> BadLines for RedoLines<W> {
+    fn unreadable(&mut self, number: u64, mistake: Mistake) {
+        let _ = writeln!(self.errors, "line {number}: {mistake}");
+    }
+
+    fn invalid(&mut self, number: u64, flaw: Flaw) {
+        let _ = match flaw {
+            Flaw::NoSet => writeln!(self.errors, "line {number}: it sets no key"),
+            Flaw::TooLong => writeln!(
+                self.errors,
+                "line {number}: it has more than 600 sets or comparisons"
+            ),
+            Flaw::KeyTwice { key } => writeln!(
+                self.errors,
+                "line {number}: it sets [{},{}] twice",
+                key.page, key.slot
+            ),
+            Flaw::NoSuchKey { key } => writeln!(
+                self.errors,
+                "line {number}: the database has no key [{},{}]",
+                key.page, key.slot
+            ),
+        };
+    }
+
+    fn too_long(&mut self, number: u64) {
+        let _ = writeln!(self.errors, "line {number}: it has more than 65536 bytes");
+    }
+}
+
 // Where it can't be said, the standby waits all the same.
 impl<W: Write> Outages for RedoLines<W> {
     fn outage(&mut self, fault: Option<Fault>, millis: u64) {
@@ -107,6 +141,14 @@ impl<W: Write> Outages for RedoLines<W> {
         let _ = writeln!(
             self.errors,
             "als: what the primary sends is refused: {fault}; it is asked again in {millis} ms"
+        );
+    }
+
+    fn nearly_full(&mut self, end: Lsn, capacity: u64) {
+        let _ = writeln!(
+            self.errors,
+            "als: the log has {} of the {capacity} bytes that its device takes: plan a folder with more --log-blocks",
+            end.0
         );
     }
 

@@ -1,12 +1,14 @@
 ghost use Rattle.std.specs.Prelude.{IfOk};
 ghost use Rattle.als_program.specs.Status.{IsStatus};
 
+use crate::committing::commit_lines;
 use crate::failure::Failure;
 use crate::files::operate;
 use crate::lines::{Telling, make_lines, run_script};
 use crate::remarks::Language;
 use crate::terminals::Terminals;
 use als_command::{Command, NoCommand, args};
+use als_commit::Committing;
 use std::convert::AsStr;
 use std::fs::File;
 use std::io::{BufWriter, Read, Write};
@@ -158,6 +160,23 @@ fn obey<
         Command::Sim { explain } => {
             let telling = Telling::new(Language::Script, terminals, explain);
             run_script(rt, telling, input, output, errors)
+        }
+        Command::Commit {
+            dir,
+            pages,
+            log_blocks,
+            batch,
+            skip_bad,
+            explain: _,
+        } => {
+            let committing = Committing {
+                dir,
+                pages,
+                log_blocks,
+                batch,
+                skip_bad,
+            };
+            commit_lines(rt, terminals, command, committing, input, output, errors)
         }
         command => operate(rt, terminals, command, output, errors),
     }

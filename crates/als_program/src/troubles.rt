@@ -38,6 +38,13 @@ fn say<W: Write>(errors: &mut W, trouble: Trouble) -> io::Result<()> {
         Wrong::NoRoom => "its disk has no room",
         Wrong::Gone => "its disk gave an input or output error, or is gone",
         Wrong::Short => "the file ends too early",
+        Wrong::Removed => "the file was removed, or another took its name, while it was open",
+        Wrong::Cut { bytes } => {
+            return writeln!(
+                errors,
+                "the file was cut to {bytes} bytes while it was open"
+            );
+        }
         Wrong::Failed if of_folder => "a file or the folder could not be read, written or synced",
         Wrong::Failed => "the file could not be opened, read, written or synced",
         Wrong::NoHeader => "the log's header is damaged, or that of another database",
@@ -48,9 +55,21 @@ fn say<W: Write>(errors: &mut W, trouble: Trouble) -> io::Result<()> {
         Wrong::BadControl => {
             "the control block or the checkpoint is damaged, or that of another log or page count"
         }
+        Wrong::BadRole =>
+            "it does not say which epoch a primary writes: move it away, and see als status",
+        Wrong::OfPrimary => {
+            "the folder is a primary's, and nobody took over from it: als commit writes it, als ship --dir serves it"
+        }
         Wrong::BadPage { page } => {
-            return writeln!(errors, "the block of page {page} is damaged");
+            return writeln!(
+                errors,
+                "the block of page {page} is damaged, or is not what the log makes of the page: als rebuild-pages makes the file anew"
+            );
         }
     };
+    let is_pages = trouble.part == Part::Pages;
+    if is_pages && matches!(trouble.wrong, Wrong::Missing | Wrong::Short) {
+        return writeln!(errors, "{words}: als rebuild-pages makes it anew");
+    }
     writeln!(errors, "{words}")
 }

@@ -7,3 +7,4 @@ mod Steps
 mod Texts
 mod Refusals
 mod Restated
+mod Rebuilt

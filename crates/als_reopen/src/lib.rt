@@ -36,13 +36,22 @@ mod read_back;
 mod reopening;
 // Devices to which another control state was written.
 mod again;
+// Devices whose pages are made anew.
+mod rebuilding;
+// What of the log device is read.
+mod below_mark;
 
 pub use again::{
     a_node_forgets_or_not, a_node_forgets_what_it_never_reached, a_primary_follows_again,
     a_primary_follows_again_or_not,
 };
+pub use below_mark::a_node_is_below_its_mark;
 pub use disks::Disks;
 pub use fault::Fault;
+pub use rebuilding::{
+    a_log_forgets_its_checkpoint_or_not, a_log_makes_its_pages_anew,
+    a_node_forgets_its_checkpoint_or_not, a_node_needs_no_checkpoint,
+};
 pub use reopened::Reopened;
 pub use reopening::reopen;
 pub use unreopened::Unreopened;

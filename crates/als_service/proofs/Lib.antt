@@ -1,3 +1,4 @@
 pub mod Chains
 pub mod Endings
 pub mod Vouched
+pub mod ReadLaws

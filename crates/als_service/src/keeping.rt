@@ -1,7 +1,7 @@
 ghost use Rattle.std.specs.Prelude.{◌≡◌};
 ghost use Rattle.als_store.specs.Stored.{acknowledged};
 ghost use Rattle.als_engine.specs.Telling.{Stands};
-ghost use Rattle.als_share.specs.Reaching.{Reaches};
+ghost use Rattle.als_share.specs.Reaching.{Reaches, ReachesFollowing};
 ghost use Rattle.als_service.specs.Sessions.{VouchesAll, EndsLast};
 ghost use Rattle.als_service.specs.Losses.{IsLost};
 
@@ -14,12 +14,10 @@ use crate::primaries::Primaries;
 use als_http::{Board, State};
 use als_operate::Fault;
 use als_record::Lsn;
-use als_share::Counts;
+use als_share::{Counts, Runtime};
 use std::alloc::Global;
 use std::io::{Read, Write};
-use std::sync::Wait;
 use std::thread;
-use std::thread::Threads;
 use std::time::{Clock, Duration};
 
 /// With how many workers a session is followed, and with a checkpoint each so many bytes of log (0:
@@ -40,10 +38,10 @@ pub struct Kept<E, F> {
 /// after a connection that was lost, it connects again: at once after a session that brought
 /// something, else after a pause. After a refusal it asks again for what was refused, after a longer
 /// pause. Only what asking again can't mend ends it.
-#[tactic(auto, using(crate::proofs::Chains::reaches_self, crate::proofs::Chains::reaches_both, crate::proofs::Vouched::vouches_none, crate::proofs::Vouched::vouches_more, crate::proofs::Endings::goes_on_none))]
-pub fn keep_following<
+#[tactic(auto, using(crate::proofs::Chains::reaches_self, crate::proofs::Chains::reaches_both, crate::proofs::Chains::follows_self, crate::proofs::Vouched::vouches_none, crate::proofs::Vouched::vouches_more, crate::proofs::Endings::goes_on_none))]
+pub fn follow_sessions<
     E: Counts + Send + Drop,
-    R: Threads + Wait + Sync + Clock,
+    R: Runtime + Clock,
     S: Read + Write + Drop,
     L: Primaries<S>,
     N: Outages,
@@ -58,6 +56,8 @@ pub fn keep_following<
 ) -> Kept<E, Fault>
     // All sessions together are one run of the small machine's events.
     ensures reached { E.alone → Reaches (E.machine events) (E.machine result.events) }
+    // No event of it is of a takeover.
+    ensures follows { E.alone → ReachesFollowing (E.machine events) (E.machine result.events) }
     ensures book { E.book result.events ≡ E.book events }
     // Each LSN that its primary was answered in any session is acknowledged in the end.
     ensures vouched { E.alone → VouchesAll (acknowledged (E.machine result.events).held)
@@ -90,6 +90,7 @@ pub fn keep_following<
             pause.begin_again();
         }
         notices.hang_up(rt, is_hang_up, outages);
+        notices.room(rt, position(&held), board.capacity(), outages);
         rest(rt, &mut pause, &mut notices, ended, board, outages);
     }
     unreachable!()

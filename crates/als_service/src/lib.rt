@@ -1,14 +1,14 @@
 //! The standby of a folder that follows for ever and answers reads over HTTP.
 //!
 //! ```text
-//!     primary --session, and again--> keep_following --follow_beside--> engine --view--> readers
+//!     primary --session, and again--> follow_sessions --follow_beside--> engine --view--> readers
 //!                                          |                                               |
 //!                                        Board  <---------- /status, /health ----------  threads <-- HTTP
 //! ```
 #![tactic(auto)]
 
-// Events that tell a board how they stand.
-mod telling;
+// Events whose statuses are stored on a board.
+mod reporting;
 // A stream that tells a board when something came.
 mod heard;
 // What a primary is told.
@@ -33,10 +33,13 @@ mod keeping;
 mod seats;
 // The standby of a folder.
 mod standing_by;
+// What is true of a value that is read over HTTP.
+mod laws;
 
-pub use keeping::{Kept, Pace, keep_following};
+pub use keeping::{Kept, Pace, follow_sessions};
+pub use laws::replies_are_of_published_commits;
 pub use met::Met;
 pub use outages::Outages;
 pub use primaries::Primaries;
+pub use reporting::{BoardReporter, Reported};
 pub use standing_by::{Service, standby};
-pub use telling::Telling;

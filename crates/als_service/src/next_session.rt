@@ -1,7 +1,7 @@
 ghost use Rattle.std.specs.Prelude.{◌≡◌};
 ghost use Rattle.als_store.specs.Stored.{acknowledged};
 ghost use Rattle.als_engine.specs.Telling.{Stands};
-ghost use Rattle.als_share.specs.Reaching.{Reaches};
+ghost use Rattle.als_share.specs.Reaching.{Reaches, ReachesFollowing};
 ghost use Rattle.als_service.specs.Sessions.{VouchesLast, EndsOne};
 
 use crate::answered::Answered;
@@ -12,12 +12,11 @@ use als_engine::{Events, State as EngineState};
 use als_follow::{Followed, follow_beside};
 use als_http::Board;
 use als_operate::Fault;
-use als_share::Counts;
+use als_share::{Counts, Runtime};
 use als_ship::Fault as SessionFault;
 use std::alloc::Global;
 use std::io::{Read, Write};
 use std::sync::Wait;
-use std::thread::Threads;
 use std::time::{Clock, Duration};
 
 /// A connection that ends within so many seconds is one that was ended at once.
@@ -35,14 +34,15 @@ pub(crate) struct Turn<E> {
 /// Connects to the primary and follows one session. What was refused before is asked for again.
 // What calls it stays small: clang does not come to an end over both in one function.
 #[inline(never)]
-#[tactic(auto, using(crate::proofs::Chains::reaches_self, crate::proofs::Chains::reaches_both, crate::proofs::Vouched::vouches_last, crate::proofs::Vouched::vouches_nobody, crate::proofs::Endings::ends_one, crate::proofs::Endings::ends_unbegun))]
+#[tactic(auto, using(crate::proofs::Chains::reaches_self, crate::proofs::Chains::reaches_both, crate::proofs::Chains::follows_both, crate::proofs::Vouched::vouches_last, crate::proofs::Vouched::vouches_nobody, crate::proofs::Endings::ends_one, crate::proofs::Endings::ends_unbegun))]
 pub(crate) fn follow_next<
     E: Counts + Send + Drop,
-    R: Threads + Wait + Sync + Clock,
+    R: Runtime + Clock,
     S: Read + Write + Drop,
     L: Primaries<S>,
 >(rt: &R, alloc: Global, events: E, pace: Pace, primaries: &mut L, board: &Board) -> Turn<E>
     ensures reached { E.alone → Reaches (E.machine events) (E.machine result.events) }
+    ensures follows { E.alone → ReachesFollowing (E.machine events) (E.machine result.events) }
     ensures book { E.book result.events ≡ E.book events }
     // One session came, or there was no connection. Each LSN that its primary was answered is
     // acknowledged then.
@@ -89,9 +89,10 @@ pub(crate) fn follow_next<
 
 /// Takes the log again, if a record of it was refused, and publishes what the session before left
 /// unpublished.
-#[tactic(auto, using(crate::proofs::Chains::reaches_both))]
+#[tactic(auto, using(crate::proofs::Chains::reaches_both, crate::proofs::Chains::follows_both))]
 fn make_ready<R: Wait, E: Events>(rt: &R, events: &mut E)
     ensures reached { E.alone → Reaches (E.machine events.old) (E.machine events.new) }
+    ensures follows { E.alone → ReachesFollowing (E.machine events.old) (E.machine events.new) }
     ensures book { E.book events.new ≡ E.book events.old }
 {
     take_again(events);
@@ -99,9 +100,10 @@ fn make_ready<R: Wait, E: Events>(rt: &R, events: &mut E)
 }
 
 /// Takes the log again, if a record of it was refused.
-#[tactic(auto, using(crate::proofs::Chains::reaches_self))]
+#[tactic(auto, using(crate::proofs::Chains::reaches_self, crate::proofs::Chains::follows_self))]
 fn take_again<E: Events>(events: &mut E)
     ensures reached { E.alone → Reaches (E.machine events.old) (E.machine events.new) }
+    ensures follows { E.alone → ReachesFollowing (E.machine events.old) (E.machine events.new) }
     ensures book { E.book events.new ≡ E.book events.old }
 {
     match events.status().state {
@@ -115,9 +117,10 @@ fn take_again<E: Events>(events: &mut E)
 }
 
 /// One `resync`. Where it is refused, the next session meets that.
-#[tactic(auto, using(crate::proofs::Chains::reaches_resync))]
+#[tactic(auto, using(crate::proofs::Chains::reaches_resync, crate::proofs::Chains::follows_resync))]
 fn resync<E: Events>(events: &mut E)
     ensures reached { E.alone → Reaches (E.machine events.old) (E.machine events.new) }
+    ensures follows { E.alone → ReachesFollowing (E.machine events.old) (E.machine events.new) }
     ensures book { E.book events.new ≡ E.book events.old }
 {
     let answer = events.resync();
@@ -127,9 +130,10 @@ fn resync<E: Events>(events: &mut E)
 
 /// Publishes for readers the commits that are acknowledged. Where it is refused, as where there are no more
 /// than before, the next session does so again.
-#[tactic(auto, using(crate::proofs::Chains::reaches_publish))]
+#[tactic(auto, using(crate::proofs::Chains::reaches_publish, crate::proofs::Chains::follows_publish))]
 fn publish<R: Wait, E: Events>(rt: &R, events: &mut E)
     ensures reached { E.alone → Reaches (E.machine events.old) (E.machine events.new) }
+    ensures follows { E.alone → ReachesFollowing (E.machine events.old) (E.machine events.new) }
     ensures book { E.book events.new ≡ E.book events.old }
 {
     let answer = events.publish_view(rt);

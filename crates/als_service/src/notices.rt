@@ -1,9 +1,13 @@
 use crate::outages::Outages;
-use als_operate::Fault;
+use als_operate::{Fault, NearlyFull};
+use als_record::Lsn;
 use std::time::{Clock, Duration};
 
 /// The same thing is reported at most once in this many seconds.
 const TOLD: u64 = 60;
+
+/// The seconds of an hour.
+const HOUR: u64 = 3_600;
 
 /// After so many connections in a row over which nothing came it is reported that the primary hangs up.
 const HANG_UPS: u32 = 3;
@@ -15,6 +19,7 @@ pub(crate) struct Notices {
     hang_up: Minute,
     refusal: Minute,
     refused: Option<Fault>,
+    full: NearlyFull,
     /// Connections in a row that were ended at once.
     hang_ups: u32,
 }
@@ -33,6 +38,7 @@ impl Notices {
             hang_up: Minute { told: None },
             refusal: Minute { told: None },
             refused: None,
+            full: NearlyFull::NEVER,
             hang_ups: 0,
         }
     }
@@ -62,6 +68,22 @@ impl Notices {
         if self.refusal.is_due(clock) || is_another {
             self.refused = Some(fault);
             outages.refusal(fault, millis);
+        }
+    }
+
+    /// Reports, once an hour, a log that uses nine tenths of its device.
+    pub fn room<C: Clock, N: Outages>(
+        &mut self,
+        clock: &C,
+        end: Lsn,
+        capacity: Option<u64>,
+        outages: &mut N,
+    ) {
+        let (Some(capacity), Ok(now)) = (capacity, clock.monotonic()) else {
+            return;
+        };
+        if self.full.is_due(end.0, capacity, now.as_secs() / HOUR) {
+            outages.nearly_full(end, capacity);
         }
     }
 

@@ -1,6 +1,7 @@
 use als_operate::Fault;
+use als_record::Lsn;
 
-/// Receives why a standby that is kept waits.
+/// Receives why a standby that is kept waits, and that its log is nearly full.
 pub trait Outages {
     /// The connection was lost, or there was none, for this reason (None: a thread could not be
     /// started). The primary is asked again after so many milliseconds.
@@ -11,4 +12,7 @@ pub trait Outages {
 
     /// So many connections in a row were ended at once, before anything came over them.
     fn hang_ups(&mut self, count: u32);
+
+    /// The log ends there, and nine tenths of the bytes of its device are used, or more.
+    fn nearly_full(&mut self, end: Lsn, capacity: u64);
 }

@@ -1,24 +1,24 @@
 use crate::answered::Answered;
 use crate::heard::Heard;
-use crate::keeping::{Kept, Pace, keep_following};
+use crate::keeping::{Kept, Pace, follow_sessions};
 use crate::outages::Outages;
 use crate::primaries::{Dialled, Primaries};
+use crate::reporting::{BoardReporter, Reported};
 use crate::seats::{new_board, serve_reads};
-use crate::telling::Telling;
 use als_drive::{Progress, recover_telling};
 use als_engine::{Events, Reader};
 use als_folder::Folder;
 use als_follow::{Followed, follow_beside};
 use als_http::{Board, Servers, State, listen};
 use als_operate::{Fault, Following, Held, conclude, follow, hold};
-use als_share::Counts;
+use als_share::{Counts, Observed, Runtime};
 use std::alloc::Global;
 use std::fs::File;
 use std::io::{Read, Write};
 use std::net::{Net, TcpListener, TcpStream};
 use std::random::RandomSource;
 use std::rt::Files;
-use std::sync::{Arc, Wait};
+use std::sync::Arc;
 use std::thread::Threads;
 use std::time::Clock;
 
@@ -51,9 +51,7 @@ pub fn standby<
     R: AllocGlobal
         + Files<File = File>
         + Net<Listener = TcpListener, Stream = TcpStream>
-        + Threads
-        + Wait
-        + Sync
+        + Runtime
         + Clock
         + RandomSource
         + Clone
@@ -113,9 +111,7 @@ fn stand<
     R: AllocGlobal
         + Files<File = File>
         + Net<Listener = TcpListener, Stream = TcpStream>
-        + Threads
-        + Wait
-        + Sync
+        + Runtime
         + Clock
         + RandomSource
         + Clone
@@ -184,7 +180,7 @@ fn close<R: Threads>(rt: &R, servers: Option<Servers>) {
 /// Redoes what the engine holds, and then follows.
 fn drive<
     E: Counts + Send + Drop,
-    R: AllocGlobal + Threads + Wait + Sync + Clock,
+    R: AllocGlobal + Runtime + Clock,
     S: Read + Write + Drop,
     L: Primaries<S>,
     P: Progress + Outages,
@@ -197,7 +193,7 @@ fn drive<
     board: &Board,
     progress: &mut P,
 ) -> Kept<E, Result<(), Fault>> {
-    let mut events = Telling::new(board, engine);
+    let mut events: Reported<'_, E> = Observed::new(BoardReporter::new(board), engine);
     let ended = match recover_telling(rt, &mut events, progress) {
         Ok(()) => None,
         Err(fault) => Some(Fault::Refused(fault)),
@@ -211,7 +207,7 @@ fn drive<
     board.set_epoch(u64::from(events.history().epoch()));
     board.set_state(State::Waiting);
     if keep {
-        let Kept { events, ended } = keep_following(
+        let Kept { events, ended } = follow_sessions(
             rt,
             rt.alloc(),
             events,
@@ -237,7 +233,7 @@ fn drive<
 /// this one.
 fn follow_once<
     E: Counts + Send + Drop,
-    R: AllocGlobal + Threads + Wait + Sync + Clock,
+    R: AllocGlobal + Runtime + Clock,
     S: Read + Write + Drop,
     L: Primaries<S>,
 >(rt: &R, events: E, pace: Pace, primaries: &mut L, board: &Board) -> Kept<E, Result<(), Fault>> {

@@ -7,3 +7,4 @@ pub mod Shares
 pub mod Booked
 pub mod Going
 pub mod Floors
+pub mod Following

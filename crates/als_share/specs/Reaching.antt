@@ -1,5 +1,6 @@
 -- A machine that is reached from another one, by events, by leases and by queries.
-use Rattle.std.specs.Prelude.{◌⊎◌, ℕ, List, [], ◌∷◌, ◌++◌, Option, Some, None, Result}
+use Rattle.std.specs.Prelude.{◌≡◌, ◌⊎◌, ℕ, Bool, true, false, List, [], ◌∷◌, ◌++◌, Option, Some, None, Result}
+use Rattle.std.specs.List.{AllByRecursion}
 use Rattle.als_record.specs.declared.lsn.Lsn.{Lsn}
 use Rattle.als_record.specs.declared.record.Record.{Record}
 use Rattle.als_page.specs.declared.page.Page.{Page}
@@ -7,6 +8,7 @@ use Rattle.als_lease.specs.Lease.{Leased}
 use Rattle.als_engine.specs.declared.fault.Fault.{Fault}
 use Rattle.als_engine.specs.declared.not_given.NotGiven.{NotGiven}
 use Rattle.als_engine.specs.declared.step.Step.{Step}
+use Rattle.als_engine.specs.declared.step.Step.TheVariants as step
 use Rattle.als_engine.specs.declared.step.Reply.{Reply}
 use Rattle.als_engine.specs.Events.{ShowsPage, Reads}
 use Rattle.als_engine.specs.Leases.{Lends, Gives}
@@ -78,6 +80,45 @@ pub record Reaches (start now : Machine) : Type 0 where
 abbrev pub ReachesFrom : Option Machine → Machine → Type 0
 ReachesFrom (Some start) now = Reaches start now
 ReachesFrom None now = ⊥
+
+-- an event of a takeover
+abbrev pub is_of_takeover : Step → Bool
+is_of_takeover (step.Feed piece) = false
+is_of_takeover step.Resync = false
+is_of_takeover (step.Recall page) = false
+is_of_takeover (step.Flush page) = false
+is_of_takeover step.SyncPages = false
+is_of_takeover step.LogWrite = false
+is_of_takeover step.LogSync = false
+is_of_takeover step.MarkWrite = false
+is_of_takeover step.ControlSync = false
+is_of_takeover step.CkptBegin = false
+is_of_takeover step.CkptBlock = false
+is_of_takeover step.CkptPublish = false
+is_of_takeover step.PublishView = false
+is_of_takeover step.Ready = false
+is_of_takeover (step.Adopt history) = false
+is_of_takeover step.Seal = true
+is_of_takeover step.UndoOne = true
+is_of_takeover step.Finish = true
+is_of_takeover (step.Resolve trans verdict) = true
+
+-- there are such events and replies, and no event is of a takeover
+pub record ReachesFollowing (start now : Machine) : Type 0 where
+  pub events : List Step
+  pub replies : List Reply
+  pub run : Run start events replies now
+  pub follows : AllByRecursion (λ event. is_of_takeover event ≡ false) events
+
+-- the same from the one that was picked
+abbrev pub FollowsFrom : Option Machine → Machine → Type 0
+FollowsFrom (Some start) now = ReachesFollowing start now
+FollowsFrom None now = ⊥
+
+-- it is reached from the one that was picked, and without events of a takeover where these are refused
+pub record IsDriven (takes_over : Bool) (from : Option Machine) (now : Machine) : Type 0 where
+  pub reached : ReachesFrom from now
+  pub follows : takes_over ≡ false → FollowsFrom from now
 
 -- What is told is what a machine has published that is reached from the one that was picked.
 abbrev pub IsToldFrom : Option Machine → Front → Type 0

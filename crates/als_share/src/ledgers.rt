@@ -1,4 +1,4 @@
-ghost use Rattle.std.specs.Prelude.{ℕ, Option, None};
+ghost use Rattle.std.specs.Prelude.{ℕ, Bool, true, Option, None};
 ghost use Rattle.logbook.specs.Pages.{Book};
 ghost use Rattle.als_engine.specs.Machine.{Machine};
 
@@ -6,8 +6,8 @@ use std::marker::{Brand, PhantomData};
 use std::sync::ledger::Ledger;
 
 /// The ledgers of one shared engine: one for each event, each cut into as many parts as there are
-/// shares. Whoever shares an engine picks them, what the engine's machine was, and which view its
-/// readers have.
+/// shares. Whoever shares an engine picks them, what the engine's machine was, which view its readers
+/// have, and whether its threads may take the database over.
 pub trait Ledgers {
     /// The name of each event's ledger, by the event's place in a tally, and behind them that of the
     /// ledger of what is acknowledged for a session.
@@ -21,6 +21,9 @@ pub trait Ledgers {
 
     /// The view of the engine that was shared.
     ghost book: { Book };
+
+    /// Whether its threads may take the database over: seal, undo, finish and resolve.
+    ghost takes_over: { Bool };
 }
 
 impl Ledgers for Brand {
@@ -33,6 +36,8 @@ impl Ledgers for Brand {
     ghost start = { None };
 
     ghost book = { no_book };
+
+    ghost takes_over = { true };
 }
 
 /// The ledger of what is acknowledged for a session, whose name stands behind those of the events.

@@ -13,11 +13,14 @@
 //!    drive.
 //! 4. Readers stay those of the engine that was shared: what a handle tells, each of them may learn.
 //! 5. Whenever the lock is free, what was acknowledged for a session is acknowledged in the engine.
+//!    Where threads may not take the database over, no event of a takeover was made.
 //! 6. Books and shares take no bytes and no time: they are there for contracts.
 //! 7. Laws say what is true of a machine that events and queries made of another one: a lock over
 //!    an engine holds such a machine, and its callers may rely on these laws.
 #![tactic(auto)]
 
+// What threads run on.
+mod runtime;
 // Which ledgers belong together.
 mod ledgers;
 // Ledgers that belong to nothing yet.
@@ -34,10 +37,18 @@ mod books;
 mod counts;
 // What is under the lock.
 mod locked;
+// An engine that nobody shares any more.
+mod settled;
 // Sharing an engine, and its end.
 mod shared;
 // A thread's way to it.
 mod handle;
+// What is done beside events.
+mod observer;
+// Events with an observer beside them.
+mod observed;
+// A voucher of observed events.
+mod through;
 // What is true of a machine that is reached from another one.
 mod laws;
 
@@ -47,5 +58,10 @@ pub use counts::Counts;
 pub use handle::Handle;
 pub use laws::{reaching_goes_on, undo_answers_once_a_record, what_is_reached_is_kept};
 pub use ledgers::Ledgers;
+pub use observed::Observed;
+pub use observer::Observer;
+pub use runtime::Runtime;
+pub use settled::Settled;
 pub use shared::{Shared, settle, share};
 pub use thread_share::Share;
+pub use through::Through;

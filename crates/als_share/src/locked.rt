@@ -1,10 +1,11 @@
-ghost use Rattle.std.specs.Prelude.{◌≡◌, ◌≤◌, IfOk, IfErr, Some};
+ghost use Rattle.std.specs.Prelude.{◌≡◌, ◌≤◌, true, false, IfOk, IfErr, Some};
 ghost use Rattle.als_store.specs.Stored.{acknowledged};
 ghost use Rattle.als_engine.specs.declared.event.Event.TheVariants as event;
 ghost use Rattle.als_engine.specs.Tally.{TellsOk, TellsTaken};
 ghost use Rattle.als_engine.specs.Readers.{book_told};
 ghost use Rattle.als_engine.specs.Telling.{Stands};
-ghost use Rattle.als_share.specs.Reaching.{ReachesFrom, IsToldFrom};
+ghost use Rattle.als_share.specs.Ledgers.{CountsNoTakeover};
+ghost use Rattle.als_share.specs.Reaching.{ReachesFrom, FollowsFrom, IsToldFrom};
 
 use crate::acknowledger::Acknowledger;
 use crate::books::Books;
@@ -20,27 +21,36 @@ use std::sync::ledger::Book;
 
 /// What is under the lock: an engine that events made of the one that was shared, with the same
 /// readers, books that are its tally, and the book of what was acknowledged for a session, which the
-/// engine still has.
+/// engine still has. Where threads may not take the database over, no event of a takeover was made.
 pub struct Locked<L: Ledgers, E: Events> {
     pub(crate) engine: E,
     pub(crate) books: Books<L>,
     pub(crate) floor: Book<Floor<L>>,
+    /// Whether seal, undo, finish and resolve are made. Else they are refused.
+    takes_over: bool,
+    /// Whether an event was made, or a query that may read a device. Else the engine is as it was
+    /// shared.
+    touched: bool,
 }
 
 impl<L: Ledgers, E: Events> Model for Locked<L, E> {
-    ghost use Rattle.std.specs.Prelude.{◌≡◌, ◌≤◌};
+    ghost use Rattle.std.specs.Prelude.{◌≡◌, ◌≤◌, false, Some};
     ghost use Rattle.als_store.specs.Stored.{acknowledged};
     ghost use Rattle.als_engine.specs.Machine.{Machine};
-    ghost use Rattle.als_share.specs.Reaching.{ReachesFrom};
+    ghost use Rattle.als_share.specs.Ledgers.{CountsNoTakeover};
+    ghost use Rattle.als_share.specs.Reaching.{IsDriven};
 
     ghost Value = { Machine };
 
     ghost view = { λ l. E.machine l.engine };
 
     ghost invariant = { λ l. (l.books ≡ E.tally l.engine)
-        × (E.alone → ReachesFrom L.start (E.machine l.engine))
+        × (E.alone → IsDriven L.takes_over L.start (E.machine l.engine))
         × (E.book l.engine ≡ L.book)
-        × (E.alone → l.floor.total ≤ acknowledged (E.machine l.engine).held) };
+        × (E.alone → l.floor.total ≤ acknowledged (E.machine l.engine).held)
+        × (l.takes_over ≡ L.takes_over)
+        × (l.touched ≡ false → L.start ≡ Some (E.machine l.engine))
+        × (L.takes_over ≡ false → CountsNoTakeover (E.tally l.engine)) };
 }
 
 // Written out, as an engine's.
@@ -50,6 +60,8 @@ impl<L: Ledgers, E: Events + Drop> Drop for Locked<L, E> {
             engine,
             books,
             floor: _,
+            takes_over: _,
+            touched: _,
         } = self;
         drop(engine);
         drop(books);
@@ -66,33 +78,49 @@ fn stands<E: Events>(engine: &E)
 impl<L: Ledgers, E: Events> Locked<L, E> {
     /// The engine that is shared, with books that say what it counted. Nothing was acknowledged for
     /// a session.
-    pub fn new(engine: E, books: Books<L>, floor: Book<Floor<L>>) -> Locked<L, E>
+    pub fn new(engine: E, books: Books<L>, floor: Book<Floor<L>>, takes_over: bool) -> Locked<L, E>
         requires start { L.start ≡ Some (E.machine engine) }
         requires books { books ≡ E.tally engine }
         requires book { L.book ≡ E.book engine }
         requires floor { floor.total ≡ 0 }
+        requires takes_over { takes_over ≡ L.takes_over }
+        requires none { CountsNoTakeover (E.tally engine) }
         ensures { result ≡ E.machine engine }
     {
         Locked {
             engine,
             books,
             floor,
+            takes_over,
+            touched: false,
         }
     }
 
-    /// The engine and its books.
-    pub fn into_parts(self) -> (E, Books<L>, Book<Floor<L>>)
+    /// The engine, its books, and whether it was touched.
+    pub fn into_parts(self) -> (E, Books<L>, Book<Floor<L>>, bool)
         ensures books { result.1 ≡ E.tally result.0 }
         ensures reached { E.alone → ReachesFrom L.start (E.machine result.0) }
         ensures book { E.book result.0 ≡ L.book }
         ensures floor { E.alone → result.2.total ≤ acknowledged (E.machine result.0).held }
+        ensures follows { L.takes_over ≡ false → E.alone → FollowsFrom L.start (E.machine result.0) }
+        ensures none { L.takes_over ≡ false → CountsNoTakeover (E.tally result.0) }
+        ensures untouched { result.3 ≡ false → L.start ≡ Some (E.machine result.0) }
     {
         let Locked {
             engine,
             books,
             floor,
+            takes_over: _,
+            touched,
         } = self;
-        (engine, books, floor)
+        (engine, books, floor, touched)
+    }
+
+    /// Whether seal, undo, finish and resolve are refused.
+    fn refuses_takeover(&self) -> bool
+        ensures { result ≡ false → L.takes_over ≡ true }
+    {
+        !self.takes_over
     }
 
     /// One feed.
@@ -103,7 +131,10 @@ impl<L: Ledgers, E: Events> Locked<L, E> {
             engine,
             books,
             floor: _,
+            takes_over: _,
+            touched,
         } = self;
+        *touched = true;
         let answer = engine.feed(piece);
         stands(engine);
         books.note_taken(share, &answer);
@@ -118,7 +149,10 @@ impl<L: Ledgers, E: Events> Locked<L, E> {
             engine,
             books,
             floor: _,
+            takes_over: _,
+            touched,
         } = self;
+        *touched = true;
         let answer = engine.resync();
         stands(engine);
         books.note(share, Event::Resync, &answer);
@@ -134,7 +168,10 @@ impl<L: Ledgers, E: Events> Locked<L, E> {
             engine,
             books,
             floor: _,
+            takes_over: _,
+            touched,
         } = self;
+        *touched = true;
         let answer = engine.lend(page);
         stands(engine);
         books.note(share, Event::Lend, &answer);
@@ -150,7 +187,10 @@ impl<L: Ledgers, E: Events> Locked<L, E> {
             engine,
             books,
             floor: _,
+            takes_over: _,
+            touched,
         } = self;
+        *touched = true;
         let answer = engine.give(lease);
         stands(engine);
         books.note(share, Event::Give, &answer);
@@ -165,7 +205,10 @@ impl<L: Ledgers, E: Events> Locked<L, E> {
             engine,
             books,
             floor: _,
+            takes_over: _,
+            touched,
         } = self;
+        *touched = true;
         let answer = engine.recall(page);
         stands(engine);
         books.note(share, Event::Recall, &answer);
@@ -180,7 +223,10 @@ impl<L: Ledgers, E: Events> Locked<L, E> {
             engine,
             books,
             floor: _,
+            takes_over: _,
+            touched,
         } = self;
+        *touched = true;
         let answer = engine.flush(page);
         stands(engine);
         books.note(share, Event::Flush, &answer);
@@ -195,7 +241,10 @@ impl<L: Ledgers, E: Events> Locked<L, E> {
             engine,
             books,
             floor: _,
+            takes_over: _,
+            touched,
         } = self;
+        *touched = true;
         let answer = engine.sync_pages();
         stands(engine);
         books.note(share, Event::SyncPages, &answer);
@@ -210,7 +259,10 @@ impl<L: Ledgers, E: Events> Locked<L, E> {
             engine,
             books,
             floor: _,
+            takes_over: _,
+            touched,
         } = self;
+        *touched = true;
         let answer = engine.log_write();
         stands(engine);
         books.note(share, Event::LogWrite, &answer);
@@ -225,7 +277,10 @@ impl<L: Ledgers, E: Events> Locked<L, E> {
             engine,
             books,
             floor: _,
+            takes_over: _,
+            touched,
         } = self;
+        *touched = true;
         let answer = engine.log_sync();
         stands(engine);
         books.note(share, Event::LogSync, &answer);
@@ -240,7 +295,10 @@ impl<L: Ledgers, E: Events> Locked<L, E> {
             engine,
             books,
             floor: _,
+            takes_over: _,
+            touched,
         } = self;
+        *touched = true;
         let answer = engine.mark_write();
         stands(engine);
         books.note(share, Event::MarkWrite, &answer);
@@ -256,7 +314,10 @@ impl<L: Ledgers, E: Events> Locked<L, E> {
             engine,
             books,
             floor: _,
+            takes_over: _,
+            touched,
         } = self;
+        *touched = true;
         let answer = engine.ctl_sync();
         stands(engine);
         books.note(share, Event::ControlSync, &answer);
@@ -290,7 +351,10 @@ impl<L: Ledgers, E: Events> Locked<L, E> {
             engine,
             books,
             floor: _,
+            takes_over: _,
+            touched,
         } = self;
+        *touched = true;
         let answer = engine.ckpt_begin();
         stands(engine);
         books.note(share, Event::CkptBegin, &answer);
@@ -305,7 +369,10 @@ impl<L: Ledgers, E: Events> Locked<L, E> {
             engine,
             books,
             floor: _,
+            takes_over: _,
+            touched,
         } = self;
+        *touched = true;
         let answer = engine.ckpt_block();
         stands(engine);
         books.note(share, Event::CkptBlock, &answer);
@@ -320,7 +387,10 @@ impl<L: Ledgers, E: Events> Locked<L, E> {
             engine,
             books,
             floor: _,
+            takes_over: _,
+            touched,
         } = self;
+        *touched = true;
         let answer = engine.ckpt_publish();
         stands(engine);
         books.note(share, Event::CkptPublish, &answer);
@@ -335,7 +405,10 @@ impl<L: Ledgers, E: Events> Locked<L, E> {
             engine,
             books,
             floor: _,
+            takes_over: _,
+            touched,
         } = self;
+        *touched = true;
         let answer = engine.publish_view(rt);
         stands(engine);
         books.note(share, Event::PublishView, &answer);
@@ -350,44 +423,59 @@ impl<L: Ledgers, E: Events> Locked<L, E> {
             engine,
             books,
             floor: _,
+            takes_over: _,
+            touched,
         } = self;
+        *touched = true;
         let answer = engine.ready(rt);
         stands(engine);
         books.note(share, Event::Ready, &answer);
         answer
     }
 
-    /// One `seal`.
+    /// One `seal`, which is refused where threads may not take the database over.
     pub fn seal(&mut self, share: &mut Share<L>) -> Result<(), Fault>
         ensures { TellsOk event.Seal result share.old share.new }
     {
+        if self.refuses_takeover() {
+            return Err(Fault::NothingToDo);
+        }
         let Locked {
             engine,
             books,
             floor: _,
+            takes_over: _,
+            touched,
         } = self;
+        *touched = true;
         let answer = engine.seal();
         stands(engine);
         books.note(share, Event::Seal, &answer);
         answer
     }
 
-    /// One `undo_one`.
+    /// One `undo_one`, which is refused where threads may not take the database over.
     pub fn undo_one(&mut self, share: &mut Share<L>) -> Result<Lsn, Fault>
         ensures { TellsOk event.UndoOne result share.old share.new }
     {
+        if self.refuses_takeover() {
+            return Err(Fault::NothingToDo);
+        }
         let Locked {
             engine,
             books,
             floor: _,
+            takes_over: _,
+            touched,
         } = self;
+        *touched = true;
         let answer = engine.undo_one();
         stands(engine);
         books.note(share, Event::UndoOne, &answer);
         answer
     }
 
-    /// One `resolve`.
+    /// One `resolve`, which is refused where threads may not take the database over.
     pub fn resolve(
         &mut self,
         share: &mut Share<L>,
@@ -396,11 +484,17 @@ impl<L: Ledgers, E: Events> Locked<L, E> {
     ) -> Result<Lsn, Fault>
         ensures { TellsOk event.Resolve result share.old share.new }
     {
+        if self.refuses_takeover() {
+            return Err(Fault::NothingToDo);
+        }
         let Locked {
             engine,
             books,
             floor: _,
+            takes_over: _,
+            touched,
         } = self;
+        *touched = true;
         let answer = engine.resolve(trans, verdict);
         stands(engine);
         books.note(share, Event::Resolve, &answer);
@@ -415,22 +509,31 @@ impl<L: Ledgers, E: Events> Locked<L, E> {
             engine,
             books,
             floor: _,
+            takes_over: _,
+            touched,
         } = self;
+        *touched = true;
         let answer = engine.adopt(history);
         stands(engine);
         books.note(share, Event::Adopt, &answer);
         answer
     }
 
-    /// One `finish`.
+    /// One `finish`, which is refused where threads may not take the database over.
     pub fn finish(&mut self, share: &mut Share<L>) -> Result<(), Fault>
         ensures { TellsOk event.Finish result share.old share.new }
     {
+        if self.refuses_takeover() {
+            return Err(Fault::NothingToDo);
+        }
         let Locked {
             engine,
             books,
             floor: _,
+            takes_over: _,
+            touched,
         } = self;
+        *touched = true;
         let answer = engine.finish();
         stands(engine);
         books.note(share, Event::Finish, &answer);
@@ -451,6 +554,7 @@ impl<L: Ledgers, E: Events> Locked<L, E> {
         if page >= self.engine.pages() {
             return Err(Fault::BadKey);
         }
+        self.touched = true;
         let answer = self.engine.page_now(page);
         stands(&self.engine);
         answer
@@ -458,6 +562,7 @@ impl<L: Ledgers, E: Events> Locked<L, E> {
 
     /// The held record at an LSN.
     pub fn record_at(&mut self, lsn: Lsn) -> Result<Option<Record>, Fault> {
+        self.touched = true;
         let answer = self.engine.record_at(lsn);
         stands(&self.engine);
         answer

@@ -1,6 +1,7 @@
 -- Sessions, one frame after another.
-use Rattle.std.proofs.Common.{◌≡◌, ℕ, Bool, true, List, [], ◌∷◌, ◌++◌, Option, Ok, refl, sym, ap, subst, ◌∙◌, append-nil, inl, inr}
+use Rattle.std.proofs.Common.{◌≡◌, ℕ, Bool, true, List, [], ◌∷◌, ◌++◌, ◌+◌, length, Option, Ok, refl, sym, ap, subst, ◌∙◌, append-nil, inl, inr}
 use Rattle.std.specs.List.{flat_map, AllByRecursion}
+use Rattle.std.proofs.lemmas.List.{length-append}
 use Rattle.std.proofs.lemmas.List.Concat.{flat_map-cons, flat_map-append}
 use Rattle.std.specs.Io.KnownBytes.{Consumes, Appends}
 use Rattle.std.proofs.KnownBytes.{Consumes-trans, Consumes-nil, Appends-nil, Appends-trans}
@@ -100,24 +101,31 @@ keeps_given_up alone before behind old mid new f (frames, read, front) given = (
 
 -- ---- the loop over the frames of a session
 
+-- one more of each, and there are as many of both
+one_more : {X Y : Type 0} (xs : List X) (ys : List Y) (x : X) (y : Y) → length xs ≡ length ys → length (xs ++ x ∷ []) ≡ length (ys ++ y ∷ [])
+one_more xs ys x y e = length-append xs (x ∷ []) ∙ ap (λ (n : ℕ). n + 1) e ∙ sym (length-append ys (y ∷ []))
+
 -- so far each frame that was read was taken and answered
 abbrev pub SoFar : Type 0 → Option (List ℕ) → Option (List ℕ) → Option (List ℕ) → Option (List ℕ) → Machine → Machine → Type 0
-SoFar alone before behind written more old new = (frames : List Frame) × (answers : List Lsn) × Consumes before behind (frames_bytes frames) × Appends written more (answers_bytes answers) × (alone → Session old frames answers new)
+SoFar alone before behind written more old new =
+    (frames : List Frame) × (answers : List Lsn) × Consumes before behind (frames_bytes frames) × Appends written more (answers_bytes answers) × (alone → Session old frames answers new)
+    × (length answers ≡ length frames)
 
 pub nothing_so_far : (alone : Type 0) (before written : Option (List ℕ)) (m : Machine) → SoFar alone before before written written m m
-nothing_so_far alone before written m = ([], [], Consumes-nil before, Appends-nil written, λ a. refl)
+nothing_so_far alone before written m = ([], [], Consumes-nil before, Appends-nil written, λ a. refl, refl)
 
 pub more_so_far : (alone : Type 0) (last : Bool) (before between behind written then more : Option (List ℕ)) (old mid new : Machine) → SoFar alone before between written then old mid → TakesOne alone last mid new between behind then more → SoFar alone before behind written more old new
-more_so_far alone last before between behind written then more old mid new (frames, answers, read, told, session) one = (
+more_so_far alone last before between behind written then more old mid new (frames, answers, read, told, session, each) one = (
   frames ++ one.frame ∷ [],
   answers ++ one.answer ∷ [],
   subst (Consumes before behind) (sym (flat_push frame_bytes frames one.frame)) (Consumes-trans before between behind (frames_bytes frames) (frame_bytes one.frame) read one.read),
   subst (Appends written more) (sym (flat_push (λ lsn. acknowledged_bytes lsn.0) answers one.answer)) (Appends-trans written then more (answers_bytes answers) (acknowledged_bytes one.answer.0) told one.told),
   λ a. session_push old mid new frames answers one.frame one.answer (session a) (one.turns a),
+  one_more answers frames one.answer one.frame each,
 )
 
 pub keeps_so_far : (alone : Type 0) (before behind written more : Option (List ℕ)) (old new : Machine) → SoFar alone before behind written more old new → KeepsFront alone before behind old new
-keeps_so_far alone before behind written more old new (frames, answers, read, told, session) = keeps_session alone before behind old new frames answers read session
+keeps_so_far alone before behind written more old new (frames, answers, read, told, session, each) = keeps_session alone before behind old new frames answers read session
 
 -- it asked from the end of the log, with the own history
 pub asks_as : (alone : Type 0) (old : Machine) (from : Lsn) (seals : List ℕ) → (alone → from.0 ≡ end_of old.held.log) → (alone → seals ≡ history_of old.held) → Asks alone old from seals
@@ -129,7 +137,7 @@ pub follows_all : (alone : Type 0) (header : LogHeader) (from : Lsn) (seals : Li
     → Follows alone header start new first behind asking more
 unfolding more_so_far
 follows_all alone header from seals last first before between behind asking written then more start old mid new resume asks joins so_far ends one =
-    let (frames, answers, read, told, session) = more_so_far alone last before between behind written then more old mid new so_far one in
+    let (frames, answers, read, told, session, each) = more_so_far alone last before between behind written then more old mid new so_far one in
     record {
       from = from;
       seals = seals;
@@ -141,6 +149,7 @@ follows_all alone header from seals last first before between behind asking writ
       last = one.frame;
       answers = answers;
       ends = sym one.is_last ∙ ends;
+      each = each;
       read = read;
       told = Appends-trans asking written more (resume_bytes from.0 header.pages seals) (answers_bytes answers) resume told;
       session = session;
@@ -150,7 +159,7 @@ follows_all alone header from seals last first before between behind asking writ
 pub stops_early : (alone : Type 0) (refuses : EngineFault → Machine → Type 0) (header : LogHeader) (from : Lsn) (seals : List ℕ) (first before between rest asking written then more : Option (List ℕ)) (start old mid new : Machine) (f : Fault)
     → Appends asking written (resume_bytes from.0 header.pages seals) → Asks alone start from seals → Joins alone start old first before → SoFar alone before between written then old mid → Stops alone refuses mid f new between rest → TellsPart alone mid new between rest then more
     → EndsAt alone refuses header f start new first asking more
-stops_early alone refuses header from seals first before between rest asking written then more start old mid new f resume asks joins (frames, answers, read, told, session) stops part =
+stops_early alone refuses header from seals first before between rest asking written then more start old mid new f resume asks joins (frames, answers, read, told, session, each) stops part =
     inr (inr (record {
       from = from;
       seals = seals;
@@ -160,6 +169,7 @@ stops_early alone refuses header from seals first before between rest asking wri
       joins = joins;
       frames = frames;
       answers = answers;
+      each = each;
       behind = between;
       read = read;
       then = then;

@@ -1,5 +1,5 @@
 -- Sessions of a follower.
-use Rattle.std.specs.Prelude.{◌≡◌, ◌⊎◌, ℕ, Bool, true, List, [], ◌∷◌, ◌++◌, Option, Ok, Err}
+use Rattle.std.specs.Prelude.{◌≡◌, ◌⊎◌, ℕ, Bool, true, List, [], ◌∷◌, ◌++◌, length, Option, Ok, Err}
 use Rattle.std.specs.List.{flat_map, AllByRecursion}
 use Rattle.std.specs.Io.KnownBytes.{Consumes, Appends}
 use Rattle.als_record.specs.declared.lsn.Lsn.{Lsn}
@@ -72,7 +72,8 @@ pub record Joins (alone : Type 0) (old new : Machine) (before behind : Option (L
   pub read : Consumes before behind (epochs_bytes offered)
   pub taken : alone → (position : Lsn) × TakesUp old offered (Ok position) new
 
--- A whole session: it asks, takes up the source's history, and answers each frame, up to one with no bytes.
+-- A whole session: it asks, takes up the source's history, and answers each frame, up to one with no bytes. That one is answered too:
+-- there are as many answers as frames.
 pub record Follows (alone : Type 0) (header : LogHeader) (old new : Machine) (before behind written more : Option (List ℕ)) : Type 0 where
   pub from : Lsn
   pub seals : List ℕ
@@ -84,6 +85,7 @@ pub record Follows (alone : Type 0) (header : LogHeader) (old new : Machine) (be
   pub last : Frame
   pub answers : List Lsn
   pub ends : is_last last ≡ true
+  pub each : length answers ≡ length (frames ++ last ∷ [])
   pub read : Consumes between behind (frames_bytes (frames ++ last ∷ []))
   pub told : Appends written more (resume_bytes from.0 header.pages seals ++ answers_bytes answers)
   pub session : alone → Session joined (frames ++ last ∷ []) answers new
@@ -180,8 +182,8 @@ pub record JoinsInVain (alone : Type 0) (header : LogHeader) (fault : Fault) (ol
   pub behind : Option (List ℕ)
   pub fails : FailsToJoin alone old fault new before behind
 
--- A session that ended early: it asked and took up the source's history, so many frames were taken and answered in order, and then
--- one was not, of whose answer a front may have been written. Nothing else was.
+-- A session that ended early: it asked and took up the source's history, frames were taken and each of them was answered, in order, and
+-- then one was not, of whose answer a front may have been written. Nothing else was.
 pub record StopsEarly (alone : Type 0) (refuses : EngineFault → Machine → Type 0) (header : LogHeader) (fault : Fault) (old new : Machine) (before written more : Option (List ℕ)) : Type 0 where
   pub from : Lsn
   pub seals : List ℕ
@@ -191,6 +193,7 @@ pub record StopsEarly (alone : Type 0) (refuses : EngineFault → Machine → Ty
   pub joins : Joins alone old joined before between
   pub frames : List Frame
   pub answers : List Lsn
+  pub each : length answers ≡ length frames
   pub behind : Option (List ℕ)
   pub read : Consumes between behind (frames_bytes frames)
   pub then : Option (List ℕ)

@@ -62,6 +62,8 @@ impl Follower {
     /// bytes or ends past the greatest offset; `resync` was called. OtherEpoch: it is of another
     /// epoch. Gap: it begins past the position. After these two nothing has changed. Else the
     /// refusal of an event; what a feed admitted is held.
+    ///
+    /// Tests alone call it. A session takes a frame in the same way.
     #[tactic(auto, using(crate::proofs::Schedules::handles_front))]
     pub fn frame<E: Events>(&self, events: &mut E, frame: Frame) -> Result<Lsn, Fault>
         ensures handles { E.alone → Handles (E.machine events.old) frame result
@@ -83,6 +85,8 @@ impl Follower {
     /// two the frame has changed nothing. Memory: there was none for a frame's bytes. Else the
     /// refusal of an event: of an adoption OtherEpoch or Diverged, where the source's history does
     /// not go on from the own one, or goes on below the end; what a feed admitted is held.
+    ///
+    /// Tests and figures call it. A session of the program is one of `follow_keeping`.
     pub fn follow<E: Events, R: Read, W: Write>(
         &self,
         alloc: Global,

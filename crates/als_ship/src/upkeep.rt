@@ -17,7 +17,7 @@ pub trait Upkeep {
         ensures fails { IfErr result (λ f. E.alone → refuses f (E.machine events.new)) };
 }
 
-/// Nothing is done.
+/// Nothing is done. It is the upkeep of `Follower::follow`, which tests and figures call.
 #[derive(Clone, Copy, Debug)]
 pub struct NoUpkeep;
 

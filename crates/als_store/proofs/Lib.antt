@@ -20,3 +20,5 @@ pub mod Formatted
 pub mod Unshown
 pub mod CrashLaws
 pub mod PickLaws
+pub mod WritingLaws
+pub mod TailOwnLaws

@@ -9,6 +9,8 @@ pub mod Devices
 pub mod Formatting
 pub mod Takeover
 pub mod Warm
+pub mod TailOwn
+pub mod WritingOwn
 pub mod Opening
 pub mod Leaving
 pub mod Stopped

@@ -16,14 +16,18 @@ mod laying_out;
 mod origin;
 // The log, the control block, the pages and the transaction table.
 mod store;
+// What a writer has to know of the log.
+mod writing_now;
 // A store that was opened, with the commits of its log.
 mod opened;
 
 pub use als_ckpt::Phase;
 pub use als_reopen::{Disks, Fault as OpenFault, Unreopened};
+pub use als_validator::KeyNow;
 pub use decision::Decision;
 pub use fault::Fault;
 pub use opened::Opened;
 pub use store::Store;
 pub use store::crashing::crash_disks;
 pub use unformatted::Unformatted;
+pub use writing_now::WritingNow;

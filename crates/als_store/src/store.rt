@@ -45,10 +45,14 @@ mod histories;
 mod opening;
 // Pages are lent for redo, written and synced.
 mod paging;
+// What is owed to the log, from memory.
+mod tail_own;
 // The takeover.
 mod takeover;
 // The log and the control block are written and synced.
 mod writing;
+// What a writer of transactions of its own asks.
+mod writing_own;
 
 use self::holding::{admit, make_room, reserve_after, route_change};
 use crate::fault::Fault;

@@ -1,6 +1,8 @@
 ghost use Rattle.std.specs.Prelude.{◌≡◌, ◌<◌, ◌⊎◌, ℕ, List, Contains, IfOk, OnOk};
 
-use als_disk::{BlockDisk, DeviceError, FailingDisk, FileDisk, FirstError, Fuse, MemDisk, Restart};
+use als_disk::{
+    BlockDisk, DeviceError, FailingDisk, Failure, FileDisk, FirstError, Fuse, MemDisk, Restart,
+};
 use std::alloc::Global;
 use std::fs::{self, File, OpenOptions};
 use std::process::Abort;
@@ -311,7 +313,7 @@ fn keeps_in_a_file<R: Abort + AllocGlobal + Files<File = File>>(rt: &R) -> Optio
     expect_two_blocks(rt, &mut disk);
     drop(disk);
     fs::remove_file(rt, path).ok()?;
-    assert!(rt; none.error().is_none());
+    assert!(rt; none.failure().is_none());
     assert!(rt; FileDisk::open(rt, path, none).is_err());
     Some(())
 }
@@ -354,8 +356,8 @@ fn stays_failed<R: Abort + AllocGlobal + Files<File = File>>(rt: &R) -> Option<(
     let mut disk = FileDisk::over(rt.alloc(), file, first_error.clone().ok()?).ok()?;
     fails_from_its_first_write(rt, &mut disk)?;
     // EBADF: the file is not open for writing.
-    let error = first_error.error()?;
-    assert!(rt; error.raw_os_error() == Some(9));
+    let failure = first_error.failure()?;
+    assert!(rt; failure == Failure::Call { number: 9 });
     fs::remove_file(rt, path).ok()
 }
 

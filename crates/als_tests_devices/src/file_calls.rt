@@ -136,6 +136,73 @@ fn an_opening_writes_back_what_it_read(rt: HostRuntime) {
     assert!(rt; opens_in_pieces(&rt, alloc).is_some() || opens_in_pieces(&rt, alloc).is_some());
 }
 
+/// An opening below a mark of so many bytes makes these calls, and writes nothing back but the piece
+/// from this offset on. `None`: allocation failed.
+fn opens_below(rt: &impl Abort, alloc: Global, bytes: u64, calls: u64, offset: u64) -> Option<()> {
+    let seen = Seen::new(alloc, 8)?;
+    let file = SeenFile {
+        blocks: 2048 + 2,
+        seen: seen.clone().ok()?,
+    };
+    seen.offset.store(1, Ordering::SeqCst);
+    let disk = FileDisk::over_below(alloc, file, FirstError::new(alloc).ok()?, bytes).ok()?;
+    assert!(rt; disk.blocks() == 2048 + 2);
+    drop(disk);
+    assert!(rt; seen.calls() == calls, "{bytes}");
+    assert!(rt; seen.offset() == offset, "{bytes}");
+    Some(())
+}
+
+/// What is read and written of a file below marks of several lengths. An offset of 1: nothing is
+/// written. `None`: allocation failed.
+fn opens_below_marks(rt: &impl Abort, alloc: Global) -> Option<()> {
+    // No block; one block; the whole first piece, of which the last block is written back with it.
+    opens_below(rt, alloc, 0, 0o4, 1)?;
+    opens_below(rt, alloc, 1, 0o124, 0)?;
+    opens_below(rt, alloc, 2048 * 512, 0o124, 0)?;
+    // A block behind it, which is zeros: the first piece lies below the last block.
+    opens_below(rt, alloc, 2048 * 512 + 1, 0o114, 1)?;
+    // A mark past the end of the file.
+    opens_below(rt, alloc, u64::MAX, 0o114, 1)
+}
+
+#[test]
+fn an_opening_reads_below_its_mark(rt: HostRuntime) {
+    let alloc = rt.alloc();
+    assert!(rt; opens_below_marks(&rt, alloc).is_some() || opens_below_marks(&rt, alloc).is_some());
+}
+
+/// The first byte of a block. `None`: it can't be read.
+fn first_of<D: BlockDisk>(disk: &mut D, i: u64) -> Option<u8> {
+    if disk.blocks() <= i {
+        return None;
+    }
+    let mut block = [1; 512];
+    disk.read(i, &mut block).ok()?;
+    Some(block[0])
+}
+
+/// What a file holds above the mark is not seen: each block there is zeros. `None`: allocation
+/// failed.
+fn sees_no_garbage(rt: &impl Abort, alloc: Global) -> Option<()> {
+    let seen = Seen::new(alloc, 8)?;
+    let file = SeenFile {
+        blocks: 4,
+        seen: seen.clone().ok()?,
+    };
+    let note = FirstError::new(alloc).ok()?;
+    let mut disk = FileDisk::over_below(alloc, file, note, 3).ok()?;
+    assert!(rt; first_of(&mut disk, 0) == Some(7));
+    assert!(rt; first_of(&mut disk, 1) == Some(0) && first_of(&mut disk, 3) == Some(0));
+    Some(())
+}
+
+#[test]
+fn what_lies_above_a_mark_is_zeros(rt: HostRuntime) {
+    let alloc = rt.alloc();
+    assert!(rt; sees_no_garbage(&rt, alloc).is_some() || sees_no_garbage(&rt, alloc).is_some());
+}
+
 /// Blocks that are written in a row reach the file by one write at the first one's place, once a sync
 /// asks for it, and the sync follows. `None`: allocation failed.
 fn reaches_the_file<D: BlockDisk>(rt: &impl Abort, disk: &mut D, seen: &Seen) -> Option<()> {

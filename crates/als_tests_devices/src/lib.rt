@@ -20,6 +20,9 @@ mod file_calls;
 // als_disk: what a device keeps in memory.
 #[cfg(test)]
 mod forgetting;
+// als_disk: a file that is removed, replaced or cut while its device is open.
+#[cfg(test)]
+mod losing;
 // als_disk: what a device gives its file, and by how many writes.
 #[cfg(test)]
 mod gathering;

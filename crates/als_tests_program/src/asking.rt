@@ -33,7 +33,17 @@ fn help_is_written(rt: HostRuntime) {
     asks(&rt, &["als", "help", "standby"], "      --serve <ADDR>");
     asks(&rt, &["als", "standby", "-h"], "--readers <R>");
     for command in [
-        "make", "sim", "standby", "takeover", "resolve", "dump", "verify", "status", "get",
+        "make",
+        "sim",
+        "standby",
+        "takeover",
+        "resolve",
+        "commit",
+        "rebuild-pages",
+        "dump",
+        "verify",
+        "status",
+        "get",
     ] {
         asks(&rt, &["als", command, "--help"], "      --explain");
     }

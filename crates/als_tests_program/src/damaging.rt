@@ -189,7 +189,7 @@ fn files_are_told<
     let page = Refusal {
         printed: "unsound lsn=0 33 BadPage 3\n",
         refusal: "als: refused 33 BadPage 3\n",
-        explained: "als: damaged/pages.blk: the block of page 3 is damaged\n",
+        explained: "als: damaged/pages.blk: the block of page 3 is damaged, or is not what the log makes of the page: als rebuild-pages makes the file anew\n",
     };
     is_refused(rt, &VERIFY, page);
     is_refused(
@@ -253,7 +253,7 @@ fn a_short_file_is_told<
         (
             2,
             3 * 512,
-            "als: damaged/pages.blk: the file ends too early\n",
+            "als: damaged/pages.blk: the file ends too early: als rebuild-pages makes it anew\n",
         ),
     ];
     for (number, len, explained) in &rows {

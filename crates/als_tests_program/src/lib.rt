@@ -85,6 +85,12 @@ mod folder;
 // A folder of which a file is damaged: which one that is.
 #[cfg(test)]
 mod damaging;
+// Pages that are laid out anew.
+#[cfg(test)]
+mod rebuilding;
 // A redo that takes long.
 #[cfg(test)]
 mod progressing;
+// `als commit`.
+#[cfg(test)]
+mod committing;

@@ -60,6 +60,14 @@ impl<'a> Row<'a> {
         }
     }
 
+    /// A run of these words over this input, that ends well.
+    pub fn of(words: &'a [&'a str], input: &'a str, output: &'a str) -> Row<'a> {
+        Row {
+            words,
+            ..Row::sim(input, output)
+        }
+    }
+
     /// A run that ends with this on standard error, and this status.
     pub fn failing(self, errors: &'a str, status: u8) -> Row<'a> {
         Row {

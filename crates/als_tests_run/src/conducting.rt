@@ -1,4 +1,4 @@
-ghost use Rattle.std.specs.Prelude.{◌≡◌, ◌+◌, ◌<◌, ◌≤◌, vec_len, Some};
+ghost use Rattle.std.specs.Prelude.{◌≡◌, ◌+◌, ◌<◌, ◌≤◌, vec_len, Some, true};
 ghost use Rattle.crossbeam_channel.specs.Claims.{view};
 ghost use Rattle.als_workers.specs.Rule.{new_pass};
 ghost use Rattle.als_workers.specs.Passes.{IsPassOf};
@@ -7,7 +7,7 @@ ghost use Rattle.als_share.specs.Ledgers.{AreNamed};
 use crate::pace::Pace;
 use crate::seats::{Dispatcher, Done, Helper, Job, Seat, Worker};
 use als_engine::Events;
-use als_share::{Blanks, Counts, Handle, Ledgers, Share, Shared, settle, share};
+use als_share::{Blanks, Counts, Handle, Ledgers, Settled, Share, Shared, settle, share};
 use als_workers::{HandOff, Pass};
 use std::alloc::Global;
 use std::marker::Brand;
@@ -152,11 +152,12 @@ fn conduct<L: Ledgers + Send + Sync, E: Counts + Send + Drop, R: Threads + Wait 
     requires book { L.book ≡ E.book engine }
     requires names { AreNamed L.names blanks.names }
     requires parts { (blanks.parts ≡ L.shares) × (L.shares ≡ plan.workers + 5) }
+    requires takes_over { L.takes_over ≡ true }
     requires workers { plan.workers ≤ 8 }
 {
     let count = plan.workers + OTHERS;
     let (queue, pass) = HandOff::new(alloc).ok()?;
-    let (shared, shares, acknowledger) = share::<L, E>(alloc, engine, count, blanks).ok()?;
+    let (shared, shares, acknowledger) = share::<L, E>(alloc, engine, count, blanks, true).ok()?;
     let hall = Hall {
         rt,
         alloc,
@@ -171,7 +172,8 @@ fn conduct<L: Ledgers + Send + Sync, E: Counts + Send + Drop, R: Threads + Wait 
     if others.len() + 1 != count {
         return None;
     }
-    Some((settle(shared, mine, others, acknowledger), done))
+    let Settled { engine, touched: _ } = settle(shared, mine, others, acknowledger);
+    Some((engine, done))
 }
 
 /// The same, over ledgers that are picked here.

@@ -1,4 +1,4 @@
-ghost use Rattle.std.specs.Prelude.{◌≡◌, IfSome, Some};
+ghost use Rattle.std.specs.Prelude.{◌≡◌, IfSome, Some, true};
 ghost use Rattle.als_view.specs.Views.{book_of};
 ghost use Rattle.als_share.specs.Ledgers.{AreNamed};
 
@@ -6,7 +6,7 @@ use crate::answers::{Answers, NONE};
 use crate::scripts::{Scene, play, text};
 use crate::standbys::{CONFIG, crashed, restarted, standby_with};
 use als_engine::{Events, Reader};
-use als_share::{Blanks, Counts, Handle, Ledgers, settle, share};
+use als_share::{Blanks, Counts, Handle, Ledgers, Settled, settle, share};
 use std::alloc::Global;
 use std::marker::Brand;
 use std::sync::Wait;
@@ -27,13 +27,15 @@ fn play_shared<L: Ledgers, E: Counts + Drop, R: Wait>(
     requires book { L.book ≡ E.book engine }
     requires names { AreNamed L.names blanks.names }
     requires parts { (blanks.parts ≡ L.shares) × (L.shares ≡ 1) }
+    requires takes_over { L.takes_over ≡ true }
     requires reader { book_of reader.old ≡ L.book }
 {
-    let (shared, mut shares, acknowledger) = share::<L, E>(alloc, engine, 1, blanks).ok()?;
+    let (shared, mut shares, acknowledger) = share::<L, E>(alloc, engine, 1, blanks, true).ok()?;
     let mut handle = Handle::new(rt, &shared, shares.pop()?);
     let answers = play(rt, alloc, &mut handle, reader, scene);
     let mine = handle.end();
-    Some((settle(shared, mine, shares, acknowledger), answers))
+    let Settled { engine, touched: _ } = settle(shared, mine, shares, acknowledger);
+    Some((engine, answers))
 }
 
 /// The same, over ledgers that are picked here.

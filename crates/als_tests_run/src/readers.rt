@@ -1,4 +1,4 @@
-ghost use Rattle.std.specs.Prelude.{◌≡◌, Some};
+ghost use Rattle.std.specs.Prelude.{◌≡◌, Some, true};
 ghost use Rattle.als_view.specs.Views.{book_of};
 ghost use Rattle.als_share.specs.Ledgers.{AreNamed};
 
@@ -162,9 +162,10 @@ fn serve<L: Ledgers + Send + Sync, E: Counts + Send + Drop, R: Threads + Wait + 
     requires book { L.book ≡ E.book engine }
     requires names { AreNamed L.names blanks.names }
     requires parts { (blanks.parts ≡ L.shares) × (L.shares ≡ 2) }
+    requires takes_over { L.takes_over ≡ true }
     requires reader { book_of told ≡ L.book }
 {
-    let (shared, mut shares, _) = share::<L, E>(alloc, engine, 2, blanks).ok()?;
+    let (shared, mut shares, _) = share::<L, E>(alloc, engine, 2, blanks, true).ok()?;
     let (publisher, session) = (shares.pop()?, shares.pop()?);
     let mut watching = Vec::with_capacity(alloc, READERS).ok()?;
     while let Some(mut reader) = readers.pop() {

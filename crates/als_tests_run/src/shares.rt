@@ -1,11 +1,13 @@
-ghost use Rattle.std.specs.Prelude.{◌≡◌, IfSome, Some};
+ghost use Rattle.std.specs.Prelude.{◌≡◌, IfSome, Some, true, false};
 ghost use Rattle.als_share.specs.Reaching.{Reaches, ReachesFrom};
 ghost use Rattle.als_share.specs.Ledgers.{AreNamed};
 
 use crate::standbys::{TEXT, standby};
-use als_engine::{Events, State};
-use als_record::Lsn;
-use als_share::{Acknowledger, Blanks, Counts, Handle, Ledgers, Share, Shared, settle, share};
+use als_engine::{Decision, Events, Fault, State};
+use als_record::{Lsn, TransId};
+use als_share::{
+    Acknowledger, Blanks, Counts, Handle, Ledgers, Settled, Share, Shared, settle, share,
+};
 use als_ship::Voucher;
 use std::alloc::Global;
 use std::marker::Brand;
@@ -55,9 +57,10 @@ fn drive<L: Ledgers + Send + Sync, E: Counts + Send + Drop, R: Threads + Wait + 
     requires book { L.book ≡ E.book engine }
     requires names { AreNamed L.names blanks.names }
     requires parts { (blanks.parts ≡ L.shares) × (L.shares ≡ 2) }
+    requires takes_over { L.takes_over ≡ true }
     ensures { IfSome result (λ settled. E.alone → ReachesFrom L.start (E.machine settled)) }
 {
-    let (shared, mut shares, acknowledger) = share::<L, E>(alloc, engine, 2, blanks).ok()?;
+    let (shared, mut shares, acknowledger) = share::<L, E>(alloc, engine, 2, blanks, true).ok()?;
     let one = shares.pop()?;
     let other = shares.pop()?;
     let lent = &shared;
@@ -67,7 +70,8 @@ fn drive<L: Ledgers + Send + Sync, E: Counts + Send + Drop, R: Threads + Wait + 
         move || redo(rt, lent, other),
     );
     shares.push(other).ok()?;
-    Some(settle(shared, one, shares, acknowledger))
+    let Settled { engine, touched: _ } = settle(shared, one, shares, acknowledger);
+    Some(engine)
 }
 
 /// The same, over ledgers that are picked here. What comes back is reached from what went in.
@@ -81,6 +85,36 @@ fn driven<E: Counts + Send + Drop, R: Threads + Wait + Sync>(
     drive::<Brand, E, R>(rt, alloc, engine, Blanks::new(2))
 }
 
+/// The events of a takeover, by a handle that may make none. Whether all are refused, and leave the
+/// engine untouched.
+fn refuse<L: Ledgers, E: Counts + Drop, R: Wait>(
+    rt: &R,
+    alloc: Global,
+    engine: E,
+    blanks: Blanks,
+) -> Option<(E, bool)>
+    requires start { L.start ≡ Some (E.machine engine) }
+    requires book { L.book ≡ E.book engine }
+    requires names { AreNamed L.names blanks.names }
+    requires parts { (blanks.parts ≡ L.shares) × (L.shares ≡ 1) }
+    requires takes_over { L.takes_over ≡ false }
+{
+    let (shared, mut shares, acknowledger) = share::<L, E>(alloc, engine, 1, blanks, false).ok()?;
+    let mut handle = Handle::new(rt, &shared, shares.pop()?);
+    let refused = handle.seal() == Err(Fault::NothingToDo)
+        && handle.undo_one() == Err(Fault::NothingToDo)
+        && handle.resolve(TransId(1), Decision::Commit) == Err(Fault::NothingToDo)
+        && handle.finish() == Err(Fault::NothingToDo);
+    let mine = handle.end();
+    let Settled { engine, touched } = settle(shared, mine, shares, acknowledger);
+    Some((engine, refused && !touched))
+}
+
+/// The same, over ledgers that are picked here.
+fn refused<E: Counts + Drop, R: Wait>(rt: &R, alloc: Global, engine: E) -> Option<(E, bool)> {
+    refuse::<Brand, E, R>(rt, alloc, engine, Blanks::new(1))
+}
+
 /// Whether the log is held and acknowledged, and its one change redone or waiting.
 fn has_all<E: Events>(engine: &E) -> bool {
     let status = engine.status();
@@ -91,11 +125,26 @@ fn has_all<E: Events>(engine: &E) -> bool {
         && status.leases == 0
 }
 
+/// Whether a new standby that handles drove has all. `None`: allocation failed.
+fn is_driven<R: Threads + Wait + Sync>(rt: &R, alloc: Global) -> Option<bool> {
+    let engine = standby(rt, alloc)?;
+    let engine = driven(rt, alloc, engine)?;
+    Some(has_all(&engine))
+}
+
 #[test]
 fn handles_drive_one_engine(rt: HostRuntime) {
+    let alloc = rt.alloc();
+    assert!(rt; is_driven(&rt, alloc) == Some(true) || is_driven(&rt, alloc) == Some(true));
+}
+
+#[test]
+fn a_handle_that_follows_takes_nothing_over(rt: HostRuntime) {
     let engine = standby(&rt, rt.alloc()).expect(&rt, "a standby");
-    match driven(&rt, rt.alloc(), engine) {
-        Some(engine) => assert!(rt; has_all(&engine)),
+    match refused(&rt, rt.alloc(), engine) {
+        Some((engine, refused)) => assert!(rt;
+            refused && engine.status().state == State::Following
+        ),
         // Allocation failed.
         None => {}
     }

@@ -1,7 +1,7 @@
 ghost use Rattle.std.specs.Prelude.{◌<◌, ◌^◌};
 
 use crate::written::{Change, transaction};
-use als_http::{Answering, Report, Standing, State, config};
+use als_http::{Answering, Hosts, Report, Standing, State, config};
 use als_published_log::PublishedLog;
 use als_record::{Key, Lsn};
 use als_view::Reader;
@@ -301,6 +301,34 @@ fn a_standby_without_a_list_is_warming(rt: HostRuntime) -> Result<(), Fail> {
     let status = "GET /status HTTP/1.1\r\nHost: a\r\n\r\n";
     assert!(rt; begins(alloc, keys, &mut answering, status, "HTTP/1.1 200 "));
     publisher.close(&rt);
+    Ok(())
+}
+
+#[test]
+fn a_host_of_another_node_is_misdirected(rt: HostRuntime) -> Result<(), Fail> {
+    let alloc = rt.alloc();
+    let keys = RandomState::new(&rt)?;
+    let (log, mut readers) = published(&rt, alloc, 1).ok_or("memory")?;
+    let reader = readers.pop().ok_or("a reader")?;
+    let standing = Fixed(State::Following, None);
+    let mut answering = Answering::new(alloc, reader, standing);
+    answering.answer_for(Hosts::Loopback);
+    let table = [
+        ("localhost", "HTTP/1.1 200 "),
+        ("localhost:7071", "HTTP/1.1 200 "),
+        ("127.0.0.1:7071", "HTTP/1.1 200 "),
+        ("[::1]:7071", "HTTP/1.1 200 "),
+        ("evil.example", "HTTP/1.1 421 "),
+        ("localhost.evil.example", "HTTP/1.1 421 "),
+    ];
+    for (host, front) in table {
+        let request = format!(in alloc; "GET /keys/1/3 HTTP/1.1\r\nHost: {host}\r\n\r\n")?;
+        assert!(rt;
+            begins(alloc, keys, &mut answering, request.as_str(), front),
+            "{host}"
+        );
+    }
+    log.close(&rt);
     Ok(())
 }
 

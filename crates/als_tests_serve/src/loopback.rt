@@ -40,7 +40,7 @@ fn watch<R: Net + AllocGlobal>(rt: &R, at: SocketAddr) -> Option<bool> {
     let mut last = 0;
     for _ in 0..ASKED {
         let request = format!(in alloc;
-            "GET /keys/0/0 HTTP/1.1\r\nHost: a\r\nConnection: close\r\nAls-At-Least: {last}\r\n\r\n"
+            "GET /keys/0/0 HTTP/1.1\r\nHost: localhost\r\nConnection: close\r\nAls-At-Least: {last}\r\n\r\n"
         ).ok()?;
         let text = asked(rt, at, request.as_str()).ok()?;
         let lsn = between(text.as_str(), "als-lsn: ", "\r\n")?;
@@ -126,7 +126,7 @@ fn a_silent_peer_gives_way(rt: HostRuntime) -> Result<(), Fail> {
     let text = asked(
         &rt,
         at,
-        "GET /keys/1/3 HTTP/1.1\r\nHost: a\r\nConnection: close\r\n\r\n",
+        "GET /keys/1/3 HTTP/1.1\r\nHost: localhost\r\nConnection: close\r\n\r\n",
     )?;
     assert!(rt; text.as_str().starts_with("HTTP/1.1 200 "));
     // The part of a request is refused where its time is over.
@@ -137,6 +137,48 @@ fn a_silent_peer_gives_way(rt: HostRuntime) -> Result<(), Fail> {
     thread::sleep(&rt, Duration::from_millis(50));
     servers.close(&rt);
     drop(kept);
+    log.close(&rt);
+    Ok(())
+}
+
+#[test]
+fn one_peer_is_no_crowd(rt: HostRuntime) -> Result<(), Fail> {
+    let alloc = rt.alloc();
+    let (log, readers) = published(&rt, alloc, 3).ok_or("memory")?;
+    let seats = seats(alloc, &rt, readers).ok_or("seats")?;
+    let listener = listen(&rt, alloc, "0")?;
+    let at = listener.local_addr()?;
+    let servers = Servers::start(&rt, alloc, &listener, seats)?;
+    let mut first = TcpStream::connect(&rt, at)?;
+    first.write_all(b"GET /keys/1")?;
+    thread::sleep(&rt, Duration::from_millis(100));
+    // The second thread waits for no other connection of the same peer.
+    let mut second = TcpStream::connect(&rt, at)?;
+    second.write_all(b"GET /keys/1")?;
+    thread::sleep(&rt, Duration::from_millis(2500));
+    first.write_all(b"/3 HTTP/1.1\r\nHost: localhost\r\nConnection: close\r\n\r\n")?;
+    let text = io::read_to_string(alloc, first)?;
+    assert!(rt; text.as_str().starts_with("HTTP/1.1 200 "));
+    second.write_all(b"/3 HTTP/1.1\r\nHost: localhost\r\n\r\n")?;
+    let text = io::read_to_string(alloc, second)?;
+    assert!(rt; text.as_str().starts_with("HTTP/1.1 200 "));
+    servers.close(&rt);
+    log.close(&rt);
+    Ok(())
+}
+
+#[test]
+fn a_host_of_another_site_is_misdirected(rt: HostRuntime) -> Result<(), Fail> {
+    let alloc = rt.alloc();
+    let (log, readers) = published(&rt, alloc, 1).ok_or("memory")?;
+    let seats = seats(alloc, &rt, readers).ok_or("seats")?;
+    let listener = listen(&rt, alloc, "0")?;
+    let at = listener.local_addr()?;
+    let servers = Servers::start(&rt, alloc, &listener, seats)?;
+    let other = "GET /status HTTP/1.1\r\nHost: evil.example\r\nConnection: close\r\n\r\n";
+    let text = asked(&rt, at, other)?;
+    assert!(rt; text.as_str().starts_with("HTTP/1.1 421 "));
+    servers.close(&rt);
     log.close(&rt);
     Ok(())
 }
@@ -162,7 +204,7 @@ fn slow_peers_shut_nobody_out(rt: HostRuntime) -> Result<(), Fail> {
     let begun = rt.monotonic()?;
     for path in ["/health", "/status", "/metrics", "/keys/1/3"] {
         let request = format!(in alloc;
-            "GET {path} HTTP/1.1\r\nHost: a\r\nConnection: close\r\n\r\n"
+            "GET {path} HTTP/1.1\r\nHost: localhost\r\nConnection: close\r\n\r\n"
         )?;
         let text = asked(&rt, at, request.as_str())?;
         assert!(rt; text.as_str().starts_with("HTTP/1.1 200 "), "{path}");

@@ -5,7 +5,7 @@ use als_fault::FaultKind;
 use als_http::{Board, Report, Standing, State, Watch};
 use als_operate::Fault;
 use als_sample_logs::{FIRST, Primary};
-use als_service::{Kept, Pace, keep_following};
+use als_service::{Kept, Pace, follow_sessions};
 use als_share::Counts;
 use als_ship::Fault as SessionFault;
 use std::alloc::Global;
@@ -152,7 +152,7 @@ fn goes_on<E: Counts + Send + Drop, R: Threads + Wait + Sync + Clock + Clone + D
     let board = Arc::new(alloc, Board::new()).ok()?;
     let watch = Watch::new(Arc::try_clone(&board).ok()?, rt.clone().ok()?);
     let mut told = Told::nothing();
-    let Kept { events, ended } = keep_following(
+    let Kept { events, ended } = follow_sessions(
         rt,
         alloc,
         engine,
@@ -180,7 +180,7 @@ fn asks_again<E: Counts + Send + Drop, R: Threads + Wait + Sync + Clock + Clone 
     let mut primaries = refusals(alloc, sent.frames.as_slice())?;
     let board = Board::new();
     let mut told = Told::nothing();
-    let Kept { events, ended } = keep_following(
+    let Kept { events, ended } = follow_sessions(
         rt,
         alloc,
         engine,
@@ -208,7 +208,7 @@ fn is_turned_away<E: Counts + Send + Drop, R: Threads + Wait + Sync + Clock + Cl
     let mut primaries = hang_ups(alloc)?;
     let board = Board::new();
     let mut told = Told::nothing();
-    let Kept { events, ended } = keep_following(
+    let Kept { events, ended } = follow_sessions(
         rt,
         alloc,
         engine,

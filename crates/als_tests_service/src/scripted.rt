@@ -1,4 +1,5 @@
 use als_operate::Fault;
+use als_record::Lsn;
 use als_service::{Met, Outages, Primaries};
 use std::io;
 use std::io::{Read, Write};
@@ -134,4 +135,7 @@ impl Outages for Told {
     fn hang_ups(&mut self, count: u32) {
         self.hang_ups = Some(count);
     }
+
+    #[inline(never)]
+    fn nearly_full(&mut self, _end: Lsn, _capacity: u64) {}
 }

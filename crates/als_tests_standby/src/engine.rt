@@ -4,6 +4,8 @@ ghost use Rattle.std.specs.Prelude.{◌<◌};
 mod reading;
 // A recovery, and its end.
 mod recovery;
+// What a writer asks.
+mod writer;
 
 use crate::common::{CONFIG, TEXT, devices_in_memory, redo};
 use als_disk::{BlockDisk, FailingDisk, Fuse, MemDisk};

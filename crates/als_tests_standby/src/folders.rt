@@ -1,5 +1,5 @@
 use als_disk::{BlockDisk, DeviceError};
-use als_folder::{Fault, Folder, Part, Sizes, Trouble, Wrong};
+use als_folder::{Fault, Folder, Found, Part, Sizes, Trouble, Vacancy, Wrong};
 use std::fs;
 use std::fs::File;
 use std::process::Abort;
@@ -11,6 +11,8 @@ mod calls;
 mod losing;
 // Two folders with names of one file.
 mod locking;
+// The file that makes a folder a primary's.
+mod roles;
 
 const SIZES: Sizes = Sizes {
     log: 3,
@@ -48,13 +50,24 @@ fn tells(refused: Option<Fault>, wanted: Fault) -> bool {
     refused == Some(wanted) || refused == Some(Fault::Memory)
 }
 
+/// A place for a new database. `None`: there is none, or allocation failed.
+fn vacancy<'a, R: Files<File = File> + AllocGlobal>(
+    rt: &R,
+    folder: &'a Folder,
+) -> Option<Vacancy<'a>> {
+    match folder.find(rt) {
+        Ok(Found::Vacant(vacancy)) => Some(vacancy),
+        Ok(Found::Kept) | Err(_) => None,
+    }
+}
+
 /// Lays out a database whose blocks begin with these bytes. `None`: allocation failed.
 fn lay_out<R: Files<File = File> + AllocGlobal>(
     rt: &R,
     folder: &Folder,
     bytes: [u8; 3],
 ) -> Option<()> {
-    let mut devices = folder.lay_out(rt, SIZES).ok()?;
+    let mut devices = vacancy(rt, folder)?.lay_out(rt, SIZES).ok()?;
     fill(&mut devices.log, bytes[0]).ok()?;
     fill(&mut devices.control, bytes[1]).ok()?;
     fill(&mut devices.pages, bytes[2]).ok()
@@ -75,9 +88,12 @@ fn goes_its_way<R: Abort + AllocGlobal + Files<File = File>>(rt: &R) -> Option<(
     assert!(rt; folder.is_kept(rt).ok()? == false);
     assert!(rt; tells(folder.open(rt).err(), missing(Part::Control)));
     lay_out(rt, &folder, [4, 5, 6])?;
+    let late = vacancy(rt, &folder)?;
     folder.keep(rt).ok()?;
     assert!(rt; folder.is_kept(rt).ok()? == true);
-    assert!(rt; folder.lay_out(rt, SIZES).is_err());
+    // Nothing is laid out any more, nor by what was found before.
+    assert!(rt; vacancy(rt, &folder).is_none());
+    assert!(rt; late.lay_out(rt, SIZES).is_err());
     drop(folder);
     let next = Folder::hold(rt, "standby").ok()?;
     let mut devices = next.open(rt).ok()?;
@@ -85,6 +101,44 @@ fn goes_its_way<R: Abort + AllocGlobal + Files<File = File>>(rt: &R) -> Option<(
     assert!(rt; sees(&mut devices.control)? == (2, 5));
     assert!(rt; sees(&mut devices.pages)? == (1, 6));
     Some(())
+}
+
+/// Below a mark, the log's device has what its file has, and zeros above. `None`: allocation failed.
+fn sees_below<R: AllocGlobal + Files<File = File>>(
+    rt: &R,
+    folder: &Folder,
+    bytes: u64,
+) -> Option<(u64, u8)> {
+    let control = folder.open_control(rt).ok()?;
+    let mut devices = folder.open_beside(rt, control, bytes).ok()?;
+    sees(&mut devices.log)
+}
+
+/// What lies above a mark in the log is not read, and not written: it is there when all of it is
+/// opened. `None`: allocation failed.
+fn opens_below<R: Abort + AllocGlobal + Files<File = File>>(rt: &R) -> Option<()> {
+    let folder = Folder::hold(rt, "marked").ok()?;
+    lay_out(rt, &folder, [4, 5, 6])?;
+    folder.keep(rt).ok()?;
+    assert!(rt; sees_below(rt, &folder, 0)? == (3, 0));
+    assert!(rt; sees_below(rt, &folder, 1)? == (3, 4));
+    assert!(rt; sees_below(rt, &folder, u64::MAX)? == (3, 4));
+    let mut devices = folder.open(rt).ok()?;
+    assert!(rt; sees(&mut devices.log)? == (3, 4));
+    Some(())
+}
+
+/// The same in a folder of its own.
+fn opens_below_anew<R: Abort + AllocGlobal + Files<File = File>>(rt: &R) -> Option<()> {
+    fs::create_dir(rt, "marked").ok()?;
+    let outcome = opens_below(rt);
+    fs::remove_dir_all(rt, "marked").ok()?;
+    outcome
+}
+
+#[test]
+fn a_log_is_opened_below_its_mark(rt: HostRuntime) {
+    assert!(rt; opens_below_anew(&rt).is_some() || opens_below_anew(&rt).is_some());
 }
 
 /// The same in a folder of its own.

@@ -2,7 +2,7 @@ use crate::common::{CONFIG, SENT, TEXT, TOLD, devices_in_memory, listen, source}
 use als_drive::{Progress, drain_telling};
 use als_engine::{Engine, Events, Fault as EngineFault};
 use als_folder::{Part, Trouble, Wrong};
-use als_operate::{Fault, follow as follow_session};
+use als_operate::{Fault, NearlyFull, follow as follow_session};
 use als_record::{Key, Lsn};
 use als_ship::{LogBytes, Shipper};
 use als_shipper::{Shipping, Untold, serve, ship};
@@ -197,4 +197,16 @@ fn a_refusal_tells_of_a_file(rt: HostRuntime) {
     let of_session = Fault::Session(als_ship::Fault::Refused(EngineFault::BadType));
     assert!(rt; of_session.trouble() == None);
     assert!(rt; Fault::Stream.trouble() == None);
+}
+
+#[test]
+fn a_log_that_is_nearly_full_is_remarked_on_once_an_hour(rt: HostRuntime) {
+    let mut remarks = NearlyFull::NEVER;
+    assert!(rt; !remarks.is_due(899, 1000, 0));
+    assert!(rt; remarks.is_due(900, 1000, 0));
+    assert!(rt; !remarks.is_due(1000, 1000, 0));
+    assert!(rt; remarks.is_due(1000, 1000, 1));
+    assert!(rt; !remarks.is_due(899, 1000, 2));
+    assert!(rt; remarks.is_due(900, 1000, 2));
+    assert!(rt; !remarks.is_due(u64::MAX / 2, u64::MAX, 3));
 }

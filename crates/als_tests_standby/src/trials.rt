@@ -14,5 +14,7 @@ mod crashes;
 mod takeover;
 // Devices that are opened with other bytes.
 mod altered;
+// A primary that follows a source again.
+mod again;
 // Runs of a world, with crashes and failing devices.
 mod worlds;

@@ -112,6 +112,14 @@ impl<D: BlockDisk> Engine<D> {
             (D.slot disks.pages))
             × ((n : Node) → IsNode config.pages (D.block_count disks.log) kept.log_now
             kept.control_now kept.pages_now n → IsStarted config n t.0.machine)) }
+        // That outcome gives the log too, whatever the pages hold: the engine begins again with the
+        // log that it holds and with what its control block says.
+        ensures kept { IfOk result (λ t. (kept : Synced (D.slot disks.log) (D.slot disks.control)
+            (D.slot disks.pages))
+            × ((n : Node) → HoldsLog config.pages (D.block_count disks.log) kept.log_now
+            kept.control_now n → TakesUpLog n t.0.machine)
+            × ((n : Node) → IsNode config.pages (D.block_count disks.log) kept.log_now
+            kept.control_now kept.pages_now n → IsStarted config n t.0.machine)) }
         // Where they fit, a failed device or want of memory is in the way, or there is an outcome
         // that holds no log.
         ensures unsynced { IsWorld config (D.block_count disks.log) (D.block_count disks.control)

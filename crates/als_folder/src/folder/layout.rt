@@ -10,19 +10,52 @@ use crate::fault::Fault;
 use crate::lengths::Sizes;
 use crate::part::Part;
 use crate::trouble::{Trouble, Wrong};
+use crate::vacancy::Vacancy;
 use als_disk::{BlockDisk, FileDisk, FirstError};
 use std::fs::{self, OpenFile};
 use std::io;
 use std::os::unix::fs::FileExt;
 use std::rt::Files;
 
-impl<F: OpenFile + FileExt + Drop> Folder<F> {
+mod rebuilding;
+
+impl<F: OpenFile + FileExt + Drop> Vacancy<'_, F> {
     /// Makes devices of zeros for a new database, which there is not before `keep`. What an earlier
     /// layout left that did not come to its end is taken away.
     ///
-    /// Device: there is a database, or there may be, as `is_kept` says; a file failed, or it would
-    /// be too long. Memory: there was none for a name or a piece of zeros.
+    /// Device: there is a database meanwhile, or there may be, as `find` says; a file failed, or it
+    /// would be too long. Memory: there was none for a name or a piece of zeros.
     pub fn lay_out<R: Files<File = F> + AllocGlobal>(
+        self,
+        rt: &R,
+        sizes: Sizes,
+    ) -> Result<Devices<F>, Fault>
+        ensures log_size { IfOk result (λ d.
+            ⟦<FileDisk<F> as BlockDisk>⟧.block_count d.log ≡ sizes.log) }
+        ensures control_size { IfOk result (λ d.
+            ⟦<FileDisk<F> as BlockDisk>⟧.block_count d.control ≡ sizes.control) }
+        ensures pages_size { IfOk result (λ d.
+            ⟦<FileDisk<F> as BlockDisk>⟧.block_count d.pages ≡ sizes.pages) }
+        ensures log { IfOk result (λ d. (k : ℕ)
+            → ⟦<FileDisk<F> as BlockDisk>⟧.slot d.log k ≡ only zeros) }
+        ensures control { IfOk result (λ d. (k : ℕ)
+            → ⟦<FileDisk<F> as BlockDisk>⟧.slot d.control k ≡ only zeros) }
+        ensures pages { IfOk result (λ d. (k : ℕ)
+            → ⟦<FileDisk<F> as BlockDisk>⟧.slot d.pages k ≡ only zeros) }
+        ensures fails { IfErr result IsOfLayout }
+    {
+        let Vacancy {
+            folder,
+            log: _,
+            pages: _,
+        } = self;
+        folder.lay_out(rt, sizes)
+    }
+}
+
+impl<F: OpenFile + FileExt + Drop> Folder<F> {
+    /// Makes devices of zeros for a new database in a folder that has none.
+    fn lay_out<R: Files<File = F> + AllocGlobal>(
         &self,
         rt: &R,
         sizes: Sizes,
@@ -125,7 +158,11 @@ impl<F: OpenFile + FileExt + Drop> Folder<F> {
 
     /// Takes away what an earlier layout left, if there is something: the name alone, where it is a
     /// link.
-    fn remove<R: Files<File = F> + AllocGlobal>(&self, rt: &R, part: Part) -> Result<(), Fault>
+    pub(super) fn remove<R: Files<File = F> + AllocGlobal>(
+        &self,
+        rt: &R,
+        part: Part,
+    ) -> Result<(), Fault>
         ensures fails { IfErr result (IsOf part) }
     {
         let path = self.path_of(rt, part)?;
@@ -137,7 +174,7 @@ impl<F: OpenFile + FileExt + Drop> Folder<F> {
     }
 
     /// Gives a file its name.
-    fn rename<R: Files<File = F> + AllocGlobal>(
+    pub(super) fn rename<R: Files<File = F> + AllocGlobal>(
         &self,
         rt: &R,
         new: Part,

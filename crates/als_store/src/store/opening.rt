@@ -64,6 +64,14 @@ impl<D: BlockDisk> Store<D> {
             (D.slot disks.pages))
             × ((n : Node) → IsNode pages (D.block_count disks.log) kept.log_now kept.control_now
             kept.pages_now n → TakesUp n o.store.stored)) }
+        // That outcome gives the log too, whatever the pages hold: the store has the one that it
+        // holds, and what its control block says.
+        ensures kept { IfOk result (λ o. (kept : Synced (D.slot disks.log) (D.slot disks.control)
+            (D.slot disks.pages))
+            × ((n : Node) → HoldsLog pages (D.block_count disks.log) kept.log_now kept.control_now n
+            → (o.store.stored.log ≡ n.log) × (said_in o.store.stored ≡ n.said))
+            × ((n : Node) → IsNode pages (D.block_count disks.log) kept.log_now kept.control_now
+            kept.pages_now n → TakesUp n o.store.stored)) }
         // A failed device or want of memory is in the way, or there is an outcome that holds no log.
         ensures unsynced { IfErr result (λ u. IsBare u.fault
             ⊎ ((kept : Synced (D.slot disks.log) (D.slot disks.control) (D.slot disks.pages))

@@ -3,7 +3,10 @@ ghost use Rattle.std.specs.Prelude.{◌≡◌, ◌<◌};
 ghost use Rattle.als_disk.specs.Slot.{IsSettled};
 
 use super::{disk_of, sealed_block};
-use als_ckpt::{ControlState, Fault, Phase, Unreached, follow_again, forget_unreached, read_state};
+use als_ckpt::{
+    ControlState, Fault, Phase, Unreached, follow_again, forget_checkpoint, forget_unreached,
+    read_state,
+};
 use als_disk::{FailingDisk, Fuse, Restart};
 use als_record::Lsn;
 use std::alloc::Global;
@@ -122,6 +125,43 @@ fn a_primary_follows_again(rt: HostRuntime) -> Result<(), Fault> {
     assert!(rt; followed(alloc, &unreached_block()) == following);
     let sealed = read_again(alloc, &sealed_block());
     assert!(rt; followed(alloc, &sealed_block()) == sealed);
+    Ok(())
+}
+
+/// The primary's block with a published checkpoint.
+fn published_block() -> [u8; 512] {
+    let mut block = primary_block();
+    block[11] = 2;
+    block[31] = 80;
+    block
+}
+
+/// What a block says once its checkpoint is forgotten.
+fn unpublished(alloc: Global, block: &[u8; 512]) -> Result<ControlState, Fault> {
+    let mut disk = disk_of(alloc, block)?;
+    let restated = forget_checkpoint(&mut disk, 4, 4096)?;
+    let (mut disk, _) = stopped(disk);
+    let now = read_state(&mut disk, 4, 4096)?;
+    if now != restated.after {
+        return Err(Fault::BadControl);
+    }
+    Ok(now)
+}
+
+#[test]
+fn a_checkpoint_is_forgotten(rt: HostRuntime) -> Result<(), Fault> {
+    let alloc = rt.alloc();
+    let published = read_again(alloc, &published_block())?;
+    assert!(rt; published.position == Lsn(80));
+    let wanted = ControlState {
+        published: None,
+        position: Lsn(0),
+        ..published
+    };
+    assert!(rt; unpublished(alloc, &published_block()) == Ok(wanted));
+    // A node without one stays as it is.
+    let following = read_again(alloc, &unreached_block());
+    assert!(rt; unpublished(alloc, &unreached_block()) == following);
     Ok(())
 }
 

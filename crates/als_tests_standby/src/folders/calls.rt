@@ -1,5 +1,5 @@
 // A file system that holds nothing and writes down what it is called for.
-use als_folder::{Folder, Sizes};
+use als_folder::{Folder, Found, Sizes};
 use std::alloc::{Allocator, Global};
 use std::fs::{Files, Metadata, OpenFile, OpenOptions};
 use std::io;
@@ -194,7 +194,10 @@ fn calls_in_order(rt: &impl Abort, alloc: Global) -> Option<()> {
     };
     let folder = Folder::over(alloc, "db", files.file(true).ok()?).ok()?;
     let files = (files, alloc);
-    let devices = folder.lay_out(&files, SIZES).ok()?;
+    let devices = match folder.find(&files) {
+        Ok(Found::Vacant(vacancy)) => vacancy.lay_out(&files, SIZES).ok()?,
+        Ok(Found::Kept) | Err(_) => return None,
+    };
     drop(devices);
     // Each file is made, its zeros are written and synced.
     assert!(rt; calls.taken() == 0o123_123_123);
@@ -204,6 +207,10 @@ fn calls_in_order(rt: &impl Abort, alloc: Global) -> Option<()> {
     let devices = folder.open(&files).ok()?;
     drop(devices);
     // The names are synced first.
+    assert!(rt; calls.taken() == 0o7333);
+    let control = folder.open_control(&files).ok()?;
+    let devices = folder.open_beside(&files, control, 16).ok()?;
+    drop(devices);
     assert!(rt; calls.taken() == 0o7333);
     Some(())
 }

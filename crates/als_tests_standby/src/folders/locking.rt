@@ -1,4 +1,5 @@
 // Two folders with names of one file: one of them is held at a time.
+use super::{SIZES, vacancy};
 use als_folder::{Fault, Folder, Part, Trouble, Wrong};
 use std::fs;
 use std::fs::File;
@@ -41,6 +42,34 @@ fn is_locked<R: Abort + AllocGlobal + Files<File = File>>(rt: &R) -> Option<()> 
     fs::remove_dir_all(rt, "first").ok()?;
     fs::remove_dir_all(rt, "second").ok()?;
     outcome
+}
+
+/// A database is laid out in one folder, its files are locked, and then another one gets a name of
+/// one of them. `None`: allocation failed.
+fn new_one_is_locked<R: Abort + AllocGlobal + Files<File = File>>(rt: &R) -> Option<()> {
+    let folder = Folder::hold(rt, "new first").ok()?;
+    let devices = vacancy(rt, &folder)?.lay_out(rt, SIZES).ok()?;
+    devices.lock_new().ok()?;
+    folder.keep(rt).ok()?;
+    fs::hard_link(rt, "new first/control.blk", "new second/control.blk").ok()?;
+    assert!(rt; tells(Folder::hold(rt, "new second").err()));
+    drop(devices);
+    Some(())
+}
+
+/// The same in folders of its own.
+fn new_files_are_locked<R: Abort + AllocGlobal + Files<File = File>>(rt: &R) -> Option<()> {
+    fs::create_dir(rt, "new first").ok()?;
+    fs::create_dir(rt, "new second").ok()?;
+    let outcome = new_one_is_locked(rt);
+    fs::remove_dir_all(rt, "new first").ok()?;
+    fs::remove_dir_all(rt, "new second").ok()?;
+    outcome
+}
+
+#[test]
+fn new_files_with_names_in_two_folders(rt: HostRuntime) {
+    assert!(rt; new_files_are_locked(&rt).is_some() || new_files_are_locked(&rt).is_some());
 }
 
 #[test]

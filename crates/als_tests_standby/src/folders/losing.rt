@@ -1,4 +1,5 @@
 // A folder of which a file was lost or put elsewhere: no layout takes its place.
+use super::vacancy;
 use als_folder::{Fault, Folder, Part, Sizes, Trouble, Wrong};
 use std::fs;
 use std::fs::File;
@@ -25,11 +26,11 @@ fn tells(refused: Option<Fault>, wanted: Fault) -> bool {
     refused == Some(wanted) || refused == Some(Fault::Memory)
 }
 
-/// Neither asking nor laying out does more than refuse. `None`: allocation failed.
+/// Neither asking nor keeping does more than refuse, and there is no place for a layout. `None`: allocation failed.
 fn is_refused<R: Abort + AllocGlobal + Files<File = File>>(rt: &R, part: Part) -> Option<()> {
     let folder = Folder::hold(rt, "lost").ok()?;
     assert!(rt; tells(folder.is_kept(rt).err(), no_control(part)));
-    assert!(rt; tells(folder.lay_out(rt, SIZES).err(), no_control(part)));
+    assert!(rt; tells(folder.find(rt).err(), no_control(part)));
     assert!(rt; tells(folder.keep(rt).err(), no_control(part)));
     Some(())
 }
@@ -65,7 +66,7 @@ fn is_no_database<R: Abort + AllocGlobal + Files<File = File>>(rt: &R) -> Option
         wrong: Wrong::Missing,
     });
     assert!(rt; tells(folder.is_kept(rt).err(), missing));
-    assert!(rt; tells(folder.lay_out(rt, SIZES).err(), missing));
+    assert!(rt; tells(folder.find(rt).err(), missing));
     assert!(rt; tells(folder.open(rt).err(), missing));
     drop(folder);
     fs::remove_file(rt, "lost/control.blk").ok()
@@ -80,7 +81,7 @@ fn is_laid_out_again<R: Abort + AllocGlobal + Files<File = File>>(rt: &R) -> Opt
     fs::write(rt, "elsewhere", b"mine").ok()?;
     symlink(rt, "../elsewhere", "lost/pages.new").ok()?;
     let folder = Folder::hold(rt, "lost").ok()?;
-    drop(folder.lay_out(rt, SIZES).ok()?);
+    drop(vacancy(rt, &folder)?.lay_out(rt, SIZES).ok()?);
     folder.keep(rt).ok()?;
     assert!(rt; fs::metadata(rt, "lost/log.blk").ok()?.len() == 512);
     assert!(rt; fs::read(rt, "elsewhere").ok()?.as_slice() == b"mine".as_slice());

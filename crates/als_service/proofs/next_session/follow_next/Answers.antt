@@ -1,7 +1,7 @@
 use Rattle.std.proofs.Common.{sym, subst}
 use Rattle.als_ship.specs.Vouching.{TellsVouched}
 use Rattle.als_store.specs.Stored.{acknowledged}
-use Rattle.als_service.proofs.Chains.{reaches_both}
+use Rattle.als_service.proofs.Chains.{reaches_both, follows_both}
 use Rattle.als_service.proofs.Vouched.{vouches_last, vouches_nobody}
 use Rattle.als_service.proofs.next_session.follow_next.Goals as goal
 
@@ -10,6 +10,12 @@ returns-after-is_silent-clause-reached g c = λ alone.
     reaches_both (g.E.Events.machine c.args.events) (g.E.Events.machine c.make_ready.new.events)
     (g.E.Events.machine c.follow_beside-engine.result.engine)
     (c.make_ready.ensures.reached alone) (c.follow_beside-engine.ensures.reached alone)
+
+pub returns-after-is_silent-clause-follows : goal.returns-after-is_silent-clause-follows
+returns-after-is_silent-clause-follows g c = λ alone.
+    follows_both (g.E.Events.machine c.args.events) (g.E.Events.machine c.make_ready.new.events)
+    (g.E.Events.machine c.follow_beside-engine.result.engine)
+    (c.make_ready.ensures.follows alone) (c.follow_beside-engine.ensures.follows alone)
 
 pub returns-in-Err-clause-vouched : goal.returns-in-Err-clause-vouched
 returns-in-Err-clause-vouched g c = λ alone.

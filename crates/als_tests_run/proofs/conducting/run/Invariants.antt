@@ -1,4 +1,4 @@
-use Rattle.std.specs.Prelude.{Some, slice_index, ◌+◌}
+use Rattle.std.specs.Prelude.{Some, true, slice_index, ◌+◌}
 use Rattle.als_tests_run.proofs.conducting.run.Given as goal
 
 abbrev pub ghosts-conduct : goal.ghosts-conduct
@@ -7,4 +7,5 @@ ghosts-conduct g a = record {
   shares = a.plan.workers + 5;
   start = Some (g.E.Events.machine a.engine);
   book = g.E.Events.book a.engine;
+  takes_over = true;
 }

@@ -73,6 +73,27 @@ returns-in-Ok-open-clause-synced g c =
           (ap (λ (h : Stored). h.pool.frames.most) same ∙ c.in-Ok-open.ensures.frames),
     )
 
+pub returns-in-Ok-open-clause-kept : goal.returns-in-Ok-open-clause-kept
+returns-in-Ok-open-clause-kept g c =
+    let same = ap (λ (h : Holding). h.stored) c.into_parts-store.ensures.0 in
+    let m = machine c.into_parts-store.result.0.stored c.args.config.pending
+    c.new-receiver.result.kept None (published_of c.with_waiting-shown.result) in (
+      c.in-Ok-open.ensures.kept.0,
+      λ n holds.
+          let is = c.in-Ok-open.ensures.kept.1 n holds in
+          let said = ap (λ (h : Stored). said_in h) same ∙ is.1 in
+          record {
+            log = ap (λ (h : Stored). h.log) same ∙ is.0;
+            said = said;
+            ends = ap (λ (s : Said). s.state.mark.0) said ∙ sym holds.ends;
+          },
+      λ n node.
+          started c.args.config n m _ _ _ (returns-in-Ok-open-clause-ok g c)
+          (subst (λ (h : Stored). TakesUp n h) (sym same) (c.in-Ok-open.ensures.kept.2 n node))
+          node.held.count
+          (ap (λ (h : Stored). h.pool.frames.most) same ∙ c.in-Ok-open.ensures.frames),
+    )
+
 pub returns-in-Ok-open-clause-readers : goal.returns-in-Ok-open-clause-readers
 returns-in-Ok-open-clause-readers g c = (
   λ k d lt.

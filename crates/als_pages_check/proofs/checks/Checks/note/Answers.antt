@@ -1,4 +1,4 @@
-use Rattle.std.proofs.Common.{rules, ◌≡◌, ◌≤◌, Some, None, Option, List, length, refl, sym, ◌∙◌, arith}
+use Rattle.std.proofs.Common.{rules, ◌≡◌, ◌≤◌, Some, None, length, sym, ◌∙◌, refl}
 use Rattle.std.specs.Prelude.{slice_get}
 use Rattle.std.proofs.lemmas.Option.{slice_get-get_or}
 use Rattle.als_record.specs.Pages.{change_of}
@@ -15,8 +15,15 @@ returns-then-place-len c log checked =
     let pages = c.args.self.now.pages.items in
     let change = c.in-Some.change in
     let some : change_of c.args.logged.now ≡ Some change = sym c.change.ensures ∙ c.in-Some.is in
-    let here : slice_get pages change.key.page ≡ Some c.index.result.now = search (rules, slice_get-get_or) in
-    AreChecked-noted pages log c.args.logged.now checked change some _ c.index.result.now c.note.new.self here refl c.note.ensures.last c.note.ensures.redone_from
+    let here : slice_get pages change.key.page ≡ Some c.index_mut.result.now = search (rules, slice_get-get_or) in
+    AreChecked-noted pages log c.args.logged.now checked change some _ c.index_mut.result.now c.note.new.self here refl
+    (record {
+      block = c.note.ensures.block;
+      page_lsn = c.note.ensures.page_lsn;
+      redone_from = c.note.ensures.redone_from;
+      below = c.note.ensures.below;
+      above = c.note.ensures.above;
+    })
 
 pub returns-else-place-len : goal.returns-else-place-len
 returns-else-place-len c log checked =

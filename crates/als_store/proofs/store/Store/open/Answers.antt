@@ -112,3 +112,24 @@ returns-in-Ok-clause-synced g c =
           x.pool.pool x.validator x.count e.log e.control e.stored e.ok
           n same.0 same.1 (e.synced.2 n node) node.taken node.images.listed,
     )
+
+pub returns-in-Ok-clause-kept : goal.returns-in-Ok-clause-kept
+returns-in-Ok-clause-kept g c =
+    let disks = c.args.disks in
+    let x = c.in-Ok.reopened in
+    let e = c.in-Ok.ensures in
+    let p = c.into_parts-log.ensures in
+    rw (c.of-origin.ensures, p.0, p.1, p.2) (
+      e.synced.0,
+      e.synced.1,
+      λ n node.
+          let same = e.synced.1 n node.held in
+          takes-up c.args.pages (g.D.BlockDisk.block_count disks.log) c.args.frames
+          (g.D.BlockDisk.failures disks.log) (g.D.BlockDisk.attempts disks.log + 1)
+          (g.D.BlockDisk.block_count disks.control) (g.D.BlockDisk.failures disks.control)
+          (g.D.BlockDisk.attempts disks.control + 1)
+          (g.D.BlockDisk.block_count disks.pages) (g.D.BlockDisk.failures disks.pages)
+          (g.D.BlockDisk.attempts disks.pages + 1) (g.D.BlockDisk.slot disks.pages) x.log x.control
+          x.pool.pool x.validator x.count e.log e.control e.stored e.ok
+          n same.0 same.1 (e.synced.2 n node) node.taken node.images.listed,
+    )

@@ -1,0 +1,14 @@
+/// What a writer of lines is asked for.
+#[derive(Clone, Copy, Debug)]
+pub struct Committing<'a> {
+    /// The folder of the primary's database.
+    pub dir: &'a str,
+    /// Pages of a new database, 1 to 4,096.
+    pub pages: Option<u64>,
+    /// Blocks of the log device of a new database, 1 to 4,194,304.
+    pub log_blocks: u64,
+    /// The lines that one force makes durable, 1 to 1,000.
+    pub batch: u64,
+    /// A line that is no transaction is passed over.
+    pub skip_bad: bool,
+}

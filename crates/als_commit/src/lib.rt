@@ -1,0 +1,30 @@
+//! The writer of a primary from lines: it opens the folder of a primary, and writes a transaction for
+//! each line.
+//!
+//! 1. Who may write: a new folder, one whose `role` says that it is a primary of its own epoch, or
+//!    one that was taken over. The role is made before anything else is.
+//! 2. What a crash left in mid-transaction is tidied first, in one force.
+//! 3. Each line that is a transaction is planned, and refused or fed as a whole. A group of lines is
+//!    forced once, and only then its lines are answered, in order, refusals too.
+//! 4. After each group its changes are redone, and after 4 MiB of log a checkpoint is taken. At the
+//!    end everything is put on the devices.
+#![tactic(auto)]
+
+// What is asked for.
+mod committing;
+// A line of the input.
+mod input_lines;
+// The folder of a primary.
+mod opening;
+// What becomes of a line.
+mod answer;
+// The lines that one force makes durable.
+mod group;
+// A line that is no transaction.
+mod bad_line;
+// All of the command.
+mod command;
+
+pub use bad_line::BadLines;
+pub use command::{Ending, commit};
+pub use committing::Committing;

@@ -1,0 +1,95 @@
+use json::Error;
+use std::alloc::{AllocError, AllocFailed};
+use std::fmt;
+
+/// What is wrong with one comparison or one set.
+#[derive(Clone, Copy, Debug, PartialEq, Eq)]
+pub enum Wrong {
+    /// It is no object of the two members that it has to have.
+    Members,
+    /// Its key is no `[PAGE,SLOT]`.
+    Key,
+    /// Its value is neither null nor hexadecimal digits of at most 31 bytes.
+    Value,
+    /// Its LSN is no whole number of at most 64 bits.
+    Lsn,
+}
+
+/// Why a text is no transaction.
+#[derive(Clone, Copy, Debug, PartialEq, Eq)]
+pub enum Mistake {
+    /// An allocation failed.
+    Memory,
+    /// It is no JSON.
+    NoJson,
+    /// An object has a name twice.
+    NameTwice,
+    /// It is no object with `set`, with `if` or without, and with nothing else.
+    Members,
+    /// The comparison at this place of `if`, counted from 1, is wrong.
+    If(usize, Wrong),
+    /// The set at this place of `set`, counted from 1, is wrong.
+    Set(usize, Wrong),
+}
+
+impl From<AllocError> for Mistake {
+    ghost use Rattle.std.specs.Prelude.{◌≡◌};
+    ghost use Rattle.als_request.specs.declared.mistake.Mistake.TheVariants.{Memory};
+
+    ghost from_gives = { λ _ e. e ≡ Memory };
+
+    fn from(_refused: AllocError) -> Mistake {
+        Mistake::Memory
+    }
+}
+
+impl<T: Drop> From<AllocFailed<T>> for Mistake {
+    ghost use Rattle.std.specs.Prelude.{◌≡◌};
+    ghost use Rattle.als_request.specs.declared.mistake.Mistake.TheVariants.{Memory};
+
+    ghost from_gives = { λ _ e. e ≡ Memory };
+
+    fn from(_refused: AllocFailed<T>) -> Mistake {
+        Mistake::Memory
+    }
+}
+
+impl From<Error> for Mistake {
+    fn from(error: Error) -> Mistake {
+        match error {
+            Error::DuplicateKey => Mistake::NameTwice,
+            Error::OutOfMemory => Mistake::Memory,
+            Error::Invalid | Error::TooLong => Mistake::NoJson,
+        }
+    }
+}
+
+impl fmt::Display for Wrong {
+    fn fmt<W: fmt::Write>(&self, f: &mut fmt::Formatter<W>) -> fmt::Result {
+        match self {
+            Wrong::Members => f.write_str("is no object of a key and what belongs to it"),
+            Wrong::Key => f.write_str("has a key that is no [PAGE,SLOT]"),
+            Wrong::Value => {
+                f.write_str(
+                    "has a value that is neither null nor hexadecimal digits of at most 31 bytes",
+                )
+            }
+            Wrong::Lsn => f.write_str("has an LSN that is no whole number"),
+        }
+    }
+}
+
+impl fmt::Display for Mistake {
+    fn fmt<W: fmt::Write>(&self, f: &mut fmt::Formatter<W>) -> fmt::Result {
+        match self {
+            Mistake::Memory => f.write_str("no memory for it"),
+            Mistake::NoJson => f.write_str("no JSON"),
+            Mistake::NameTwice => f.write_str("a name comes twice in one object"),
+            Mistake::Members => {
+                f.write_str("no transaction: an object of \"set\", with \"if\" or without")
+            }
+            Mistake::If(place, wrong) => write!(f, "comparison {place} of \"if\" {wrong}"),
+            Mistake::Set(place, wrong) => write!(f, "set {place} of \"set\" {wrong}"),
+        }
+    }
+}

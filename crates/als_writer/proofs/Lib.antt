@@ -1,0 +1,15 @@
+pub mod Checked
+pub mod Behind
+pub mod Before
+pub mod Spelt
+pub mod Roomy
+pub mod Reread
+pub mod Feeding
+pub mod Committed
+pub mod Owing
+pub mod Looking
+pub mod Below
+pub mod Fitting
+pub mod Starting
+pub mod LastBounds
+pub mod Bounding

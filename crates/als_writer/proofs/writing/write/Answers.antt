@@ -1,0 +1,33 @@
+use Rattle.std.proofs.Common.{◌≡◌, ℕ, List, cond, sym, ap, subst, ◌∙◌}
+use Rattle.std.specs.List.{list_any, AllByRecursion}
+use Rattle.als_record.specs.declared.key.Key.{Key}
+use Rattle.als_record.specs.Spelling.{IsKey}
+use Rattle.als_record.specs.Images.{same_key}
+use Rattle.als_record.specs.Commits.{Write, Commit}
+use Rattle.als_engine.specs.Machine.{Machine}
+use Rattle.als_writing.specs.Writing.{last_write}
+use Rattle.als_writer.specs.Changes.{AreBounds}
+use Rattle.als_writer.proofs.LastBounds.{last_write-commit}
+use Rattle.als_writer.proofs.Bounding.{refused_bounds}
+use Rattle.als_writer.proofs.writing.write.Goals as goal
+
+pub returns-in_err-written-clause-bounds : goal.returns-in_err-written-clause-bounds
+returns-in_err-written-clause-bounds g c a bounds =
+    let m : Machine = g.E.Events.machine c.args.engine.now in
+    let new : Machine = g.E.Events.machine c.feed_plan.new.engine in
+    refused_bounds m c.args.transaction.now c.in_err-written.field-0.0 new c.args.changes.now (c.in_err-written.ensures.refused a (c.in_ok-planned.ensures.planned a)) bounds
+
+pub returns-clause-bounds : goal.returns-clause-bounds
+returns-clause-bounds g c a bounds =
+    let m : Machine = g.E.Events.machine c.args.engine.now in
+    let new : Machine = g.E.Events.machine c.feed_plan.new.engine in
+    let ws : List Write = c.args.transaction.now.sets.items in
+    let ss : List Write = c.deref.result.now in
+    let vs : ss ≡ ws = c.deref.ensures.value in
+    let d = c.in_ok-written.ensures.done a (c.in_ok-planned.ensures.planned a) in
+    let keys : AllByRecursion (λ w. IsKey m.held.pages w.key) ss = subst (AllByRecursion (λ w. IsKey m.held.pages w.key)) (sym vs) d.may.keys in
+    let commit : Commit = record { trans = c.in_ok-written.written.trans; lsn = c.in_ok-written.written.lsn; writes = ws } in
+    let last : (k : Key) → last_write new.held.log k ≡ cond (list_any (λ w. same_key w.key k) ss) c.in_ok-written.written.lsn.0 (last_write m.held.log k) =
+    λ k. last_write-commit m.held.log new.held.log commit d.commits k ∙ ap (λ (x : List Write). cond (list_any (λ w. same_key w.key k) x) c.in_ok-written.written.lsn.0 (last_write m.held.log k)) (sym vs) in
+    subst (λ (pages : ℕ). AreBounds c.note.new.self pages new.held.log) (sym (ap (λ (x : Machine). x.held.pages) d.after))
+    (c.note.ensures m.held.pages m.held.log new.held.log bounds keys last)

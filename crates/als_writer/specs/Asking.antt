@@ -1,0 +1,62 @@
+-- What a transaction asks of the log, and what is known of a key that is free.
+use Rattle.std.specs.Prelude.{◌≡◌, ℕ, ◌<◌, ◌≤◌, true, false, List, length, Option, Some, None, MatchOption, All, Contains}
+use Rattle.als_record.specs.declared.key.Key.{Key}
+use Rattle.als_record.specs.declared.trans_id.TransId.{TransId}
+use Rattle.als_record.specs.declared.record.Body.TheVariants.{Update}
+use Rattle.als_record.specs.declared.record.Record.{Record}
+use Rattle.als_record.specs.Spelling.{Image, IsKey}
+use Rattle.als_record.specs.Transactions.{has_begun}
+use Rattle.als_record.specs.Images.{image_now}
+use Rattle.als_record.specs.Validity.{held_by}
+use Rattle.als_record.specs.Commits.{Write}
+use Rattle.als_writing.specs.Writing.{last_write, is_free}
+use Rattle.als_engine.specs.Machine.{Machine}
+use Rattle.als_engine.specs.Refusals.{feed_refusal}
+use Rattle.als_writer.specs.declared.ask.Ask.{Ask}
+use Rattle.als_writer.specs.declared.ask.Ask.TheVariants.{Is, Unchanged}
+use Rattle.als_writer.specs.declared.unmet.Unmet.{Unmet}
+use Rattle.als_writer.specs.Checking.{key_asked}
+use Rattle.als_writer.specs.Placing.{AreBefores}
+
+-- an ask holds of a log
+abbrev pub IsAsked : List Record → Ask → Type 0
+IsAsked log (Is key image) = image_now log key ≡ image
+IsAsked log (Unchanged key since) = last_write log key ≤ since.0
+
+-- another transaction holds the key against any one that has no record yet
+abbrev pub IsHeldBy : List Record → Key → TransId → Type 0
+IsHeldBy log key by = (r : Record) (before after : Image) → r.body ≡ Update key before after → has_begun log r.trans.0 ≡ false → held_by log r ≡ Some by
+
+-- what a key has, which is free for a new transaction, of an engine that takes records
+pub record IsFreeNow (m : Machine) (key : Key) (image : Image) : Type 0 where
+  pub takes : feed_refusal m ≡ None
+  pub in_range : IsKey m.held.pages key
+  pub now : image ≡ image_now m.held.log key
+  pub free : (t : ℕ) → has_begun m.held.log t ≡ false → is_free m.held.log t key ≡ true
+
+-- what each key to be set has, all of which are free
+pub record AreFreeNow (m : Machine) (ws : List Write) (befores : List Image) : Type 0 where
+  pub takes : 0 < length ws → feed_refusal m ≡ None
+  pub now : AreBefores m.held.log ws befores
+  pub free : (t : ℕ) → has_begun m.held.log t ≡ false → All (λ w. is_free m.held.log t w.key ≡ true) ws
+
+-- each ask holds, or one does not, and its key has this image
+abbrev pub IsAnswer : List Record → List Ask → Option Unmet → Type 0
+IsAnswer log asks unmet = MatchOption unmet (All (λ a. IsAsked log a) asks) (λ u. u.now ≡ image_now log u.key)
+
+-- an ask does not hold of a log; of one for a key that is unchanged nothing is said, since a bound of its last commit was asked
+abbrev pub IsFailed : List Record → Ask → Type 0
+IsFailed log (Is key image) = image_now log key ≡ image → ⊥
+IsFailed log (Unchanged key since) = Unit {0}
+
+-- one of the asks is for the key and does not hold, and this is what the key has
+pub record IsUnmet (log : List Record) (asks : List Ask) (key : Key) (now : Image) : Type 0 where
+  pub ask : Ask
+  pub among : Contains asks ask
+  pub key_is : key_asked ask ≡ key
+  pub failed : IsFailed log ask
+  pub now_is : now ≡ image_now log key
+
+-- of an ask that does not hold its key and what that has are told
+abbrev pub IsTold : List Record → List Ask → Option Unmet → Type 0
+IsTold log asks unmet = MatchOption unmet (Unit {0}) (λ u. IsUnmet log asks u.key u.now)

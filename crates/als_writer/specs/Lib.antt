@@ -1,0 +1,9 @@
+pub mod Checking
+pub mod Placing
+pub mod Changes
+pub mod Asking
+pub mod Refusing
+pub mod Refused
+pub mod Planning
+pub mod Committing
+pub mod Tidying

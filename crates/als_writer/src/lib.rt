@@ -1,0 +1,54 @@
+//! A writer of transactions of its own: a primary that feeds itself.
+//!
+//! asked and planned, nothing has changed -> fed as one piece -> in the log, whole
+//!                                                            -> cut: `tidy` undoes it
+//!
+//! 1. All that can be refused is refused before anything is fed. The engine then refuses nothing that
+//!    was planned, but for want of memory.
+//! 2. A key that another open transaction holds is neither asked for nor set. So no ask sees anything
+//!    that is not committed.
+//! 3. The room of all records and of their reserve is asked once, before the first record.
+//! 4. A log that is owed records is tidied before anything is written to it. What is owed is the
+//!    tail that a takeover would append.
+#![tactic(auto)]
+
+// A key and the image that it gets.
+mod set;
+// What is asked of the log.
+mod ask;
+// A whole transaction.
+mod transaction;
+// What is wrong with one, whatever the log has.
+mod checking;
+mod flaw;
+// When each key changed.
+mod changes;
+// A transaction that is in the log, and why one is not.
+mod refusal;
+mod written;
+// What its keys have.
+mod asking;
+mod unmet;
+// Where its next record stands.
+mod place;
+// The room that it takes.
+mod room;
+// Its records as bytes.
+mod spelling;
+// All of it, before anything is fed.
+mod planning;
+// The transaction fed.
+mod writing;
+// What is owed after a stop.
+mod tidying;
+
+pub use ask::Ask;
+pub use changes::Changes;
+pub use checking::find_flaw;
+pub use flaw::Flaw;
+pub use refusal::Refusal;
+pub use set::Set;
+pub use tidying::tidy;
+pub use transaction::{LIMIT, Transaction};
+pub use writing::write;
+pub use written::Written;
