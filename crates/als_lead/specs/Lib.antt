@@ -1,0 +1,4 @@
+pub mod Going
+pub mod Answers
+pub mod Groups
+pub mod Leading
