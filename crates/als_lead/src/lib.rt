@@ -20,6 +20,8 @@ mod asked;
 mod answer;
 // Both of them.
 mod told;
+// What was asked and answered, for clauses.
+mod account;
 // Who asks.
 mod clients;
 // What a group may have.
@@ -39,9 +41,12 @@ mod upkeep;
 mod keeping_up;
 // Groups, one after another.
 mod leading;
+// The devices of a primary's folder, and the engine over them.
+mod devices;
 // The folder of a primary.
 mod opening;
 
+pub use account::Account;
 pub use answer::Answer;
 pub use asked::Asked;
 pub use clients::{Clients, Waited};
