@@ -1,5 +1,5 @@
 -- What each event of a leader leaves of the machine's log.
-use Rattle.std.proofs.Common.{◌≡◌, ℕ, ◌≤◌, List, [], ◌++◌, Result, refl, sym, ap, subst, ◌∙◌, arith, append-nil, append_assoc}
+use Rattle.std.proofs.Common.{◌≡◌, ℕ, ◌≤◌, List, [], ◌++◌, Result, Ok, Err, OnOk, OnErr, refl, sym, ap, subst, ◌∙◌, arith, append-nil, append_assoc}
 use Rattle.als_record.specs.declared.lsn.Lsn.{Lsn}
 use Rattle.als_record.specs.declared.record.Record.{Record}
 use Rattle.als_record.specs.LogText.{end_of}
@@ -16,6 +16,7 @@ use Rattle.als_drive.specs.Driving.{OnlyRedoes}
 use Rattle.als_ship.specs.Follows.{SameText}
 use Rattle.als_ship.proofs.LogForcing.{log_write_same, log_sync_same, mark_write_same, ctl_sync_same}
 use Rattle.als_operate.proofs.Keeping.{publish_same, flush_same, sync_same, ckpt_begin_same, ckpt_block_same, ckpt_publish_same}
+use Rattle.als_writer.specs.declared.refusal.Refusal.{Refusal}
 use Rattle.als_writer.specs.Changes.{AreBounds}
 use Rattle.als_writer.specs.Tidying.{Tidied, NotTidied}
 use Rattle.als_lead.specs.Going.{Grows, Stays, Tidies}
@@ -136,6 +137,10 @@ tidies_done old new t k = record { grows = grows_keeps old new k; commits = t.co
 
 pub tidies_refused : (old new : Machine) → NotTidied old new → Keeps old new → Tidies old new
 tidies_refused old new t k = record { grows = grows_keeps old new k; commits = t.commits }
+
+pub tidies_by : (alone : Type 0) (old new : Machine) (result : Result (Unit {0}) Refusal) → OnOk result (alone → Tidied old new) → OnErr result (alone → NotTidied old new) → (alone → Keeps old new) → alone → Tidies old new
+tidies_by alone old new (Ok done) t n k a = tidies_done old new (t a) (k a)
+tidies_by alone old new (Err refusal) t n k a = tidies_refused old new (n a) (k a)
 
 pub tidies_stays : (old new : Machine) → Stays old new → Tidies old new
 tidies_stays old new s = record { grows = s.grows; commits = ap (λ (l : List Record). commits_of l) s.same }

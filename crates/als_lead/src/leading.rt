@@ -1,5 +1,6 @@
 ghost use Rattle.std.specs.Prelude.{◌≡◌, [], IfOk};
 ghost use Rattle.als_writer.specs.Changes.{AreBounds};
+ghost use Rattle.als_lead.specs.Going.{Stays};
 ghost use Rattle.als_lead.specs.Leading.{Leads};
 
 use crate::clients::{Clients, Waited};
@@ -74,10 +75,20 @@ fn round<E: Writes, C: Clients, U: Upkeep>(
     ensures book { E.book engine.new ≡ E.book engine.old }
 {
     match clients.wait()? {
-        Waited::Closed => return Ok(false),
-        Waited::Idle => {}
-        Waited::Asks => serve(alloc, engine, changes, clients, upkeep, queue, limits)?,
+        Waited::Closed => Ok(false),
+        Waited::Idle => rest(engine, upkeep),
+        Waited::Asks => {
+            serve(alloc, engine, changes, clients, upkeep, queue, limits)?;
+            rest(engine, upkeep)
+        }
     }
+}
+
+/// Does what is due where nobody is served. The leader goes on.
+fn rest<E: Writes, U: Upkeep>(engine: &mut E, upkeep: &mut U) -> Result<bool, Fault>
+    ensures stays { E.alone → Stays (E.machine engine.old) (E.machine engine.new) }
+    ensures book { E.book engine.new ≡ E.book engine.old }
+{
     upkeep.keep_up(engine)?;
     Ok(true)
 }

@@ -62,11 +62,8 @@ fn tidy_owed<E: Writes>(alloc: Global, engine: &mut E, changes: &Changes)
         (E.machine engine.new).held.log }
     ensures book { E.book engine.new ≡ E.book engine.old }
 {
-    match engine.next_of_tail() {
-        Ok(None) => {}
-        _ => match tidy(alloc, engine) {
-            Ok(()) => {}
-            Err(_) => {}
-        },
+    if matches!(engine.next_of_tail(), Ok(None)) {
+        return;
     }
+    let _ = tidy(alloc, engine);
 }
