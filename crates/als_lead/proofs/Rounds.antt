@@ -1,5 +1,5 @@
 -- What a leader does, one group after another.
-use Rattle.std.proofs.Common.{◌≡◌, List, [], ◌∷◌, ◌++◌, map, Result, Ok, Err, IfOk, refl, sym, ap, subst, ◌∙◌, append-nil, append_assoc}
+use Rattle.std.proofs.Common.{◌≡◌, List, [], ◌∷◌, ◌++◌, map, Option, Some, option_to_list, Result, Ok, Err, IfOk, refl, sym, ap, subst, ◌∙◌, append-nil, append_assoc}
 use Rattle.std.specs.List.{AllByRecursion}
 use Rattle.std.proofs.lemmas.List.{map-append}
 use Rattle.std.proofs.lemmas.List.Concat.{flat_map-append}
@@ -22,6 +22,10 @@ asked_more told x = map-append (λ (y : Told). y.asked) told (x ∷ [])
 
 asked_both : (xs ys : List Told) → asked_of (xs ++ ys) ≡ asked_of xs ++ asked_of ys
 asked_both xs ys = map-append (λ (y : Told). y.asked) xs ys
+
+-- one transaction was handed out
+pub one_taken : (taken taken_now : List Asked) (found : Option Asked) (asked : Asked) → found ≡ Some asked → taken_now ≡ taken ++ option_to_list found → taken_now ≡ taken ++ asked ∷ []
+one_taken taken taken_now found asked e t = t ∙ ap (λ (x : Option Asked). taken ++ option_to_list x) e
 
 -- ---- a group is filled
 
