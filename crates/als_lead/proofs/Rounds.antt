@@ -7,11 +7,12 @@ use Rattle.als_record.specs.declared.lsn.Lsn.{Lsn}
 use Rattle.als_record.specs.Commits.{Commit, commits_of}
 use Rattle.als_engine.specs.declared.fault.Fault.{Fault}
 use Rattle.als_engine.specs.Machine.{Machine}
+use Rattle.als_lead.specs.declared.answer.Answer.{Answer}
 use Rattle.als_lead.specs.declared.asked.Asked.{Asked}
 use Rattle.als_lead.specs.declared.told.Told.{Told}
 use Rattle.als_lead.specs.Going.{Grows, Stays, Tidies}
 use Rattle.als_lead.specs.Answers.{IsTrueOf, commits_by, commits_told, asked_of}
-use Rattle.als_lead.specs.Groups.{Does, DoesAll, Fills, IsStableTo, all_after}
+use Rattle.als_lead.specs.Groups.{Does, DoesAll, Fills, IsStableTo, answer_after, all_after}
 use Rattle.als_lead.specs.Leading.{Leads}
 use Rattle.als_lead.proofs.Going.{grows_refl, grows_trans, stable_on, tidies_stays, tidies_trans}
 use Rattle.als_lead.proofs.Doing.{all_append, does_none, does_more, does_then}
@@ -44,6 +45,17 @@ fills_more alone old mid new taken taken_mid taken_now queued queued_mid queued_
 
 pub fills_same : (alone : Type 0) (old new : Machine) (taken taken_mid taken_now : List Asked) (queued queued_now : List Told) → Fills alone old new taken taken_mid queued queued_now → taken_now ≡ taken_mid → Fills alone old new taken taken_now queued queued_now
 fills_same alone old new taken taken_mid taken_now queued queued_now f e = subst (λ (q : List Asked). Fills alone old new taken q queued queued_now) (sym e) f
+
+-- ---- a group is answered
+
+-- one more of the queue is answered
+pub tells_more : (forced : Result Lsn Fault) (told told_now : List Told) (x : Told) (answer : Answer) (rest queued : List Told) → answer ≡ answer_after forced x.answer → told_now ≡ told ++ record { asked = x.asked; answer = answer } ∷ [] → queued ≡ x ∷ rest
+    → told_now ++ all_after forced rest ≡ told ++ all_after forced queued
+tells_more forced told told_now x answer rest queued a t q =
+    ap (λ (l : List Told). l ++ all_after forced rest) t
+    ∙ append_assoc told (record { asked = x.asked; answer = answer } ∷ []) (all_after forced rest)
+    ∙ ap (λ (b : Answer). told ++ record { asked = x.asked; answer = b } ∷ all_after forced rest) a
+    ∙ ap (λ (l : List Told). told ++ all_after forced l) (sym q)
 
 -- ---- a group is served
 

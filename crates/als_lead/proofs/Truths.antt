@@ -83,7 +83,9 @@ committed_on : (mid new : Machine) (cs : List Commit) → Grows mid new → comm
 committed_on mid new cs g e t w c = record { written = in_on mid new cs g e t w c.written; durable = omega (arith, c.durable, g.acknowledged) }
 
 refused_on : (mid new : Machine) (t : Transaction) (r : Refusal) → Grows mid new → IsRefused mid t r → IsRefused new t r
-refused_on mid new t r g i = record { was = was_on mid new t r g i.was; stable = omega (arith, i.stable, g.acknowledged) }
+refused_on mid new t r g i =
+    let s : end_of i.was.after.held.log ≤ acknowledged new.held = omega (arith, i.stable, g.acknowledged) in
+    record { was = was_on mid new t r g i.was; stable = s }
 
 pub true_on : (mid new : Machine) (cs : List Commit) → Grows mid new → commits_of new.held.log ≡ commits_of mid.held.log ++ cs → (t : Transaction) (a : Answer) → IsTrueAnswer mid t a → IsTrueAnswer new t a
 true_on mid new cs g e t (Committed w) h = committed_on mid new cs g e t w h
