@@ -115,3 +115,11 @@ leads_both alone a b c taken taken_mid taken_now told told_mid told_now p q = re
   answers = λ m. all_append (IsTrueOf c) p.more q.more (all_true_on b c (commits_told q.more) (q.grows m) (q.commits m) p.more (p.answers m)) (q.answers m);
   grows = λ m. grows_trans a b c (p.grows m) (q.grows m);
 }
+
+-- nobody was served behind it
+pub leads_rest : (alone : Type 0) (a b c : Machine) (taken taken_now : List Asked) (told told_now : List Told) → Leads alone a b taken taken_now told told_now → (alone → Stays b c) → Leads alone a c taken taken_now told told_now
+leads_rest alone a b c taken taken_now told told_now p stays = leads_both alone a b c taken taken_now taken_now told told_now told_now p (leads_stays alone b c taken_now taken_now told_now told_now stays refl refl)
+
+-- the clients were waited for first
+pub leads_waited : (alone : Type 0) (a b : Machine) (taken taken_mid taken_now : List Asked) (told told_mid told_now : List Told) → taken_mid ≡ taken → told_mid ≡ told → Leads alone a b taken_mid taken_now told_mid told_now → Leads alone a b taken taken_now told told_now
+leads_waited alone a b taken taken_mid taken_now told told_mid told_now e f p = subst (λ (x : List Asked). Leads alone a b x taken_now told told_now) e (subst (λ (x : List Told). Leads alone a b taken_mid taken_now x told_now) f p)
