@@ -54,7 +54,7 @@ impl Clients for Desk {
 
     fn tell(&mut self, asked: Asked, answer: Answer) -> Result<(), Fault> {
         self.account.tell(&asked, answer);
-        match self.seen.push((asked.seat, seen(answer))) {
+        match self.seen.push((asked.seat, shown(answer))) {
             Ok(()) => Ok(()),
             Err(_) => Err(Fault::Memory),
         }
@@ -67,7 +67,7 @@ impl Clients for Desk {
 }
 
 /// What a test compares of it.
-fn seen(answer: Answer) -> Seen {
+fn shown(answer: Answer) -> Seen {
     match answer {
         Answer::Committed(_) => Seen::Committed,
         Answer::Unknown(_) => Seen::Unknown,
