@@ -53,8 +53,9 @@ impl Clients for Desk {
     }
 
     fn tell(&mut self, asked: Asked, answer: Answer) -> Result<(), Fault> {
+        let seen = shown(&answer);
         self.account.tell(&asked, answer);
-        match self.seen.push((asked.seat, seen(answer))) {
+        match self.seen.push((asked.seat, seen)) {
             Ok(()) => Ok(()),
             Err(_) => Err(Fault::Memory),
         }
@@ -67,7 +68,7 @@ impl Clients for Desk {
 }
 
 /// What a test compares of it.
-fn seen(answer: Answer) -> Seen {
+fn shown(answer: &Answer) -> Seen {
     match answer {
         Answer::Committed(_) => Seen::Committed,
         Answer::Unknown(_) => Seen::Unknown,
