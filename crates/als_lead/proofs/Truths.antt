@@ -1,5 +1,5 @@
 -- The answers of a group after its force are true, and stay so.
-use Rattle.std.proofs.Common.{◌≡◌, ◌≤◌, ◌⊎◌, Bool, true, false, List, [], ◌∷◌, ◌++◌, map, Result, Ok, Err, IfOk, refl, sym, ap, subst, ◌∙◌, inl, inr, arith, leb-true}
+use Rattle.std.proofs.Common.{◌≡◌, ◌≤◌, Bool, true, false, List, [], ◌∷◌, ◌++◌, Result, Ok, Err, IfOk, refl, ap, ◌∙◌, inl, inr, arith, leb-true}
 use Rattle.std.specs.Prelude.{nat_le, if◌then◌else◌}
 use Rattle.std.specs.List.{AllByRecursion}
 use Rattle.als_record.specs.declared.lsn.Lsn.{Lsn}
@@ -11,7 +11,6 @@ use Rattle.als_store.specs.Stored.{acknowledged}
 use Rattle.als_engine.specs.declared.fault.Fault.{Fault}
 use Rattle.als_engine.specs.Machine.{Machine}
 use Rattle.als_writer.specs.declared.refusal.Refusal.{Refusal}
-use Rattle.als_writer.specs.declared.refusal.Refusal.TheVariants.{State}
 use Rattle.als_writer.specs.declared.transaction.Transaction.{Transaction}
 use Rattle.als_writer.specs.declared.written.Written.{Written}
 use Rattle.als_lead.specs.declared.answer.Answer.{Answer}
@@ -19,8 +18,8 @@ use Rattle.als_lead.specs.declared.answer.Answer.TheVariants.{Committed, Refused
 use Rattle.als_lead.specs.declared.asked.Asked.{Asked}
 use Rattle.als_lead.specs.declared.told.Told.{Told}
 use Rattle.als_lead.specs.Going.{Grows}
-use Rattle.als_lead.specs.Answers.{IsIn, IsCommitted, WasRefused, IsRefused, IsEnded, IsTrueAnswer, IsTrueOf, commit_by, commits_in, commits_by, commits_told, asked_of}
-use Rattle.als_lead.specs.Groups.{IsHeld, IsHeldOf, IsStableTo, answer_after, told_after, all_after}
+use Rattle.als_lead.specs.Answers.{IsIn, IsCommitted, WasRefused, IsRefused, IsTrueAnswer, IsTrueOf, commit_by, commits_in, commits_by, commits_told, asked_of}
+use Rattle.als_lead.specs.Groups.{IsHeld, IsHeldOf, IsStableTo, answer_after, all_after}
 use Rattle.als_lead.proofs.Going.{grows_trans}
 use Rattle.als_lead.proofs.Doing.{in_on}
 

@@ -37,8 +37,8 @@ mod telling;
 // All of a group.
 mod serving;
 // What is done between groups.
-mod upkeep;
 mod keeping_up;
+mod upkeep;
 // Groups, one after another.
 mod leading;
 // The devices of a primary's folder, and the engine over them.
