@@ -1,4 +1,4 @@
-use Rattle.std.proofs.Common.{◌≡◌, ℕ, List, ◌∷◌, length, sym, subst, ap, ◌∙◌}
+use Rattle.std.proofs.Common.{ℕ, List, ◌∷◌, length, sym, subst, ap, ◌∙◌}
 use Rattle.als_request.specs.Asking.{IsRead}
 use Rattle.als_asking.proofs.BodyLaws.{items_end, items_more}
 use Rattle.als_asking.proofs.reading.each_item.Goals as goal
