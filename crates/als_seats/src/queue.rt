@@ -1,0 +1,96 @@
+ghost use Rattle.std.specs.Prelude.{◌≡◌, ◌++◌, option_to_list};
+
+use crate::ask::Ask;
+use crate::outcome::Outcome;
+use crate::place::{PLACES, Place};
+use crate::slots::Slots;
+use std::alloc::Global;
+use std::collections::VecDeque;
+
+/// The questions that wait, in the order in which they were put.
+pub(crate) struct Queue<T> {
+    waiting: VecDeque<Ask<T>>,
+    is_closed: bool,
+}
+
+impl<T: Drop> Drop for Queue<T> {
+    fn drop(self) {
+        let Queue {
+            waiting,
+            is_closed: _,
+        } = self;
+        drop(waiting);
+    }
+}
+
+impl<T: Drop> Queue<T> {
+    /// An open queue where nothing waits.
+    pub fn new(alloc: Global) -> Queue<T> {
+        Queue {
+            waiting: VecDeque::new(alloc),
+            is_closed: false,
+        }
+    }
+
+    /// Nothing is put any more.
+    pub fn close(&mut self) {
+        self.is_closed = true;
+    }
+
+    pub fn is_closed(&self) -> bool {
+        self.is_closed
+    }
+
+    /// Whether the leader has nothing to do: nothing waits, and it is open.
+    pub fn is_quiet(&self) -> bool {
+        self.waiting.is_empty() && !self.is_closed
+    }
+
+    /// Whether nothing waits.
+    pub fn is_empty(&self) -> bool {
+        self.waiting.is_empty()
+    }
+
+    /// Puts the questions of a seat, and returns how many: the first ones. The others are dropped:
+    /// all where the queue is closed or there is no memory for them, and those that have no place.
+    pub fn put(&mut self, seat: usize, questions: Vec<T>) -> usize {
+        let count = questions.len().min(PLACES);
+        if self.is_closed || self.waiting.reserve(count).is_err() {
+            return 0;
+        }
+        let mut put = 0;
+        for question in questions {
+            if put < count {
+                let place = Place { seat, at: put };
+                if self.waiting.push_back(Ask { place, question }).is_err() {
+                    break;
+                }
+                put += 1;
+            }
+        }
+        put
+    }
+
+    /// Takes the question that was put first.
+    pub fn next(&mut self) -> Option<Ask<T>>
+        ensures { self.old.waiting.items ≡ option_to_list result ++ self.new.waiting.items }
+    {
+        self.waiting.pop_front()
+    }
+
+    /// Takes back the questions of a seat that wait: they are not begun. The others stay in their
+    /// order.
+    pub fn take_back<A: Drop>(&mut self, seat: usize, slots: &mut Slots<A>) {
+        for _ in 0..self.waiting.len() {
+            let Some(ask) = self.waiting.pop_front() else {
+                break;
+            };
+            if ask.place.seat == seat {
+                slots.settle(ask.place.at, Outcome::NotBegun);
+            } else if self.waiting.push_back(ask).is_err() {
+                // There is room where one was taken.
+                break;
+            }
+        }
+    }
+}
