@@ -10,7 +10,7 @@ pub struct Asker<T, A> {
     pub(crate) line: Arc<Line<T>, Global>,
     pub(crate) seat: Arc<Seat<A>, Global>,
     /// Which seat it is.
-    pub(crate) number: usize,
+    pub(crate) number: u32,
 }
 
 impl<T: Drop, A: Drop> Drop for Asker<T, A> {

@@ -40,8 +40,8 @@ impl<T: Drop, A: Drop> Leader<T, A> {
 
     /// Writes the outcome of the question of a place.
     fn settle<R: Wait>(&self, rt: &R, place: Place, outcome: Outcome<A>) {
-        if let Some(seat) = self.seats.get(place.seat) {
-            seat.settle(rt, place.at, outcome);
+        if let Some(seat) = self.seats.get(place.seat as usize) {
+            seat.settle(rt, place.at as usize, outcome);
         }
     }
 

@@ -29,7 +29,7 @@ impl<T: Drop> Line<T> {
     }
 
     /// Puts the questions of a seat, and returns how many: the first ones.
-    pub fn put<R: Wait>(&self, rt: &R, seat: usize, questions: Vec<T>) -> usize {
+    pub fn put<R: Wait>(&self, rt: &R, seat: u32, questions: Vec<T>) -> usize {
         let put = self.queue.lock(rt).put(seat, questions);
         self.put.notify_one();
         put
@@ -41,7 +41,7 @@ impl<T: Drop> Line<T> {
     }
 
     /// Takes back what a seat asked and was not begun.
-    pub fn take_back<R: Wait, A: Drop>(&self, rt: &R, number: usize, seat: &Seat<A>) {
+    pub fn take_back<R: Wait, A: Drop>(&self, rt: &R, number: u32, seat: &Seat<A>) {
         let mut queue = self.queue.lock(rt);
         seat.take_back(rt, number, &mut *queue);
     }

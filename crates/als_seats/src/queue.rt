@@ -53,22 +53,23 @@ impl<T: Drop> Queue<T> {
 
     /// Puts the questions of a seat, and returns how many: the first ones. The others are dropped:
     /// all where the queue is closed or there is no memory for them, and those that have no place.
-    pub fn put(&mut self, seat: usize, questions: Vec<T>) -> usize {
+    pub fn put(&mut self, seat: u32, questions: Vec<T>) -> usize {
         let count = questions.len().min(PLACES);
         if self.is_closed || self.waiting.reserve(count).is_err() {
             return 0;
         }
-        let mut put = 0;
+        let mut put: u32 = 0;
         for question in questions {
-            if put < count {
-                let place = Place { seat, at: put };
-                if self.waiting.push_back(Ask { place, question }).is_err() {
-                    break;
-                }
-                put += 1;
+            if put as usize >= count {
+                break;
             }
+            let place = Place { seat, at: put };
+            if self.waiting.push_back(Ask { place, question }).is_err() {
+                break;
+            }
+            put += 1;
         }
-        put
+        put as usize
     }
 
     /// Takes the question that was put first.
@@ -80,13 +81,13 @@ impl<T: Drop> Queue<T> {
 
     /// Takes back the questions of a seat that wait: they are not begun. The others stay in their
     /// order.
-    pub fn take_back<A: Drop>(&mut self, seat: usize, slots: &mut Slots<A>) {
+    pub fn take_back<A: Drop>(&mut self, seat: u32, slots: &mut Slots<A>) {
         for _ in 0..self.waiting.len() {
             let Some(ask) = self.waiting.pop_front() else {
                 break;
             };
             if ask.place.seat == seat {
-                slots.settle(ask.place.at, Outcome::NotBegun);
+                slots.settle(ask.place.at as usize, Outcome::NotBegun);
             } else if self.waiting.push_back(ask).is_err() {
                 // There is room where one was taken.
                 break;

@@ -56,7 +56,7 @@ impl<A: Drop> Seat<A> {
     }
 
     /// Takes back what waits in a queue of this seat's questions.
-    pub fn take_back<R: Wait, T: Drop>(&self, rt: &R, seat: usize, queue: &mut Queue<T>) {
+    pub fn take_back<R: Wait, T: Drop>(&self, rt: &R, seat: u32, queue: &mut Queue<T>) {
         let mut slots = self.slots.lock(rt);
         queue.take_back(seat, &mut *slots);
     }
