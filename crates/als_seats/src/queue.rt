@@ -1,4 +1,5 @@
-ghost use Rattle.std.specs.Prelude.{◌≡◌, ◌++◌, option_to_list};
+ghost use Rattle.std.specs.Prelude.{◌≡◌, ◌≤◌, ◌++◌, true, length, take, option_to_list};
+ghost use Rattle.als_seats.specs.Asks.{asks_of};
 
 use crate::ask::Ask;
 use crate::outcome::Outcome;
@@ -53,23 +54,20 @@ impl<T: Drop> Queue<T> {
 
     /// Puts the questions of a seat, and returns how many: the first ones. The others are dropped:
     /// all where the queue is closed or there is no memory for them, and those that have no place.
-    pub fn put(&mut self, seat: u32, questions: Vec<T>) -> usize {
+    pub fn put(&mut self, seat: u32, questions: Vec<T>) -> usize
+        // They wait behind the others, in their order, each with its place.
+        ensures put { self.new.waiting.items ≡ self.old.waiting.items
+            ++ asks_of seat 0 (take result questions.items) }
+        ensures count { result ≤ length questions.items }
+        ensures places { result ≤ 600 }
+        ensures closed { self.old.is_closed ≡ true → result ≡ 0 }
+        ensures same { self.new.is_closed ≡ self.old.is_closed }
+    {
         let count = questions.len().min(PLACES);
         if self.is_closed || self.waiting.reserve(count).is_err() {
             return 0;
         }
-        let mut put: u32 = 0;
-        for question in questions {
-            if put as usize >= count {
-                break;
-            }
-            let place = Place { seat, at: put };
-            if self.waiting.push_back(Ask { place, question }).is_err() {
-                break;
-            }
-            put += 1;
-        }
-        put as usize
+        push_all(&mut self.waiting, seat, questions)
     }
 
     /// Takes the question that was put first.
@@ -94,4 +92,26 @@ impl<T: Drop> Queue<T> {
             }
         }
     }
+}
+
+/// Puts the questions of a seat that have a place behind those that wait, while there is room. It returns
+/// how many.
+fn push_all<T: Drop>(waiting: &mut VecDeque<Ask<T>>, seat: u32, questions: Vec<T>) -> usize
+    ensures put { waiting.new.items ≡ waiting.old.items
+        ++ asks_of seat 0 (take result questions.items) }
+    ensures count { result ≤ length questions.items }
+    ensures places { result ≤ 600 }
+{
+    let mut put: u32 = 0;
+    for question in questions {
+        if put as usize >= PLACES {
+            break;
+        }
+        let place = Place { seat, at: put };
+        if waiting.push_back(Ask { place, question }).is_err() {
+            break;
+        }
+        put += 1;
+    }
+    put as usize
 }

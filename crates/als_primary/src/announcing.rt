@@ -1,0 +1,11 @@
+use als_record::Lsn;
+use std::net::SocketAddr;
+
+/// Receives what a primary says to who runs it.
+pub trait Announces {
+    /// It serves from now on.
+    fn serves(&mut self, dir: &str, addr: SocketAddr, epoch: u32, end: Lsn);
+
+    /// Its log has used nine tenths of its device.
+    fn nearly_full(&mut self, end: Lsn, capacity: u64);
+}

@@ -1,0 +1,109 @@
+ghost use Rattle.std.specs.Prelude.{◌≡◌, []};
+ghost use Rattle.als_primary.specs.Tellings.{taken_of, told_of};
+
+use crate::tellings::{Taken, Told};
+use als_lead::{Answer, Asked, Clients, Waited};
+use als_operate::Fault;
+use als_seats::{Leader, Place, Waited as Met};
+use als_writer::Transaction;
+use std::sync::Wait;
+use std::time::{Clock, Duration};
+
+/// Nobody asked for a while: after so many milliseconds.
+const IDLE: u64 = 100;
+
+/// Those who ask, as the leader meets them: each sits in a seat of his own.
+pub(crate) struct Desk<'a, R> {
+    rt: &'a R,
+    leader: Leader<Transaction, Answer>,
+    taken: Taken,
+    told: Told,
+}
+
+impl<R> Drop for Desk<'_, R> {
+    fn drop(self) {
+        let Desk {
+            rt: _,
+            leader,
+            taken,
+            told,
+        } = self;
+        drop(leader);
+        drop(taken);
+        drop(told);
+    }
+}
+
+impl<'a, R: Wait + Clock> Desk<'a, R> {
+    /// Nobody was answered yet.
+    pub fn new(rt: &'a R, leader: Leader<Transaction, Answer>) -> Desk<'a, R>
+        ensures taken { taken_of result.taken ≡ [] }
+        ensures told { told_of result.told ≡ [] }
+    {
+        Desk {
+            rt,
+            leader,
+            taken: Taken::Nothing,
+            told: Told::Nobody,
+        }
+    }
+
+    /// Nobody is served any more. What waits was not begun, and what was begun and has no answer is
+    /// lost.
+    pub fn end(self) {
+        let Desk {
+            rt,
+            leader,
+            taken,
+            told,
+        } = self;
+        leader.end(rt);
+        drop(taken);
+        drop(told);
+    }
+}
+
+impl<R: Wait + Clock> Clients for Desk<'_, R> {
+    ghost use Rattle.als_primary.specs.Tellings.{taken_of, told_of};
+
+    ghost taken = { λ desk. taken_of desk.taken };
+
+    ghost told = { λ desk. told_of desk.told };
+
+    fn wait(&mut self) -> Result<Waited, Fault> {
+        let waited = match self.leader.wait(self.rt, Duration::from_millis(IDLE)) {
+            Met::Asks => Waited::Asks,
+            Met::Idle => Waited::Idle,
+            Met::Closed => Waited::Closed,
+        };
+        Ok(waited)
+    }
+
+    fn next(&mut self) -> Result<Option<Asked>, Fault> {
+        match self.leader.next(self.rt) {
+            Some(ask) => {
+                let asked = Asked {
+                    seat: ask.place.number(),
+                    transaction: ask.question,
+                };
+                self.taken.note(&asked);
+                Ok(Some(asked))
+            }
+            None => Ok(None),
+        }
+    }
+
+    fn tell(&mut self, asked: Asked, answer: Answer) -> Result<(), Fault> {
+        self.told.note(&asked, &answer);
+        // Each transaction that was taken came from a place.
+        if let Some(place) = Place::of(asked.seat) {
+            self.leader.tell(self.rt, place, answer);
+        }
+        Ok(())
+    }
+
+    // Whoever is answered is awake.
+    fn end_group(&mut self) -> Result<(), Fault> {
+        Ok(())
+    }
+}
