@@ -1,23 +1,17 @@
-use Rattle.std.proofs.Common.{rules, ◌≡◌, ◌≤◌, ◌++◌, true, length, take, option_to_list, ℕ, ◌+◌, ◌-◌, ◌*◌, ◌<◌, ◌/◌, ◌%◌, Bool, false, nat_eq, nat_lt, List, [], ◌∷◌, slice_index_or, slice_set, bit_and, bit_or, Fits, w8, w32, w64, Bor, MutBor}
+use Rattle.std.proofs.Common.{rules, ◌≡◌, ◌≤◌, ◌++◌, ◌+◌, ◌<◌, length, [], ◌∷◌, List, sym, ap, ◌∙◌, append_assoc, arith}
 use Rattle.als_seats.specs.Asks.{asks_of}
+use Rattle.als_seats.proofs.Asks.{put-more}
 use Rattle.als_seats.proofs.queue.push_all.Goals as goal
 
 -- src/queue.rt:106:5
-pub loop-question-init : goal.loop-question-init
-loop-question-init g c = ?
-
--- src/queue.rt:106:5
 pub loop-question-preserved : goal.loop-question-preserved
-loop-question-preserved g c = ?
-
--- src/queue.rt:99:1
-pub returns-clause-put : goal.returns-clause-put
-returns-clause-put g c = ?
-
--- src/queue.rt:99:1
-pub returns-clause-count : goal.returns-clause-count
-returns-clause-count g c = ?
-
--- src/queue.rt:99:1
-pub returns-clause-places : goal.returns-clause-places
-returns-clause-places g c = ?
+loop-question-preserved g c =
+    let i = c.loop-question.invariant in
+    let pushed : c.push_back.new.self.items ≡ c.loop-question.waiting.items ++ record { place = record { seat = c.args.seat; at = c.loop-question.put }; question = c.in-Some.question } ∷ [] = search rules in
+    let steps = c.in-Some.ensures.steps in
+    (
+        pushed ∙ put-more c.args.seat c.loop-question.put c.args.waiting.now.items c.loop-question.waiting.items c.loop-question.yielded c.in-Some.question i.0 i.2,
+        append_assoc c.loop-question.yielded (c.in-Some.question ∷ []) c.next.new.self.rest.items ∙ ap (λ (zs : List g.row.T.Denot). c.loop-question.yielded ++ zs) (sym steps.0) ∙ i.1,
+        search rules,
+        search rules,
+    )
