@@ -1,8 +1,7 @@
 ghost use Rattle.std.specs.Prelude.{◌≡◌, []};
-ghost use Rattle.als_primary.specs.Tellings.{taken_of, told_of};
+ghost use Rattle.als_lead.specs.Account.{taken_of, told_of};
 
-use crate::tellings::{Taken, Told};
-use als_lead::{Answer, Asked, Clients, Waited};
+use als_lead::{Account, Answer, Asked, Clients, Waited};
 use als_operate::Fault;
 use als_seats::{Leader, Place, Waited as Met};
 use als_writer::Transaction;
@@ -16,8 +15,7 @@ const IDLE: u64 = 100;
 pub(crate) struct Desk<'a, R> {
     rt: &'a R,
     leader: Leader<Transaction, Answer>,
-    taken: Taken,
-    told: Told,
+    account: Account,
 }
 
 impl<R> Drop for Desk<'_, R> {
@@ -25,26 +23,23 @@ impl<R> Drop for Desk<'_, R> {
         let Desk {
             rt: _,
             leader,
-            taken,
-            told,
+            account,
         } = self;
         drop(leader);
-        drop(taken);
-        drop(told);
+        drop(account);
     }
 }
 
 impl<'a, R: Wait + Clock> Desk<'a, R> {
     /// Nobody was answered yet.
     pub fn new(rt: &'a R, leader: Leader<Transaction, Answer>) -> Desk<'a, R>
-        ensures taken { taken_of result.taken ≡ [] }
-        ensures told { told_of result.told ≡ [] }
+        ensures taken { taken_of result.account ≡ [] }
+        ensures told { told_of result.account ≡ [] }
     {
         Desk {
             rt,
             leader,
-            taken: Taken::Nothing,
-            told: Told::Nobody,
+            account: Account::Nothing,
         }
     }
 
@@ -54,21 +49,19 @@ impl<'a, R: Wait + Clock> Desk<'a, R> {
         let Desk {
             rt,
             leader,
-            taken,
-            told,
+            account,
         } = self;
         leader.end(rt);
-        drop(taken);
-        drop(told);
+        drop(account);
     }
 }
 
 impl<R: Wait + Clock> Clients for Desk<'_, R> {
-    ghost use Rattle.als_primary.specs.Tellings.{taken_of, told_of};
+    ghost use Rattle.als_lead.specs.Account.{taken_of, told_of};
 
-    ghost taken = { λ desk. taken_of desk.taken };
+    ghost taken = { λ desk. taken_of desk.account };
 
-    ghost told = { λ desk. told_of desk.told };
+    ghost told = { λ desk. told_of desk.account };
 
     fn wait(&mut self) -> Result<Waited, Fault> {
         let waited = match self.leader.wait(self.rt, Duration::from_millis(IDLE)) {
@@ -86,7 +79,7 @@ impl<R: Wait + Clock> Clients for Desk<'_, R> {
                     seat: ask.place.number(),
                     transaction: ask.question,
                 };
-                self.taken.note(&asked);
+                self.account.take(&asked);
                 Ok(Some(asked))
             }
             None => Ok(None),
@@ -94,7 +87,7 @@ impl<R: Wait + Clock> Clients for Desk<'_, R> {
     }
 
     fn tell(&mut self, asked: Asked, answer: Answer) -> Result<(), Fault> {
-        self.told.note(&asked, &answer);
+        self.account.tell(&asked, answer);
         // Each transaction that was taken came from a place.
         if let Some(place) = Place::of(asked.seat) {
             self.leader.tell(self.rt, place, answer);

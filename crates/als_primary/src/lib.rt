@@ -19,8 +19,6 @@
 mod serving;
 // Why it is not done.
 mod refusal;
-// Which transactions were taken, and what they were answered.
-mod tellings;
 // Those who ask, as the leader meets them.
 mod desk;
 // A thread's way to the leader.

@@ -42,3 +42,70 @@ const GROUP: Limits = Limits {
 
 /// The log bytes from one checkpoint to the next: 4 MiB.
 const CHECKPOINT_BYTES: u64 = 4_194_304;
+
+/// The primary of a folder, which commits and answers reads over HTTP until something fails. `lines`
+/// receives the progress of the redo before that, and what it says to who runs it.
+///
+/// BadConfig: a number is out of its range, or the page count of a new database is missing; no file was
+/// touched. Stream: the address can't be listened at. Else as `als_lead::open` says, or the first failure
+/// of the engine. However it ends, what is held is put on the devices.
+pub fn primary<
+    R: AllocGlobal
+        + Files<File = File>
+        + Net<Listener = TcpListener, Stream = TcpStream>
+        + Threads
+        + Wait
+        + Sync
+        + Clock
+        + RandomSource
+        + Clone
+        + Send
+        + Drop
+        + 'static,
+    P: Progress + Announces,
+>(
+    rt: &R,
+    serving: Serving<'_>,
+    lines: &mut P,
+) -> Result<(), Refusal> {
+    check_numbers(serving)?;
+    let token = match serving.token_file {
+        Some(path) => match read_token(rt, path) {
+            Ok(token) => Some(token),
+            Err(why) => return Err(Refusal::BadToken(why)),
+        },
+        None => None,
+    };
+    let listener = listen(rt, rt.alloc(), serving.serve)?;
+    let guard = guard_of(&listener, token)?;
+    let Primary {
+        folder,
+        mut engine,
+        readers,
+    } = open(rt, database_of(serving), lines)?;
+    match stand(rt, &folder, &mut engine, readers, &listener, guard, serving, lines) {
+        Ok(()) => Ok(()),
+        Err(fault) => Err(Refusal::Ended(named(&folder, fault))),
+    }
+}
+
+/// Refuses a number that is out of its range.
+fn check_numbers(serving: Serving<'_>) -> Result<(), Fault> {
+    let is_valid = (1..=CONNECTIONS).contains(&serving.connections)
+        && (1..=PATIENCE).contains(&serving.commit_timeout);
+    if is_valid {
+        Ok(())
+    } else {
+        Err(Fault::Refused(EngineFault::BadConfig))
+    }
+}
+
+/// The database that is asked for.
+fn database_of(serving: Serving<'_>) -> Database<'_> {
+    Database {
+        dir: serving.dir,
+        pages: serving.pages,
+        log_blocks: serving.log_blocks,
+        readers: READERS,
+    }
+}

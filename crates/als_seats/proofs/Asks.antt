@@ -7,7 +7,7 @@ use Rattle.als_seats.specs.Asks.{asks_of}
 -- one more question has the next place
 pub asks-snoc : {T : Type 0} → (seat at : ℕ) (xs : List T) (x : T)
     → asks_of seat at (xs ++ x ∷ []) ≡ asks_of seat at xs ++ record { place = record { seat = seat; at = at + length xs }; question = x } ∷ []
-asks-snoc seat at [] x = refl
+asks-snoc seat at [] x = ap (λ (k : ℕ). record { place = record { seat = seat; at = k }; question = x } ∷ []) (omega arith)
 asks-snoc {T} seat at (y ∷ ys) x =
     let place : suc at + length ys ≡ at + suc (length ys) = omega arith in
     ap (λ (zs : List (Ask T)). record { place = record { seat = seat; at = at }; question = y } ∷ zs)
@@ -19,9 +19,10 @@ pub put-more : {T : Type 0} → (seat n : ℕ) (old now : List (Ask T)) (ys : Li
     → now ++ record { place = record { seat = seat; at = n }; question = x } ∷ [] ≡ old ++ asks_of seat 0 (ys ++ x ∷ [])
 put-more {T} seat n old now ys x before count =
     let one : List (Ask T) = record { place = record { seat = seat; at = n }; question = x } ∷ [] in
+    let place : n ≡ 0 + length ys = omega (arith, count) in
     ap (λ (zs : List (Ask T)). zs ++ one) before
     ∙ append_assoc old (asks_of seat 0 ys) one
-    ∙ ap (λ (k : ℕ). old ++ (asks_of seat 0 ys ++ record { place = record { seat = seat; at = k }; question = x } ∷ [])) count
+    ∙ ap (λ (k : ℕ). old ++ (asks_of seat 0 ys ++ record { place = record { seat = seat; at = k }; question = x } ∷ [])) place
     ∙ ap (λ (zs : List (Ask T)). old ++ zs) (sym (asks-snoc seat 0 ys x))
 
 -- those that were put are the first ones
