@@ -229,7 +229,7 @@ pub const PRIMARY_HELP: &str =
 database of N pages with a log of B blocks of 512 bytes is laid out), one that `als primary` or
 `als commit` wrote before, or one that `als takeover` made a primary.
 Redoes what was not redone, undoes what a crash left in mid-transaction, and answers over HTTP:
-  POST /commit            a transaction, or an array of up to 600 of their own each:
+  POST /commit            a transaction, or an array of up to 64, each on its own:
     {\"if\":[{\"key\":[P,S],\"is\":\"ab\"},{\"key\":[P,S],\"unchanged_since\":L}],
      \"set\":[{\"key\":[P,S],\"to\":\"cd\"},{\"key\":[P,S],\"to\":null}]}
     A key is page P, slot S (0 to 14); a value is up to 31 bytes in hexadecimal, null is none.

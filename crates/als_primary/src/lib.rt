@@ -23,6 +23,8 @@ mod refusal;
 mod desk;
 // A thread's way to the leader.
 mod chair;
+// What each thread answers by.
+mod services;
 // The token of those who may commit.
 mod token;
 // Why its file is refused.
@@ -41,4 +43,3 @@ pub use bad_token::BadToken;
 pub use refusal::Refusal;
 pub use running::primary;
 pub use serving::Serving;
-

@@ -1,21 +1,20 @@
 use crate::announcing::Announces;
-use crate::chair::Chair;
 use crate::desk::Desk;
 use crate::guarding::guard_of;
 use crate::refusal::Refusal;
+use crate::services::Common;
 use crate::serving::Serving;
 use crate::token::read_token;
-use crate::watching::{Watch, Watching};
+use crate::watching::{Gauge, Watching};
 use als_asking::Guard;
 use als_disk::FileDisk;
 use als_drive::Progress;
 use als_engine::{Engine, Events, Fault as EngineFault, Reader, Writes};
 use als_folder::Folder;
-use als_http::{Board, State, listen};
-use als_lead::{Answer, Database, Limits, Primary, PrimaryUpkeep, lead, open};
+use als_http::{Board, Hosts, Servers, State, config_with, listen};
+use als_lead::{Database, Limits, Primary, PrimaryUpkeep, lead, open};
 use als_operate::{Fault, NearlyFull, named, settle};
-use als_seats::{Asker, Leader, seats};
-use als_writer::Transaction;
+use als_seats::seats;
 use std::alloc::{AllocError, Global};
 use std::fs::File;
 use std::net::{Net, TcpListener, TcpStream};
@@ -40,6 +39,12 @@ const GROUP: Limits = Limits {
     bytes: 1_048_576,
 };
 
+/// The bytes of a request's body, at most.
+const BODY: usize = 262_144;
+
+/// The bytes of a block.
+const BLOCK: u64 = 512;
+
 /// The log bytes from one checkpoint to the next: 4 MiB.
 const CHECKPOINT_BYTES: u64 = 4_194_304;
 
@@ -63,11 +68,7 @@ pub fn primary<
         + Drop
         + 'static,
     P: Progress + Announces,
->(
-    rt: &R,
-    serving: Serving<'_>,
-    lines: &mut P,
-) -> Result<(), Refusal> {
+>(rt: &R, serving: Serving<'_>, lines: &mut P) -> Result<(), Refusal> {
     check_numbers(serving)?;
     let token = match serving.token_file {
         Some(path) => match read_token(rt, path) {
@@ -83,7 +84,16 @@ pub fn primary<
         mut engine,
         readers,
     } = open(rt, database_of(serving), lines)?;
-    match stand(rt, &folder, &mut engine, readers, &listener, guard, serving, lines) {
+    match stand(
+        rt,
+        &folder,
+        &mut engine,
+        readers,
+        &listener,
+        guard,
+        serving,
+        lines,
+    ) {
         Ok(()) => Ok(()),
         Err(fault) => Err(Refusal::Ended(named(&folder, fault))),
     }
@@ -107,5 +117,107 @@ fn database_of(serving: Serving<'_>) -> Database<'_> {
         pages: serving.pages,
         log_blocks: serving.log_blocks,
         readers: READERS,
+    }
+}
+
+/// Serves over a folder that is held. Then what the engine holds is put on the devices.
+fn stand<
+    R: AllocGlobal
+        + Files<File = File>
+        + Net<Listener = TcpListener, Stream = TcpStream>
+        + Threads
+        + Wait
+        + Sync
+        + Clock
+        + RandomSource
+        + Clone
+        + Send
+        + Drop
+        + 'static,
+    P: Announces,
+>(
+    rt: &R,
+    folder: &Folder,
+    engine: &mut Engine<FileDisk>,
+    readers: Vec<Reader>,
+    listener: &TcpListener,
+    guard: Guard,
+    serving: Serving<'_>,
+    lines: &mut P,
+) -> Result<(), Fault> {
+    let alloc = rt.alloc();
+    let board = board_of(alloc, engine)?;
+    let (leader, askers) = seats(alloc, seats_of(serving.connections))?;
+    let common = Common {
+        rt,
+        alloc,
+        board: &board,
+        guard: &guard,
+        hosts: Hosts::at(listener),
+        patience: Duration::from_secs(serving.commit_timeout),
+    };
+    let services = common.services(askers, readers)?;
+    let servers = Servers::start_any(rt, alloc, listener, services, config_with(BODY))?;
+    lines.serves(
+        serving.dir,
+        listener.local_addr()?,
+        engine.history().epoch(),
+        engine.status().end,
+    );
+    let gauge = Gauge {
+        board: &*board,
+        clock: rt,
+        lines,
+        capacity: capacity_of(rt, folder),
+        full: NearlyFull::NEVER,
+    };
+    let mut desk = Desk::new(rt, leader);
+    let led = lead_all(rt, engine, &mut desk, gauge);
+    board.set_state(State::Stopped);
+    desk.end();
+    servers.close(rt);
+    let settled = settle(engine);
+    first(led, settled)
+}
+
+/// Leads, until something fails.
+fn lead_all<R: AllocGlobal + Wait + Clock, E: Writes, A: Announces>(
+    rt: &R,
+    engine: &mut E,
+    desk: &mut Desk<'_, R>,
+    gauge: Gauge<'_, A, R>,
+) -> Result<(), Fault> {
+    let upkeep = PrimaryUpkeep::new(rt, CHECKPOINT_BYTES, engine.status().end);
+    let mut watching = Watching::new(upkeep, gauge);
+    lead(rt.alloc(), engine, desk, &mut watching, GROUP)
+}
+
+/// The seats for so many connections: one more is that of the thread that waits for no connection.
+fn seats_of(connections: u64) -> u32 {
+    connections.min(CONNECTIONS) as u32 + 1
+}
+
+/// A board of an engine that is a primary's.
+fn board_of<E: Events>(alloc: Global, engine: &E) -> Result<Arc<Board, Global>, AllocError> {
+    let board = Arc::new(alloc, Board::new())?;
+    let status = engine.status();
+    board.set_log(status.end, status.acknowledged);
+    board.set_epoch(u64::from(engine.history().epoch()));
+    board.set_state(State::Primary);
+    Ok(board)
+}
+
+/// Bytes that the log of a folder takes at most. None: its files can't be read.
+fn capacity_of<R: AllocGlobal + Files<File = File>>(rt: &R, folder: &Folder) -> Option<u64> {
+    let files = folder.open_to_read(rt).ok()?;
+    let sizes = files.sizes().ok()?;
+    Some(sizes.log.saturating_mul(BLOCK))
+}
+
+/// The first failure of two results.
+fn first(earlier: Result<(), Fault>, later: Result<(), Fault>) -> Result<(), Fault> {
+    match earlier {
+        Ok(()) => later,
+        Err(fault) => Err(fault),
     }
 }

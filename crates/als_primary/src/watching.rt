@@ -15,11 +15,11 @@ const HOUR: u64 = 3_600;
 /// hour, a log with little room left is reported.
 pub(crate) struct Watching<'a, U, A, C> {
     upkeep: U,
-    watch: Watch<'a, A, C>,
+    gauge: Gauge<'a, A, C>,
 }
 
 /// Where it is written how a primary stands.
-pub(crate) struct Watch<'a, A, C> {
+pub(crate) struct Gauge<'a, A, C> {
     pub board: &'a Board,
     pub clock: &'a C,
     pub lines: &'a mut A,
@@ -28,9 +28,9 @@ pub(crate) struct Watch<'a, A, C> {
     pub full: NearlyFull,
 }
 
-impl<A, C> Drop for Watch<'_, A, C> {
+impl<A, C> Drop for Gauge<'_, A, C> {
     fn drop(self) {
-        let Watch {
+        let Gauge {
             board: _,
             clock: _,
             lines: _,
@@ -42,20 +42,20 @@ impl<A, C> Drop for Watch<'_, A, C> {
 
 impl<U: Drop, A, C> Drop for Watching<'_, U, A, C> {
     fn drop(self) {
-        let Watching { upkeep, watch } = self;
+        let Watching { upkeep, gauge } = self;
         drop(upkeep);
-        drop(watch);
+        drop(gauge);
     }
 }
 
 impl<'a, U: Upkeep, A: Announces, C: Clock> Watching<'a, U, A, C> {
     /// This upkeep, watched there.
-    pub fn new(upkeep: U, watch: Watch<'a, A, C>) -> Watching<'a, U, A, C> {
-        Watching { upkeep, watch }
+    pub fn new(upkeep: U, gauge: Gauge<'a, A, C>) -> Watching<'a, U, A, C> {
+        Watching { upkeep, gauge }
     }
 }
 
-impl<A: Announces, C: Clock> Watch<'_, A, C> {
+impl<A: Announces, C: Clock> Gauge<'_, A, C> {
     /// Writes how a primary stands.
     fn note(&mut self, status: &Status) {
         let board = self.board;
@@ -79,7 +79,7 @@ impl<U: Upkeep, A: Announces, C: Clock> Upkeep for Watching<'_, U, A, C> {
     fn keep_up<E: Events>(&mut self, engine: &mut E) -> Result<(), Fault> {
         self.upkeep.keep_up(engine)?;
         let status = engine.status();
-        self.watch.note(&status);
+        self.gauge.note(&status);
         Ok(())
     }
 }

@@ -11,8 +11,8 @@ asks-snoc seat at [] x = ap (λ (k : ℕ). record { place = record { seat = seat
 asks-snoc {T} seat at (y ∷ ys) x =
     let place : suc at + length ys ≡ at + suc (length ys) = omega arith in
     ap (λ (zs : List (Ask T)). record { place = record { seat = seat; at = at }; question = y } ∷ zs)
-        (asks-snoc seat (suc at) ys x
-        ∙ ap (λ (k : ℕ). asks_of seat (suc at) ys ++ record { place = record { seat = seat; at = k }; question = x } ∷ []) place)
+    (asks-snoc seat (suc at) ys x
+    ∙ ap (λ (k : ℕ). asks_of seat (suc at) ys ++ record { place = record { seat = seat; at = k }; question = x } ∷ []) place)
 
 -- it waits behind those before it
 pub put-more : {T : Type 0} → (seat n : ℕ) (old now : List (Ask T)) (ys : List T) (x : T) → now ≡ old ++ asks_of seat 0 ys → n ≡ length ys

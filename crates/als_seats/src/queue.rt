@@ -1,5 +1,6 @@
 ghost use Rattle.std.specs.Prelude.{◌≡◌, ◌≤◌, ◌++◌, true, length, take, option_to_list};
-ghost use Rattle.als_seats.specs.Asks.{asks_of};
+ghost use Rattle.std.specs.List.{filter};
+ghost use Rattle.als_seats.specs.Asks.{asks_of, is_of_other};
 
 use crate::ask::Ask;
 use crate::outcome::Outcome;
@@ -77,21 +78,26 @@ impl<T: Drop> Queue<T> {
         self.waiting.pop_front()
     }
 
-    /// Takes back the questions of a seat that wait: they are not begun. The others stay in their
-    /// order.
-    pub fn take_back<A: Drop>(&mut self, seat: u32, slots: &mut Slots<A>) {
-        for _ in 0..self.waiting.len() {
-            let Some(ask) = self.waiting.pop_front() else {
-                break;
-            };
+    /// Takes back the questions of a seat that wait: they are not begun.
+    pub fn take_back<A: Drop>(&mut self, seat: u32, slots: &mut Slots<A>)
+        // None of them waits any more. The others stay, in their order.
+        ensures kept { self.new.waiting.items ≡ filter (is_of_other seat) self.old.waiting.items }
+        ensures same { self.new.is_closed ≡ self.old.is_closed }
+    {
+        for ask in self.waiting.iter() {
             if ask.place.seat == seat {
                 slots.settle(ask.place.at as usize, Outcome::NotBegun);
-            } else if self.waiting.push_back(ask).is_err() {
-                // There is room where one was taken.
-                break;
             }
         }
+        drop_asks(&mut self.waiting, seat);
     }
+}
+
+/// Drops the questions of a seat.
+fn drop_asks<T: Drop>(waiting: &mut VecDeque<Ask<T>>, seat: u32)
+    ensures { waiting.new.items ≡ filter (is_of_other seat) waiting.old.items }
+{
+    waiting.retain(|ask| ask.place.seat != seat);
 }
 
 /// Puts the questions of a seat that have a place behind those that wait, while there is room. It returns

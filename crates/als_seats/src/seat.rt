@@ -69,9 +69,9 @@ impl<A: Drop> Seat<A> {
         none: Vec<Outcome<A>>,
     ) -> Result<Vec<Outcome<A>>, Vec<Outcome<A>>> {
         let slots = self.slots.lock(rt);
-        let (mut slots, _) =
-            self.settled
-                .wait_timeout_while(rt, slots, patience, |slots| slots.waits());
+        let (mut slots, _) = self
+            .settled
+            .wait_timeout_while(rt, slots, patience, |slots| slots.waits());
         if slots.waits() {
             return Err(none);
         }
