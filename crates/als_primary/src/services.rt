@@ -28,6 +28,19 @@ pub(crate) struct Common<'a, R> {
     pub patience: Duration,
 }
 
+impl<R> Drop for Common<'_, R> {
+    fn drop(self) {
+        let Common {
+            rt: _,
+            alloc: _,
+            board: _,
+            guard: _,
+            hosts: _,
+            patience: _,
+        } = self;
+    }
+}
+
 impl<R: Wait + Clock + Clone + Drop> Common<'_, R> {
     /// A service for each asker, with its clock. They share the readers, a few each one.
     pub fn services(
