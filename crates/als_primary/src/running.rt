@@ -1,3 +1,5 @@
+ghost use Rattle.std.specs.Prelude.{◌≤◌};
+
 use crate::announcing::Announces;
 use crate::desk::Desk;
 use crate::guarding::guard_of;
@@ -192,9 +194,12 @@ fn lead_all<R: AllocGlobal + Wait + Clock, E: Writes, A: Announces>(
     lead(rt.alloc(), engine, desk, &mut watching, GROUP)
 }
 
-/// The seats for so many connections: one more is that of the thread that waits for no connection.
-fn seats_of(connections: u64) -> u32 {
-    connections.min(CONNECTIONS) as u32 + 1
+/// The seats for so many connections of one peer. One more is that of a thread which is kept for others,
+/// and one that of the thread that waits for nobody.
+fn seats_of(connections: u64) -> u32
+    ensures { result ≤ 66 }
+{
+    connections.min(CONNECTIONS) as u32 + 2
 }
 
 /// A board of an engine that is a primary's.
