@@ -1,4 +1,5 @@
 ghost use Rattle.std.specs.Prelude.{◌≡◌};
+ghost use Rattle.als_primary.specs.Fates.{fate_of};
 
 use als_asking::{Commits, Outcome as Fate};
 use als_lead::Answer;
@@ -72,7 +73,9 @@ impl<R: Wait + Clock> Commits for Chair<R> {
 }
 
 /// What becomes of a transaction, as it is answered over HTTP.
-fn fate_of(outcome: Outcome<Answer>) -> Fate {
+fn fate_of(outcome: Outcome<Answer>) -> Fate
+    ensures { result ≡ fate_of outcome }
+{
     match outcome {
         Outcome::Answered(Answer::Committed(written)) => Fate::Committed(written),
         Outcome::Answered(Answer::Refused(refusal)) => Fate::Refused(refusal),

@@ -1,9 +1,10 @@
 ghost use Rattle.std.specs.Prelude.{◌≡◌, []};
 ghost use Rattle.als_lead.specs.Account.{taken_of, told_of};
+ghost use Rattle.als_seats.specs.Places.{number_of};
 
 use als_lead::{Account, Answer, Asked, Clients, Waited};
 use als_operate::Fault;
-use als_seats::{Leader, Place, Waited as Met};
+use als_seats::{Ask, Leader, Place, Waited as Met};
 use als_writer::Transaction;
 use std::sync::Wait;
 use std::time::{Clock, Duration};
@@ -75,10 +76,7 @@ impl<R: Wait + Clock> Clients for Desk<'_, R> {
     fn next(&mut self) -> Result<Option<Asked>, Fault> {
         match self.leader.next(self.rt) {
             Some(ask) => {
-                let asked = Asked {
-                    seat: ask.place.number(),
-                    transaction: ask.question,
-                };
+                let asked = asked_of(ask);
                 self.account.take(&asked);
                 Ok(Some(asked))
             }
@@ -98,5 +96,16 @@ impl<R: Wait + Clock> Clients for Desk<'_, R> {
     // Whoever is answered is awake.
     fn end_group(&mut self) -> Result<(), Fault> {
         Ok(())
+    }
+}
+
+/// A question as the leader takes it: its seat is the number of its place.
+fn asked_of(ask: Ask<Transaction>) -> Asked
+    ensures seat { result.seat ≡ number_of ask.place }
+    ensures transaction { result.transaction ≡ ask.question }
+{
+    Asked {
+        seat: ask.place.number(),
+        transaction: ask.question,
     }
 }
