@@ -85,7 +85,7 @@ impl<R: Wait + Clock> Clients for Desk<'_, R> {
     }
 
     fn tell(&mut self, asked: Asked, answer: Answer) -> Result<(), Fault> {
-        self.account.tell(&asked, answer);
+        self.account.tell(&asked, again(&answer));
         // Each transaction that was taken came from a place.
         if let Some(place) = Place::of(asked.seat) {
             self.leader.tell(self.rt, place, answer);
@@ -108,4 +108,11 @@ fn asked_of(ask: Ask<Transaction>) -> Asked
         seat: ask.place.number(),
         transaction: ask.question,
     }
+}
+
+/// The same answer.
+fn again(answer: &Answer) -> Answer
+    ensures { result ≡ answer.now }
+{
+    *answer
 }

@@ -7,11 +7,11 @@ use crate::refusal::Refusal;
 use crate::services::Common;
 use crate::serving::Serving;
 use crate::token::read_token;
-use crate::watching::{Gauge, Watching};
+use crate::watching::Watching;
 use als_asking::Guard;
 use als_disk::FileDisk;
 use als_drive::Progress;
-use als_engine::{Engine, Events, Fault as EngineFault, Reader, Writes};
+use als_engine::{Engine, Events, Fault as EngineFault, Reader};
 use als_folder::Folder;
 use als_http::{Board, Hosts, Servers, State, config_with, listen};
 use als_lead::{Database, Limits, Primary, PrimaryUpkeep, lead, open};
@@ -166,7 +166,8 @@ fn stand<
         engine.history().epoch(),
         engine.status().end,
     );
-    let gauge = Gauge {
+    let mut watching = Watching {
+        upkeep: PrimaryUpkeep::new(rt, CHECKPOINT_BYTES, engine.status().end),
         board: &*board,
         clock: rt,
         lines,
@@ -174,24 +175,12 @@ fn stand<
         full: NearlyFull::NEVER,
     };
     let mut desk = Desk::new(rt, leader);
-    let led = lead_all(rt, engine, &mut desk, gauge);
+    let led = lead(alloc, engine, &mut desk, &mut watching, GROUP);
     board.set_state(State::Stopped);
     desk.end();
     servers.close(rt);
     let settled = settle(engine);
     first(led, settled)
-}
-
-/// Leads, until something fails.
-fn lead_all<R: AllocGlobal + Wait + Clock, E: Writes, A: Announces>(
-    rt: &R,
-    engine: &mut E,
-    desk: &mut Desk<'_, R>,
-    gauge: Gauge<'_, A, R>,
-) -> Result<(), Fault> {
-    let upkeep = PrimaryUpkeep::new(rt, CHECKPOINT_BYTES, engine.status().end);
-    let mut watching = Watching::new(upkeep, gauge);
-    lead(rt.alloc(), engine, desk, &mut watching, GROUP)
 }
 
 /// The seats for so many connections of one peer. One more is that of a thread which is kept for others,

@@ -4,8 +4,9 @@ ghost use Rattle.als_lead.specs.Going.{Stays};
 use crate::announcing::Announces;
 use als_engine::{Events, Fault, Status};
 use als_http::Board;
-use als_lead::Upkeep;
+use als_lead::{PrimaryUpkeep, Upkeep};
 use als_operate::NearlyFull;
+use std::sync::Wait;
 use std::time::Clock;
 
 /// The seconds of an hour.
@@ -13,49 +14,18 @@ const HOUR: u64 = 3_600;
 
 /// The upkeep of a primary. After each of its turns a board has how the primary stands, and, once an
 /// hour, a log with little room left is reported.
-pub(crate) struct Watching<'a, U, A, C> {
-    upkeep: U,
-    gauge: Gauge<'a, A, C>,
-}
-
-/// Where it is written how a primary stands.
-pub(crate) struct Gauge<'a, A, C> {
+#[derive(Drop)]
+pub(crate) struct Watching<'a, R: Wait, A> {
+    pub upkeep: PrimaryUpkeep<'a, R>,
     pub board: &'a Board,
-    pub clock: &'a C,
-    pub lines: &'a mut A,
+    pub clock: &'a R,
+    pub lines: A,
     /// The bytes that its log takes at most. None: not known.
     pub capacity: Option<u64>,
     pub full: NearlyFull,
 }
 
-impl<A, C> Drop for Gauge<'_, A, C> {
-    fn drop(self) {
-        let Gauge {
-            board: _,
-            clock: _,
-            lines: _,
-            capacity: _,
-            full: _,
-        } = self;
-    }
-}
-
-impl<U: Drop, A, C> Drop for Watching<'_, U, A, C> {
-    fn drop(self) {
-        let Watching { upkeep, gauge } = self;
-        drop(upkeep);
-        drop(gauge);
-    }
-}
-
-impl<'a, U: Upkeep, A: Announces, C: Clock> Watching<'a, U, A, C> {
-    /// This upkeep, watched there.
-    pub fn new(upkeep: U, gauge: Gauge<'a, A, C>) -> Watching<'a, U, A, C> {
-        Watching { upkeep, gauge }
-    }
-}
-
-impl<A: Announces, C: Clock> Gauge<'_, A, C> {
+impl<R: Wait + Clock, A: Announces> Watching<'_, R, A> {
     /// Writes how a primary stands.
     fn note(&mut self, status: &Status) {
         let board = self.board;
@@ -71,7 +41,7 @@ impl<A: Announces, C: Clock> Gauge<'_, A, C> {
     }
 }
 
-impl<U: Upkeep, A: Announces, C: Clock> Upkeep for Watching<'_, U, A, C> {
+impl<R: Wait + Clock, A: Announces> Upkeep for Watching<'_, R, A> {
     fn publish<E: Events>(&mut self, engine: &mut E) -> Result<(), Fault> {
         self.upkeep.publish(engine)
     }
@@ -79,7 +49,7 @@ impl<U: Upkeep, A: Announces, C: Clock> Upkeep for Watching<'_, U, A, C> {
     fn keep_up<E: Events>(&mut self, engine: &mut E) -> Result<(), Fault> {
         self.upkeep.keep_up(engine)?;
         let status = engine.status();
-        self.gauge.note(&status);
+        self.note(&status);
         Ok(())
     }
 }
