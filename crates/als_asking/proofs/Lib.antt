@@ -1,0 +1,4 @@
+pub mod BodyLaws
+pub mod SameLaws
+pub mod TextLaws
+mod Worked

@@ -48,9 +48,11 @@ entered own method from_page denial =
     if own then (if bytes_eq method (codes "POST") then (if from_page then entry.Denied Page else way denial) else entry.Denied Method)
     else entry.Denied Host
 
+-- which way a request for commits goes
+abbrev pub way_of : Guard → Hosts → Parts → Entry
+way_of guard hosts p =
+    entered (is_own hosts (get_all p.headers (codes "host"))) p.method (is_there (get_all p.headers (codes "origin"))) (guarded guard (token_in (get_all p.headers (codes "authorization"))))
+
 -- which way a request with this head goes, by who may commit and by the hosts of the node
 abbrev pub entry_of : Guard → Hosts → Parts → Entry
-entry_of guard hosts p =
-    if bytes_eq (uri_path p.uri) (codes "/commit")
-    then entered (is_own hosts (get_all p.headers (codes "host"))) p.method (is_there (get_all p.headers (codes "origin"))) (guarded guard (token_in (get_all p.headers (codes "authorization"))))
-    else entry.Reads
+entry_of guard hosts p = if bytes_eq (uri_path p.uri) (codes "/commit") then way_of guard hosts p else entry.Reads

@@ -28,7 +28,7 @@ Tells w os told = ⊥
 -- these transactions are committed, and their outcomes are answered
 pub record AreCommitted {C : Type 0} (commits : C → List Transaction → List Outcome → C → Type 0) (old : C) (asked : Wanted) (told : Told) (new : C) : Type 0 where
   pub outcomes : List Outcome
-  pub commits : commits old (all_of asked) outcomes new
+  pub committed : commits old (all_of asked) outcomes new
   pub tells : Tells asked outcomes told
 
 -- it is answered that nothing was asked for

@@ -122,7 +122,7 @@ abbrev pub key_tokens : Key → List Token
 key_tokens k = (key (codes "key") ∷ begin_array ∷ []) ++ ((number (decimal k.page) ∷ number (decimal k.slot) ∷ []) ++ (end_array ∷ []))
 
 -- a fault by its number and its name
-abbrev pub fault_tokens : FaultKind → List Token
+unfoldable pub fault_tokens : FaultKind → List Token
 fault_tokens k = number_tokens (codes "refused") (number_of k) ++ string_tokens (codes "name") (name_of k)
 
 abbrev pub why_flaw : Flaw → List ℕ

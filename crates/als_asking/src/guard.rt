@@ -32,7 +32,7 @@ impl Guard {
 
 /// Why a request with this token is denied, where this other one is wanted.
 fn denial_of(token: &[u8], given: Option<&[u8]>) -> Option<Denied>
-    ensures { result ≡ denied_by token.now (option_copied given) }
+    ensures { result ≡ denied_by token.now (option_copied given.entry) }
 {
     match given {
         None => Some(Denied::NoToken),
@@ -55,6 +55,7 @@ fn token_in<'a>(fields: GetAll<'a, HeaderValue>) -> Option<&'a [u8]>
 }
 
 /// Whether two texts are the same. How long it takes depends on their lengths alone.
+#[tactic(auto, using(crate::proofs::SameLaws::same_step))]
 fn is_same(one: &[u8], other: &[u8]) -> bool
     ensures { result ≡ bytes_eq one.now other.now }
 {

@@ -26,7 +26,7 @@ impl<V: Service, R: Wait> Lent<V, R> {
 }
 
 impl<V: Service, R: Wait> Service for Lent<V, R> {
-    ghost use Rattle.std.specs.Prelude.{◌≡◌, ◌×◌};
+    ghost use Rattle.std.specs.Prelude.{◌≡◌};
 
     // Some state of the shared service answers, and itself it is as before.
     ghost answers = { λ old request response new.

@@ -46,7 +46,7 @@ pub use entry::{Entry, entry_of};
 pub use guard::Guard;
 pub use lent::Lent;
 pub use outcome::Outcome;
-pub use reading::wanted;
+pub use reading::wanted_in;
 pub use taking::take;
 pub use told::Told;
 pub use unread::{MOST, Unread};

@@ -81,6 +81,7 @@ fn kind_of(refusal: &Refusal) -> FaultKind
 }
 
 /// A fault by its number and its name.
+#[tactic(auto, unfolding(crate::specs::Telling::fault_tokens))]
 fn fault_members(text: &mut Writer, kind: FaultKind) -> Result<(), AllocError>
     ensures tokens { OnOk result (text.new.tokens ≡ text.old.tokens ++ fault_tokens kind) }
     ensures before { OnOk result (text.new.before ≡ text.old.before) }

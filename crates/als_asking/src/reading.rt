@@ -10,7 +10,7 @@ use als_writer::Transaction;
 use std::alloc::Global;
 
 /// What a body asks for.
-pub fn wanted(alloc: Global, body: &[u8]) -> Result<Wanted, Unread>
+pub fn wanted_in(alloc: Global, body: &[u8]) -> Result<Wanted, Unread>
     // Each transaction is what its text says, and an array has them in the order of their texts.
     ensures asks { IfOk result (λ w. Asks body.now w) }
 {
@@ -21,6 +21,7 @@ pub fn wanted(alloc: Global, body: &[u8]) -> Result<Wanted, Unread>
 }
 
 /// The transaction that a body is.
+#[tactic(auto, unfolding(crate::specs::Bodies::Asks))]
 fn one(alloc: Global, body: &[u8]) -> Result<Wanted, Unread>
     ensures asks { IfOk result (λ w. Asks body.now w) }
 {
@@ -39,6 +40,7 @@ fn is_blank(byte: u8) -> bool
 }
 
 /// A text without the blanks that it begins with.
+#[tactic(auto, using(crate::proofs::BodyLaws::skipped_step, crate::proofs::BodyLaws::skipped_end, crate::proofs::BodyLaws::skipped_all))]
 fn skipped(text: &[u8]) -> &[u8]
     ensures { result.now ≡ skipped text.now }
 {
@@ -52,7 +54,8 @@ fn skipped(text: &[u8]) -> &[u8]
     rest
 }
 
-/// Whether a bracket stands there, and only blanks behind it.
+/// Whether a bracket is there, and only blanks behind it.
+#[tactic(auto, unfolding(crate::specs::Bodies::closes))]
 fn closes(text: &[u8]) -> bool
     ensures { result ≡ closes text.now }
 {
@@ -98,9 +101,7 @@ fn each_item(alloc: Global, items: &[u8]) -> Result<Vec<Transaction>, Unread>
             Err(Mistake::Memory) => return Err(Unread::Memory),
             Err(mistake) => return Err(Unread::At(place + 1, mistake)),
         };
-        if found.push(next).is_err() {
-            return Err(Unread::Memory);
-        }
+        found.push(next)?;
         match after.split_first() {
             None => return Ok(found),
             Some((comma, more)) if *comma == b',' => rest = more,

@@ -1,6 +1,7 @@
 ghost use Rattle.std.specs.Prelude.{◌≤◌, length};
 
-/// Where in a JSON text a scan stands.
+/// Where in a JSON text a scan is.
+#[derive(Clone, Copy)]
 struct Scan {
     /// Objects and arrays that are open.
     depth: u64,

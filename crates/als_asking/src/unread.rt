@@ -1,4 +1,5 @@
 use als_request::Mistake;
+use std::alloc::AllocFailed;
 use std::fmt;
 
 /// The transactions that one request may ask for: as many as one force makes durable.
@@ -17,6 +18,17 @@ pub enum Unread {
     Array,
     /// Its array has more than 64 transactions.
     TooMany,
+}
+
+impl<T: Drop> From<AllocFailed<T>> for Unread {
+    ghost use Rattle.std.specs.Prelude.{◌≡◌};
+    ghost use Rattle.als_asking.specs.declared.unread.Unread.TheVariants.{Memory};
+
+    ghost from_gives = { λ _ e. e ≡ Memory };
+
+    fn from(_refused: AllocFailed<T>) -> Unread {
+        Unread::Memory
+    }
 }
 
 impl fmt::Display for Unread {
