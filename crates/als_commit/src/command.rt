@@ -1,6 +1,7 @@
-ghost use Rattle.std.specs.Prelude.{◌≡◌, [], IfErr};
+ghost use Rattle.std.specs.Prelude.{◌≡◌, List, []};
+ghost use Rattle.als_lead.specs.declared.asked.Asked.{Asked as AnyAsked};
+ghost use Rattle.als_lead.specs.declared.told.Told.{Told as AnyTold};
 ghost use Rattle.als_lead.specs.Leading.{Leads};
-ghost use Rattle.als_lead.specs.Account.{taken_of, told_of};
 
 use crate::bad_line::BadLines;
 use crate::committing::Committing;
@@ -79,7 +80,13 @@ fn write_all<R: AllocGlobal + Wait, E: Writes, I: Read + Drop, B: BadLines, O: W
     input: I,
     bad: &mut B,
     output: &mut O,
-) -> Result<Ending, Fault> {
+) -> Result<Ending, Fault>
+    // Each line that is a transaction was answered once, in order, by what is true of the log at the
+    // end; and no other transaction was committed.
+    ensures leads { (asked : List AnyAsked) × (told : List AnyTold) × Leads E.alone
+        (E.machine engine.old) (E.machine engine.new) [] asked [] told }
+    ensures book { E.book engine.new ≡ E.book engine.old }
+{
     let alloc = rt.alloc();
     let mut upkeep = PrimaryUpkeep::new(rt, CHECKPOINT_BYTES, engine.status().end);
     let mut lines = Lines {

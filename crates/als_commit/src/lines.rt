@@ -1,3 +1,4 @@
+ghost use Rattle.std.specs.Prelude.{◌≡◌};
 ghost use Rattle.als_lead.specs.Account.{taken_of, told_of};
 
 use crate::bad_line::BadLines;
@@ -77,8 +78,9 @@ impl<I: Read + Drop, B: BadLines, O: Write> Clients for Lines<'_, I, B, O> {
     }
 
     fn tell(&mut self, asked: Asked, answer: Answer) -> Result<(), Fault> {
+        let printed = print(&answer, self.output);
         self.account.tell(&asked, answer);
-        print(answer, self.output)?;
+        printed?;
         Ok(())
     }
 

@@ -117,7 +117,7 @@ in_on mid new cs g e t w i = record {
   commits = e ∙ ap (λ (x : List Commit). x ++ cs) i.commits ∙ append_assoc (commits_of i.past) (commit_by t w ∷ i.later) cs;
 }
 
-pub was_on : (mid new : Machine) (t : Transaction) (r : Refusal) → Grows mid new → WasRefused mid t r → WasRefused new t r
+was_on : (mid new : Machine) (t : Transaction) (r : Refusal) → Grows mid new → WasRefused mid t r → WasRefused new t r
 was_on mid new t r g w = record { before = w.before; after = w.after; refused = w.refused; grown = w.grown; goes_on = grows_trans w.after mid new w.goes_on g }
 
 pub held_on : (mid new : Machine) (cs : List Commit) → Grows mid new → commits_of new.held.log ≡ commits_of mid.held.log ++ cs → (t : Transaction) (a : Answer) → IsHeld mid t a → IsHeld new t a

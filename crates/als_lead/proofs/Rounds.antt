@@ -1,5 +1,5 @@
 -- What a leader does, one group after another.
-use Rattle.std.proofs.Common.{◌≡◌, List, [], ◌∷◌, ◌++◌, map, Result, Ok, Err, IfOk, refl, sym, ap, subst, ◌∙◌, append-nil, append_assoc}
+use Rattle.std.proofs.Common.{◌≡◌, List, [], ◌∷◌, ◌++◌, map, Option, Some, option_to_list, Result, Ok, Err, IfOk, refl, sym, ap, subst, ◌∙◌, append-nil, append_assoc}
 use Rattle.std.specs.List.{AllByRecursion}
 use Rattle.std.proofs.lemmas.List.{map-append}
 use Rattle.std.proofs.lemmas.List.Concat.{flat_map-append}
@@ -7,11 +7,12 @@ use Rattle.als_record.specs.declared.lsn.Lsn.{Lsn}
 use Rattle.als_record.specs.Commits.{Commit, commits_of}
 use Rattle.als_engine.specs.declared.fault.Fault.{Fault}
 use Rattle.als_engine.specs.Machine.{Machine}
+use Rattle.als_lead.specs.declared.answer.Answer.{Answer}
 use Rattle.als_lead.specs.declared.asked.Asked.{Asked}
 use Rattle.als_lead.specs.declared.told.Told.{Told}
 use Rattle.als_lead.specs.Going.{Grows, Stays, Tidies}
 use Rattle.als_lead.specs.Answers.{IsTrueOf, commits_by, commits_told, asked_of}
-use Rattle.als_lead.specs.Groups.{Does, DoesAll, Fills, IsStableTo, all_after}
+use Rattle.als_lead.specs.Groups.{Does, DoesAll, Fills, IsStableTo, answer_after, all_after}
 use Rattle.als_lead.specs.Leading.{Leads}
 use Rattle.als_lead.proofs.Going.{grows_refl, grows_trans, stable_on, tidies_stays, tidies_trans}
 use Rattle.als_lead.proofs.Doing.{all_append, does_none, does_more, does_then}
@@ -22,6 +23,10 @@ asked_more told x = map-append (λ (y : Told). y.asked) told (x ∷ [])
 
 asked_both : (xs ys : List Told) → asked_of (xs ++ ys) ≡ asked_of xs ++ asked_of ys
 asked_both xs ys = map-append (λ (y : Told). y.asked) xs ys
+
+-- one transaction was handed out
+pub one_taken : (taken taken_now : List Asked) (found : Option Asked) (asked : Asked) → found ≡ Some asked → taken_now ≡ taken ++ option_to_list found → taken_now ≡ taken ++ asked ∷ []
+one_taken taken taken_now found asked e t = t ∙ ap (λ (x : Option Asked). taken ++ option_to_list x) e
 
 -- ---- a group is filled
 
@@ -40,6 +45,17 @@ fills_more alone old mid new taken taken_mid taken_now queued queued_mid queued_
 
 pub fills_same : (alone : Type 0) (old new : Machine) (taken taken_mid taken_now : List Asked) (queued queued_now : List Told) → Fills alone old new taken taken_mid queued queued_now → taken_now ≡ taken_mid → Fills alone old new taken taken_now queued queued_now
 fills_same alone old new taken taken_mid taken_now queued queued_now f e = subst (λ (q : List Asked). Fills alone old new taken q queued queued_now) (sym e) f
+
+-- ---- a group is answered
+
+-- one more of the queue is answered
+pub tells_more : (forced : Result Lsn Fault) (told told_now : List Told) (x : Told) (answer : Answer) (rest queued : List Told) → answer ≡ answer_after forced x.answer → told_now ≡ told ++ record { asked = x.asked; answer = answer } ∷ [] → queued ≡ x ∷ rest
+    → told_now ++ all_after forced rest ≡ told ++ all_after forced queued
+tells_more forced told told_now x answer rest queued a t q =
+    ap (λ (l : List Told). l ++ all_after forced rest) t
+    ∙ append_assoc told (record { asked = x.asked; answer = answer } ∷ []) (all_after forced rest)
+    ∙ ap (λ (b : Answer). told ++ record { asked = x.asked; answer = b } ∷ all_after forced rest) a
+    ∙ ap (λ (l : List Told). told ++ all_after forced l) (sym q)
 
 -- ---- a group is served
 
@@ -99,3 +115,11 @@ leads_both alone a b c taken taken_mid taken_now told told_mid told_now p q = re
   answers = λ m. all_append (IsTrueOf c) p.more q.more (all_true_on b c (commits_told q.more) (q.grows m) (q.commits m) p.more (p.answers m)) (q.answers m);
   grows = λ m. grows_trans a b c (p.grows m) (q.grows m);
 }
+
+-- nobody was served behind it
+pub leads_rest : (alone : Type 0) (a b c : Machine) (taken taken_now : List Asked) (told told_now : List Told) → Leads alone a b taken taken_now told told_now → (alone → Stays b c) → Leads alone a c taken taken_now told told_now
+leads_rest alone a b c taken taken_now told told_now p stays = leads_both alone a b c taken taken_now taken_now told told_now told_now p (leads_stays alone b c taken_now taken_now told_now told_now stays refl refl)
+
+-- the clients were waited for first
+pub leads_waited : (alone : Type 0) (a b : Machine) (taken taken_mid taken_now : List Asked) (told told_mid told_now : List Told) → taken_mid ≡ taken → told_mid ≡ told → Leads alone a b taken_mid taken_now told_mid told_now → Leads alone a b taken taken_now told told_now
+leads_waited alone a b taken taken_mid taken_now told told_mid told_now e f p = subst (λ (x : List Asked). Leads alone a b x taken_now told told_now) e (subst (λ (x : List Told). Leads alone a b taken_mid taken_now x told_now) f p)

@@ -22,7 +22,7 @@ use Rattle.als_lead.specs.Going.{Grows}
 use Rattle.als_lead.specs.Answers.{IsIn, IsCommitted, WasRefused, IsRefused, IsEnded, IsTrueAnswer, IsTrueOf, commit_by, commits_in, commits_by, commits_told, asked_of}
 use Rattle.als_lead.specs.Groups.{IsHeld, IsHeldOf, IsStableTo, answer_after, told_after, all_after}
 use Rattle.als_lead.proofs.Going.{grows_trans}
-use Rattle.als_lead.proofs.Doing.{in_on, was_on}
+use Rattle.als_lead.proofs.Doing.{in_on}
 
 -- ---- after a force
 
@@ -83,7 +83,12 @@ committed_on : (mid new : Machine) (cs : List Commit) → Grows mid new → comm
 committed_on mid new cs g e t w c = record { written = in_on mid new cs g e t w c.written; durable = omega (arith, c.durable, g.acknowledged) }
 
 refused_on : (mid new : Machine) (t : Transaction) (r : Refusal) → Grows mid new → IsRefused mid t r → IsRefused new t r
-refused_on mid new t r g i = record { was = was_on mid new t r g i.was; stable = omega (arith, i.stable, g.acknowledged) }
+refused_on mid new t r g i =
+    let s : end_of i.was.after.held.log ≤ acknowledged new.held = omega (arith, i.stable, g.acknowledged) in
+    record {
+      was = record { before = i.was.before; after = i.was.after; refused = i.was.refused; grown = i.was.grown; goes_on = grows_trans i.was.after mid new i.was.goes_on g };
+      stable = s;
+    }
 
 pub true_on : (mid new : Machine) (cs : List Commit) → Grows mid new → commits_of new.held.log ≡ commits_of mid.held.log ++ cs → (t : Transaction) (a : Answer) → IsTrueAnswer mid t a → IsTrueAnswer new t a
 true_on mid new cs g e t (Committed w) h = committed_on mid new cs g e t w h

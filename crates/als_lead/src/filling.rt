@@ -68,12 +68,17 @@ fn take<E: Writes>(
         (E.machine engine.new).held.log }
     ensures book { E.book engine.new ≡ E.book engine.old }
 {
-    let answer = write_tidily(alloc, engine, changes, &asked.transaction);
+    let answer = write_tidily(alloc, engine, changes, &asked);
+    let goes_on = go_on(&answer);
     queue.push_back_reserved(Told { asked, answer });
-    match answer {
-        Answer::Refused(Refusal::State(fault) | Refusal::Unplanned(fault)) => {
-            Err(Fault::Refused(fault))
-        }
+    goes_on
+}
+
+/// An `Err` where the engine takes nothing any more.
+fn go_on(answer: &Answer) -> Result<(), Fault> {
+    match *answer {
+        Answer::Refused(Refusal::State(fault)) => Err(Fault::Refused(fault)),
+        Answer::Refused(Refusal::Unplanned(fault)) => Err(Fault::Refused(fault)),
         _ => Ok(()),
     }
 }

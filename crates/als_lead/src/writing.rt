@@ -3,6 +3,7 @@ ghost use Rattle.als_writer.specs.Changes.{AreBounds};
 ghost use Rattle.als_lead.specs.Groups.{Does, IsNotBegun};
 
 use crate::answer::Answer;
+use crate::asked::Asked;
 use als_engine::{Fault as EngineFault, Writes};
 use als_writer::{Changes, Refusal, Transaction, tidy, write};
 use std::alloc::Global;
@@ -10,24 +11,23 @@ use std::alloc::Global;
 /// Writes a transaction, once what an earlier one owes to the log is written. What is written is
 /// `Unknown` until a force. Memory, with nothing owed: what is owed could not be written, and nothing
 /// of this transaction was begun.
-#[tactic(auto, using(crate::proofs::Doing::does_again, crate::proofs::Doing::does_untidy))]
 pub(crate) fn write_tidily<E: Writes>(
     alloc: Global,
     engine: &mut E,
     changes: &mut Changes,
-    transaction: &Transaction,
+    asked: &Asked,
 ) -> Answer
     requires bounded { E.alone → AreBounds changes.old (E.machine engine.old).held.pages
         (E.machine engine.old).held.log }
-    ensures does { E.alone → Does (E.machine engine.old) transaction.now result
+    ensures does { E.alone → Does (E.machine engine.old) asked.now.transaction result
         (E.machine engine.new) }
     ensures bounds { E.alone → AreBounds changes.new (E.machine engine.new).held.pages
         (E.machine engine.new).held.log }
     ensures book { E.book engine.new ≡ E.book engine.old }
 {
-    match write_once(alloc, engine, changes, transaction) {
+    match write_once(alloc, engine, changes, &asked.transaction) {
         Answer::Refused(Refusal::Untidy) => match tidy(alloc, engine) {
-            Ok(()) => write_once(alloc, engine, changes, transaction),
+            Ok(()) => write_once(alloc, engine, changes, &asked.transaction),
             Err(refusal) => Answer::Refused(not_begun(refusal)),
         },
         answer => answer,
@@ -35,7 +35,6 @@ pub(crate) fn write_tidily<E: Writes>(
 }
 
 /// Writes a transaction to a log that is owed nothing.
-#[tactic(auto, using(crate::proofs::Doing::does_write, crate::proofs::Doing::does_refuse))]
 fn write_once<E: Writes>(
     alloc: Global,
     engine: &mut E,
