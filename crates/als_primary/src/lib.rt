@@ -8,7 +8,7 @@
 //!
 //! 1. The leader owns the engine alone. It answers a transaction once its group is forced and
 //!    published.
-//! 2. Each thread has a seat of its own and a reader of its own.
+//! 2. Each thread has a seat of its own. The threads share the eight readers of the view.
 //! 3. Who may commit is settled before the folder is touched: whoever brings the token, or, where
 //!    there is none, whoever reaches an address of the loopback.
 //! 4. However the leader ends, what was not begun is answered so, what is held is put on the devices,
@@ -35,6 +35,8 @@ mod guarding;
 mod announcing;
 // The upkeep, and a board of how the primary stands.
 mod watching;
+// The threads that answer.
+mod beginning;
 // All of the command.
 mod running;
 
