@@ -60,6 +60,7 @@ pub(crate) fn begin<
         patience: Duration::from_secs(serving.commit_timeout),
     };
     let services = common.services(askers, readers)?;
+    drop(common);
     let servers = Servers::start_any(rt, alloc, listener, services, config_with(BODY))?;
     Ok(Begun {
         board,

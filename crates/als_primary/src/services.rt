@@ -1,4 +1,5 @@
 ghost use Rattle.std.specs.Prelude.{◌≡◌, IfOk};
+ghost use Rattle.als_primary.specs.Guards.{token_of};
 
 use crate::chair::Chair;
 use als_asking::{Asking, Guard, Lent};
@@ -88,7 +89,7 @@ impl<R: Wait + Clock + Clone + Drop> Common<'_, R> {
 
 /// The same guard.
 fn copy_of(alloc: Global, guard: &Guard) -> Result<Guard, AllocError>
-    ensures { IfOk result (λ copy. copy ≡ guard.now) }
+    ensures { IfOk result (λ copy. token_of copy ≡ token_of guard.now) }
 {
     match guard {
         Guard::Loopback => Ok(Guard::Loopback),
