@@ -1,10 +1,13 @@
 -- What a body asks for, a byte or an item at a time.
-use Rattle.std.specs.Prelude.{◌≡◌, ℕ, Bool, true, false, List, [], ◌∷◌, ◌++◌, take, drop, length}
+use Rattle.std.specs.Prelude.{◌≡◌, ℕ, Bool, true, false, List, [], ◌∷◌, ◌++◌, take, drop, length, Result, Ok, Err, IfOk}
 use Rattle.std.proofs.Common.{refl, sym, subst, ap, ◌∙◌, append_assoc}
 use Rattle.std.proofs.lemmas.List.{take-append-drop, nil_from_length, append-nil}
 use Rattle.als_writer.specs.declared.transaction.Transaction.{Transaction}
 use Rattle.als_request.specs.Asking.{IsRead}
-use Rattle.als_asking.specs.Bodies.{is_blank, skipped, AreItems}
+use Rattle.als_asking.specs.Bodies.{is_blank, skipped, AreItems, AsksBehind, Asks}
+use Rattle.als_asking.specs.declared.unread.Unread.{Unread}
+use Rattle.als_asking.specs.declared.wanted.Wanted.{Wanted}
+use Rattle.als_asking.specs.declared.wanted.Wanted.TheVariants.{One, Each}
 
 pub skipped_step : (c : ℕ) (rest : List ℕ) → is_blank c ≡ true → skipped (c ∷ rest) ≡ skipped rest
 unfolding skipped
@@ -49,3 +52,13 @@ pub items_more : (items rest : List ℕ) (found new : List Transaction) (n : ℕ
     → new ≡ found ++ t ∷ [] → drop n rest ≡ 44 ∷ after → IsRead (take n rest) t → AreItems after more → AreItems items (new ++ more)
 items_more items rest found new n t after more so_far is comma read left =
     subst (AreItems items) (sym (ap (λ (l : List Transaction). l ++ more) is ∙ append_assoc found (t ∷ []) more)) (so_far (t ∷ more) (items_step rest n t after more comma read left))
+
+-- an array, by what stands behind its first bracket
+asks_array : (body rest : List ℕ) (asked : Wanted) → skipped body ≡ 91 ∷ rest → AsksBehind rest asked → Asks body asked
+unfolding Asks
+asks_array body rest (One t) is asks = absurd asks
+asks_array body rest (Each ts) is asks = (rest, is, asks)
+
+pub asks_ok : (body rest : List ℕ) (found : Result Wanted Unread) → skipped body ≡ 91 ∷ rest → IfOk found (AsksBehind rest) → IfOk found (λ w. Asks body w)
+asks_ok body rest (Ok asked) is asks = asks_array body rest asked is asks
+asks_ok body rest (Err why) is asks = tt

@@ -1,9 +1,8 @@
 -- What one transaction makes of a machine, and what several do.
-use Rattle.std.proofs.Common.{◌≡◌, ◌≤◌, ◌⊎◌, true, false, List, [], ◌∷◌, ◌++◌, flat_map, refl, sym, ap, subst, ◌∙◌, inl, inr, arith, append-nil, append_assoc}
+use Rattle.std.proofs.Common.{◌≡◌, true, false, List, [], ◌∷◌, ◌++◌, refl, sym, ap, subst, ◌∙◌, inl, inr, arith, append-nil, append_assoc}
 use Rattle.std.specs.List.{AllByRecursion}
 use Rattle.std.proofs.lemmas.List.{flat_map_more}
 use Rattle.als_record.specs.declared.record.Record.{Record}
-use Rattle.als_record.specs.LogText.{end_of}
 use Rattle.als_record.specs.Commits.{Commit, commits_of}
 use Rattle.als_record.proofs.PageLaws.{end_of-append}
 use Rattle.als_writing.specs.Writing.{updates}
@@ -13,14 +12,12 @@ use Rattle.als_writer.specs.declared.refusal.Refusal.TheVariants.{Invalid, State
 use Rattle.als_writer.specs.declared.transaction.Transaction.{Transaction}
 use Rattle.als_writer.specs.declared.written.Written.{Written}
 use Rattle.als_writer.specs.Committing.{Commits, NotWritten}
-use Rattle.als_writer.specs.Tidying.{Tidied, NotTidied}
 use Rattle.als_lead.specs.declared.answer.Answer.{Answer}
 use Rattle.als_lead.specs.declared.answer.Answer.TheVariants.{Committed, Refused, Unknown}
-use Rattle.als_lead.specs.declared.asked.Asked.{Asked}
 use Rattle.als_lead.specs.declared.told.Told.{Told}
 use Rattle.als_lead.specs.Going.{Grows, Tidies}
-use Rattle.als_lead.specs.Answers.{IsIn, WasRefused, commit_by, commits_in, commits_by, commits_told, asked_of}
-use Rattle.als_lead.specs.Groups.{IsHeld, IsHeldOf, IsNotBegun, Does, DoesAll, Fills}
+use Rattle.als_lead.specs.Answers.{IsIn, WasRefused, commit_by, commits_in, commits_by}
+use Rattle.als_lead.specs.Groups.{IsHeld, IsHeldOf, IsNotBegun, Does, DoesAll}
 use Rattle.als_lead.proofs.Going.{grows_refl, grows_trans, grows_keeps}
 
 -- ---- one transaction
@@ -86,12 +83,12 @@ does_again old mid tidied new t r answer first then last =
 held_not_begun : (m : Machine) (t : Transaction) (r : Refusal) → IsNotBegun r → IsHeld m t (Refused r)
 held_not_begun m t r n = elim n [
   | inl e ↦ inl (record {
-      before = m;
-      after = m;
-      refused = subst (λ (q : Refusal). NotWritten m t q m) (sym e) (refl, refl);
-      grown = grows_refl m;
-      goes_on = grows_refl m;
-    })
+    before = m;
+    after = m;
+    refused = subst (λ (q : Refusal). NotWritten m t q m) (sym e) (refl, refl);
+    grown = grows_refl m;
+    goes_on = grows_refl m;
+  })
   | inr ended ↦ inr ended
 ]
 

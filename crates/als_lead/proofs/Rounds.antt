@@ -1,6 +1,5 @@
 -- What a leader does, one group after another.
-use Rattle.std.proofs.Common.{◌≡◌, List, [], ◌∷◌, ◌++◌, map, Option, Some, option_to_list, Result, Ok, Err, IfOk, refl, sym, ap, subst, ◌∙◌, append-nil, append_assoc}
-use Rattle.std.specs.List.{AllByRecursion}
+use Rattle.std.proofs.Common.{◌≡◌, List, [], ◌∷◌, ◌++◌, Option, Some, option_to_list, Result, Ok, Err, IfOk, refl, sym, ap, subst, ◌∙◌, append-nil, append_assoc}
 use Rattle.std.proofs.lemmas.List.{map-append}
 use Rattle.std.proofs.lemmas.List.Concat.{flat_map-append}
 use Rattle.als_record.specs.declared.lsn.Lsn.{Lsn}
@@ -10,7 +9,7 @@ use Rattle.als_engine.specs.Machine.{Machine}
 use Rattle.als_lead.specs.declared.answer.Answer.{Answer}
 use Rattle.als_lead.specs.declared.asked.Asked.{Asked}
 use Rattle.als_lead.specs.declared.told.Told.{Told}
-use Rattle.als_lead.specs.Going.{Grows, Stays, Tidies}
+use Rattle.als_lead.specs.Going.{Stays, Tidies}
 use Rattle.als_lead.specs.Answers.{IsTrueOf, commits_by, commits_told, asked_of}
 use Rattle.als_lead.specs.Groups.{Does, DoesAll, Fills, IsStableTo, answer_after, all_after}
 use Rattle.als_lead.specs.Leading.{Leads}
@@ -65,7 +64,7 @@ pub leads_group : (alone : Type 0) (old filled tidied forced new : Machine) (res
 leads_group alone old filled tidied forced new result taken taken_mid taken_now told told_now queued f tidies stays stable shows takes tells =
     let joined : queued ≡ f.more = f.joined in
     let does : alone → DoesAll old f.more new = λ a. does_then old filled new f.more (f.does a)
-        (tidies_trans filled tidied new (tidies a) (tidies_trans tidied forced new (tidies_stays tidied forced (stays a)) (tidies_stays forced new (shows a)))) in
+    (tidies_trans filled tidied new (tidies a) (tidies_trans tidied forced new (tidies_stays tidied forced (stays a)) (tidies_stays forced new (shows a)))) in
     record {
       more = all_after result f.more;
       answered = tells ∙ ap (λ (q : List Told). told ++ all_after result q) joined;

@@ -1,17 +1,18 @@
 -- The answers of a group after its force are true, and stay so.
-use Rattle.std.proofs.Common.{◌≡◌, ◌≤◌, ◌⊎◌, Bool, true, false, List, [], ◌∷◌, ◌++◌, map, Result, Ok, Err, IfOk, refl, sym, ap, subst, ◌∙◌, inl, inr, arith, leb-true}
+use Rattle.std.proofs.Common.{◌≡◌, ◌≤◌, Bool, true, false, List, [], ◌∷◌, ◌++◌, Result, Ok, Err, IfOk, refl, ap, subst, ◌∙◌, inl, inr, arith, leb-true}
 use Rattle.std.specs.Prelude.{nat_le, if◌then◌else◌}
 use Rattle.std.specs.List.{AllByRecursion}
 use Rattle.als_record.specs.declared.lsn.Lsn.{Lsn}
 use Rattle.als_record.specs.declared.record.Record.{Record}
 use Rattle.als_record.specs.LogText.{end_of}
 use Rattle.als_record.specs.Commits.{Commit, commits_of}
+use Rattle.als_record.specs.Validity.{is_valid}
 use Rattle.als_record.proofs.PageLaws.{end_of-append}
+use Rattle.als_record.proofs.CommitSteps.{commits_of-front}
 use Rattle.als_store.specs.Stored.{acknowledged}
 use Rattle.als_engine.specs.declared.fault.Fault.{Fault}
-use Rattle.als_engine.specs.Machine.{Machine}
+use Rattle.als_engine.specs.Machine.{Machine, Keeps}
 use Rattle.als_writer.specs.declared.refusal.Refusal.{Refusal}
-use Rattle.als_writer.specs.declared.refusal.Refusal.TheVariants.{State}
 use Rattle.als_writer.specs.declared.transaction.Transaction.{Transaction}
 use Rattle.als_writer.specs.declared.written.Written.{Written}
 use Rattle.als_lead.specs.declared.answer.Answer.{Answer}
@@ -19,9 +20,9 @@ use Rattle.als_lead.specs.declared.answer.Answer.TheVariants.{Committed, Refused
 use Rattle.als_lead.specs.declared.asked.Asked.{Asked}
 use Rattle.als_lead.specs.declared.told.Told.{Told}
 use Rattle.als_lead.specs.Going.{Grows}
-use Rattle.als_lead.specs.Answers.{IsIn, IsCommitted, WasRefused, IsRefused, IsEnded, IsTrueAnswer, IsTrueOf, commit_by, commits_in, commits_by, commits_told, asked_of}
-use Rattle.als_lead.specs.Groups.{IsHeld, IsHeldOf, IsStableTo, answer_after, told_after, all_after}
-use Rattle.als_lead.proofs.Going.{grows_trans}
+use Rattle.als_lead.specs.Answers.{IsIn, IsCommitted, WasRefused, IsRefused, IsTrueAnswer, IsTrueOf, commit_by, commits_in, commits_by, commits_told, asked_of}
+use Rattle.als_lead.specs.Groups.{IsHeld, IsHeldOf, IsStableTo, answer_after, all_after}
+use Rattle.als_lead.proofs.Going.{grows_trans, grows_keeps}
 use Rattle.als_lead.proofs.Doing.{in_on}
 
 -- ---- after a force
@@ -101,3 +102,10 @@ true_on mid new cs g e t (Refused r) h = elim h [
 pub all_true_on : (mid new : Machine) (cs : List Commit) → Grows mid new → commits_of new.held.log ≡ commits_of mid.held.log ++ cs → (told : List Told) → AllByRecursion (IsTrueOf mid) told → AllByRecursion (IsTrueOf new) told
 all_true_on mid new cs g e [] h = tt
 all_true_on mid new cs g e (x ∷ xs) h = (true_on mid new cs g e x.asked.transaction x.answer h.0, all_true_on mid new cs g e xs h.1)
+
+-- each event keeps a true answer true
+pub true_kept : (old new : Machine) (told : Told) → Keeps old new → is_valid new.held.log ≡ true → IsTrueOf old told → IsTrueOf new told
+true_kept old new told keeps valid is =
+    let on : is_valid (old.held.log ++ keeps.more) ≡ true = subst (λ (l : List Record). is_valid l ≡ true) keeps.log valid in
+    let front = commits_of-front old.held.log keeps.more on in
+    true_on old new front.0 (grows_keeps old new keeps) (ap (λ (l : List Record). commits_of l) keeps.log ∙ front.1) told.asked.transaction told.answer is

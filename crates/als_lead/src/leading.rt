@@ -34,7 +34,15 @@ pub fn lead<E: Writes, C: Clients, U: Upkeep>(
     let mut changes = first_changes(alloc, engine)?;
     let mut queue = VecDeque::with_capacity(alloc, limits.transactions.max(1))?;
     for _ in 0..u64::MAX {
-        let goes_on = round(alloc, engine, &mut changes, clients, upkeep, &mut queue, limits)?;
+        let goes_on = round(
+            alloc,
+            engine,
+            &mut changes,
+            clients,
+            upkeep,
+            &mut queue,
+            limits,
+        )?;
         if !goes_on {
             return Ok(());
         }

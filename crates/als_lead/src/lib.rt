@@ -37,10 +37,12 @@ mod telling;
 // All of a group.
 mod serving;
 // What is done between groups.
-mod upkeep;
 mod keeping_up;
+mod upkeep;
 // Groups, one after another.
 mod leading;
+// Laws of the answers.
+mod laws;
 // The devices of a primary's folder, and the engine over them.
 mod devices;
 // The folder of a primary.
@@ -51,6 +53,7 @@ pub use answer::Answer;
 pub use asked::Asked;
 pub use clients::{Clients, Waited};
 pub use keeping_up::PrimaryUpkeep;
+pub use laws::a_true_answer_stays_true;
 pub use leading::lead;
 pub use limits::Limits;
 pub use opening::{Database, Primary, open};

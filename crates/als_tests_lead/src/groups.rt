@@ -41,12 +41,7 @@ fn value(byte: u8) -> KeptImage {
 }
 
 /// What a seat asks of the key 0/0: that it has an image, and that it gets one.
-fn asked(
-    alloc: Global,
-    seat: u64,
-    is: Option<KeptImage>,
-    to: Option<KeptImage>,
-) -> Option<Asked> {
+fn asked(alloc: Global, seat: u64, is: Option<KeptImage>, to: Option<KeptImage>) -> Option<Asked> {
     let key = Key { page: 0, slot: 0 };
     let mut asks = Vec::new(alloc);
     let mut sets = Vec::new(alloc);
@@ -65,10 +60,13 @@ fn asked(
 fn desk(alloc: Global) -> Option<Desk> {
     let mut asks = VecDeque::new(alloc);
     let absent = KeptImage::absent();
-    asks.push_back(asked(alloc, 7, None, Some(value(0xaa)))?).ok()?;
-    asks.push_back(asked(alloc, 3, Some(absent), Some(value(0xcc)))?).ok()?;
+    asks.push_back(asked(alloc, 7, None, Some(value(0xaa)))?)
+        .ok()?;
+    asks.push_back(asked(alloc, 3, Some(absent), Some(value(0xcc)))?)
+        .ok()?;
     asks.push_back(asked(alloc, 9, None, None)?).ok()?;
-    asks.push_back(asked(alloc, 5, Some(value(0xaa)), Some(value(0xbb)))?).ok()?;
+    asks.push_back(asked(alloc, 5, Some(value(0xaa)), Some(value(0xbb)))?)
+        .ok()?;
     Some(Desk {
         asks,
         seen: Vec::new(alloc),

@@ -1,6 +1,4 @@
-use Rattle.std.proofs.Common.{◌≡◌, List, Option, Some, [], ◌∷◌, ◌++◌, option_to_list, refl, sym, ap, ◌∙◌}
-use Rattle.als_engine.specs.Machine.{Machine}
-use Rattle.als_lead.specs.declared.asked.Asked.{Asked}
+use Rattle.std.proofs.Common.{refl, ◌∙◌}
 use Rattle.als_lead.specs.declared.told.Told.{Told}
 use Rattle.als_lead.proofs.Rounds.{fills_none, fills_more, one_taken}
 use Rattle.als_lead.proofs.filling.fill.Goals as goal

@@ -1,5 +1,4 @@
 use Rattle.std.proofs.Common.{refl, ◌∙◌}
-use Rattle.als_engine.specs.Machine.{Machine}
 use Rattle.als_lead.proofs.Rounds.{leads_none, leads_both}
 use Rattle.als_lead.proofs.leading.lead.Goals as goal
 

@@ -1,4 +1,4 @@
-use Rattle.std.proofs.Common.{List, [], ◌++◌, ap, subst, ◌∙◌}
+use Rattle.std.proofs.Common.{List, ◌++◌, ap, subst, ◌∙◌}
 use Rattle.als_engine.specs.Machine.{Machine}
 use Rattle.als_lead.specs.declared.told.Told.{Told}
 use Rattle.als_lead.specs.Groups.{Fills, all_after}
