@@ -1,5 +1,5 @@
 -- What a body asks for, a byte or an item at a time.
-use Rattle.std.specs.Prelude.{◌≡◌, ℕ, Bool, true, false, List, [], ◌∷◌, ◌++◌, take, drop, length, Result, Ok, Err, IfOk}
+use Rattle.std.specs.Prelude.{◌≡◌, ℕ, true, false, List, [], ◌∷◌, ◌++◌, take, drop, length, Result, Ok, Err, IfOk}
 use Rattle.std.proofs.Common.{refl, sym, subst, ap, ◌∙◌, append_assoc}
 use Rattle.std.proofs.lemmas.List.{take-append-drop, nil_from_length, append-nil}
 use Rattle.als_writer.specs.declared.transaction.Transaction.{Transaction}

@@ -1,6 +1,6 @@
 -- Two texts of one length, compared from the front.
-use Rattle.std.specs.Prelude.{◌≡◌, ℕ, ◌+◌, ◌<◌, ◌&&◌, Bool, true, false, nat_eq, List, [], ◌∷◌, length, drop, bytes_eq, slice_index}
-use Rattle.std.proofs.Common.{refl, sym, ap, ap₂, ◌∙◌}
+use Rattle.std.specs.Prelude.{◌≡◌, ℕ, ◌+◌, ◌<◌, ◌&&◌, Bool, true, false, nat_eq, List, length, drop, bytes_eq, slice_index}
+use Rattle.std.proofs.Common.{refl, ap₂}
 use Rattle.std.proofs.lemmas.List.{drop_more}
 
 pub same_step : (same : Bool) (xs ys : List ℕ) (i : ℕ) → i < length xs → i < length ys

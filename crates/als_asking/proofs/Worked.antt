@@ -1,12 +1,10 @@
 -- Rows by hand: who may commit, what closes an array, and what an outcome is answered.
-use Rattle.std.specs.Prelude.{◌≡◌, ℕ, Bool, true, false, List, [], ◌∷◌, codes, Option, Some, None}
+use Rattle.std.specs.Prelude.{◌≡◌, true, false, [], ◌∷◌, codes, Some, None}
 use Rattle.std.proofs.Common.{refl}
-use Rattle.als_record.specs.declared.key.Key.{Key}
-use Rattle.als_writer.specs.declared.written.Written.{Written}
-use Rattle.als_writer.specs.declared.refusal.Refusal.TheVariants.{Held, NotAsAsked, LogFull, Untidy}
+use Rattle.als_writer.specs.declared.refusal.Refusal.TheVariants.{LogFull}
 use Rattle.als_asking.specs.Bodies.{skipped, closes}
 use Rattle.als_asking.specs.Entering.{bearer, denied_by, entered}
-use Rattle.als_asking.specs.Telling.{status_of_outcome, status_of, status_unwritten, retry_field}
+use Rattle.als_asking.specs.Telling.{status_of_outcome, status_of, status_unwritten}
 use Rattle.als_asking.specs.Taking.{first_of, padded}
 use Rattle.als_asking.specs.declared.denied.Denied.TheVariants.{Method, Page, NoToken, OtherToken}
 use Rattle.als_asking.specs.declared.entry.Entry.TheVariants as entry

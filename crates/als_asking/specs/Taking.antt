@@ -7,7 +7,7 @@ use Rattle.als_asking.specs.declared.wanted.Wanted.TheVariants as wanted
 use Rattle.als_asking.specs.declared.outcome.Outcome.{Outcome}
 use Rattle.als_asking.specs.declared.outcome.Outcome.TheVariants.{Lost}
 use Rattle.als_asking.specs.declared.told.Told.{Told}
-use Rattle.als_asking.specs.declared.told.Told.TheVariants.{One, Each, Unread, Denied}
+use Rattle.als_asking.specs.declared.told.Told.TheVariants.{One, Each, Unread}
 
 -- the first outcome; without one it is lost
 abbrev pub first_of : List Outcome → Outcome

@@ -12,9 +12,9 @@ returns-in-Ok g c =
       outcomes = c.commit-outcomes.result.items;
       committed = c.commit-outcomes.ensures;
       tells = padded_is c.len-count.result (length c.args.transactions.items) (vec_len c.commit-outcomes.result) c.commit-outcomes.result.items c.resize.new.self.items
-        c.in-Ok.ensures.items len count;
+          c.in-Ok.ensures.items len count;
     })
 
 pub returns-in-Err : goal.returns-in-Err
 unfolding Tells
-returns-in-Err g c = inl (record { outcomes = c.commit-outcomes.result.items; committed = c.commit-outcomes.ensures; tells = refl; })
+returns-in-Err g c = inl (record { outcomes = c.commit-outcomes.result.items; committed = c.commit-outcomes.ensures; tells = refl })

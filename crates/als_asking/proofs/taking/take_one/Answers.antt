@@ -7,7 +7,7 @@ pub returns-in-Ok : goal.returns-in-Ok
 unfolding Tells
 returns-in-Ok g c =
     let asked : c.push.new.self.items ≡ c.args.transaction ∷ [] =
-      c.in-Ok.ensures.items ∙ ap (λ (l : List Transaction). l ++ (c.args.transaction ∷ [])) c.new-asked.ensures.items in
+    c.in-Ok.ensures.items ∙ ap (λ (l : List Transaction). l ++ (c.args.transaction ∷ [])) c.new-asked.ensures.items in
     inl (record {
       outcomes = c.commit.result.items;
       committed = subst (λ (l : List Transaction). g.C.Commits.commits c.args.commits.now l c.commit.result.items c.commit.new.self) asked c.commit.ensures;
