@@ -56,6 +56,17 @@ pub enum Command<'a> {
         skip_bad: bool,
         explain: bool,
     },
+    /// A folder's primary, which commits and answers reads over HTTP.
+    Primary {
+        dir: &'a str,
+        serve: &'a str,
+        pages: Option<u64>,
+        log_blocks: u64,
+        token_file: Option<&'a str>,
+        connections: u64,
+        commit_timeout: u64,
+        explain: bool,
+    },
     /// The pages of a folder's node anew from its log.
     RebuildPages {
         dir: &'a str,

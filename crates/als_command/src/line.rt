@@ -15,7 +15,7 @@ pub(crate) struct Line {
 }
 
 /// The command lines that the program knows, in the order of its help.
-pub(crate) const LINES: [Line; 12] = [
+pub(crate) const LINES: [Line; 13] = [
     Line {
         name: "make",
         about: texts::MAKE_ABOUT,
@@ -156,6 +156,50 @@ pub(crate) const LINES: [Line; 12] = [
             Word::Flag {
                 name: "skip-bad",
                 help: "Pass over a line that is no transaction",
+            },
+            EXPLAIN,
+        ],
+        choice: &[],
+    },
+    Line {
+        name: "primary",
+        about: texts::PRIMARY_ABOUT,
+        help: texts::PRIMARY_HELP,
+        words: &[
+            DIR,
+            Word::Text {
+                name: "serve",
+                value: "ADDR",
+                help: "Answer over HTTP there: a port of the loopback, or HOST:PORT",
+            },
+            Word::Long {
+                name: "pages",
+                value: "N",
+                help: "Pages of a new database, 1 to 4096",
+                is_wanted: false,
+            },
+            Word::Long {
+                name: "log-blocks",
+                value: "B",
+                help: "Blocks of the log of a new database [default: 2048]",
+                is_wanted: false,
+            },
+            Word::Free {
+                name: "token-file",
+                value: "FILE",
+                help: "Who brings the token in FILE may commit, and nobody else",
+            },
+            Word::Long {
+                name: "connections",
+                value: "C",
+                help: "Connections that are served at a time, 1 to 64 [default: 64]",
+                is_wanted: false,
+            },
+            Word::Long {
+                name: "commit-timeout",
+                value: "SECONDS",
+                help: "How long a transaction may wait to begin, 1 to 3600 [default: 10]",
+                is_wanted: false,
             },
             EXPLAIN,
         ],

@@ -21,6 +21,12 @@ const TIMEOUT: u64 = 60;
 /// The log blocks of a new database, where the command line does not say.
 const LOG_BLOCKS: u64 = 2_048;
 
+/// The connections that a primary serves at a time, where the command line does not say.
+const CONNECTIONS: u64 = 64;
+
+/// The seconds that a transaction may wait to begin, where the command line does not say.
+const COMMIT_TIMEOUT: u64 = 10;
+
 /// What is said of words of which one is of a file, and the other of a folder.
 const PARTED: &str =
     "the argument '--follow' cannot be used with '--dir <DIR>': a node's log does not grow while it is shipped; --keep can";
@@ -94,6 +100,7 @@ fn asked<'a>(name: &str, matches: &ArgMatches<'a>) -> Option<Command<'a>> {
         "standby" => standby(matches),
         "takeover" => takeover(matches),
         "commit" => commit(matches),
+        "primary" => primary(matches),
         "resolve" => resolve(matches),
         "rebuild-pages" => rebuild_pages(matches),
         "dump" => dump(matches),
@@ -160,6 +167,19 @@ fn commit<'a>(matches: &ArgMatches<'a>) -> Option<Command<'a>> {
         log_blocks: matches.get_one("log-blocks").unwrap_or(LOG_BLOCKS),
         batch: matches.get_one("batch").unwrap_or(1),
         skip_bad: matches.get_flag("skip-bad"),
+        explain: matches.get_flag("explain"),
+    })
+}
+
+fn primary<'a>(matches: &ArgMatches<'a>) -> Option<Command<'a>> {
+    Some(Command::Primary {
+        dir: matches.get_str("dir")?,
+        serve: matches.get_str("serve")?,
+        pages: matches.get_one("pages"),
+        log_blocks: matches.get_one("log-blocks").unwrap_or(LOG_BLOCKS),
+        token_file: matches.get_str("token-file"),
+        connections: matches.get_one("connections").unwrap_or(CONNECTIONS),
+        commit_timeout: matches.get_one("commit-timeout").unwrap_or(COMMIT_TIMEOUT),
         explain: matches.get_flag("explain"),
     })
 }

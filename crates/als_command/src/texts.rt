@@ -222,6 +222,48 @@ Exit statuses: 0 done, 2 a fault of the command line or a line that is no transa
   44  standard input or output failed
   46  DIR is the folder of a standby: take it over first";
 
+pub const PRIMARY_ABOUT: &str = "Serves a primary: commits and reads over HTTP";
+
+pub const PRIMARY_HELP: &str =
+    "Needs DIR, a folder that is there, for itself alone: an empty one (then give --pages: a new
+database of N pages with a log of B blocks of 512 bytes is laid out), one that `als primary` or
+`als commit` wrote before, or one that `als takeover` made a primary.
+Redoes what was not redone, undoes what a crash left in mid-transaction, and answers over HTTP:
+  POST /commit            a transaction, or an array of up to 64, each on its own:
+    {\"if\":[{\"key\":[P,S],\"is\":\"ab\"},{\"key\":[P,S],\"unchanged_since\":L}],
+     \"set\":[{\"key\":[P,S],\"to\":\"cd\"},{\"key\":[P,S],\"to\":null}]}
+    A key is page P, slot S (0 to 14); a value is up to 31 bytes in hexadecimal, null is none.
+    All comparisons hold and all is set, or nothing is; `if` may be left out.
+    200 {\"trans\":T,\"lsn\":L}: it is durable. 409: a comparison does not hold, or another
+    transaction holds a key. 400, 413: no transaction. 503: nothing was written, ask again.
+    504: it may be written or not. 507: the log has no room.
+  GET /keys/P/S, /status, /metrics and /health, as `als standby --serve` does.
+It writes what waits as a group, forces the log once, and then answers all of the group. It ends
+only where a file fails; a kill at any time loses nothing that was answered 200: run it again.
+Standard error says `primary of DIR serves at ADDR: epoch E, LSN L` once it serves, and once an
+hour where the log has used nine tenths of its device.
+Without --token-file ADDR has to be of the loopback. FILE has mode 0600 and at least 16 bytes;
+a request to commit brings them, without a last line end, as `Authorization: Bearer TOKEN` (401
+without, 403 with others). Nothing is encrypted. A transaction that is not begun after SECONDS is
+not written (503).
+`als ship --dir DIR` serves the log while it does not run.
+
+Example:
+  mkdir a
+  als primary --dir a --pages 64 --serve 127.0.0.1:7071 &
+  curl -s -X POST localhost:7071/commit -d '{\"set\":[{\"key\":[1,3],\"to\":\"ab\"}]}'
+
+Exit statuses: 2 a fault of the command line, of FILE or of ADDR without it, 3
+`als: refused N Name`:
+  21  a takeover of DIR is not at its end: `als takeover` goes on with it
+  30  DIR or a file of it failed, or another program has DIR; or control.blk is missing,
+      but log.blk or pages.blk has data: nothing was touched
+  33, 34, 1 to 16 a file of it is damaged
+  37  N is missing for a new database or not 1 to 4,096, B not 1 to 4,194,304, C not 1 to 64, or
+      SECONDS not 1 to 3,600; no file was touched
+  44  ADDR can't be listened at
+  46  DIR is the folder of a standby: take it over first";
+
 pub const RESOLVE_ABOUT: &str = "Decides a transaction in doubt after a takeover";
 
 pub const RESOLVE_HELP: &str =

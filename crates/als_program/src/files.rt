@@ -113,8 +113,11 @@ fn attempt<
     E: Write,
 >(rt: &R, seen: bool, command: Command, output: &mut O, errors: &mut E) -> Result<(), Refusal> {
     match command {
-        // These read standard input.
-        Command::Make { .. } | Command::Sim { .. } | Command::Commit { .. } => Ok(()),
+        // These are done elsewhere: they read standard input, or have faults of their own.
+        Command::Make { .. }
+        | Command::Sim { .. }
+        | Command::Commit { .. }
+        | Command::Primary { .. } => Ok(()),
         Command::Ship { .. } | Command::ShipNode { .. } => {
             serve_log(rt, seen, command, output, errors)
         }
@@ -452,6 +455,7 @@ fn told_of(command: Command<'_>, seen: bool) -> Option<&str> {
         Command::Standby { dir, explain, .. } => (dir, explain),
         Command::Takeover { dir, explain } => (dir, explain),
         Command::Commit { dir, explain, .. } => (dir, explain),
+        Command::Primary { dir, explain, .. } => (dir, explain),
         Command::RebuildPages { dir, explain } => (dir, explain),
         Command::Resolve { dir, explain, .. } => (dir, explain),
         Command::Dump { path, explain, .. } => (path, explain),

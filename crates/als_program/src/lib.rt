@@ -29,6 +29,10 @@ mod input;
 mod lines;
 // `als commit`.
 mod committing;
+// What a primary says.
+mod serving_lines;
+// `als primary`.
+mod serving;
 // The commands on files.
 mod files;
 // What the command line asks for is done.

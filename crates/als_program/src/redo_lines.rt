@@ -44,6 +44,11 @@ impl<W: Write> RedoLines<W> {
             tells_outages: seen || asked,
         }
     }
+
+    /// Where they are written.
+    pub fn errors(&mut self) -> &mut W {
+        &mut self.errors
+    }
 }
 
 impl Pace {

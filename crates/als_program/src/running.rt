@@ -6,9 +6,11 @@ use crate::failure::Failure;
 use crate::files::operate;
 use crate::lines::{Telling, make_lines, run_script};
 use crate::remarks::Language;
+use crate::serving::serve_primary;
 use crate::terminals::Terminals;
 use als_command::{Command, NoCommand, args};
 use als_commit::Committing;
+use als_primary::Serving;
 use std::convert::AsStr;
 use std::fs::File;
 use std::io::{BufWriter, Read, Write};
@@ -177,6 +179,27 @@ fn obey<
                 skip_bad,
             };
             commit_lines(rt, terminals, command, committing, input, output, errors)
+        }
+        Command::Primary {
+            dir,
+            serve,
+            pages,
+            log_blocks,
+            token_file,
+            connections,
+            commit_timeout,
+            explain: _,
+        } => {
+            let serving = Serving {
+                dir,
+                serve,
+                pages,
+                log_blocks,
+                token_file,
+                connections,
+                commit_timeout,
+            };
+            serve_primary(rt, terminals, command, serving, output, errors)
         }
         command => operate(rt, terminals, command, output, errors),
     }

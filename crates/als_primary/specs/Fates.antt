@@ -1,0 +1,15 @@
+-- What becomes of a transaction, as it is answered over HTTP.
+use Rattle.als_seats.specs.declared.outcome.Outcome.{Outcome}
+use Rattle.als_seats.specs.declared.outcome.Outcome.TheVariants as outcome
+use Rattle.als_lead.specs.declared.answer.Answer.{Answer}
+use Rattle.als_lead.specs.declared.answer.Answer.TheVariants as answer
+use Rattle.als_asking.specs.declared.outcome.Outcome.{Outcome as Fate}
+use Rattle.als_asking.specs.declared.outcome.Outcome.TheVariants as fate
+
+-- what the leader told; or that nothing began, or that nothing is known
+abbrev pub fate_of : Outcome Answer → Fate
+fate_of (outcome.Answered (answer.Committed written)) = fate.Committed written
+fate_of (outcome.Answered (answer.Refused refusal)) = fate.Refused refusal
+fate_of (outcome.Answered (answer.Unknown written)) = fate.Unknown written
+fate_of outcome.NotBegun = fate.NotBegun
+fate_of outcome.Lost = fate.Lost

@@ -1,0 +1,14 @@
+/// Why the file of a token is refused.
+#[derive(Clone, Copy, Debug, PartialEq, Eq)]
+pub enum BadToken {
+    /// It can't be opened or read.
+    Unreadable,
+    /// Others than its owner may read or write it.
+    Shared,
+    /// It has fewer than 16 bytes.
+    Short,
+    /// It has more than 4,096 bytes.
+    Long,
+    /// There is no memory for it.
+    Memory,
+}

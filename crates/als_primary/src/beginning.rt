@@ -1,0 +1,105 @@
+ghost use Rattle.std.specs.Prelude.{◌≤◌};
+
+use crate::services::Common;
+use crate::serving::Serving;
+use als_asking::Guard;
+use als_engine::{Events, Reader};
+use als_folder::Folder;
+use als_http::{Board, Hosts, Servers, State, config_with};
+use als_lead::Answer;
+use als_operate::Fault;
+use als_seats::{Leader, seats};
+use als_writer::Transaction;
+use std::alloc::{AllocError, Global};
+use std::fs::File;
+use std::net::TcpListener;
+use std::random::RandomSource;
+use std::rt::Files;
+use std::sync::{Arc, Wait};
+use std::thread::Threads;
+use std::time::{Clock, Duration};
+
+/// The connections that are served at a time, at most.
+pub(crate) const CONNECTIONS: u64 = 64;
+
+/// The bytes of a request's body, at most.
+const BODY: usize = 262_144;
+
+/// The bytes of a block.
+const BLOCK: u64 = 512;
+
+/// The threads that answer, and what ties them to the leader.
+pub(crate) struct Begun {
+    pub board: Arc<Board, Global>,
+    pub leader: Leader<Transaction, Answer>,
+    pub servers: Servers,
+}
+
+/// Starts the threads that answer, each in a seat of its own.
+pub(crate) fn begin<
+    R: AllocGlobal + Threads + Wait + Clock + RandomSource + Clone + Send + Drop + 'static,
+    E: Events,
+>(
+    rt: &R,
+    engine: &E,
+    capacity: Option<u64>,
+    readers: Vec<Reader>,
+    listener: &TcpListener,
+    guard: Guard,
+    serving: Serving<'_>,
+) -> Result<Begun, Fault> {
+    let alloc = rt.alloc();
+    let board = board_of(alloc, engine, capacity)?;
+    let (leader, askers) = seats(alloc, seats_of(serving.connections))?;
+    let common = Common {
+        rt,
+        alloc,
+        board: &board,
+        guard: &guard,
+        hosts: Hosts::at(listener),
+        patience: Duration::from_secs(serving.commit_timeout),
+    };
+    let services = common.services(askers, readers)?;
+    drop(common);
+    let servers = Servers::start_any(rt, alloc, listener, services, config_with(BODY))?;
+    Ok(Begun {
+        board,
+        leader,
+        servers,
+    })
+}
+
+/// The seats for so many connections of one peer. One more is that of a thread which is kept for others,
+/// and one that of the thread that waits for nobody.
+fn seats_of(connections: u64) -> u32
+    ensures { result ≤ 66 }
+{
+    connections.min(CONNECTIONS) as u32 + 2
+}
+
+/// A board of an engine that is a primary's.
+fn board_of<E: Events>(
+    alloc: Global,
+    engine: &E,
+    capacity: Option<u64>,
+) -> Result<Arc<Board, Global>, AllocError> {
+    let board = Arc::new(alloc, Board::new())?;
+    let status = engine.status();
+    board.set_log(status.end, status.acknowledged);
+    board.set_epoch(u64::from(engine.history().epoch()));
+    if let Some(bytes) = capacity {
+        board.set_capacity(bytes);
+    }
+    board.set_state(State::Committing);
+    Ok(board)
+}
+
+/// Bytes that the log of a folder takes at most. None: its files can't be read.
+pub(crate) fn capacity_of<R: AllocGlobal + Files<File = File>>(
+    rt: &R,
+    folder: &Folder,
+) -> Option<u64> {
+    let files = folder.open_to_read(rt).ok()?;
+    let sizes = files.sizes().ok()?;
+    Some(sizes.log.saturating_mul(BLOCK))
+}

@@ -1,0 +1,86 @@
+ghost use Rattle.std.specs.Prelude.{◌≡◌};
+ghost use Rattle.als_primary.specs.Fates.{fate_of};
+
+use als_asking::{Commits, Outcome as Fate};
+use als_lead::Answer;
+use als_seats::{Asker, Outcome};
+use als_writer::Transaction;
+use std::alloc::Global;
+use std::sync::Wait;
+use std::time::{Clock, Duration};
+
+/// A thread's way to the leader.
+pub(crate) struct Chair<R> {
+    rt: R,
+    alloc: Global,
+    asker: Asker<Transaction, Answer>,
+    /// How long a transaction may wait to begin.
+    patience: Duration,
+}
+
+impl<R: Drop> Drop for Chair<R> {
+    fn drop(self) {
+        let Chair {
+            rt,
+            alloc: _,
+            asker,
+            patience: _,
+        } = self;
+        drop(rt);
+        drop(asker);
+    }
+}
+
+impl<R: Wait + Clock> Chair<R> {
+    /// A way by a seat of its own.
+    pub fn new(
+        rt: R,
+        alloc: Global,
+        asker: Asker<Transaction, Answer>,
+        patience: Duration,
+    ) -> Chair<R> {
+        Chair {
+            rt,
+            alloc,
+            asker,
+            patience,
+        }
+    }
+}
+
+impl<R: Wait + Clock> Commits for Chair<R> {
+    ghost use Rattle.std.specs.Prelude.{◌≤◌, length};
+
+    // None has two outcomes.
+    ghost commits = { λ old asked outcomes new. length outcomes ≤ length asked };
+
+    fn commit(&mut self, asked: Vec<Transaction>) -> Vec<Fate> {
+        let count = asked.len();
+        // Before anything is asked: there has to be room for what becomes of it.
+        let Ok(mut fates) = Vec::with_capacity(self.alloc, count) else {
+            return Vec::new(self.alloc);
+        };
+        let Ok(outcomes) = self.asker.ask(&self.rt, self.alloc, asked, self.patience) else {
+            return fates;
+        };
+        for outcome in outcomes {
+            if fates.len() >= count || fates.push(fate_of(outcome)).is_err() {
+                break;
+            }
+        }
+        fates
+    }
+}
+
+/// What becomes of a transaction, as it is answered over HTTP.
+fn fate_of(outcome: Outcome<Answer>) -> Fate
+    ensures { result ≡ fate_of outcome }
+{
+    match outcome {
+        Outcome::Answered(Answer::Committed(written)) => Fate::Committed(written),
+        Outcome::Answered(Answer::Refused(refusal)) => Fate::Refused(refusal),
+        Outcome::Answered(Answer::Unknown(written)) => Fate::Unknown(written),
+        Outcome::NotBegun => Fate::NotBegun,
+        Outcome::Lost => Fate::Lost,
+    }
+}

@@ -1,0 +1,118 @@
+ghost use Rattle.std.specs.Prelude.{◌≡◌, []};
+ghost use Rattle.als_lead.specs.Account.{taken_of, told_of};
+ghost use Rattle.als_seats.specs.Places.{number_of};
+
+use als_lead::{Account, Answer, Asked, Clients, Waited};
+use als_operate::Fault;
+use als_seats::{Ask, Leader, Place, Waited as Met};
+use als_writer::Transaction;
+use std::sync::Wait;
+use std::time::{Clock, Duration};
+
+/// Nobody asked for a while: after so many milliseconds.
+const IDLE: u64 = 100;
+
+/// Those who ask, as the leader meets them: each sits in a seat of his own.
+pub(crate) struct Desk<'a, R> {
+    rt: &'a R,
+    leader: Leader<Transaction, Answer>,
+    account: Account,
+}
+
+impl<R> Drop for Desk<'_, R> {
+    fn drop(self) {
+        let Desk {
+            rt: _,
+            leader,
+            account,
+        } = self;
+        drop(leader);
+        drop(account);
+    }
+}
+
+impl<'a, R: Wait + Clock> Desk<'a, R> {
+    /// Nobody was answered yet.
+    pub fn new(rt: &'a R, leader: Leader<Transaction, Answer>) -> Desk<'a, R>
+        ensures taken { taken_of result.account ≡ [] }
+        ensures told { told_of result.account ≡ [] }
+    {
+        Desk {
+            rt,
+            leader,
+            account: Account::Nothing,
+        }
+    }
+
+    /// Nobody is served any more. What waits was not begun, and what was begun and has no answer is
+    /// lost.
+    pub fn end(self) {
+        let Desk {
+            rt,
+            leader,
+            account,
+        } = self;
+        leader.end(rt);
+        drop(account);
+    }
+}
+
+impl<R: Wait + Clock> Clients for Desk<'_, R> {
+    ghost use Rattle.als_lead.specs.Account.{taken_of, told_of};
+
+    ghost taken = { λ desk. taken_of desk.account };
+
+    ghost told = { λ desk. told_of desk.account };
+
+    fn wait(&mut self) -> Result<Waited, Fault> {
+        let waited = match self.leader.wait(self.rt, Duration::from_millis(IDLE)) {
+            Met::Asks => Waited::Asks,
+            Met::Idle => Waited::Idle,
+            Met::Closed => Waited::Closed,
+        };
+        Ok(waited)
+    }
+
+    fn next(&mut self) -> Result<Option<Asked>, Fault> {
+        match self.leader.next(self.rt) {
+            Some(ask) => {
+                let asked = asked_of(ask);
+                self.account.take(&asked);
+                Ok(Some(asked))
+            }
+            None => Ok(None),
+        }
+    }
+
+    fn tell(&mut self, asked: Asked, answer: Answer) -> Result<(), Fault> {
+        self.account.tell(&asked, again(&answer));
+        // Each transaction that was taken came from a place.
+        if let Some(place) = Place::of(asked.seat) {
+            self.leader.tell(self.rt, place, answer);
+        }
+        Ok(())
+    }
+
+    // Whoever is answered is awake.
+    fn end_group(&mut self) -> Result<(), Fault> {
+        Ok(())
+    }
+}
+
+/// A question as the leader takes it: its seat is the number of its place.
+fn asked_of(ask: Ask<Transaction>) -> Asked
+    ensures seat { result.seat ≡ number_of ask.place }
+    ensures transaction { result.transaction ≡ ask.question }
+{
+    Asked {
+        seat: ask.place.number(),
+        transaction: ask.question,
+    }
+}
+
+/// The same answer.
+fn again(answer: &Answer) -> Answer
+    ensures { result ≡ answer.now }
+{
+    *answer
+}

@@ -1,0 +1,47 @@
+//! The server of a primary: its clients are the threads that answer over HTTP, and one thread leads.
+//!
+//! ```text
+//! HTTP threads --Transaction--> seats --> leader: write, force once, publish, answer all of a group
+//!              <----Answer----- seats <--/        then upkeep: redo, flush, checkpoint
+//!              --reader--> view of what is published
+//! ```
+//!
+//! 1. The leader owns the engine alone. It answers a transaction once its group is forced and
+//!    published.
+//! 2. Each thread has a seat of its own. The threads share the eight readers of the view.
+//! 3. Who may commit is settled before the folder is touched: whoever brings the token, or, where
+//!    there is none, whoever reaches an address of the loopback.
+//! 4. However the leader ends, what was not begun is answered so, what is held is put on the devices,
+//!    and each thread is joined.
+#![tactic(auto)]
+
+// What is asked for.
+mod serving;
+// Why it is not done.
+mod refusal;
+// Those who ask, as the leader meets them.
+mod desk;
+// A thread's way to the leader.
+mod chair;
+// What each thread answers by.
+mod services;
+// The token of those who may commit.
+mod token;
+// Why its file is refused.
+mod bad_token;
+// Who may commit.
+mod guarding;
+// What is said to who runs it.
+mod announcing;
+// The upkeep, and a board of how the primary stands.
+mod watching;
+// The threads that answer.
+mod beginning;
+// All of the command.
+mod running;
+
+pub use announcing::Announces;
+pub use bad_token::BadToken;
+pub use refusal::Refusal;
+pub use running::primary;
+pub use serving::Serving;

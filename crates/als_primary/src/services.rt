@@ -1,0 +1,98 @@
+ghost use Rattle.std.specs.Prelude.{◌≡◌, IfOk};
+ghost use Rattle.als_primary.specs.Guards.{token_of};
+
+use crate::chair::Chair;
+use als_asking::{Asking, Guard, Lent};
+use als_engine::Reader;
+use als_http::{Answering, Board, Hosts, Watch};
+use als_lead::Answer;
+use als_seats::Asker;
+use als_writer::Transaction;
+use std::alloc::{AllocError, Global};
+use std::sync::{Arc, Mutex, Wait};
+use std::time::{Clock, Duration};
+
+/// What answers reads. Threads share it.
+type Reads<R> = Answering<Watch<R>>;
+
+/// What a thread answers by.
+pub(crate) type Service<R> = Asking<Chair<R>, Lent<Reads<R>, R>>;
+
+/// What the services of all threads have in common.
+pub(crate) struct Common<'a, R> {
+    pub rt: &'a R,
+    pub alloc: Global,
+    pub board: &'a Arc<Board, Global>,
+    pub guard: &'a Guard,
+    pub hosts: Hosts,
+    /// How long a transaction may wait to begin.
+    pub patience: Duration,
+}
+
+impl<R> Drop for Common<'_, R> {
+    fn drop(self) {
+        let Common {
+            rt: _,
+            alloc: _,
+            board: _,
+            guard: _,
+            hosts: _,
+            patience: _,
+        } = self;
+    }
+}
+
+impl<R: Wait + Clock + Clone + Drop> Common<'_, R> {
+    /// A service for each asker, with its clock. They share the readers, a few each one.
+    pub fn services(
+        &self,
+        askers: Vec<Asker<Transaction, Answer>>,
+        readers: Vec<Reader>,
+    ) -> Result<Vec<(Service<R>, R)>, AllocError> {
+        let shared = self.share(readers)?;
+        let mut services = Vec::with_capacity(self.alloc, askers.len())?;
+        for asker in askers {
+            let place = services.len() % shared.len().max(1);
+            let Some(reads) = shared.get(place) else {
+                break;
+            };
+            let service = self.service(asker, Arc::try_clone(reads)?)?;
+            services.push((service, self.rt.clone()?))?;
+        }
+        Ok(services)
+    }
+
+    /// The readers, each to be shared.
+    fn share(&self, readers: Vec<Reader>) -> Result<Vec<Arc<Mutex<Reads<R>>, Global>>, AllocError> {
+        let mut shared = Vec::with_capacity(self.alloc, readers.len())?;
+        for reader in readers {
+            let watch = Watch::new(Arc::try_clone(self.board)?, self.rt.clone()?);
+            let mut reads = Answering::new(self.alloc, reader, watch);
+            reads.answer_for(self.hosts);
+            shared.push(Arc::new(self.alloc, Mutex::new(reads))?)?;
+        }
+        Ok(shared)
+    }
+
+    /// The service of an asker.
+    fn service(
+        &self,
+        asker: Asker<Transaction, Answer>,
+        reads: Arc<Mutex<Reads<R>>, Global>,
+    ) -> Result<Service<R>, AllocError> {
+        let chair = Chair::new(self.rt.clone()?, self.alloc, asker, self.patience);
+        let lent = Lent::new(self.rt.clone()?, reads);
+        let guard = copy_of(self.alloc, self.guard)?;
+        Ok(Asking::new(self.alloc, guard, self.hosts, chair, lent))
+    }
+}
+
+/// The same guard.
+fn copy_of(alloc: Global, guard: &Guard) -> Result<Guard, AllocError>
+    ensures { IfOk result (λ copy. token_of copy ≡ token_of guard.now) }
+{
+    match guard {
+        Guard::Loopback => Ok(Guard::Loopback),
+        Guard::Token(token) => Ok(Guard::Token(token.as_slice().to_vec(alloc)?)),
+    }
+}

@@ -1,0 +1,76 @@
+use crate::redo_lines::RedoLines;
+use als_drive::Progress;
+use als_primary::{Announces, BadToken, Refusal, Serving};
+use als_record::Lsn;
+use std::alloc::{AllocError, Global};
+use std::io::Write;
+use std::net::SocketAddr;
+
+/// What a primary says to who runs it.
+#[derive(Drop)]
+pub struct ServingLines<W: Write> {
+    redo: RedoLines<W>,
+}
+
+impl<W: Write> ServingLines<W> {
+    /// Lines for everybody; how a long redo goes on for a person, if one sees them.
+    pub fn new(errors: W, seen: bool) -> ServingLines<W> {
+        ServingLines {
+            redo: RedoLines::new(errors, seen, false),
+        }
+    }
+}
+
+impl<W: Write> Progress for ServingLines<W> {
+    fn waits(&mut self, changes: u64) {
+        self.redo.waits(changes);
+    }
+}
+
+// Where it can't be said, the primary serves all the same.
+impl<W: Write> Announces for ServingLines<W> {
+    fn serves(&mut self, dir: &str, addr: SocketAddr, epoch: u32, end: Lsn) {
+        let _ = writeln!(
+            self.redo.errors(),
+            "primary of {dir} serves at {addr}: epoch {epoch}, LSN {}",
+            end.0
+        );
+    }
+
+    fn nearly_full(&mut self, end: Lsn, capacity: u64) {
+        let _ = writeln!(
+            self.redo.errors(),
+            "als: the log has {} of the {capacity} bytes that its device takes: plan a folder with more --log-blocks",
+            end.0
+        );
+    }
+}
+
+/// Why a primary does not serve, where that is a fault of the command line.
+pub fn text_of(alloc: Global, why: Refusal, serving: Serving<'_>) -> Result<String, AllocError> {
+    match why {
+        Refusal::BadToken(why) => {
+            let path = serving.token_file.unwrap_or("");
+            let words = words_of(why);
+            format!(in alloc; "als: {path}: {words}\n")
+        }
+        Refusal::Unguarded | Refusal::Ended(_) => {
+            let addr = serving.serve;
+            format!(
+                in alloc;
+                "als: {addr} is not an address of the loopback, so that anybody could commit: give --token-file\n"
+            )
+        }
+    }
+}
+
+/// Why the file of a token is refused, in plain words.
+fn words_of(why: BadToken) -> &'static str {
+    match why {
+        BadToken::Unreadable => "the file of the token can't be read",
+        BadToken::Shared => "others may read or write the file of the token: chmod 600 it",
+        BadToken::Short => "the token has fewer than 16 bytes",
+        BadToken::Long => "the token has more than 4096 bytes",
+        BadToken::Memory => "there is no memory for the token",
+    }
+}

@@ -1,0 +1,9 @@
+/// What becomes of a question.
+#[derive(Drop)]
+pub enum Outcome<A> {
+    Answered(A),
+    /// The leader did not take it, and will not.
+    NotBegun,
+    /// The leader took it and ended without an answer.
+    Lost,
+}

@@ -1,0 +1,9 @@
+//! Tests of the seats between threads that ask and one that answers. They use public names alone.
+#![tactic(auto)]
+
+// Askers and a leader at work.
+#[cfg(test)]
+mod answering;
+// What becomes of questions where the leader ends, or is slow.
+#[cfg(test)]
+mod ending;
