@@ -56,8 +56,7 @@ pub fn text_of(alloc: Global, why: Refusal, serving: Serving<'_>) -> Result<Stri
         }
         Refusal::Unguarded | Refusal::Ended(_) => {
             let addr = serving.serve;
-            format!(
-                in alloc;
+            format!(in alloc;
                 "als: {addr} is not an address of the loopback, so that anybody could commit: give --token-file\n"
             )
         }
