@@ -10,7 +10,7 @@ use std::hash::RandomState;
 /// The bytes of a body, at most.
 const BODY: usize = 65_536;
 
-/// Returns this outcome for each transaction, and for one more.
+/// Returns this outcome for each transaction.
 pub struct Acting {
     pub alloc: Global,
     pub outcome: Outcome,
@@ -30,11 +30,8 @@ impl Commits for Acting {
 
     fn commit(&mut self, asked: Vec<Transaction>) -> Vec<Outcome> {
         let mut outcomes = Vec::new(self.alloc);
-        for _ in 0..asked.len() {
-            if outcomes.push(self.outcome).is_err() {
-                break;
-            }
-        }
+        // Where there is no memory for them, they are lost.
+        let _ = outcomes.resize(asked.len(), self.outcome);
         outcomes
     }
 }

@@ -8,10 +8,12 @@ use std::hash::RandomState;
 use std::test::*;
 
 /// A transaction of one set.
-const ONE: &str = "POST /commit HTTP/1.1\r\nHost: localhost\r\nContent-Length: 33\r\n\r\n{\"set\":[{\"key\":[1,3],\"to\":\"ab\"}]}";
+const ONE: &str =
+    "POST /commit HTTP/1.1\r\nHost: localhost\r\nContent-Length: 33\r\n\r\n{\"set\":[{\"key\":[1,3],\"to\":\"ab\"}]}";
 
 /// Two of them.
-const TWO: &str = "POST /commit HTTP/1.1\r\nHost: localhost\r\nContent-Length: 70\r\n\r\n[{\"set\":[{\"key\":[1,3],\"to\":\"ab\"}]}, {\"set\":[{\"key\":[1,3],\"to\":\"ab\"}]}]";
+const TWO: &str =
+    "POST /commit HTTP/1.1\r\nHost: localhost\r\nContent-Length: 70\r\n\r\n[{\"set\":[{\"key\":[1,3],\"to\":\"ab\"}]}, {\"set\":[{\"key\":[1,3],\"to\":\"ab\"}]}]";
 
 /// What was written.
 const WRITTEN: Written = Written {
@@ -24,7 +26,13 @@ const WRITTEN: Written = Written {
 const KEY: Key = Key { page: 1, slot: 3 };
 
 /// Whether a request is answered so, where each transaction has this outcome.
-fn answers(alloc: Global, keys: RandomState, outcome: Outcome, request: &str, answer: &str) -> bool {
+fn answers(
+    alloc: Global,
+    keys: RandomState,
+    outcome: Outcome,
+    request: &str,
+    answer: &str,
+) -> bool {
     gives(alloc, keys, Guard::Loopback, outcome, request, answer)
 }
 
@@ -111,13 +119,27 @@ fn an_array_is_answered_by_an_array(rt: HostRuntime) -> Result<(), Fail> {
     let alloc = rt.alloc();
     let keys = RandomState::new(&rt)?;
     let committed = Outcome::Committed(WRITTEN);
-    assert!(rt; answers(alloc, keys, committed, TWO,
-        "HTTP/1.1 200 OK\r\ncontent-type: application/json\r\ncache-control: no-store\r\ncontent-length: 69\r\n\r\n[{\"status\":200,\"trans\":1,\"lsn\":52},{\"status\":200,\"trans\":1,\"lsn\":52}]"));
+    assert!(rt;
+        answers(
+            alloc,
+            keys,
+            committed,
+            TWO,
+            "HTTP/1.1 200 OK\r\ncontent-type: application/json\r\ncache-control: no-store\r\ncontent-length: 69\r\n\r\n[{\"status\":200,\"trans\":1,\"lsn\":52},{\"status\":200,\"trans\":1,\"lsn\":52}]"
+        )
+    );
     let held = Outcome::Refused(Refusal::Held {
         key: KEY,
         by: TransId(7),
     });
-    assert!(rt; answers(alloc, keys, held, TWO,
-        "HTTP/1.1 200 OK\r\ncontent-type: application/json\r\ncache-control: no-store\r\ncontent-length: 55\r\n\r\n[{\"status\":409,\"held_by\":7},{\"status\":409,\"held_by\":7}]"));
+    assert!(rt;
+        answers(
+            alloc,
+            keys,
+            held,
+            TWO,
+            "HTTP/1.1 200 OK\r\ncontent-type: application/json\r\ncache-control: no-store\r\ncontent-length: 55\r\n\r\n[{\"status\":409,\"held_by\":7},{\"status\":409,\"held_by\":7}]"
+        )
+    );
     Ok(())
 }

@@ -48,7 +48,10 @@ fn a_request_that_asks_for_nothing_is_refused(rt: HostRuntime) -> Result<(), Fai
         ),
     ];
     for (request, answer) in table {
-        assert!(rt; gives(alloc, keys, Guard::Loopback, DONE, request, answer), "{request}");
+        assert!(rt;
+            gives(alloc, keys, Guard::Loopback, DONE, request, answer),
+            "{request}"
+        );
     }
     Ok(())
 }
@@ -56,8 +59,16 @@ fn a_request_that_asks_for_nothing_is_refused(rt: HostRuntime) -> Result<(), Fai
 #[test]
 fn another_path_goes_to_the_reads(rt: HostRuntime) -> Result<(), Fail> {
     let keys = RandomState::new(&rt)?;
-    assert!(rt; begins(rt.alloc(), keys, Guard::Loopback, DONE,
-        "GET /status HTTP/1.1\r\nHost: localhost\r\n\r\n", "HTTP/1.1 404 Not Found"));
+    assert!(rt;
+        begins(
+            rt.alloc(),
+            keys,
+            Guard::Loopback,
+            DONE,
+            "GET /status HTTP/1.1\r\nHost: localhost\r\n\r\n",
+            "HTTP/1.1 404 Not Found"
+        )
+    );
     Ok(())
 }
 
@@ -100,7 +111,10 @@ fn the_token_alone_is_taken(rt: HostRuntime) -> Result<(), Fail> {
     ];
     for (request, front) in table {
         let guard = guard_of(alloc, "abcdefghijklmnop").ok_or("memory")?;
-        assert!(rt; begins(alloc, keys, guard, DONE, request, front), "{request}");
+        assert!(rt;
+            begins(alloc, keys, guard, DONE, request, front),
+            "{request}"
+        );
     }
     Ok(())
 }
