@@ -1,18 +1,15 @@
-ghost use Rattle.std.specs.Prelude.{IfOk};
-ghost use Rattle.als_ship.specs.Forcing.{Forces};
+ghost use Rattle.std.specs.Prelude.{◌≡◌, List, []};
+ghost use Rattle.als_lead.specs.declared.asked.Asked.{Asked as AnyAsked};
+ghost use Rattle.als_lead.specs.declared.told.Told.{Told as AnyTold};
+ghost use Rattle.als_lead.specs.Leading.{Leads};
 
-use crate::answer::Answer;
 use crate::bad_line::BadLines;
 use crate::committing::Committing;
-use crate::group::{GroupEnd, Source};
-use crate::opening::{Primary, open};
-use als_disk::FileDisk;
+use crate::lines::{Lines, LinesEnd};
 use als_drive::Progress;
-use als_engine::{Engine, Events, Fault as EngineFault, Writes};
-use als_operate::{Fault, StandbyUpkeep, named, settle};
-use als_record::Lsn;
-use als_ship::{Upkeep, force};
-use als_writer::Changes;
+use als_engine::{Fault as EngineFault, Writes};
+use als_lead::{Account, Database, Limits, Primary, PrimaryUpkeep, lead, open};
+use als_operate::{Fault, named, settle};
 use std::fs::File;
 use std::io::{BufReader, Read, Write};
 use std::rt::Files;
@@ -38,7 +35,7 @@ pub enum Ending {
 /// each line that is no transaction.
 ///
 /// BadConfig: the batch is not 1 to 1,000, or a size of a new database is out of its range or missing.
-/// Stream: the input or the output failed. Else as `opening::open` says, or the first refusal of an
+/// Stream: the input or the output failed. Else as `als_lead::open` says, or the first refusal of an
 /// event. However it ends, what is held is put on the devices.
 pub fn commit<
     R: AllocGlobal + Files<File = File> + Wait,
@@ -55,7 +52,18 @@ pub fn commit<
     if !(1..=BATCH_LIMIT).contains(&committing.batch) {
         return Err(Fault::Refused(EngineFault::BadConfig));
     }
-    let Primary { folder, mut engine } = open(rt, committing, lines)?;
+    let database = Database {
+        dir: committing.dir,
+        pages: committing.pages,
+        log_blocks: committing.log_blocks,
+        readers: 1,
+    };
+    let Primary {
+        folder,
+        mut engine,
+        readers,
+    } = open(rt, database, lines)?;
+    drop(readers);
     let ended = write_all(rt, committing, &mut engine, input, lines, output);
     let settled = settle(&mut engine);
     match (ended, settled) {
@@ -72,53 +80,34 @@ fn write_all<R: AllocGlobal + Wait, E: Writes, I: Read + Drop, B: BadLines, O: W
     input: I,
     bad: &mut B,
     output: &mut O,
-) -> Result<Ending, Fault> {
+) -> Result<Ending, Fault>
+    // Each line that is a transaction was answered once, in order, by what is true of the log at the
+    // end; and no other transaction was committed.
+    ensures leads { (asked : List AnyAsked) × (told : List AnyTold) × Leads E.alone
+        (E.machine engine.old) (E.machine engine.new) [] asked [] told }
+    ensures book { E.book engine.new ≡ E.book engine.old }
+{
     let alloc = rt.alloc();
-    let mut changes = Changes::new(alloc, engine.pages(), engine.writing().last_commit)?;
-    let mut upkeep = StandbyUpkeep::new(rt, CHECKPOINT_BYTES, engine.status().end);
-    let mut answers = Vec::new(alloc);
-    let mut source = Source {
+    let mut upkeep = PrimaryUpkeep::new(rt, CHECKPOINT_BYTES, engine.status().end);
+    let mut lines = Lines {
+        alloc,
         input: BufReader::new(alloc, input)?,
         line: Vec::new(alloc),
         number: 0,
+        pages: engine.pages(),
         skip_bad: committing.skip_bad,
-        changes: &mut changes,
+        end: None,
+        bad,
+        output,
+        account: Account::Nothing,
     };
-    for _ in 0..u64::MAX {
-        let end = source.fill(alloc, engine, committing.batch as usize, &mut answers, bad)?;
-        conclude(engine, &mut upkeep, answers.as_slice(), output)?;
-        match end {
-            GroupEnd::Full => {}
-            GroupEnd::End => return Ok(Ending::Done),
-            GroupEnd::Bad => return Ok(Ending::BadLine),
-        }
+    let limits = Limits {
+        transactions: committing.batch as usize,
+        bytes: u64::MAX,
+    };
+    lead(alloc, engine, &mut lines, &mut upkeep, limits)?;
+    match lines.end {
+        Some(LinesEnd::Bad) => Ok(Ending::BadLine),
+        Some(LinesEnd::End) | None => Ok(Ending::Done),
     }
-    Err(Fault::Stream)
-}
-
-/// Makes a group durable, answers its lines in order, and redoes its changes.
-fn conclude<E: Events, U: Upkeep, O: Write>(
-    engine: &mut E,
-    upkeep: &mut U,
-    answers: &[Answer],
-    output: &mut O,
-) -> Result<(), Fault> {
-    if answers.iter().any(|answer| answer.is_committed()) {
-        make_durable(engine)?;
-    }
-    for answer in answers {
-        answer.print(output)?;
-    }
-    output.flush()?;
-    upkeep.keep_up(engine)?;
-    Ok(())
-}
-
-/// Makes what was written durable: the log is acknowledged to its end, and this is the end.
-fn make_durable<E: Events>(engine: &mut E) -> Result<Lsn, Fault>
-    ensures forces { IfOk result (λ lsn. E.alone
-        → Forces (E.machine engine.old) lsn (E.machine engine.new)) }
-{
-    let lsn = force(engine)?;
-    Ok(lsn)
 }

@@ -1,5 +1,5 @@
 //! The writer of a primary from lines: it opens the folder of a primary, and writes a transaction for
-//! each line.
+//! each line. It is a leader (als_lead) whose clients are the lines.
 //!
 //! 1. Who may write: a new folder, one whose `role` says that it is a primary of its own epoch, or
 //!    one that was taken over. The role is made before anything else is.
@@ -14,14 +14,12 @@
 mod committing;
 // A line of the input.
 mod input_lines;
-// The folder of a primary.
-mod opening;
-// What becomes of a line.
-mod answer;
-// The lines that one force makes durable.
-mod group;
 // A line that is no transaction.
 mod bad_line;
+// The line of an answer.
+mod printing;
+// The lines as clients.
+mod lines;
 // All of the command.
 mod command;
 

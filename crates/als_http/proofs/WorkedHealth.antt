@@ -3,8 +3,8 @@ use Rattle.std.specs.Prelude.{◌≡◌, ℕ, Option, Some, None, Bool, true, fa
 use Rattle.std.proofs.Common.{refl, ap, ◌∙◌}
 use Rattle.als_http.specs.declared.report.Report.{Report}
 use Rattle.als_http.specs.declared.state.State.{State}
-use Rattle.als_http.specs.declared.state.State.TheVariants.{Recovering, Waiting, Following, Refusing, Sealed, Primary, Stopped}
-use Rattle.als_http.specs.Health.{is_sent_to, is_prompt, is_healthy}
+use Rattle.als_http.specs.declared.state.State.TheVariants.{Recovering, Waiting, Following, Refusing, Sealed, Primary, Stopped, Committing}
+use Rattle.als_http.specs.Health.{is_sent_to, is_at_work, is_prompt, is_healthy}
 
 stopped_is_not : is_sent_to Stopped ≡ false
 stopped_is_not = refl
@@ -14,6 +14,13 @@ refusing_is_not = refl
 
 waiting_is_not : is_sent_to Waiting ≡ false
 waiting_is_not = refl
+
+-- a primary that commits for clients is at work; one that was taken over and does not is not
+committing_is : is_at_work Committing ≡ true
+committing_is = refl
+
+primary_is_not : is_at_work Primary ≡ false
+primary_is_not = refl
 
 -- a frame that waits for ten seconds is in time, one that waits for eleven is not
 ten_is_prompt : is_prompt (Some 10) ≡ true

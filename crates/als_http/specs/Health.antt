@@ -1,8 +1,8 @@
 -- Whether a standby is healthy, and how much log it still takes, by what it tells of itself.
-use Rattle.std.specs.Prelude.{ℕ, ◌-◌, Bool, true, false, ◌&&◌, nat_le, Option, Some, None, is_some}
+use Rattle.std.specs.Prelude.{ℕ, ◌-◌, Bool, true, false, ◌&&◌, ◌||◌, nat_le, Option, Some, None, is_some}
 use Rattle.als_http.specs.declared.report.Report.{Report}
 use Rattle.als_http.specs.declared.state.State.{State}
-use Rattle.als_http.specs.declared.state.State.TheVariants.{Recovering, Waiting, Following, Refusing, Sealed, Primary, Stopped}
+use Rattle.als_http.specs.declared.state.State.TheVariants.{Recovering, Waiting, Following, Refusing, Sealed, Primary, Stopped, Committing}
 
 -- a primary sends to it
 abbrev pub is_sent_to : State → Bool
@@ -13,15 +13,25 @@ is_sent_to Refusing = false
 is_sent_to Sealed = false
 is_sent_to Primary = false
 is_sent_to Stopped = false
+is_sent_to Committing = false
+
+-- it commits for clients
+abbrev pub is_committing : State → Bool
+is_committing Committing = true
+is_committing s = false
+
+-- it does what it is there for
+abbrev pub is_at_work : State → Bool
+is_at_work s = is_sent_to s || is_committing s
 
 -- no frame waits for its acknowledgement for longer than ten seconds
 abbrev pub is_prompt : Option ℕ → Bool
 is_prompt None = true
 is_prompt (Some seconds) = nat_le seconds 10
 
--- a primary sends to it, each frame is acknowledged in time, and readers see a list of commits
+-- a primary sends to it or it commits for clients, each frame is acknowledged in time, and readers see a list of commits
 abbrev pub is_healthy : Report → Option ℕ → Bool
-is_healthy r commits = is_sent_to r.state && is_prompt r.waiting && is_some commits
+is_healthy r commits = is_at_work r.state && is_prompt r.waiting && is_some commits
 
 -- so many bytes are left below a capacity
 abbrev pub room_below : Option ℕ → ℕ → Option ℕ

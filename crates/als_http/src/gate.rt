@@ -1,14 +1,15 @@
-use crate::limits::THREADS;
+use crate::limits::NAP;
+use std::alloc::{AllocError, Global};
 use std::net::{IpAddr, SocketAddr};
 use std::sync::atomic::{AtomicBool, AtomicU64, Ordering};
+use std::time::Duration;
 
 /// Whether the threads go on, and whose connections they have.
 #[derive(Drop)]
 pub struct Gate {
     closed: AtomicBool,
     /// The peer of each connection, 0 where there is none.
-    peers: [AtomicU64; THREADS],
-    threads: u64,
+    peers: Vec<AtomicU64>,
 }
 
 /// The number of a peer, which is never 0: one of each address, and of each network of IPv6.
@@ -23,22 +24,16 @@ pub(crate) fn peer_of(addr: &SocketAddr) -> u64 {
 }
 
 impl Gate {
-    /// An open gate for so many threads.
-    pub fn new(threads: u64) -> Gate {
-        Gate {
-            closed: AtomicBool::new(false),
-            peers: [
-                AtomicU64::new(0),
-                AtomicU64::new(0),
-                AtomicU64::new(0),
-                AtomicU64::new(0),
-                AtomicU64::new(0),
-                AtomicU64::new(0),
-                AtomicU64::new(0),
-                AtomicU64::new(0),
-            ],
-            threads,
+    /// An open gate for this many threads that wait for their peers.
+    pub fn new(alloc: Global, threads: usize) -> Result<Gate, AllocError> {
+        let mut peers = Vec::with_capacity(alloc, threads)?;
+        for _ in 0..threads {
+            peers.push(AtomicU64::new(0))?;
         }
+        Ok(Gate {
+            closed: AtomicBool::new(false),
+            peers,
+        })
     }
 
     /// The threads end: those with a connection once its peer is silent for a moment.
@@ -52,13 +47,14 @@ impl Gate {
 
     /// A thread takes a connection of a peer. None: the peer would have one of each thread.
     pub(crate) fn enter(&self, peer: u64) -> Option<usize> {
-        for place in 0..THREADS {
+        let threads = self.peers.len();
+        for place in 0..threads {
             let cell = &self.peers[place];
             if cell
                 .compare_exchange(0, peer, Ordering::SeqCst, Ordering::SeqCst)
                 .is_ok()
             {
-                if self.threads > 1 && self.count(peer) >= self.threads {
+                if threads > 1 && self.count(peer) >= threads as u64 {
                     cell.store(0, Ordering::SeqCst);
                     return None;
                 }
@@ -70,14 +66,21 @@ impl Gate {
 
     /// A thread has let go of its connection.
     pub(crate) fn leave(&self, place: usize) {
-        if place < THREADS {
+        if place < self.peers.len() {
             self.peers[place].store(0, Ordering::SeqCst);
         }
     }
 
     /// Whether every thread has a connection.
     pub(crate) fn is_crowded(&self) -> bool {
-        (THREADS as u64).saturating_sub(self.count(0)) >= self.threads
+        self.count(0) == 0
+    }
+
+    /// For how long a thread without a connection sleeps. All of them together look for the next one as
+    /// often as eight of them would.
+    pub(crate) fn nap(&self) -> Duration {
+        let eighths = self.count(0).saturating_add(7) / 8;
+        Duration::from_millis(NAP.saturating_mul(eighths.max(1)))
     }
 
     /// How many connections this peer has. 0: how many there could still be.

@@ -1,4 +1,4 @@
-use crate::limits::REQUEST_LEN;
+use crate::numbers::number;
 use crate::peer::is_late;
 use std::alloc::Global;
 use std::io;
@@ -9,10 +9,15 @@ use std::time::Duration;
 /// What ends the head of a request.
 const END: &[u8] = b"\r\n\r\n";
 
+/// The field that has the length of a body.
+const LENGTH: &[u8] = b"content-length:";
+
 /// A connection of the spare thread, whose stream does not block.
 pub(crate) struct Guest<T> {
     stream: T,
     said: Vec<u8>,
+    /// Bytes of a request, at most.
+    limit: usize,
     /// When it connected, by the clock.
     begun: Duration,
     is_answered: bool,
@@ -23,6 +28,7 @@ impl<T: Drop> Drop for Guest<T> {
         let Guest {
             stream,
             said,
+            limit: _,
             begun: _,
             is_answered: _,
         } = self;
@@ -42,11 +48,12 @@ pub(crate) enum Heard {
 }
 
 impl<T> Guest<T> {
-    /// It has just connected.
-    pub fn new(alloc: Global, stream: T, begun: Duration) -> Guest<T> {
+    /// It has just connected. A request of its has at most this many bytes.
+    pub fn new(alloc: Global, stream: T, limit: usize, begun: Duration) -> Guest<T> {
         Guest {
             stream,
             said: Vec::new(alloc),
+            limit,
             begun,
             is_answered: false,
         }
@@ -74,7 +81,7 @@ impl<T: Read> Guest<T> {
                 if count > 1024 || self.said.extend_from_slice(&bytes[..count]).is_err() {
                     return Heard::Gone;
                 }
-                if is_whole(self.said.as_slice()) {
+                if is_whole(self.said.as_slice(), self.limit) {
                     Heard::All
                 } else {
                     Heard::Part
@@ -98,7 +105,30 @@ impl<T: Write + OpenStream> Guest<T> {
     }
 }
 
-/// Whether these bytes have the head of a request, or more than a request may have.
-fn is_whole(said: &[u8]) -> bool {
-    said.len() >= REQUEST_LEN || said.windows(END.len()).any(|four| four == END)
+/// Whether these bytes have a request whole, or more than a request may have.
+fn is_whole(said: &[u8], limit: usize) -> bool {
+    if said.len() >= limit {
+        return true;
+    }
+    match said.windows(END.len()).position(|four| four == END) {
+        Some(at) => {
+            let (head, rest) = said.split_at(at);
+            rest.len() as u64 >= body_len(head).saturating_add(END.len() as u64)
+        }
+        None => false,
+    }
+}
+
+/// The bytes of the body that belongs to a head, by its length alone: a body in chunks is not waited
+/// for, and is refused.
+fn body_len(head: &[u8]) -> u64 {
+    for line in head.split(|c| *c == b'\n') {
+        if line.len() > LENGTH.len() {
+            let (name, value) = line.split_at(LENGTH.len());
+            if name.eq_ignore_ascii_case(LENGTH) {
+                return number(value.trim_ascii()).unwrap_or(0);
+            }
+        }
+    }
+    0
 }

@@ -35,7 +35,7 @@ fn is_local(ip: IpAddr) -> bool {
 
 /// Whether a request with these fields of its host is for this node.
 #[tactic(auto, unfolding(crate::specs::Hosts::is_own))]
-pub(crate) fn is_own(hosts: Hosts, fields: GetAll<'_, HeaderValue>) -> bool
+pub fn is_own(hosts: Hosts, fields: GetAll<'_, HeaderValue>) -> bool
     ensures { result ≡ is_own hosts fields.entry }
 {
     match hosts {

@@ -59,6 +59,8 @@ mod peer;
 mod servers;
 // What a thread does.
 mod serving;
+// What all connections have in common.
+mod terms;
 // What the thread does that waits for nobody.
 mod spare;
 // For how long a peer asks, and is answered.
@@ -69,8 +71,8 @@ pub use asked::Asked;
 pub use asking::asked_by;
 pub use board::{Board, Watch};
 pub use gate::Gate;
-pub use hosts::Hosts;
-pub use limits::{THREADS, config};
+pub use hosts::{Hosts, is_own};
+pub use limits::{MOST_THREADS, THREADS, config, config_with};
 pub use listening::listen;
 pub use metrics_text::VERSION;
 pub use numbers::number;
@@ -83,4 +85,5 @@ pub use serving::serve_until_closed;
 pub use standing::Standing;
 pub use state::State;
 pub use telling::{AT_LEAST, query_of};
+pub use terms::Terms;
 pub use unread::Unread;

@@ -88,8 +88,7 @@ impl<S: Write, C: Clock> Write for Peer<'_, S, C> {
     fn write(&mut self, bytes: &[u8]) -> io::Result<usize> {
         let now = self.clock.monotonic()?;
         self.turn.answer(now);
-        let is_old = now.saturating_sub(self.begun) >= Duration::from_millis(LIFE);
-        if is_old || self.turn.answering(now) >= RESPONSE {
+        if self.turn.answering(now) >= RESPONSE {
             return Err(ErrorKind::TimedOut.into());
         }
         self.stream.write(bytes)

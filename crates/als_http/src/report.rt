@@ -34,12 +34,12 @@ pub struct Report {
 }
 
 impl Report {
-    /// Whether a primary sends to it, no frame waits for its acknowledgement for longer than
-    /// `PATIENCE`, and readers see a list of commits.
+    /// Whether a primary sends to it or it commits for clients, no frame waits for its acknowledgement
+    /// for longer than `PATIENCE`, and readers see a list of commits.
     pub fn is_healthy(&self, commits: Option<u64>) -> bool
         ensures { result ≡ is_healthy self.now commits }
     {
-        self.state.is_sent_to() && is_prompt(self.waiting) && commits.is_some()
+        self.state.is_at_work() && is_prompt(self.waiting) && commits.is_some()
     }
 
     /// So many bytes more the log takes. None: that is not known yet.

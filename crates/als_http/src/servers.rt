@@ -1,10 +1,12 @@
 use crate::answering::Answering;
 use crate::gate::Gate;
 use crate::hosts::Hosts;
-use crate::limits::THREADS;
+use crate::limits::{MOST_THREADS, THREADS, config};
 use crate::serving::serve_until_closed;
 use crate::spare::answer_guests;
 use crate::standing::Standing;
+use crate::terms::Terms;
+use http_server::{Config, Service};
 use std::alloc::{AllocError, Global};
 use std::hash::RandomState;
 use std::net::{TcpListener, TcpStream};
@@ -30,11 +32,10 @@ impl Drop for Servers {
 }
 
 impl Servers {
-    /// Starts a thread for each of these, up to eight, which serve the listener until `close`. Each
-    /// has a clock of its own. Over the loopback they answer its own hosts alone. Where there are two and more, the last one is spare: it waits for nobody,
-    /// and answers while each other one has a connection.
+    /// Starts a thread for each of these, up to eight, which answer reads until `close`. Each has a clock
+    /// of its own. Over the loopback they answer its own hosts alone.
     ///
-    /// An error: allocation failed, or the system refused a thread. Then none goes on.
+    /// An error: as `start_any` says.
     pub fn start<
         R: Threads + RandomSource,
         S: Standing + Send + Drop + 'static,
@@ -45,44 +46,72 @@ impl Servers {
         listener: &TcpListener,
         seats: Vec<(Answering<S>, C)>,
     ) -> io::Result<Servers> {
+        let hosts = Hosts::at(listener);
+        let mut own = Vec::with_capacity(alloc, THREADS)?;
+        for seat in seats {
+            let (mut answering, clock) = seat;
+            answering.answer_for(hosts);
+            if own.len() < THREADS {
+                own.push((answering, clock))?;
+            }
+        }
+        Servers::start_any(rt, alloc, listener, own, config())
+    }
+
+    /// Starts a thread for each of these services, up to 258, which serve the listener until `close`, by
+    /// these limits of a connection. Each has a clock of its own. Where there are two and more, the last
+    /// one is spare: it waits for nobody, and answers while each other one has a connection.
+    ///
+    /// An error: allocation failed, or the system refused a thread. Then none goes on.
+    pub fn start_any<
+        R: Threads + RandomSource,
+        V: Service + Send + Drop + 'static,
+        C: Clock + Send + Drop + 'static,
+    >(
+        rt: &R,
+        alloc: Global,
+        listener: &TcpListener,
+        seats: Vec<(V, C)>,
+        config: Config,
+    ) -> io::Result<Servers> {
         listener.set_nonblocking(true)?;
-        let keys = RandomState::new(rt)?;
-        let count = seats.len().min(THREADS);
+        let terms = Terms {
+            keys: RandomState::new(rt)?,
+            config,
+        };
+        let count = seats.len().min(MOST_THREADS);
         let waiting = if count > 1 { count - 1 } else { count };
-        let gate = Arc::new(alloc, Gate::new(waiting as u64))?;
+        let gate = Arc::new(alloc, Gate::new(alloc, waiting)?)?;
         let mut servers = Servers {
             gate,
             handles: Vec::with_capacity(alloc, count)?,
         };
-        let hosts = Hosts::at(listener);
         for seat in seats {
-            let mut seat = seat;
-            seat.0.answer_for(hosts);
             if servers.handles.len() < count {
                 let is_spare = servers.handles.len() >= waiting;
-                servers.add(rt, alloc, listener.try_clone()?, keys, seat, is_spare)?;
+                servers.add(rt, alloc, listener.try_clone()?, terms, seat, is_spare)?;
             }
         }
         Ok(servers)
     }
 
     /// Starts one more thread.
-    fn add<R: Threads, S: Standing + Send + Drop + 'static, C: Clock + Send + Drop + 'static>(
+    fn add<R: Threads, V: Service + Send + Drop + 'static, C: Clock + Send + Drop + 'static>(
         &mut self,
         rt: &R,
         alloc: Global,
         listener: TcpListener,
-        keys: RandomState,
-        seat: (Answering<S>, C),
+        terms: Terms,
+        seat: (V, C),
         is_spare: bool,
     ) -> io::Result<()> {
-        let (mut answering, clock) = seat;
+        let (mut service, clock) = seat;
         let gate = Arc::try_clone(&self.gate)?;
         let handle = thread::spawn(rt, move || {
             if is_spare {
-                answer_guests(alloc, &listener, &mut answering, keys, &clock, &gate)
+                answer_guests(alloc, &listener, &mut service, terms, &clock, &gate)
             } else {
-                serve_until_closed(alloc, &listener, &mut answering, keys, &clock, &gate)
+                serve_until_closed(alloc, &listener, &mut service, terms, &clock, &gate)
             }
         });
         match handle {

@@ -1,13 +1,11 @@
-use crate::answering::Answering;
 use crate::gate::{Gate, peer_of};
-use crate::limits::{LEFTOVERS, NAP, RESPONSE, TICK, config};
+use crate::limits::{LEFTOVERS, RESPONSE, TICK};
 use crate::peer::Peer;
 use crate::spare::{attend, welcome};
-use crate::standing::Standing;
+use crate::terms::Terms;
 use crate::turn::Turn;
-use http_server::{Connection, serve};
+use http_server::{Connection, Service, serve};
 use std::alloc::Global;
-use std::hash::RandomState;
 use std::io::{Read, Write};
 use std::net::{OpenListener, OpenStream, Shutdown, SocketAddr};
 use std::time::{Clock, Duration};
@@ -19,16 +17,9 @@ use std::{io, thread};
 pub fn serve_until_closed<
     L: OpenListener<Stream = T>,
     T: Read + Write + OpenStream + Drop,
-    S: Standing,
+    V: Service,
     C: Clock,
->(
-    alloc: Global,
-    listener: &L,
-    answering: &mut Answering<S>,
-    keys: RandomState,
-    clock: &C,
-    gate: &Gate,
-) {
+>(alloc: Global, listener: &L, service: &mut V, terms: Terms, clock: &C, gate: &Gate) {
     let mut guests = Vec::new(alloc);
     for _ in 0..u64::MAX {
         if gate.is_closed() {
@@ -41,15 +32,15 @@ pub fn serve_until_closed<
             Ok((stream, addr)) => match seat_of(gate, &addr, guests.is_empty()) {
                 Some(place) => {
                     // What ends a connection is its own affair.
-                    let _ = serve_one(alloc, stream, answering, keys, clock, gate);
+                    let _ = serve_one(alloc, stream, service, terms, clock, gate);
                     gate.leave(place);
                 }
-                None => welcome(alloc, stream, &mut guests, now),
+                None => welcome(alloc, stream, &mut guests, terms, now),
             },
             // Nobody wants to connect, or the system refuses for now.
-            Err(_) => thread::sleep(clock, Duration::from_millis(NAP)),
+            Err(_) => thread::sleep(clock, gate.nap()),
         }
-        guests = attend(alloc, guests, answering, keys, now);
+        guests = attend(alloc, guests, service, terms, now);
     }
 }
 
@@ -62,11 +53,11 @@ fn seat_of(gate: &Gate, addr: &SocketAddr, is_free: bool) -> Option<usize> {
 }
 
 /// Serves the requests of a connection.
-fn serve_one<T: Read + Write + OpenStream + Drop, S: Standing, C: Clock>(
+fn serve_one<T: Read + Write + OpenStream + Drop, V: Service, C: Clock>(
     alloc: Global,
     stream: T,
-    answering: &mut Answering<S>,
-    keys: RandomState,
+    service: &mut V,
+    terms: Terms,
     clock: &C,
     gate: &Gate,
 ) -> io::Result<()> {
@@ -78,8 +69,8 @@ fn serve_one<T: Read + Write + OpenStream + Drop, S: Standing, C: Clock>(
     let turn = Turn::new();
     let mut writer = Peer::new(stream.try_clone()?, clock, gate, &turn, begun);
     let mut reader = Peer::new(stream, clock, gate, &turn, begun);
-    let mut connection = Connection::new(alloc, keys, config());
-    serve(&mut connection, answering, &mut reader, &mut writer)?;
+    let mut connection = Connection::new(alloc, terms.keys, terms.config);
+    serve(&mut connection, service, &mut reader, &mut writer)?;
     linger(&mut rest)
 }
 

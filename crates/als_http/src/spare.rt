@@ -1,9 +1,8 @@
-use crate::answering::Answering;
 use crate::gate::Gate;
 use crate::guest::{Guest, Heard};
-use crate::limits::{GUESTS, NAP, REQUEST, config};
-use crate::standing::Standing;
-use http_server::{Connection, serve};
+use crate::limits::{GUESTS, NAP, REQUEST, request_len};
+use crate::terms::Terms;
+use http_server::{Connection, Service, serve};
 use std::alloc::{AllocError, Global};
 use std::hash::RandomState;
 use std::io::{Read, Write};
@@ -17,16 +16,9 @@ use std::{io, thread};
 pub(crate) fn answer_guests<
     L: OpenListener<Stream = T>,
     T: Read + Write + OpenStream + Drop,
-    S: Standing,
+    V: Service,
     C: Clock,
->(
-    alloc: Global,
-    listener: &L,
-    answering: &mut Answering<S>,
-    keys: RandomState,
-    clock: &C,
-    gate: &Gate,
-) {
+>(alloc: Global, listener: &L, service: &mut V, terms: Terms, clock: &C, gate: &Gate) {
     let mut guests = Vec::new(alloc);
     for _ in 0..u64::MAX {
         if gate.is_closed() {
@@ -35,8 +27,8 @@ pub(crate) fn answer_guests<
         let Ok(now) = clock.monotonic() else {
             break;
         };
-        let has_come = gate.is_crowded() && admit(alloc, listener, &mut guests, now);
-        guests = attend(alloc, guests, answering, keys, now);
+        let has_come = gate.is_crowded() && admit(alloc, listener, &mut guests, terms, now);
+        guests = attend(alloc, guests, service, terms, now);
         if !has_come {
             thread::sleep(clock, Duration::from_millis(NAP));
         }
@@ -48,12 +40,13 @@ fn admit<L: OpenListener<Stream = T>, T: OpenStream + Drop>(
     alloc: Global,
     listener: &L,
     guests: &mut Vec<Guest<T>>,
+    terms: Terms,
     now: Duration,
 ) -> bool {
     let Ok((stream, _)) = listener.accept() else {
         return false;
     };
-    welcome(alloc, stream, guests, now);
+    welcome(alloc, stream, guests, terms, now);
     true
 }
 
@@ -62,6 +55,7 @@ pub(crate) fn welcome<T: OpenStream + Drop>(
     alloc: Global,
     stream: T,
     guests: &mut Vec<Guest<T>>,
+    terms: Terms,
     now: Duration,
 ) {
     if stream.set_nonblocking(true).is_err() {
@@ -71,15 +65,16 @@ pub(crate) fn welcome<T: OpenStream + Drop>(
         drop(guests.remove(0));
     }
     // Where there is no memory for it, it is dropped.
-    let _ = guests.push(Guest::new(alloc, stream, now));
+    let limit = request_len(terms.config);
+    let _ = guests.push(Guest::new(alloc, stream, limit, now));
 }
 
 /// Looks at each of them. Those stay who have not said all, and those who have to read their answer.
-pub(crate) fn attend<T: Read + Write + OpenStream + Drop, S: Standing>(
+pub(crate) fn attend<T: Read + Write + OpenStream + Drop, V: Service>(
     alloc: Global,
     guests: Vec<Guest<T>>,
-    answering: &mut Answering<S>,
-    keys: RandomState,
+    service: &mut V,
+    terms: Terms,
     now: Duration,
 ) -> Vec<Guest<T>> {
     let mut left = Vec::new(alloc);
@@ -87,7 +82,7 @@ pub(crate) fn attend<T: Read + Write + OpenStream + Drop, S: Standing>(
         let mut guest = guest;
         let heard = guest.hear();
         let stays = match heard {
-            Heard::All => answer(alloc, &mut guest, answering, keys).is_ok(),
+            Heard::All => answer(alloc, &mut guest, service, terms).is_ok(),
             Heard::Part => guest.age(now) < Duration::from_millis(REQUEST),
             Heard::Gone => false,
         };
@@ -102,15 +97,15 @@ pub(crate) fn attend<T: Read + Write + OpenStream + Drop, S: Standing>(
 }
 
 /// Answers what a guest has said. Its response is short enough for what the system keeps for it.
-fn answer<T: Read + Write + OpenStream, S: Standing>(
+fn answer<T: Read + Write + OpenStream, V: Service>(
     alloc: Global,
     guest: &mut Guest<T>,
-    answering: &mut Answering<S>,
-    keys: RandomState,
+    service: &mut V,
+    terms: Terms,
 ) -> io::Result<()> {
-    let mut connection = Connection::new(alloc, keys, config());
+    let mut connection = Connection::new(alloc, terms.keys, terms.config);
     let mut response = Vec::new(alloc);
     let mut said = guest.said();
-    serve(&mut connection, answering, &mut said, &mut response)?;
+    serve(&mut connection, service, &mut said, &mut response)?;
     guest.tell(response.as_slice())
 }

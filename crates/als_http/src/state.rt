@@ -1,6 +1,6 @@
 ghost use Rattle.std.specs.Prelude.{◌≡◌};
 ghost use Rattle.als_http.specs.States.{number_of_state, state_of_number, name_of_state, role_of_state};
-ghost use Rattle.als_http.specs.Health.{is_sent_to};
+ghost use Rattle.als_http.specs.Health.{is_sent_to, is_at_work};
 
 /// What a standby is doing.
 #[derive(Clone, Copy, Debug, PartialEq, Eq)]
@@ -17,6 +17,8 @@ pub enum State {
     Sealed,
     /// The takeover is done.
     Primary,
+    /// It commits for clients.
+    Committing,
     /// A device failed, or the standby ends.
     Stopped,
 }
@@ -34,6 +36,7 @@ impl State {
             State::Sealed => 4,
             State::Primary => 5,
             State::Stopped => 6,
+            State::Committing => 7,
         }
     }
 
@@ -48,6 +51,7 @@ impl State {
             3 => State::Refusing,
             4 => State::Sealed,
             5 => State::Primary,
+            7 => State::Committing,
             _ => State::Stopped,
         }
     }
@@ -59,12 +63,19 @@ impl State {
         matches!(self, State::Following)
     }
 
+    /// Whether it does what it is there for: a primary sends to it, or it commits for clients.
+    pub fn is_at_work(self) -> bool
+        ensures { result ≡ is_at_work self }
+    {
+        self.is_sent_to() || matches!(self, State::Committing)
+    }
+
     /// The role of its node.
     pub fn role(self) -> &'static str
         ensures { result.now ≡ role_of_state self }
     {
         match self {
-            State::Sealed | State::Primary => "primary",
+            State::Sealed | State::Primary | State::Committing => "primary",
             State::Recovering
             | State::Waiting
             | State::Following
@@ -84,6 +95,7 @@ impl State {
             State::Refusing => "refusing",
             State::Sealed => "sealed",
             State::Primary => "primary",
+            State::Committing => "committing",
             State::Stopped => "stopped",
         }
     }

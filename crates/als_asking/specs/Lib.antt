@@ -1,0 +1,5 @@
+pub mod Bodies
+pub mod Entering
+pub mod Taking
+pub mod Telling
+pub mod Answering

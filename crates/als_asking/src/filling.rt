@@ -1,0 +1,129 @@
+ghost use Rattle.std.specs.Prelude.{◌≡◌, OnOk, ◌++◌, codes};
+ghost use Rattle.http_server.specs.Response.{IsBlank, fields_of};
+ghost use Rattle.als_asking.specs.Telling.{status_of, fields_for, own_fields, lsn_field, denied_fields};
+ghost use Rattle.als_asking.specs.Telling.{retry_field, HasText, Shows};
+
+use crate::denied::Denied;
+use crate::outcome::Outcome;
+use crate::told::Told;
+use crate::told_text::told_text;
+use bytes::Bytes;
+use http::{HeaderName, HeaderValue, StatusCode};
+use http_server::Response;
+use std::alloc::{AllocError, Global};
+
+/// Fills a response by what a request is answered. Where memory is refused it is empty: a 504 where
+/// transactions may have been committed, else a 503.
+pub(crate) fn show(alloc: Global, told: &Told, response: &mut Response)
+    requires { IsBlank response.old }
+    ensures { Shows told.now response.new }
+{
+    match fill(alloc, told, response) {
+        Ok(()) => {}
+        Err(_) => {
+            response.clear();
+            response.status = told.status_unwritten();
+        }
+    }
+}
+
+/// Fills a response by what a request is answered. After an error some of it may be there.
+#[tactic(auto, using(crate::proofs::TextLaws::text_same))]
+fn fill(alloc: Global, told: &Told, response: &mut Response) -> Result<(), AllocError>
+    requires { IsBlank response.old }
+    ensures status { OnOk result (response.new.status ≡ status_of told.now) }
+    ensures fields { OnOk result (fields_of response.new ≡ fields_for told.now) }
+    ensures text { OnOk result (HasText told.now response.new.body.items) }
+{
+    let text = told_text(alloc, told)?;
+    response.add_header(HeaderName::from_static("content-type"), json())?;
+    response.add_header(HeaderName::from_static("cache-control"), no_store())?;
+    let status = told.status();
+    add_retry(status, response)?;
+    add_own(alloc, told, response)?;
+    response.status = status;
+    response.body.push(Bytes::from_vec(text)?)?;
+    Ok(())
+}
+
+/// When to ask again, where nothing was written.
+fn add_retry(status: StatusCode, response: &mut Response) -> Result<(), AllocError>
+    ensures fields { OnOk result
+        (fields_of response.new ≡ fields_of response.old ++ retry_field status) }
+    ensures body { OnOk result (response.new.body ≡ response.old.body) }
+{
+    if status == StatusCode::SERVICE_UNAVAILABLE {
+        response.add_header(HeaderName::from_static("retry-after"), one())?;
+    }
+    Ok(())
+}
+
+/// The header fields of its own.
+fn add_own(alloc: Global, told: &Told, response: &mut Response) -> Result<(), AllocError>
+    ensures fields { OnOk result
+        (fields_of response.new ≡ fields_of response.old ++ own_fields told.now) }
+    ensures body { OnOk result (response.new.body ≡ response.old.body) }
+{
+    match told {
+        Told::One(Outcome::Committed(written)) => {
+            let lsn = HeaderValue::from_u64(alloc, written.lsn.0)?;
+            response.add_header(HeaderName::from_static("als-lsn"), lsn)?;
+        }
+        Told::Denied(why) => add_denied(*why, response)?,
+        _ => {}
+    }
+    Ok(())
+}
+
+/// What would be taken, where a request is denied.
+fn add_denied(why: Denied, response: &mut Response) -> Result<(), AllocError>
+    ensures fields { OnOk result
+        (fields_of response.new ≡ fields_of response.old ++ denied_fields why) }
+    ensures body { OnOk result (response.new.body ≡ response.old.body) }
+{
+    match why {
+        Denied::Method => {
+            response.add_header(HeaderName::from_static("allow"), post())?;
+        }
+        Denied::NoToken => {
+            response.add_header(HeaderName::from_static("www-authenticate"), bearer())?;
+        }
+        Denied::Host | Denied::Page | Denied::OtherToken => {}
+    }
+    Ok(())
+}
+
+/// The type of each text.
+fn json() -> HeaderValue
+    ensures { result.bytes ≡ codes "application/json" }
+{
+    HeaderValue::from_static("application/json")
+}
+
+/// Nobody may keep a response.
+fn no_store() -> HeaderValue
+    ensures { result.bytes ≡ codes "no-store" }
+{
+    HeaderValue::from_static("no-store")
+}
+
+/// A second.
+fn one() -> HeaderValue
+    ensures { result.bytes ≡ codes "1" }
+{
+    HeaderValue::from_static("1")
+}
+
+/// The method of commits.
+fn post() -> HeaderValue
+    ensures { result.bytes ≡ codes "POST" }
+{
+    HeaderValue::from_static("POST")
+}
+
+/// The scheme of a token.
+fn bearer() -> HeaderValue
+    ensures { result.bytes ≡ codes "Bearer" }
+{
+    HeaderValue::from_static("Bearer")
+}

@@ -1,0 +1,53 @@
+//! Commits over HTTP: which request asks for them, who may ask, and what the outcome is answered.
+//!
+//! ```text
+//!     request --entry_of--> Reads ----> the reads' own answer
+//!                           Commits --wanted--> transactions --Commits--> outcomes --> response
+//!                           Denied ---> response
+//! ```
+//!
+//! 1. A commit is a POST to `/commit` that names one of the node's hosts. It comes from whom the guard
+//!    takes, and from no page of a browser.
+//! 2. Its body is one transaction, or an array of them, each of which is committed on its own.
+//! 3. 200 is answered of what is durable alone, 503 where nothing was written, 504 where a restart
+//!    may find it or not.
+#![tactic(auto)]
+
+// What becomes of a transaction.
+mod outcome;
+// Who commits.
+mod commits;
+// Which request asks for commits, and who may ask.
+mod denied;
+mod entry;
+mod guard;
+// What a body asks for.
+mod reading;
+mod scan;
+mod unread;
+mod wanted;
+// What is committed, and what is answered.
+mod taking;
+mod told;
+// The response of that.
+mod filling;
+mod members;
+mod outcome_text;
+mod told_text;
+// What answers the requests of a thread.
+mod asking;
+// Reads that threads share.
+mod lent;
+
+pub use asking::Asking;
+pub use commits::Commits;
+pub use denied::Denied;
+pub use entry::{Entry, entry_of};
+pub use guard::Guard;
+pub use lent::Lent;
+pub use outcome::Outcome;
+pub use reading::wanted_in;
+pub use taking::take;
+pub use told::Told;
+pub use unread::{MOST, Unread};
+pub use wanted::Wanted;

@@ -1,0 +1,164 @@
+ghost use Rattle.std.specs.Prelude.{◌≡◌, OnOk, ◌++◌, ◌∷◌, [], codes};
+ghost use Rattle.json.specs.Token.{begin_array, begin_object, end_array, end_object, key};
+ghost use Rattle.als_asking.specs.Telling.{written_tokens, fault_tokens, flaw_tokens, flaw_key, why_flaw};
+ghost use Rattle.als_asking.specs.Telling.{unmet_tokens, kind_or, refusal_tokens, unknown_tokens};
+ghost use Rattle.als_asking.specs.Telling.{outcome_tokens};
+ghost use Rattle.als_writer.specs.Refusing.{fault_of};
+
+use crate::members::{key, number, string, value};
+use crate::outcome::Outcome;
+use als_fault::FaultKind;
+use als_record::{KeptImage, Key};
+use als_writer::{Flaw, Refusal, Written};
+use json::Writer;
+use std::alloc::{AllocError, Global};
+
+/// The members of an outcome.
+#[tactic(auto, unfolding(crate::specs::Telling::outcome_tokens))]
+pub(crate) fn outcome_members(
+    alloc: Global,
+    text: &mut Writer,
+    outcome: &Outcome,
+) -> Result<(), AllocError>
+    ensures tokens { OnOk result (text.new.tokens ≡ text.old.tokens ++ outcome_tokens outcome.now) }
+    ensures before { OnOk result (text.new.before ≡ text.old.before) }
+{
+    match outcome {
+        Outcome::Committed(written) => written_members(text, written)?,
+        Outcome::Refused(refusal) => refusal_members(alloc, text, refusal)?,
+        Outcome::Unknown(written) => {
+            unknown_member(text)?;
+            written_members(text, written)?;
+        }
+        Outcome::NotBegun => fault_members(text, FaultKind::Stopped)?,
+        Outcome::Lost => unknown_member(text)?,
+    }
+    Ok(())
+}
+
+/// That a restart may find it or not.
+fn unknown_member(text: &mut Writer) -> Result<(), AllocError>
+    ensures tokens { OnOk result (text.new.tokens ≡ text.old.tokens ++ unknown_tokens) }
+    ensures before { OnOk result (text.new.before ≡ text.old.before) }
+{
+    text.key("unknown")?;
+    text.boolean(true)?;
+    Ok(())
+}
+
+/// What is in the log: the transaction's number and its commit's LSN.
+fn written_members(text: &mut Writer, written: &Written) -> Result<(), AllocError>
+    ensures tokens { OnOk result (text.new.tokens ≡ text.old.tokens ++ written_tokens written.now) }
+    ensures before { OnOk result (text.new.before ≡ text.old.before) }
+{
+    number(text, "trans", u64::from(written.trans.0))?;
+    number(text, "lsn", written.lsn.0)?;
+    Ok(())
+}
+
+/// Why nothing is committed.
+fn refusal_members(alloc: Global, text: &mut Writer, refusal: &Refusal) -> Result<(), AllocError>
+    ensures tokens { OnOk result (text.new.tokens ≡ text.old.tokens ++ refusal_tokens refusal.now) }
+    ensures before { OnOk result (text.new.before ≡ text.old.before) }
+{
+    match refusal {
+        Refusal::Invalid(flaw) => flaw_members(text, *flaw)?,
+        Refusal::Held { by, .. } => number(text, "held_by", u64::from(by.0))?,
+        Refusal::NotAsAsked { key, now } => unmet_members(alloc, text, *key, now)?,
+        _ => fault_members(text, kind_of(refusal))?,
+    }
+    Ok(())
+}
+
+/// The fault of a refusal. A log that is not tidy is not drained.
+fn kind_of(refusal: &Refusal) -> FaultKind
+    ensures { result ≡ kind_or (fault_of refusal.now) }
+{
+    match refusal.fault() {
+        Some(fault) => fault.kind(),
+        None => FaultKind::NotDrained,
+    }
+}
+
+/// A fault by its number and its name.
+#[tactic(auto, unfolding(crate::specs::Telling::fault_tokens))]
+fn fault_members(text: &mut Writer, kind: FaultKind) -> Result<(), AllocError>
+    ensures tokens { OnOk result (text.new.tokens ≡ text.old.tokens ++ fault_tokens kind) }
+    ensures before { OnOk result (text.new.before ≡ text.old.before) }
+{
+    number(text, "refused", u64::from(kind.number()))?;
+    string(text, "name", kind.name())?;
+    Ok(())
+}
+
+/// What is wrong with a transaction, and the key that it is wrong with.
+fn flaw_members(text: &mut Writer, flaw: Flaw) -> Result<(), AllocError>
+    ensures tokens { OnOk result (text.new.tokens ≡ text.old.tokens ++ flaw_tokens flaw) }
+    ensures before { OnOk result (text.new.before ≡ text.old.before) }
+{
+    string(text, "error", why_flaw(flaw))?;
+    flaw_key(text, flaw)?;
+    Ok(())
+}
+
+/// What is wrong with a transaction.
+fn why_flaw(flaw: Flaw) -> &'static str
+    ensures { result.now ≡ why_flaw flaw }
+{
+    match flaw {
+        Flaw::NoSet => "it sets no key",
+        Flaw::TooLong => "it has more than 600 sets or more than 600 comparisons",
+        Flaw::KeyTwice { .. } => "it sets a key twice",
+        Flaw::NoSuchKey { .. } => "the database has no such key",
+    }
+}
+
+/// The key that is wrong.
+fn flaw_key(text: &mut Writer, flaw: Flaw) -> Result<(), AllocError>
+    ensures tokens { OnOk result (text.new.tokens ≡ text.old.tokens ++ flaw_key flaw) }
+    ensures before { OnOk result (text.new.before ≡ text.old.before) }
+{
+    match flaw {
+        Flaw::NoSet | Flaw::TooLong => {}
+        Flaw::KeyTwice { key: at } | Flaw::NoSuchKey { key: at } => key(text, at)?,
+    }
+    Ok(())
+}
+
+/// The key whose comparison fails, and its value now.
+fn unmet_members(
+    alloc: Global,
+    text: &mut Writer,
+    at: Key,
+    now: &KeptImage,
+) -> Result<(), AllocError>
+    ensures tokens { OnOk result (text.new.tokens ≡ text.old.tokens ++ unmet_tokens at now.now) }
+    ensures before { OnOk result (text.new.before ≡ text.old.before) }
+{
+    begin_unmet(text)?;
+    key(text, at)?;
+    value(alloc, text, now)?;
+    end_unmet(text)?;
+    Ok(())
+}
+
+/// What stands before a comparison that fails.
+fn begin_unmet(text: &mut Writer) -> Result<(), AllocError>
+    ensures tokens { OnOk result (text.new.tokens ≡ text.old.tokens ++ key (codes "not_as_asked") ∷ begin_array ∷ begin_object ∷ []) }
+    ensures before { OnOk result (text.new.before ≡ text.old.before) }
+{
+    text.key("not_as_asked")?;
+    text.begin_array()?;
+    text.begin_object()?;
+    Ok(())
+}
+
+/// What stands behind it.
+fn end_unmet(text: &mut Writer) -> Result<(), AllocError>
+    ensures tokens { OnOk result (text.new.tokens ≡ text.old.tokens ++ end_object ∷ end_array ∷ []) }
+    ensures before { OnOk result (text.new.before ≡ text.old.before) }
+{
+    text.end_object()?;
+    text.end_array()?;
+    Ok(())
+}

@@ -1,0 +1,89 @@
+ghost use Rattle.std.specs.Prelude.{◌≡◌};
+ghost use Rattle.als_asking.specs.Telling.{status_of_refusal, status_of_outcome, status_of_denied};
+ghost use Rattle.als_asking.specs.Telling.{status_of, status_unwritten};
+
+use crate::denied::Denied;
+use crate::outcome::Outcome;
+use crate::unread::Unread;
+use als_writer::Refusal;
+use http::StatusCode;
+
+/// What a request for commits is answered.
+#[derive(Drop)]
+pub enum Told {
+    /// The outcome of its one transaction. Lost: of an array, no list of outcomes was left.
+    One(Outcome),
+    /// The outcomes of its array of transactions, in order.
+    Each(Vec<Outcome>),
+    /// It asks for no transaction.
+    Unread(Unread),
+    /// It may not commit.
+    Denied(Denied),
+}
+
+impl Told {
+    /// The status of its response.
+    #[tactic(auto, unfolding(crate::specs::Telling::status_of))]
+    pub fn status(&self) -> StatusCode
+        ensures { result ≡ status_of self.now }
+    {
+        match self {
+            Told::One(outcome) => status_of_outcome(outcome),
+            Told::Each(_) => StatusCode::OK,
+            Told::Unread(Unread::Memory) => StatusCode::SERVICE_UNAVAILABLE,
+            Told::Unread(_) => StatusCode::BAD_REQUEST,
+            Told::Denied(why) => status_of_denied(*why),
+        }
+    }
+
+    /// The status of a response that could not be written, for want of memory.
+    pub(crate) fn status_unwritten(&self) -> StatusCode
+        ensures { result ≡ status_unwritten self.now }
+    {
+        match self {
+            Told::One(_) | Told::Each(_) => StatusCode::GATEWAY_TIMEOUT,
+            Told::Unread(_) | Told::Denied(_) => StatusCode::SERVICE_UNAVAILABLE,
+        }
+    }
+}
+
+/// The status of one transaction.
+pub fn status_of_outcome(outcome: &Outcome) -> StatusCode
+    ensures { result ≡ status_of_outcome outcome.now }
+{
+    match outcome {
+        Outcome::Committed(_) => StatusCode::OK,
+        Outcome::Refused(refusal) => status_of_refusal(refusal),
+        Outcome::NotBegun => StatusCode::SERVICE_UNAVAILABLE,
+        Outcome::Unknown(_) | Outcome::Lost => StatusCode::GATEWAY_TIMEOUT,
+    }
+}
+
+/// The status of a transaction that was refused.
+fn status_of_refusal(refusal: &Refusal) -> StatusCode
+    ensures { result ≡ status_of_refusal refusal.now }
+{
+    match refusal {
+        Refusal::Invalid(_) => StatusCode::BAD_REQUEST,
+        Refusal::Held { .. } | Refusal::NotAsAsked { .. } => StatusCode::CONFLICT,
+        Refusal::LogFull => StatusCode::INSUFFICIENT_STORAGE,
+        Refusal::State(_)
+        | Refusal::Untidy
+        | Refusal::NumbersSpent
+        | Refusal::TooMany
+        | Refusal::Memory { .. }
+        | Refusal::Unplanned(_) => StatusCode::SERVICE_UNAVAILABLE,
+    }
+}
+
+/// The status of a request that may not commit.
+fn status_of_denied(why: Denied) -> StatusCode
+    ensures { result ≡ status_of_denied why }
+{
+    match why {
+        Denied::Host => StatusCode::MISDIRECTED_REQUEST,
+        Denied::Method => StatusCode::METHOD_NOT_ALLOWED,
+        Denied::NoToken => StatusCode::UNAUTHORIZED,
+        Denied::Page | Denied::OtherToken => StatusCode::FORBIDDEN,
+    }
+}

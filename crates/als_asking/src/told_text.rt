@@ -1,0 +1,128 @@
+ghost use Rattle.std.specs.Prelude.{◌≡◌, IfOk, OnOk, ◌++◌, flat_map};
+ghost use Rattle.json.specs.Print.{print};
+ghost use Rattle.als_http.specs.Texts.{error_tokens};
+ghost use Rattle.als_asking.specs.Telling.{one_tokens, item_tokens, each_tokens, why_denied, HasText};
+
+use crate::denied::Denied;
+use crate::members::{number, string};
+use crate::outcome::Outcome;
+use crate::outcome_text::outcome_members;
+use crate::told::{Told, status_of_outcome};
+use json::Writer;
+use std::alloc::{AllocError, Global};
+
+/// The text of what a request is answered.
+#[tactic(auto, unfolding(crate::specs::Telling::HasText))]
+pub(crate) fn told_text(alloc: Global, told: &Told) -> Result<Vec<u8>, AllocError>
+    ensures { IfOk result (λ text. HasText told.now text.items) }
+{
+    match told {
+        Told::One(outcome) => one_text(alloc, outcome),
+        Told::Each(outcomes) => each_text(alloc, outcomes.as_slice()),
+        Told::Unread(why) => {
+            let why = format!(in alloc; "{why}")?;
+            error_text(alloc, why.as_str())
+        }
+        Told::Denied(why) => error_text(alloc, why_denied(*why)),
+    }
+}
+
+/// The text of one transaction.
+#[tactic(auto, using(crate::proofs::TextLaws::printed))]
+fn one_text(alloc: Global, outcome: &Outcome) -> Result<Vec<u8>, AllocError>
+    ensures { IfOk result (λ text. text.items ≡ print (one_tokens outcome.now)) }
+{
+    let mut text = Writer::new(Vec::new(alloc));
+    write_one(alloc, &mut text, outcome)?;
+    Ok(text.into_inner())
+}
+
+/// The object of one transaction.
+fn write_one(alloc: Global, text: &mut Writer, outcome: &Outcome) -> Result<(), AllocError>
+    ensures tokens { OnOk result (text.new.tokens ≡ text.old.tokens ++ one_tokens outcome.now) }
+    ensures before { OnOk result (text.new.before ≡ text.old.before) }
+{
+    text.begin_object()?;
+    outcome_members(alloc, text, outcome)?;
+    text.end_object()?;
+    Ok(())
+}
+
+/// The text of an array of transactions.
+#[tactic(auto, using(crate::proofs::TextLaws::printed))]
+fn each_text(alloc: Global, outcomes: &[Outcome]) -> Result<Vec<u8>, AllocError>
+    ensures { IfOk result (λ text. text.items ≡ print (each_tokens outcomes.now)) }
+{
+    let mut text = Writer::new(Vec::new(alloc));
+    write_each(alloc, &mut text, outcomes)?;
+    Ok(text.into_inner())
+}
+
+/// The array of these outcomes.
+fn write_each(alloc: Global, text: &mut Writer, outcomes: &[Outcome]) -> Result<(), AllocError>
+    ensures tokens { OnOk result (text.new.tokens ≡ text.old.tokens ++ each_tokens outcomes.now) }
+    ensures before { OnOk result (text.new.before ≡ text.old.before) }
+{
+    text.begin_array()?;
+    write_items(alloc, text, outcomes)?;
+    text.end_array()?;
+    Ok(())
+}
+
+/// The items of an array.
+fn write_items(alloc: Global, text: &mut Writer, outcomes: &[Outcome]) -> Result<(), AllocError>
+    ensures tokens { OnOk result (text.new.tokens ≡ text.old.tokens ++ flat_map item_tokens outcomes.now) }
+    ensures before { OnOk result (text.new.before ≡ text.old.before) }
+{
+    for i in 0..outcomes.len() {
+        write_item(alloc, text, &outcomes[i])?;
+    }
+    Ok(())
+}
+
+/// The object of a transaction of an array.
+fn write_item(alloc: Global, text: &mut Writer, outcome: &Outcome) -> Result<(), AllocError>
+    ensures tokens { OnOk result (text.new.tokens ≡ text.old.tokens ++ item_tokens outcome.now) }
+    ensures before { OnOk result (text.new.before ≡ text.old.before) }
+{
+    text.begin_object()?;
+    let status = status_of_outcome(outcome);
+    number(text, "status", u64::from(status.as_u16()))?;
+    outcome_members(alloc, text, outcome)?;
+    text.end_object()?;
+    Ok(())
+}
+
+/// The text of a request that asks for nothing.
+#[tactic(auto, using(crate::proofs::TextLaws::printed))]
+fn error_text(alloc: Global, why: &str) -> Result<Vec<u8>, AllocError>
+    ensures { IfOk result (λ text. text.items ≡ print (error_tokens why.now)) }
+{
+    let mut text = Writer::new(Vec::new(alloc));
+    write_error(&mut text, why)?;
+    Ok(text.into_inner())
+}
+
+/// The object of a request that asks for nothing.
+fn write_error(text: &mut Writer, why: &str) -> Result<(), AllocError>
+    ensures tokens { OnOk result (text.new.tokens ≡ text.old.tokens ++ error_tokens why.now) }
+    ensures before { OnOk result (text.new.before ≡ text.old.before) }
+{
+    text.begin_object()?;
+    string(text, "error", why)?;
+    text.end_object()?;
+    Ok(())
+}
+
+/// Why a request may not commit.
+fn why_denied(why: Denied) -> &'static str
+    ensures { result.now ≡ why_denied why }
+{
+    match why {
+        Denied::Host => "this node has no such host: localhost, 127.0.0.1, [::1]",
+        Denied::Method => "transactions are committed by POST",
+        Denied::Page => "a page of a browser may not commit",
+        Denied::NoToken => "a commit brings the token: Authorization: Bearer TOKEN",
+        Denied::OtherToken => "this is not the token",
+    }
+}

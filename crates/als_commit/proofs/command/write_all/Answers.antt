@@ -1,0 +1,10 @@
+use Rattle.std.proofs.Common.{[]}
+use Rattle.als_lead.specs.Account.{taken_of, told_of}
+use Rattle.als_lead.proofs.Rounds.{leads_none}
+use Rattle.als_commit.proofs.command.write_all.Goals as goal
+
+pub returns-in_err-new-clause-leads : goal.returns-in_err-new-clause-leads
+returns-in_err-new-clause-leads g c = ([], [], leads_none g.E.Events.alone (g.E.Events.machine c.args.engine.now) [] [])
+
+pub returns-clause-leads : goal.returns-clause-leads
+returns-clause-leads g c = (taken_of c.lead.new.clients.account, told_of c.lead.new.clients.account, c.lead.ensures.leads)

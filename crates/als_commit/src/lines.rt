@@ -1,0 +1,141 @@
+ghost use Rattle.std.specs.Prelude.{◌≡◌};
+ghost use Rattle.als_lead.specs.Account.{taken_of, told_of};
+
+use crate::bad_line::BadLines;
+use crate::input_lines::{InputLine, next_line};
+use crate::printing::print;
+use als_lead::{Account, Answer, Asked, Clients, Waited};
+use als_operate::Fault;
+use als_request::{Mistake, transaction};
+use als_writer::{Transaction, find_flaw};
+use std::alloc::Global;
+use std::io::{BufReader, Read, Write};
+
+/// Why no more lines are taken.
+#[derive(Clone, Copy, PartialEq, Eq)]
+pub(crate) enum LinesEnd {
+    /// The input is at its end.
+    End,
+    /// A line is no transaction.
+    Bad,
+}
+
+/// A line of the input, read.
+enum Line {
+    /// It is a transaction.
+    Transaction(Transaction),
+    /// It is none, which `bad` received.
+    Bad,
+    /// There is none any more.
+    End,
+}
+
+/// The clients of a leader that are the lines of an input. Each is answered by a line of the output.
+#[derive(Drop)]
+pub(crate) struct Lines<'a, I: Read, B: BadLines, O: Write> {
+    pub alloc: Global,
+    pub input: BufReader<I>,
+    /// The line that was read last.
+    pub line: Vec<u8>,
+    /// Its number, counted from 1.
+    pub number: u64,
+    /// The pages of the database.
+    pub pages: u32,
+    /// A line that is no transaction is passed over.
+    pub skip_bad: bool,
+    /// None: more lines may be taken.
+    pub end: Option<LinesEnd>,
+    pub bad: &'a mut B,
+    pub output: &'a mut O,
+    /// What was taken and printed, for clauses alone.
+    pub account: Account,
+}
+
+impl<I: Read + Drop, B: BadLines, O: Write> Clients for Lines<'_, I, B, O> {
+    ghost taken = { λ lines. taken_of lines.account };
+
+    ghost told = { λ lines. told_of lines.account };
+
+    fn wait(&mut self) -> Result<Waited, Fault> {
+        match self.end {
+            None => Ok(Waited::Asks),
+            Some(_) => Ok(Waited::Closed),
+        }
+    }
+
+    fn next(&mut self) -> Result<Option<Asked>, Fault> {
+        match self.next_transaction()? {
+            Some(transaction) => {
+                let asked = Asked {
+                    seat: self.number,
+                    transaction,
+                };
+                self.account.take(&asked);
+                Ok(Some(asked))
+            }
+            None => Ok(None),
+        }
+    }
+
+    fn tell(&mut self, asked: Asked, answer: Answer) -> Result<(), Fault> {
+        let printed = print(&answer, self.output);
+        self.account.tell(&asked, answer);
+        printed?;
+        Ok(())
+    }
+
+    fn end_group(&mut self) -> Result<(), Fault> {
+        self.output.flush()?;
+        Ok(())
+    }
+}
+
+impl<I: Read + Drop, B: BadLines, O: Write> Lines<'_, I, B, O> {
+    /// The next transaction. None: no more lines are taken.
+    fn next_transaction(&mut self) -> Result<Option<Transaction>, Fault>
+        ensures { self.new.account ≡ self.old.account }
+    {
+        for _ in 0..u64::MAX {
+            if self.end.is_some() {
+                break;
+            }
+            match self.read()? {
+                Line::Transaction(transaction) => return Ok(Some(transaction)),
+                Line::Bad if self.skip_bad => {}
+                Line::Bad => self.end = Some(LinesEnd::Bad),
+                Line::End => self.end = Some(LinesEnd::End),
+            }
+        }
+        Ok(None)
+    }
+
+    /// Reads a line.
+    fn read(&mut self) -> Result<Line, Fault>
+        ensures { self.new.account ≡ self.old.account }
+    {
+        match next_line(&mut self.input, &mut self.line)? {
+            InputLine::End => return Ok(Line::End),
+            InputLine::TooLong => {
+                self.number = self.number.saturating_add(1);
+                self.bad.too_long(self.number);
+                return Ok(Line::Bad);
+            }
+            InputLine::Whole => self.number = self.number.saturating_add(1),
+        }
+        let transaction = match transaction(self.alloc, self.line.as_slice()) {
+            Ok(transaction) => transaction,
+            Err(Mistake::Memory) => return Err(Fault::Memory),
+            Err(mistake) => {
+                self.bad.unreadable(self.number, mistake);
+                return Ok(Line::Bad);
+            }
+        };
+        match find_flaw(&transaction, self.pages) {
+            None => Ok(Line::Transaction(transaction)),
+            Some(flaw) => {
+                self.bad.invalid(self.number, flaw);
+                Ok(Line::Bad)
+            }
+        }
+    }
+}

@@ -1,0 +1,4 @@
+pub mod Going
+pub mod Doing
+pub mod Truths
+pub mod Rounds

@@ -1,0 +1,5 @@
+pub mod Going
+pub mod Account
+pub mod Answers
+pub mod Groups
+pub mod Leading

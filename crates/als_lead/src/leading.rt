@@ -1,0 +1,102 @@
+ghost use Rattle.std.specs.Prelude.{◌≡◌, [], IfOk};
+ghost use Rattle.als_writer.specs.Changes.{AreBounds};
+ghost use Rattle.als_lead.specs.Going.{Stays};
+ghost use Rattle.als_lead.specs.Leading.{Leads};
+
+use crate::clients::{Clients, Waited};
+use crate::limits::Limits;
+use crate::serving::serve;
+use crate::told::Told;
+use crate::upkeep::Upkeep;
+use als_engine::Writes;
+use als_operate::Fault;
+use als_writer::Changes;
+use std::alloc::Global;
+use std::collections::VecDeque;
+
+/// Leads an engine that nobody else drives, until its clients have closed or something fails: their
+/// transactions are written in groups, and each group is answered after its force.
+///
+/// The first failure of the clients, of the engine or of its upkeep. Memory: allocation failed.
+pub fn lead<E: Writes, C: Clients, U: Upkeep>(
+    alloc: Global,
+    engine: &mut E,
+    clients: &mut C,
+    upkeep: &mut U,
+    limits: Limits,
+) -> Result<(), Fault>
+    // However it ends: each transaction that was taken is answered once, in order, to its own seat.
+    // The log's commits are the old ones and those answered. Each answer is true of the log.
+    ensures leads { Leads E.alone (E.machine engine.old) (E.machine engine.new)
+        (C.taken clients.old) (C.taken clients.new) (C.told clients.old) (C.told clients.new) }
+    ensures book { E.book engine.new ≡ E.book engine.old }
+{
+    let mut changes = first_changes(alloc, engine)?;
+    let mut queue = VecDeque::with_capacity(alloc, limits.transactions.max(1))?;
+    for _ in 0..u64::MAX {
+        let goes_on = round(
+            alloc,
+            engine,
+            &mut changes,
+            clients,
+            upkeep,
+            &mut queue,
+            limits,
+        )?;
+        if !goes_on {
+            return Ok(());
+        }
+    }
+    Err(Fault::Stream)
+}
+
+/// What is known of the last commits at the start: none is above the last one of the log.
+fn first_changes<E: Writes>(alloc: Global, engine: &E) -> Result<Changes, Fault>
+    ensures bounds { IfOk result (λ changes. E.alone
+        → AreBounds changes (E.machine engine.now).held.pages (E.machine engine.now).held.log) }
+{
+    // For the prover alone: what always holds of the log.
+    let _ = engine.status();
+    let changes = Changes::new(alloc, engine.pages(), engine.writing().last_commit)?;
+    Ok(changes)
+}
+
+/// Waits for clients, and serves them where they ask. Then upkeep is done. Answers whether there may be
+/// more.
+fn round<E: Writes, C: Clients, U: Upkeep>(
+    alloc: Global,
+    engine: &mut E,
+    changes: &mut Changes,
+    clients: &mut C,
+    upkeep: &mut U,
+    queue: &mut VecDeque<Told>,
+    limits: Limits,
+) -> Result<bool, Fault>
+    requires bounded { E.alone → AreBounds changes.old (E.machine engine.old).held.pages
+        (E.machine engine.old).held.log }
+    requires empty { queue.old.items ≡ [] }
+    ensures leads { Leads E.alone (E.machine engine.old) (E.machine engine.new)
+        (C.taken clients.old) (C.taken clients.new) (C.told clients.old) (C.told clients.new) }
+    ensures emptied { queue.new.items ≡ [] }
+    ensures bounds { E.alone → AreBounds changes.new (E.machine engine.new).held.pages
+        (E.machine engine.new).held.log }
+    ensures book { E.book engine.new ≡ E.book engine.old }
+{
+    match clients.wait()? {
+        Waited::Closed => Ok(false),
+        Waited::Idle => rest(engine, upkeep),
+        Waited::Asks => {
+            serve(alloc, engine, changes, clients, upkeep, queue, limits)?;
+            rest(engine, upkeep)
+        }
+    }
+}
+
+/// Does what is due where nobody is served. The leader goes on.
+fn rest<E: Writes, U: Upkeep>(engine: &mut E, upkeep: &mut U) -> Result<bool, Fault>
+    ensures stays { E.alone → Stays (E.machine engine.old) (E.machine engine.new) }
+    ensures book { E.book engine.new ≡ E.book engine.old }
+{
+    upkeep.keep_up(engine)?;
+    Ok(true)
+}

@@ -1,0 +1,61 @@
+//! The leader of a primary: it owns the engine alone, and writes what its clients ask for.
+//!
+//! waits for clients -> writes each transaction of a group -> forces the log once -> answers all of
+//! the group, in order -> upkeep -> waits again
+//!
+//! 1. Nobody else makes events. So each answer is true of the engine's own log.
+//! 2. All of a group is answered after its force, refusals too: a refusal may tell of a commit that a
+//!    crash takes back until then.
+//! 3. Each transaction that is taken is answered once, in the order in which it was taken, and to its
+//!    own seat.
+//! 4. Where a force fails, the transactions whose records may be in the log are answered `Unknown`,
+//!    the others are refused, and the leader ends.
+//! 5. What an earlier transaction owes to the log is written before the next one, and before the
+//!    force.
+#![tactic(auto)]
+
+// A transaction and where its answer goes.
+mod asked;
+// What becomes of it.
+mod answer;
+// Both of them.
+mod told;
+// What was asked and answered, for clauses.
+mod account;
+// Who asks.
+mod clients;
+// What a group may have.
+mod limits;
+// One transaction written.
+mod writing;
+// The transactions of a group written.
+mod filling;
+// The log made durable.
+mod forcing;
+// A group answered.
+mod telling;
+// All of a group.
+mod serving;
+// What is done between groups.
+mod keeping_up;
+mod upkeep;
+// Groups, one after another.
+mod leading;
+// Laws of the answers.
+mod laws;
+// The devices of a primary's folder, and the engine over them.
+mod devices;
+// The folder of a primary.
+mod opening;
+
+pub use account::Account;
+pub use answer::Answer;
+pub use asked::Asked;
+pub use clients::{Clients, Waited};
+pub use keeping_up::PrimaryUpkeep;
+pub use laws::a_true_answer_stays_true;
+pub use leading::lead;
+pub use limits::Limits;
+pub use opening::{Database, Primary, open};
+pub use told::Told;
+pub use upkeep::Upkeep;

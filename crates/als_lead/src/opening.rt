@@ -1,0 +1,159 @@
+use crate::devices::{begin, open_devices};
+use als_ckpt::{Fault as ControlFault, Phase, follow_again, read_state};
+use als_disk::{BlockDisk, FileDisk};
+use als_drive::{Progress, recover_telling};
+use als_engine::{Config, Engine, Fault as EngineFault, LOG_BLOCK_LIMIT, Reader};
+use als_folder::{Folder, Found, Role};
+use als_operate::{Extent, Fault, PENDING, extent_of, named};
+use als_ship::force;
+use als_writer::{Refusal, tidy};
+use std::fs::File;
+use std::rt::Files;
+use std::sync::Wait;
+
+/// The database of a primary.
+#[derive(Clone, Copy, Debug)]
+pub struct Database<'a> {
+    /// The folder of the primary's database.
+    pub dir: &'a str,
+    /// Pages of a new database, 1 to 4,096.
+    pub pages: Option<u64>,
+    /// Blocks of the log device of a new database, 1 to 4,194,304.
+    pub log_blocks: u64,
+    /// The readers of its view, 1 to 8.
+    pub readers: u64,
+}
+
+/// A primary whose folder is held. What it held is redone, and nothing is owed to its log.
+pub struct Primary {
+    pub folder: Folder,
+    pub engine: Engine<FileDisk>,
+    pub readers: Vec<Reader>,
+}
+
+/// An engine and the readers of its view.
+type Opened = (Engine<FileDisk>, Vec<Reader>);
+
+/// Opens the folder of a primary, or makes a new one of it.
+///
+/// BadConfig: there is no database, and no page count for a new one, or a number is out of its range.
+/// NotPrimary: it is a standby's folder. Sealed: a takeover is not at its end. Device: the folder or one
+/// of its files failed, or another program has it. Memory: allocation failed. Else as `Engine::open`
+/// says.
+pub fn open<R: AllocGlobal + Files<File = File> + Wait, P: Progress>(
+    rt: &R,
+    database: Database<'_>,
+    progress: &mut P,
+) -> Result<Primary, Fault> {
+    let folder = Folder::hold(rt, database.dir)?;
+    match open_in(rt, &folder, database, progress) {
+        Ok((engine, readers)) => Ok(Primary {
+            folder,
+            engine,
+            readers,
+        }),
+        Err(fault) => Err(named(&folder, fault)),
+    }
+}
+
+/// The engine of a folder that is held. What a crash left in mid-transaction is tidied, in one force.
+fn open_in<R: AllocGlobal + Files<File = File> + Wait, P: Progress>(
+    rt: &R,
+    folder: &Folder,
+    database: Database<'_>,
+    progress: &mut P,
+) -> Result<Opened, Fault> {
+    let (mut engine, readers) = open_or_begin(rt, folder, database)?;
+    recover_telling(rt, &mut engine, progress)?;
+    match tidy(rt.alloc(), &mut engine) {
+        Ok(()) => {}
+        Err(refusal) => return Err(ended(refusal)),
+    }
+    force(&mut engine)?;
+    Ok((engine, readers))
+}
+
+/// The engine of a folder's database, or of a new one.
+fn open_or_begin<R: AllocGlobal + Files<File = File> + Wait>(
+    rt: &R,
+    folder: &Folder,
+    database: Database<'_>,
+) -> Result<Opened, Fault> {
+    match folder.find(rt)? {
+        Found::Kept => {
+            follow_own_log(rt, folder)?;
+            open_devices(rt, folder, database.readers)
+        }
+        Found::Vacant(vacancy) => {
+            let config = config_of(database)?;
+            begin(rt, folder, vacancy, config, database.log_blocks)
+        }
+    }
+}
+
+/// The configuration of a new database. BadConfig: a number is out of its range, or there is no page
+/// count.
+fn config_of(database: Database<'_>) -> Result<Config, Fault> {
+    let Some(pages) = database.pages else {
+        return Err(Fault::Refused(EngineFault::BadConfig));
+    };
+    let config = Config {
+        pages,
+        frames: pages,
+        pending: PENDING,
+        readers: database.readers,
+    };
+    if config.is_valid() && (1..=LOG_BLOCK_LIMIT).contains(&database.log_blocks) {
+        Ok(config)
+    } else {
+        Err(Fault::Refused(EngineFault::BadConfig))
+    }
+}
+
+/// Why a primary is not opened that can't be tidied.
+fn ended(refusal: Refusal) -> Fault {
+    match refusal {
+        Refusal::Memory { .. } => Fault::Memory,
+        Refusal::State(fault) | Refusal::Unplanned(fault) => Fault::Refused(fault),
+        _ => Fault::Refused(EngineFault::NotDrained),
+    }
+}
+
+/// Lets the node of a folder follow its own log, as a primary does, where it is a primary's or was
+/// taken over. A node that was taken over gets the role of its epoch first, and then its control block says
+/// Following; a stop between leaves a primary with a role, which is made one again.
+///
+/// Files that say nothing are left to those who open them.
+fn follow_own_log<R: AllocGlobal + Files<File = File>>(
+    rt: &R,
+    folder: &Folder,
+) -> Result<(), Fault> {
+    let role = folder.role(rt)?;
+    let Some(Extent { pages, log_bytes }) = extent_of(rt, folder)? else {
+        return Ok(());
+    };
+    let mut control = folder.open_control(rt)?;
+    if control.blocks() == 0 {
+        return Ok(());
+    }
+    let state = match read_state(&mut control, pages, log_bytes) {
+        Ok(state) => state,
+        Err(ControlFault::BadControl) => return Ok(()),
+        Err(_) => return Err(Fault::Refused(EngineFault::Device)),
+    };
+    let own = Role {
+        epoch: state.history.epoch(),
+    };
+    match state.phase {
+        Phase::Sealed => Err(Fault::Refused(EngineFault::Sealed)),
+        Phase::Following if role == Some(own) => Ok(()),
+        Phase::Following => Err(Fault::Refused(EngineFault::NotPrimary)),
+        Phase::Primary => {
+            folder.make_role(rt, own)?;
+            match follow_again(&mut control, pages, log_bytes) {
+                Ok(_) => Ok(()),
+                Err(_) => Err(Fault::Refused(EngineFault::Device)),
+            }
+        }
+    }
+}

@@ -1,0 +1,69 @@
+ghost use Rattle.std.specs.Prelude.{◌≡◌, ◌++◌, []};
+ghost use Rattle.als_writer.specs.Changes.{AreBounds};
+ghost use Rattle.als_lead.specs.Leading.{Leads};
+ghost use Rattle.als_lead.specs.Going.{Tidies};
+
+use crate::clients::Clients;
+use crate::filling::fill;
+use crate::forcing::make_durable;
+use crate::limits::Limits;
+use crate::telling::{first, tell_all};
+use crate::told::Told;
+use crate::upkeep::Upkeep;
+use als_engine::Writes;
+use als_operate::Fault;
+use als_writer::{Changes, tidy};
+use std::alloc::Global;
+use std::collections::VecDeque;
+
+/// Serves one group: its transactions are written, the log is forced once, readers see what is
+/// committed, and then all of the group is answered.
+pub(crate) fn serve<E: Writes, C: Clients, U: Upkeep>(
+    alloc: Global,
+    engine: &mut E,
+    changes: &mut Changes,
+    clients: &mut C,
+    upkeep: &mut U,
+    queue: &mut VecDeque<Told>,
+    limits: Limits,
+) -> Result<(), Fault>
+    requires bounded { E.alone → AreBounds changes.old (E.machine engine.old).held.pages
+        (E.machine engine.old).held.log }
+    requires empty { queue.old.items ≡ [] }
+    ensures leads { Leads E.alone (E.machine engine.old) (E.machine engine.new)
+        (C.taken clients.old) (C.taken clients.new) (C.told clients.old) (C.told clients.new) }
+    ensures emptied { queue.new.items ≡ [] }
+    ensures bounds { E.alone → AreBounds changes.new (E.machine engine.new).held.pages
+        (E.machine engine.new).held.log }
+    ensures book { E.book engine.new ≡ E.book engine.old }
+{
+    let filled = fill(alloc, engine, changes, clients, queue, limits);
+    tidy_owed(alloc, engine, changes);
+    let forced = make_durable(engine);
+    let shown = match upkeep.publish(engine) {
+        Ok(()) => Ok(()),
+        Err(fault) => Err(Fault::Refused(fault)),
+    };
+    let told = tell_all(clients, queue, forced);
+    let ended = clients.end_group();
+    let durable = match forced {
+        Ok(_) => shown,
+        Err(fault) => Err(Fault::Refused(fault)),
+    };
+    first(first(filled, durable), first(told, ended))
+}
+
+/// Writes what the group owes to the log, where that can be done. Else it is owed on, and what it
+/// is the end of stays `Unknown`.
+fn tidy_owed<E: Writes>(alloc: Global, engine: &mut E, changes: &Changes)
+    ensures tidies { E.alone → Tidies (E.machine engine.old) (E.machine engine.new) }
+    ensures bounds { E.alone → AreBounds changes.now (E.machine engine.old).held.pages
+        (E.machine engine.old).held.log → AreBounds changes.now (E.machine engine.new).held.pages
+        (E.machine engine.new).held.log }
+    ensures book { E.book engine.new ≡ E.book engine.old }
+{
+    if matches!(engine.next_of_tail(), Ok(None)) {
+        return;
+    }
+    let _ = tidy(alloc, engine);
+}

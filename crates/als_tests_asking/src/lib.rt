@@ -1,0 +1,12 @@
+//! Tests of what a request for commits is answered. They use public names alone.
+#![tactic(auto)]
+
+// Commits and reads of these tests.
+#[cfg(test)]
+mod acting;
+// Outcomes, and what they are answered.
+#[cfg(test)]
+mod outcomes;
+// Requests that commit nothing.
+#[cfg(test)]
+mod refusals;

@@ -1,0 +1,81 @@
+ghost use Rattle.als_lead.specs.Account.{taken_of, told_of};
+
+use als_lead::{Account, Answer, Asked, Clients, Waited};
+use als_operate::Fault;
+use als_writer::Refusal;
+use std::collections::VecDeque;
+
+/// What a test compares of an answer.
+#[derive(Clone, Copy, PartialEq, Eq)]
+pub enum Seen {
+    Committed,
+    Unknown,
+    NotAsAsked,
+    LogFull,
+    Invalid,
+    State,
+    Other,
+}
+
+/// Clients that ask for transactions, each as soon as the leader takes one, and note what they are
+/// answered.
+#[derive(Drop)]
+pub struct Desk {
+    pub asks: VecDeque<Asked>,
+    /// The seats that were answered, in order.
+    pub seen: Vec<(u64, Seen)>,
+    /// How many groups were answered.
+    pub groups: u32,
+    pub account: Account,
+}
+
+impl Clients for Desk {
+    ghost taken = { λ desk. taken_of desk.account };
+
+    ghost told = { λ desk. told_of desk.account };
+
+    fn wait(&mut self) -> Result<Waited, Fault> {
+        if self.asks.is_empty() {
+            Ok(Waited::Closed)
+        } else {
+            Ok(Waited::Asks)
+        }
+    }
+
+    fn next(&mut self) -> Result<Option<Asked>, Fault> {
+        match self.asks.pop_front() {
+            Some(asked) => {
+                self.account.take(&asked);
+                Ok(Some(asked))
+            }
+            None => Ok(None),
+        }
+    }
+
+    fn tell(&mut self, asked: Asked, answer: Answer) -> Result<(), Fault> {
+        let seen = shown(&answer);
+        self.account.tell(&asked, answer);
+        match self.seen.push((asked.seat, seen)) {
+            Ok(()) => Ok(()),
+            Err(_) => Err(Fault::Memory),
+        }
+    }
+
+    fn end_group(&mut self) -> Result<(), Fault> {
+        self.groups = self.groups.saturating_add(1);
+        Ok(())
+    }
+}
+
+/// What a test compares of it.
+fn shown(answer: &Answer) -> Seen {
+    match answer {
+        Answer::Committed(_) => Seen::Committed,
+        Answer::Unknown(_) => Seen::Unknown,
+        Answer::Refused(Refusal::NotAsAsked { .. }) => Seen::NotAsAsked,
+        Answer::Refused(Refusal::LogFull) => Seen::LogFull,
+        Answer::Refused(Refusal::Invalid(_)) => Seen::Invalid,
+        Answer::Refused(Refusal::State(_)) => Seen::State,
+        Answer::Refused(_) => Seen::Other,
+    }
+}
