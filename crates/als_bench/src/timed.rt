@@ -11,8 +11,8 @@ use std::time::{Duration, Instant};
 
 /// A standby of which each event is timed by itself. A clock that fails counts as no time.
 ///
-/// It is no `Observer` of als_share: that has a hook before a feed and one after a status, and this one
-/// needs one before and one after twelve events, with a state of its own. Such hooks on each event of a
+/// It is no `Observer` of als_share: that has a hook at four of the events, and this one
+/// needs one before and one after twelve, with a state of its own. Such hooks on each event of a
 /// session would cost time where nothing is timed.
 pub struct Timed<'a, R: Clock, E: Events> {
     rt: &'a R,

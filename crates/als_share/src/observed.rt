@@ -99,7 +99,13 @@ impl<O: Observer, E: Events> Events for Observed<O, E> {
     }
 
     fn ctl_sync(&mut self) -> Result<Lsn, Fault> {
-        self.events.ctl_sync()
+        match self.events.ctl_sync() {
+            Ok(acknowledged) => {
+                self.observer.after_ctl_sync(acknowledged);
+                Ok(acknowledged)
+            }
+            Err(fault) => Err(fault),
+        }
     }
 
     fn ckpt_begin(&mut self) -> Result<(), Fault> {
@@ -135,7 +141,13 @@ impl<O: Observer, E: Events> Events for Observed<O, E> {
     }
 
     fn adopt(&mut self, history: History) -> Result<(), Fault> {
-        self.events.adopt(history)
+        match self.events.adopt(history) {
+            Ok(()) => {
+                self.observer.after_adopt(history);
+                Ok(())
+            }
+            Err(fault) => Err(fault),
+        }
     }
 
     fn finish(&mut self) -> Result<(), Fault> {
