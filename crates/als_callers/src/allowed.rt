@@ -1,0 +1,64 @@
+ghost use Rattle.std.specs.Prelude.{◌≡◌, ◌++◌, ◌∷◌, ◌⊎◌, [], true, false, OnOk, OnErr};
+ghost use Rattle.std.specs.List.{All, Contains};
+ghost use Rattle.als_callers.specs.Members.{Has, Lacks};
+ghost use Rattle.als_callers.specs.declared.block.Block.{Block as AnyBlock};
+
+use crate::block::Block;
+use std::alloc::{AllocError, Global};
+use std::net::IpAddr;
+
+/// Whose addresses may come, and count. Where no block is named, everybody's.
+pub struct Allowed {
+    blocks: Vec<Block>,
+}
+
+impl Drop for Allowed {
+    fn drop(self) {
+        let Allowed { blocks } = self;
+        drop(blocks);
+    }
+}
+
+impl Allowed {
+    /// Everybody, until a block is named.
+    pub fn new(alloc: Global) -> Allowed
+        ensures { result.blocks.items ≡ [] }
+    {
+        Allowed {
+            blocks: Vec::new(alloc),
+        }
+    }
+
+    /// Names one block more.
+    pub fn add(&mut self, block: Block) -> Result<(), AllocError>
+        ensures more { OnOk result (self.new.blocks.items ≡ self.old.blocks.items ++ block ∷ []) }
+        ensures same { OnErr result (self.new.blocks.items ≡ self.old.blocks.items) }
+    {
+        self.blocks.push(block)?;
+        Ok(())
+    }
+
+    /// Whether an address may come: no block is named, or one has it.
+    pub fn admits(&self, peer: IpAddr) -> bool
+        ensures yes { result ≡ true → (self.now.blocks.items ≡ [])
+            ⊎ ((block : AnyBlock) × Contains self.now.blocks.items block × Has block peer) }
+        ensures no { result ≡ false → ¬ (self.now.blocks.items ≡ [])
+            × All (λ block. Lacks block peer) self.now.blocks.items }
+    {
+        let blocks = self.blocks.as_slice();
+        blocks.is_empty() || has_any(blocks, peer)
+    }
+}
+
+/// Whether a block has an address.
+fn has_any(blocks: &[Block], peer: IpAddr) -> bool
+    ensures yes { result ≡ true → (block : AnyBlock) × Contains blocks.now block × Has block peer }
+    ensures no { result ≡ false → All (λ block. Lacks block peer) blocks.now }
+{
+    for block in blocks {
+        if block.has(peer) {
+            return true;
+        }
+    }
+    false
+}

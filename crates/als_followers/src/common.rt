@@ -1,0 +1,42 @@
+use crate::notices::Notices;
+use crate::session::Terms;
+use als_callers::{Allowed, Came, Desk, Gate};
+use als_quorum::{Quorum, Tail};
+use std::alloc::Global;
+use std::net::TcpStream;
+use std::sync::Arc;
+
+/// What all sessions of a log have in common.
+pub(crate) struct Common<O> {
+    /// What each of them reads the log from.
+    pub source: O,
+    pub tail: Arc<Tail, Global>,
+    pub quorum: Arc<Quorum, Global>,
+    pub allowed: Allowed,
+    pub terms: Terms,
+    pub gate: Gate,
+    pub desk: Desk<Came<TcpStream>>,
+    pub notices: Notices,
+}
+
+impl<O: Drop> Drop for Common<O> {
+    fn drop(self) {
+        let Common {
+            source,
+            tail,
+            quorum,
+            allowed,
+            terms: _,
+            gate,
+            desk,
+            notices,
+        } = self;
+        drop(source);
+        drop(tail);
+        drop(quorum);
+        drop(allowed);
+        drop(gate);
+        drop(desk);
+        drop(notices);
+    }
+}

@@ -1,0 +1,25 @@
+use als_record::Lsn;
+use als_ship::Fault;
+use std::net::IpAddr;
+
+/// What is told of a follower, to who runs the primary.
+#[derive(Clone, Copy)]
+pub struct Notice {
+    pub peer: IpAddr,
+    pub what: What,
+}
+
+/// What a follower did.
+#[derive(Clone, Copy)]
+pub enum What {
+    /// It asked, and goes on from there.
+    Came(Lsn),
+    /// Its session ended with all that was sent acknowledged.
+    Ended,
+    /// Its session ended early.
+    Went(Fault),
+    /// Its address may not come. It was hung up on.
+    Stranger,
+    /// As many sessions as may be go on. It was hung up on.
+    Crowded,
+}

@@ -1,0 +1,67 @@
+ghost use Rattle.std.specs.Prelude.{◌≡◌, ◌≤◌, ◌↔◌, ◌<◌, IsTrue, true, false, take, length, List};
+ghost use Rattle.als_quorum.specs.Enough.{AreVouchers, HasEnough, IsVouched, Vouches};
+ghost use Rattle.als_quorum.specs.declared.row.Row.{Row as AnyRow};
+
+use crate::row::Row;
+use als_record::Lsn;
+use std::net::IpAddr;
+
+/// How many different addresses that count have acknowledged this LSN.
+pub(crate) fn count_addresses(rows: &[Option<Row>], lsn: Lsn) -> usize
+    // So many rows can be chosen, and never more.
+    ensures some { HasEnough rows.now result lsn.0 }
+    ensures most { (chosen : List AnyRow) → AreVouchers rows.now lsn.0 chosen
+        → length chosen ≤ result }
+{
+    let mut count: usize = 0;
+    for (at, row) in rows.iter().enumerate() {
+        if is_first(rows, at, row, lsn) {
+            count += 1;
+        }
+    }
+    count
+}
+
+/// Whether a row vouches, and none before it of its address does.
+fn is_first(rows: &[Option<Row>], at: usize, row: &Option<Row>, lsn: Lsn) -> bool
+    requires { at < length rows.now }
+    ensures first { result ≡ true → (own : AnyRow) × (row.now ≡ Some own) × Vouches lsn.0 own
+        × ¬ (IsVouched (take at rows.now) lsn.0 own.peer) }
+    ensures other { result ≡ false → (own : AnyRow) → row.now ≡ Some own → Vouches lsn.0 own
+        → IsVouched (take at rows.now) lsn.0 own.peer }
+{
+    match row {
+        Some(own) => own.vouches(lsn) && !is_vouched(&rows[..at], own.peer, lsn),
+        None => false,
+    }
+}
+
+/// Whether a row of this address vouches.
+fn is_vouched(rows: &[Option<Row>], peer: IpAddr, lsn: Lsn) -> bool
+    ensures { IsTrue result ↔ IsVouched rows.now lsn.0 peer }
+{
+    for row in rows {
+        if is_voucher(row, peer, lsn) {
+            return true;
+        }
+    }
+    false
+}
+
+/// Whether a row is of this address, and vouches.
+fn is_voucher(row: &Option<Row>, peer: IpAddr, lsn: Lsn) -> bool
+    ensures { IsTrue result ↔ ((own : AnyRow) × (row.now ≡ Some own) × Vouches lsn.0 own
+        × (own.peer ≡ peer)) }
+{
+    match row {
+        Some(own) => own.vouches(lsn) && is_same(own.peer, peer),
+        None => false,
+    }
+}
+
+/// Whether two addresses are one.
+fn is_same(one: IpAddr, other: IpAddr) -> bool
+    ensures { IsTrue result ↔ (one ≡ other) }
+{
+    one == other
+}

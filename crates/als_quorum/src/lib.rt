@@ -1,0 +1,36 @@
+//! What a leader and the sessions of its followers share: up to where its log may be read, and what the
+//! followers acknowledged.
+//!
+//! ```text
+//! leader  --raise--> tail --wait_past--> session: reads the log below it
+//! session --join--> a seat --acknowledge--> its row's LSN rises --leave--> the seat is free
+//! leader  --wait_for(k, lsn)--> sleeps until k addresses that count have acknowledged lsn
+//! ```
+//!
+//! 1. Each session has a seat, and each seat a row: the address, whether it counts, and the greatest LSN
+//!    that the session acknowledged. A row's LSN never falls, and neither does the tail.
+//! 2. An address counts once, whatever number of sessions it has. An IPv4-mapped IPv6 address is its IPv4
+//!    address.
+//! 3. A session that ends takes its LSN with it. The follower may come back with an older log, or another
+//!    machine at its address, so it has to acknowledge again.
+//! 4. Who waits is woken when a row or the tail rises and when it closes, and gives up in time.
+#![tactic(auto)]
+
+// The follower of one seat.
+mod row;
+// The rows of all seats.
+mod roll;
+// How many addresses vouch for an LSN.
+mod counting;
+// The roll under its lock.
+mod quorum;
+// Up to where a log may be read.
+mod reach;
+// The same under its lock.
+mod tail;
+
+pub use quorum::Quorum;
+pub use reach::Reach;
+pub use roll::{Roll, SEATS};
+pub use row::Row;
+pub use tail::Tail;

@@ -1,0 +1,125 @@
+use crate::roll::{Roll, SEATS};
+use crate::row::Row;
+use als_record::Lsn;
+use std::alloc::{AllocError, Global};
+use std::net::IpAddr;
+use std::sync::{Condvar, CondvarTimeouts, Mutex, Wait};
+use std::time::{Clock, Duration};
+
+/// The roll, and whether anybody still waits for it.
+struct Held {
+    roll: Roll,
+    is_closed: bool,
+}
+
+impl Drop for Held {
+    fn drop(self) {
+        let Held { roll, is_closed: _ } = self;
+        drop(roll);
+    }
+}
+
+impl Held {
+    /// Whether a leader that wants so many goes on waiting.
+    fn is_awaited(&self, count: u32, lsn: Lsn) -> bool {
+        !self.is_closed && !self.roll.has_enough(count, lsn)
+    }
+}
+
+/// The roll under its lock, which sessions and a leader share.
+pub struct Quorum {
+    held: Mutex<Held>,
+    changed: Condvar,
+}
+
+impl Drop for Quorum {
+    fn drop(self) {
+        let Quorum { held, changed: _ } = self;
+        drop(held);
+    }
+}
+
+impl Quorum {
+    /// So many free seats, up to eight.
+    pub fn new(alloc: Global, seats: u32) -> Result<Quorum, AllocError> {
+        let roll = Roll::new(alloc, seats)?;
+        let held = Held {
+            roll,
+            is_closed: false,
+        };
+        Ok(Quorum {
+            held: Mutex::new(held),
+            changed: Condvar::new(),
+        })
+    }
+
+    /// Takes a free seat for the follower of a session, which has acknowledged nothing yet. None: all are
+    /// taken.
+    pub fn join<R: Wait + Clock>(&self, rt: &R, peer: IpAddr, counts: bool) -> Option<u32> {
+        let now = now_of(rt);
+        self.held.lock(rt).roll.join(peer, counts, now)
+    }
+
+    /// The follower of a seat has acknowledged the log up to there.
+    pub fn acknowledge<R: Wait + Clock>(&self, rt: &R, seat: u32, lsn: Lsn) {
+        let now = now_of(rt);
+        self.held.lock(rt).roll.acknowledge(seat, lsn, now);
+        self.changed.notify_all();
+    }
+
+    /// The session of a seat has ended.
+    pub fn leave<R: Wait>(&self, rt: &R, seat: u32) {
+        self.held.lock(rt).roll.leave(seat);
+    }
+
+    /// Waits until so many followers of different addresses, each of which counts, have acknowledged the
+    /// log up to there, for so long at most. Answers whether they had in the end. Once closed it does not
+    /// wait.
+    pub fn wait_for<R: Wait + Clock>(
+        &self,
+        rt: &R,
+        count: u32,
+        lsn: Lsn,
+        at_most: Duration,
+    ) -> bool {
+        let held = self.held.lock(rt);
+        if !held.is_awaited(count, lsn) {
+            return held.roll.has_enough(count, lsn);
+        }
+        let (held, _) = self
+            .changed
+            .wait_timeout_while(rt, held, at_most, |held| held.is_awaited(count, lsn));
+        held.roll.has_enough(count, lsn)
+    }
+
+    /// Wakes all who wait. Nobody waits any more.
+    pub fn close<R: Wait>(&self, rt: &R) {
+        self.held.lock(rt).is_closed = true;
+        self.changed.notify_all();
+    }
+
+    /// A copy of the rows, by seat.
+    pub fn rows<R: Wait>(&self, rt: &R) -> [Option<Row>; SEATS as usize] {
+        let mut rows = [None; SEATS as usize];
+        let held = self.held.lock(rt);
+        copy_rows(held.roll.rows(), &mut rows);
+        rows
+    }
+}
+
+/// Copies the rows that there is room for.
+fn copy_rows(from: &[Option<Row>], into: &mut [Option<Row>; SEATS as usize]) {
+    for (at, row) in from.iter().enumerate() {
+        if at < into.len() {
+            into[at] = *row;
+        }
+    }
+}
+
+/// The time by the clock. A clock that can't be read says 0.
+fn now_of<C: Clock>(clock: &C) -> Duration {
+    match clock.monotonic() {
+        Ok(now) => now,
+        Err(_) => Duration::ZERO,
+    }
+}

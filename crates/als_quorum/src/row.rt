@@ -1,0 +1,42 @@
+ghost use Rattle.std.specs.Prelude.{◌≡◌, ◌≤◌, ◌↔◌, IsTrue};
+ghost use Rattle.als_quorum.specs.Enough.{Vouches};
+ghost use Rattle.als_quorum.specs.Rows.{raised};
+
+use als_record::Lsn;
+use std::net::IpAddr;
+use std::time::Duration;
+
+/// The follower of one seat, since its session began.
+#[derive(Clone, Copy)]
+pub struct Row {
+    /// Its address. An IPv4-mapped one stands here as its IPv4 address.
+    pub peer: IpAddr,
+    /// Whether what it acknowledges counts.
+    pub counts: bool,
+    /// The greatest LSN that it acknowledged. 0: none yet.
+    pub acknowledged: Lsn,
+    /// When it came, by the clock.
+    pub connected: Duration,
+    /// When it acknowledged last, by the clock. None: not yet.
+    pub heard: Option<Duration>,
+}
+
+impl Row {
+    /// The row once its follower has acknowledged this LSN. An older one changes the time alone.
+    pub(crate) fn raised(self, lsn: Lsn, now: Duration) -> Row
+        ensures { result ≡ raised lsn now self }
+    {
+        Row {
+            acknowledged: Lsn(self.acknowledged.0.max(lsn.0)),
+            heard: Some(now),
+            ..self
+        }
+    }
+
+    /// Whether it counts, and has acknowledged the log up to there.
+    pub fn vouches(self, lsn: Lsn) -> bool
+        ensures { IsTrue result ↔ Vouches lsn.0 self }
+    {
+        self.counts && self.acknowledged.0 >= lsn.0
+    }
+}

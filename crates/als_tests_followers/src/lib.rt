@@ -1,0 +1,15 @@
+//! Tests of als_callers and als_followers. They use public names alone.
+#![tactic(auto)]
+
+// Blocks of addresses.
+#[cfg(test)]
+mod blocks;
+// A log in memory, and followers of it.
+#[cfg(test)]
+mod made;
+// Sessions over the loopback.
+#[cfg(test)]
+mod sessions;
+// Who is hung up on.
+#[cfg(test)]
+mod crowds;

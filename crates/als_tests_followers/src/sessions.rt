@@ -1,0 +1,49 @@
+use crate::made::{Made, follow, make, next, notice};
+use als_followers::What;
+use als_record::Lsn;
+use std::alloc::Global;
+use std::net::{Net, TcpStream};
+use std::sync::Wait;
+use std::test::Fail;
+use std::thread::Threads;
+use std::time::{Clock, Duration};
+
+/// Whether a follower gets what is below the tail, and more as that rises; whether the leader sees what it
+/// acknowledged; and whether its session ends in order. None: something failed.
+fn grow<R: Net<Stream = TcpStream> + Threads + Wait + Clock + Clone + Send + Sync + Drop + 'static>(
+    rt: &R,
+    alloc: Global,
+    made: Made<R>,
+) -> Option<[bool; 6]> {
+    let Made {
+        followers,
+        tail,
+        quorum,
+        at,
+    } = made;
+    let mut right = [false; 6];
+    let long = Duration::from_secs(20);
+    let mut stream = follow(rt, at, 16)?;
+    right[0] = next(alloc, &mut stream)? == (16, 100);
+    right[1] = quorum.wait_for(rt, 1, Lsn(116), long);
+    tail.raise(rt, Lsn(200));
+    right[2] = next(alloc, &mut stream)? == (116, 84);
+    right[3] = quorum.wait_for(rt, 1, Lsn(200), long)
+        && !quorum.wait_for(rt, 2, Lsn(16), Duration::from_millis(10));
+    right[4] = matches!(notice(rt, &followers)?, What::Came(Lsn(16)));
+    tail.close(rt);
+    right[5] = next(alloc, &mut stream)? == (200, 0)
+        && matches!(notice(rt, &followers)?, What::Ended)
+        && !quorum.wait_for(rt, 1, Lsn(16), Duration::from_millis(10));
+    followers.close(rt);
+    Some(right)
+}
+
+#[test]
+fn a_follower_gets_the_log_as_it_grows(rt: HostRuntime) -> Result<(), Fail> {
+    let alloc = rt.alloc();
+    let made = make(&rt, alloc, "127.0.0.0/8")?;
+    let right = grow(&rt, alloc, made);
+    assert!(rt; right == Some([true; 6]));
+    Ok(())
+}

@@ -1,0 +1,104 @@
+use als_quorum::Quorum;
+use als_record::Lsn;
+use std::alloc::Global;
+use std::net::{IpAddr, Ipv4Addr};
+use std::sync::Wait;
+use std::test::Fail;
+use std::thread;
+use std::time::{Clock, Duration};
+
+/// No time.
+const NONE: Duration = Duration::ZERO;
+
+/// An address that ends so.
+fn v4(last: u8) -> IpAddr {
+    IpAddr::V4(Ipv4Addr::new(10, 0, 0, last))
+}
+
+/// A quorum with a follower at each of two addresses, in seats 0 and 1. None: allocation failed.
+fn two<R: Wait + Clock>(rt: &R, alloc: Global) -> Option<Quorum> {
+    let quorum = Quorum::new(alloc, 8).ok()?;
+    quorum.join(rt, v4(1), true)?;
+    quorum.join(rt, v4(2), true)?;
+    Some(quorum)
+}
+
+/// The same, tried twice.
+fn made<R: Wait + Clock>(rt: &R, alloc: Global) -> Option<Quorum> {
+    two(rt, alloc).or(two(rt, alloc))
+}
+
+/// Waits for two followers, for so many milliseconds at most.
+fn wait_for_two<R: Wait + Clock>(rt: &R, quorum: &Quorum, millis: u64) -> bool {
+    quorum.wait_for(rt, 2, Lsn(108), Duration::from_millis(millis))
+}
+
+/// Acknowledges in both seats, one after another.
+fn acknowledge_both<R: Wait + Clock>(rt: &R, quorum: &Quorum) {
+    thread::sleep(rt, Duration::from_millis(20));
+    quorum.acknowledge(rt, 1, Lsn(108));
+    thread::sleep(rt, Duration::from_millis(20));
+    quorum.acknowledge(rt, 0, Lsn(200));
+}
+
+#[test]
+fn a_leader_is_woken(rt: HostRuntime) -> Result<(), Fail> {
+    let quorum = made(&rt, rt.alloc()).ok_or("memory")?;
+    let quorum = &quorum;
+    let rt = &rt;
+    let (found, ()) = thread::join(
+        rt,
+        move || wait_for_two(rt, quorum, 50_000),
+        move || acknowledge_both(rt, quorum),
+    );
+    assert!(rt; found);
+    assert!(rt; quorum.wait_for(rt, 2, Lsn(108), NONE));
+    assert!(rt; quorum.wait_for(rt, 0, Lsn(1_000), NONE));
+    assert!(rt; !quorum.wait_for(rt, 2, Lsn(109), NONE));
+    Ok(())
+}
+
+#[test]
+fn a_leader_gives_up_in_time(rt: HostRuntime) -> Result<(), Fail> {
+    let quorum = made(&rt, rt.alloc()).ok_or("memory")?;
+    quorum.acknowledge(&rt, 0, Lsn(108));
+    assert!(rt; !wait_for_two(&rt, &quorum, 20));
+    quorum.acknowledge(&rt, 1, Lsn(108));
+    assert!(rt; wait_for_two(&rt, &quorum, 20));
+    quorum.leave(&rt, 1);
+    assert!(rt; !wait_for_two(&rt, &quorum, 20));
+    Ok(())
+}
+
+/// Closes a quorum after a while.
+fn close_late<R: Wait + Clock>(rt: &R, quorum: &Quorum) {
+    thread::sleep(rt, Duration::from_millis(20));
+    quorum.close(rt);
+}
+
+#[test]
+fn a_close_wakes_who_waits(rt: HostRuntime) -> Result<(), Fail> {
+    let quorum = made(&rt, rt.alloc()).ok_or("memory")?;
+    let quorum = &quorum;
+    let rt = &rt;
+    let (found, ()) = thread::join(
+        rt,
+        move || wait_for_two(rt, quorum, 50_000),
+        move || close_late(rt, quorum),
+    );
+    assert!(rt; !found);
+    Ok(())
+}
+
+#[test]
+fn rows_are_copied(rt: HostRuntime) -> Result<(), Fail> {
+    let quorum = made(&rt, rt.alloc()).ok_or("memory")?;
+    quorum.acknowledge(&rt, 1, Lsn(108));
+    let [one, two, three, ..] = quorum.rows(&rt);
+    assert!(rt; three.is_none());
+    assert!(rt; one.map(|row| row.acknowledged.0) == Some(0));
+    assert!(rt; two.map(|row| row.acknowledged.0) == Some(108));
+    assert!(rt; one.map(|row| row.heard.is_some()) == Some(false));
+    assert!(rt; two.map(|row| row.heard.is_some()) == Some(true));
+    Ok(())
+}
