@@ -5,7 +5,9 @@ pub mod Spelt
 pub mod Roomy
 pub mod Reread
 pub mod Feeding
+pub mod Closed
 pub mod Committed
+pub mod Prepared
 pub mod Owing
 pub mod Looking
 pub mod Below

@@ -7,7 +7,7 @@ use Rattle.als_record.specs.LogText.{spellings, end_of}
 use Rattle.als_record.specs.Commits.{Write}
 use Rattle.als_record.proofs.LogLaws.{spellings-nil, spellings_push}
 use Rattle.als_record.proofs.Places.{end_of-push}
-use Rattle.als_writing.specs.Writing.{Move, Writes, Commits, Ends, record_for, moved, updates, transaction}
+use Rattle.als_writing.specs.Writing.{Move, Writes, Commits, Ends, Prepares, record_for, moved, updates, transaction, prepared}
 use Rattle.als_writing.proofs.Moved.{moved-push}
 use Rattle.als_writer.specs.declared.place.Place.{Place}
 use Rattle.als_writer.specs.Placing.{IsPlaceOf}
@@ -47,6 +47,10 @@ all-updates log t ws = refl
 pub whole-transaction : (log : List Record) (t : ℕ) (ws : List Write) → moved log t ((map Writes ws ++ Commits ∷ []) ++ Ends ∷ []) ≡ transaction log t ws
 unfolding transaction
 whole-transaction log t ws = ap (moved log t) (append_assoc (map Writes ws) (Commits ∷ []) (Ends ∷ []))
+
+pub whole-prepared : (log : List Record) (t : ℕ) (ws : List Write) → moved log t (map Writes ws ++ Prepares ∷ []) ≡ prepared log t ws
+unfolding prepared
+whole-prepared log t ws = refl
 
 -- where the moves end with one more
 pub end_of-more : (log : List Record) (t : ℕ) (done : List Move) (move : Move) → end_of (log ++ moved log t (done ++ move ∷ [])) ≡ end_of (log ++ moved log t done) + record_len (record_for (log ++ moved log t done) t move)

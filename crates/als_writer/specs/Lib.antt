@@ -1,4 +1,5 @@
 pub mod Checking
+pub mod Closing
 pub mod Placing
 pub mod Changes
 pub mod Asking
@@ -6,4 +7,5 @@ pub mod Refusing
 pub mod Refused
 pub mod Planning
 pub mod Committing
+pub mod Preparing
 pub mod Tidying

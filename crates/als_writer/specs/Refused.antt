@@ -1,5 +1,5 @@
 -- Why a transaction is refused before anything is fed.
-use Rattle.std.specs.Prelude.{◌≡◌, ◌+◌, ◌*◌, ◌<◌, ◌≤◌, ◌^◌, ◌⊎◌, false, List, [], length, Some}
+use Rattle.std.specs.Prelude.{◌≡◌, ℕ, ◌+◌, ◌*◌, ◌<◌, ◌≤◌, ◌^◌, ◌⊎◌, false, List, [], length, Some}
 use Rattle.als_record.specs.declared.key.Key.{Key}
 use Rattle.als_record.specs.Spelling.{IsKey}
 use Rattle.als_record.specs.LogText.{end_of}
@@ -36,6 +36,12 @@ IsFull m ws =
     (512 * m.held.blocks < end_of m.held.log + reserve_of m.held.log + room_for m.held.log (greatest_trans m.held.log + 1) ws)
     ⊎ (2 ^ 64 ≤ end_of m.held.log + 131072)
 
+-- the same, of a transaction that takes so many bytes besides
+abbrev pub IsFullBeside : ℕ → Machine → List Write → Type 0
+IsFullBeside extra m ws =
+    (512 * m.held.blocks < end_of m.held.log + reserve_of m.held.log + room_for m.held.log (greatest_trans m.held.log + 1) ws + extra)
+    ⊎ (2 ^ 64 ≤ end_of m.held.log + 131072)
+
 -- why a transaction is not planned
 abbrev pub PlanRefused : Machine → Transaction → Refusal → Type 0
 PlanRefused m t (Invalid flaw) = IsFlaw m.held.pages t flaw
@@ -49,15 +55,20 @@ PlanRefused m t LogFull = IsFull m t.sets.items
 PlanRefused m t (Memory owed) = owed ≡ false
 PlanRefused m t (Unplanned f) = ⊥
 
+-- why a transaction is not planned that takes so many bytes besides
+abbrev pub PlanRefusedBeside : ℕ → Machine → Transaction → Refusal → Type 0
+PlanRefusedBeside extra m t LogFull = IsFullBeside extra m t.sets.items
+PlanRefusedBeside extra m t refusal = PlanRefused m t refusal
+
 -- records are owed or wait, or the log was sealed
 abbrev pub TidyRefused : Machine → Refusal → Type 0
 TidyRefused m Untidy = (m.partial ≡ [] → ⊥) ⊎ (tail_of m.held.log ≡ [] → ⊥)
 TidyRefused m (State f) = (f ≡ Sealed) × (is_following m.held ≡ false)
 TidyRefused m _ = ⊥
 
--- no new transaction may begin, or there is no room for it
-abbrev pub StartRefused : Machine → List Write → Refusal → Type 0
-StartRefused m ws NumbersSpent = greatest_trans m.held.log + 1 ≡ 2 ^ 32
-StartRefused m ws TooMany = 256 ≤ length (unended m.held.log)
-StartRefused m ws LogFull = IsFull m ws
-StartRefused m ws _ = ⊥
+-- no new transaction may begin, or there is no room for it with so many bytes besides
+abbrev pub StartRefused : ℕ → Machine → List Write → Refusal → Type 0
+StartRefused extra m ws NumbersSpent = greatest_trans m.held.log + 1 ≡ 2 ^ 32
+StartRefused extra m ws TooMany = 256 ≤ length (unended m.held.log)
+StartRefused extra m ws LogFull = IsFullBeside extra m ws
+StartRefused extra m ws _ = ⊥

@@ -8,7 +8,9 @@
 //! 2. A key that another open transaction holds is neither asked for nor set. So no ask sees anything
 //!    that is not committed.
 //! 3. The room of all records and of their reserve is asked once, before the first record.
-//! 4. A log that is owed records is tidied before anything is written to it. What is owed is the
+//! 4. A transaction that prepares is in doubt and holds its keys, until its coordinator's decision
+//!    commits it or rolls it back.
+//! 5. A log that is owed records is tidied before anything is written to it. What is owed is the
 //!    tail that a takeover would append.
 #![tactic(auto)]
 
@@ -29,6 +31,8 @@ mod written;
 // What its keys have.
 mod asking;
 mod unmet;
+// How its records close.
+mod closing;
 // Where its next record stands.
 mod place;
 // The room that it takes.
@@ -39,6 +43,8 @@ mod spelling;
 mod planning;
 // The transaction fed.
 mod writing;
+// The same, for a coordinator to decide.
+mod preparing;
 // What is owed after a stop.
 mod tidying;
 
@@ -46,6 +52,7 @@ pub use ask::Ask;
 pub use changes::Changes;
 pub use checking::find_flaw;
 pub use flaw::Flaw;
+pub use preparing::prepare;
 pub use refusal::Refusal;
 pub use set::Set;
 pub use tidying::tidy;

@@ -5,11 +5,13 @@ ghost use Rattle.als_writer.specs.Changes.{AreBounds};
 ghost use Rattle.als_writer.specs.Checking.{AreApart};
 ghost use Rattle.als_writer.specs.Placing.{AreBefores};
 ghost use Rattle.als_writer.specs.Planning.{IsTidy, IsStart, IsPlan};
-ghost use Rattle.als_writer.specs.Refused.{TidyRefused, StartRefused, PlanRefused};
+ghost use Rattle.als_writer.specs.Closing.{extra_of};
+ghost use Rattle.als_writer.specs.Refused.{TidyRefused, StartRefused, PlanRefusedBeside};
 
 use crate::asking::{befores_of, first_unmet};
 use crate::changes::Changes;
 use crate::checking::find_flaw;
+use crate::closing::Closing;
 use crate::place::Place;
 use crate::refusal::Refusal;
 use crate::room::room;
@@ -28,14 +30,14 @@ const DISTANCE: u64 = 131_072;
 pub(crate) struct Plan {
     pub piece: Vec<u8>,
     pub trans: TransId,
-    /// The commit record's LSN.
+    /// The LSN of the commit record, or of the prepare record.
     pub lsn: Lsn,
-    /// Where the end record ends.
+    /// Where the last record ends.
     pub end: Lsn,
 }
 
 /// Whether nothing is owed to the log and no part of a record waits.
-fn check_tidy<E: Writes>(engine: &E) -> Result<(), Refusal>
+pub(crate) fn check_tidy<E: Writes>(engine: &E) -> Result<(), Refusal>
     ensures tidy { OnOk result (E.alone → IsTidy (E.machine engine.now)) }
     ensures refused { IfErr result (λ r. E.alone → TidyRefused (E.machine engine.now) r) }
 {
@@ -49,18 +51,25 @@ fn check_tidy<E: Writes>(engine: &E) -> Result<(), Refusal>
     }
 }
 
-/// Where the first record of a new transaction stands, which may begin and has room.
-fn start<E: Writes>(engine: &E, sets: &[Set], befores: &[KeptImage]) -> Result<Place, Refusal>
+/// Where the first record of a new transaction stands, which may begin and has room, with so many
+/// bytes besides.
+fn start<E: Writes>(
+    engine: &E,
+    sets: &[Set],
+    befores: &[KeptImage],
+    extra: u64,
+) -> Result<Place, Refusal>
     requires same { length befores.now ≡ length sets.now }
     requires few { length sets.now ≤ 600 }
+    requires little { extra ≤ 56 }
     ensures start { IfOk result (λ p. E.alone
         → AreBefores (E.machine engine.now).held.log sets.now befores.now → AreApart sets.now
-        → IsStart (E.machine engine.now) sets.now p) }
+        → IsStart (E.machine engine.now) extra sets.now p) }
     ensures distance { IfOk result (λ p. p.end.0 + 131072 ≤ 2 ^ 64) }
     ensures images { OnOk result (All (λ w. IsImage w.after) sets.now) }
     ensures refused { IfErr result (λ r. E.alone
         → AreBefores (E.machine engine.now).held.log sets.now befores.now → AreApart sets.now
-        → StartRefused (E.machine engine.now) sets.now r) }
+        → StartRefused extra (E.machine engine.now) sets.now r) }
 {
     let now = engine.writing();
     let end = engine.status().end;
@@ -70,7 +79,7 @@ fn start<E: Writes>(engine: &E, sets: &[Set], befores: &[KeptImage]) -> Result<P
     if now.unended >= TRANSACTION_LIMIT {
         return Err(Refusal::TooMany);
     }
-    if now.free < room(sets, befores) || end.0 > u64::MAX - DISTANCE {
+    if now.free < room(sets, befores) + extra || end.0 > u64::MAX - DISTANCE {
         return Err(Refusal::LogFull);
     }
     Ok(Place::first(end, TransId(now.greatest.0 + 1)))
@@ -82,13 +91,15 @@ pub(crate) fn make_plan<E: Writes>(
     engine: &E,
     changes: &Changes,
     transaction: &Transaction,
+    closing: Closing,
 ) -> Result<Plan, Refusal>
-    ensures planned { IfOk result (λ p. E.alone → IsPlan (E.machine engine.now) transaction.now p) }
+    ensures planned { IfOk result (λ p. E.alone
+        → IsPlan (E.machine engine.now) closing transaction.now p) }
     ensures asked { OnOk result (E.alone
         → AreBounds changes.now (E.machine engine.now).held.pages (E.machine engine.now).held.log
         → All (λ a. IsAsked (E.machine engine.now).held.log a) transaction.now.asks.items) }
     ensures refused { IfErr result (λ r. E.alone
-        → PlanRefused (E.machine engine.now) transaction.now r) }
+        → PlanRefusedBeside (extra_of closing) (E.machine engine.now) transaction.now r) }
 {
     if let Some(flaw) = find_flaw(transaction, engine.pages()) {
         return Err(Refusal::Invalid(flaw));
@@ -104,9 +115,9 @@ pub(crate) fn make_plan<E: Writes>(
             now,
         });
     }
-    let place = start(engine, sets, &befores)?;
+    let place = start(engine, sets, &befores, closing.extra())?;
     let trans = place.trans;
-    match spell(alloc, place, sets, &befores) {
+    match spell(alloc, place, sets, &befores, closing) {
         Ok(spelled) => Ok(Plan {
             piece: spelled.piece,
             trans,

@@ -1,10 +1,14 @@
 ghost use Rattle.std.specs.Prelude.{◌≡◌, IfOk, IfErr};
 ghost use Rattle.als_engine.specs.Machine.{Keeps};
 ghost use Rattle.als_writer.specs.Changes.{AreBounds};
+ghost use Rattle.als_writer.specs.declared.closing.Closing.{Closing as AnyClosing};
+ghost use Rattle.als_writer.specs.declared.closing.Closing.TheVariants as closing;
 ghost use Rattle.als_writer.specs.Planning.{IsPlan};
 ghost use Rattle.als_writer.specs.Committing.{Commits, NotWritten, IsInLog, FeedRefused};
+ghost use Rattle.als_writer.specs.Preparing.{IsPrepared};
 
 use crate::changes::Changes;
+use crate::closing::Closing;
 use crate::planning::{Plan, make_plan};
 use crate::refusal::Refusal;
 use crate::transaction::Transaction;
@@ -37,23 +41,26 @@ pub fn write<E: Writes>(
     ensures keeps { E.alone → Keeps (E.machine engine.old) (E.machine engine.new) }
     ensures book { E.book engine.new ≡ E.book engine.old }
 {
-    let planned = make_plan(alloc, &*engine, changes, transaction)?;
+    let planned = make_plan(alloc, &*engine, changes, transaction, Closing::Commit)?;
     let written = feed_plan(engine, &planned, transaction)?;
     changes.note(&transaction.sets, written.lsn);
     Ok(written)
 }
 
 /// Feeds a transaction that was planned.
-fn feed_plan<E: Writes>(
+pub(crate) fn feed_plan<E: Writes>(
     engine: &mut E,
     planned: &Plan,
     transaction: &Transaction,
 ) -> Result<Written, Refusal>
     ensures done { IfOk result (λ w. E.alone
-        → IsPlan (E.machine engine.old) transaction.now planned.now
+        → IsPlan (E.machine engine.old) closing.Commit transaction.now planned.now
         → IsInLog (E.machine engine.old) transaction.now w (E.machine engine.new)) }
-    ensures refused { IfErr result (λ r. E.alone
-        → IsPlan (E.machine engine.old) transaction.now planned.now
+    ensures prepared { IfOk result (λ w. E.alone
+        → IsPlan (E.machine engine.old) closing.Prepare transaction.now planned.now
+        → IsPrepared (E.machine engine.old) transaction.now w (E.machine engine.new)) }
+    ensures refused { IfErr result (λ r. E.alone → (by : AnyClosing)
+        → IsPlan (E.machine engine.old) by transaction.now planned.now
         → FeedRefused (E.machine engine.old) transaction.now r (E.machine engine.new)) }
     ensures keeps { E.alone → Keeps (E.machine engine.old) (E.machine engine.new) }
     ensures book { E.book engine.new ≡ E.book engine.old }
@@ -62,7 +69,7 @@ fn feed_plan<E: Writes>(
         Ok(_) => Ok(told_of(planned)),
         Err(refusal) => match refusal.fault {
             Fault::Memory => {
-                // The commit is held, and at most the end is owed.
+                // The commit or the prepare is held, and at most an end is owed.
                 if refusal.records > transaction.sets.len() {
                     return Ok(told_of(planned));
                 }

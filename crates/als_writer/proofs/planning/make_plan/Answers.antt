@@ -5,8 +5,10 @@ use Rattle.als_record.specs.Tail.{reserve_of}
 use Rattle.als_record.specs.LogText.{spellings, end_of}
 use Rattle.als_record.specs.Spelling.{Image, IsKey, IsImage}
 use Rattle.als_record.specs.Commits.{Write}
-use Rattle.als_writing.specs.Writing.{updates, transaction, room_for, is_free}
+use Rattle.als_writing.specs.Writing.{updates, room_for, is_free}
 use Rattle.als_writing.proofs.Going.{IsNew-is_new}
+use Rattle.als_writer.specs.declared.closing.Closing.{Closing}
+use Rattle.als_writer.specs.Closing.{records_for, extra_of}
 use Rattle.als_writer.specs.Asking.{AreFreeNow, IsTold}
 use Rattle.als_writer.specs.Checking.{AreApart}
 use Rattle.als_writer.specs.Placing.{AreBefores}
@@ -22,6 +24,7 @@ returns-in-Some-unmet-clause-refused g c a =
 pub returns-in-Ok-clause-planned : goal.returns-in-Ok-clause-planned
 returns-in-Ok-clause-planned g c a =
     let m = g.E.Events.machine c.args.engine.now in
+    let by : Closing = c.args.closing in
     let log : List AnyRecord = m.held.log in
     let ws : List Write = c.args.transaction.now.sets.items in
     let ss : List Write = c.as_slice-sets.result.now in
@@ -32,11 +35,11 @@ returns-in-Ok-clause-planned g c a =
     let now : AreBefores log ss c.deref-2.result.now = subst (λ (bs : List Image). AreBefores log ss bs) (sym c.deref-2.ensures.value) free.now in
     let again : AreBefores log ss c.deref-3.result.now = subst (λ (bs : List Image). AreBefores log ss bs) (sym c.deref-3.ensures.value) free.now in
     let place = c.in_ok-place.place in
-    let start : IsStart m ss place = c.in_ok-place.ensures.start a now apart in
+    let start : IsStart m c.extra.result ss place = c.in_ok-place.ensures.start a now apart in
     let t : ℕ = place.trans.0 in
     let begun = (IsNew-is_new log t start.valid.valid start.new).begun in
-    let e : c.in-Ok.spelled.end.0 ≡ end_of (log ++ transaction log t ss) = c.in-Ok.ensures.end log start.behind again apart in
-    let end : c.in-Ok.spelled.end.0 ≡ end_of (log ++ transaction log t ws) = subst (λ (x : List Write). c.in-Ok.spelled.end.0 ≡ end_of (log ++ transaction log t x)) vs e in
+    let e : c.in-Ok.spelled.end.0 ≡ end_of (log ++ records_for by log t ss) = c.in-Ok.ensures.end log start.behind again apart in
+    let end : c.in-Ok.spelled.end.0 ≡ end_of (log ++ records_for by log t ws) = subst (λ (x : List Write). c.in-Ok.spelled.end.0 ≡ end_of (log ++ records_for by log t x)) vs e in
     let takes : 0 < length ss = subst (λ (x : List Write). 0 < length x) (sym vs) sound.some in
     let free_ws : AllByRecursion (λ w. is_free log t w.key ≡ true) ws = subst (AllByRecursion (λ w. is_free log t w.key ≡ true)) vs (all_writes (λ w. is_free log t w.key ≡ true) ss (free.free t begun)) in
     let images_ws : AllByRecursion (λ w. IsImage w.after) ws = subst (AllByRecursion (λ w. IsImage w.after)) vs (all_writes (λ w. IsImage w.after) ss c.in_ok-place.ensures.images) in
@@ -49,9 +52,9 @@ returns-in-Ok-clause-planned g c a =
       valid = start.valid;
       number = start.number;
       may = record { new = start.new; width = start.width; free = free_ws; keys = keys_ws; images = images_ws };
-      fits = subst (λ (x : List Write). end_of log + reserve_of log + room_for log t x ≤ 512 * m.held.blocks) vs start.fits;
+      fits = subst (λ (e : ℕ). end_of log + reserve_of log + room_for log t ws + e ≤ 512 * m.held.blocks) c.extra.ensures (subst (λ (x : List Write). end_of log + reserve_of log + room_for log t x + c.extra.result ≤ 512 * m.held.blocks) vs start.fits);
       short = omega (arith, end);
-      spelled = subst (λ (x : List Write). c.in-Ok.spelled.piece.items ≡ spellings (transaction log t x)) vs (c.in-Ok.ensures.piece log start.behind again apart);
+      spelled = subst (λ (x : List Write). c.in-Ok.spelled.piece.items ≡ spellings (records_for by log t x)) vs (c.in-Ok.ensures.piece log start.behind again apart);
       lsn = subst (λ (x : List Write). c.in-Ok.spelled.lsn.0 ≡ end_of (log ++ updates log t x)) vs (c.in-Ok.ensures.lsn log start.behind again apart);
       end = end;
     }

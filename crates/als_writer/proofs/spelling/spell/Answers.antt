@@ -6,11 +6,13 @@ use Rattle.als_record.specs.Spelling.{Image, record_len, spelling}
 use Rattle.als_record.specs.LogText.{spellings, end_of}
 use Rattle.als_record.specs.Images.{image_now}
 use Rattle.als_record.specs.Commits.{Write}
-use Rattle.als_writing.specs.Writing.{Move, Writes, Commits, Ends, body_for, record_for, moved}
+use Rattle.als_writing.specs.Writing.{Move, Writes, Commits, Ends, Prepares, body_for, record_for, moved, updates}
+use Rattle.als_writer.specs.declared.closing.Closing.{Closing}
 use Rattle.als_writer.specs.declared.place.Place.{Place}
+use Rattle.als_writer.specs.Closing.{records_for}
 use Rattle.als_writer.specs.Placing.{IsPlaceOf}
 use Rattle.als_writer.proofs.Before.{image_now-moved}
-use Rattle.als_writer.proofs.Spelt.{SoFar, SoFar-none, SoFar-more, Spelled-more, take-writes, all-updates, whole-transaction, end_of-more}
+use Rattle.als_writer.proofs.Spelt.{SoFar, SoFar-none, SoFar-more, Spelled-more, take-writes, all-updates, whole-transaction, whole-prepared, end_of-more}
 use Rattle.als_writer.proofs.spelling.spell.Goals as goal
 
 pub loop-i-init : goal.loop-i-init
@@ -68,44 +70,84 @@ end_len : (log : List AnyRecord) (t : ℕ) → record_len (record_for log t Ends
 unfolding record_len
 end_len log t = refl
 
-pub returns-clause-lsn : goal.returns-clause-lsn
-returns-clause-lsn c log p befores apart =
-    let t : ℕ = c.args.start.trans.0 in
-    let ws : List Write = c.args.sets.now in
-    let h : SoFar log t (map Writes ws) c.loop-i.piece.items c.loop-i.place = updated log t ws c.loop-i.i c.loop-i.piece.items c.loop-i.place c.loop-i-test.false (c.loop-i.invariant.so_far log p befores apart) in
-    h.behind.end ∙ ap (λ (more : List AnyRecord). end_of (log ++ more)) (all-updates log t ws)
+prepare_len : (log : List AnyRecord) (t : ℕ) → record_len (record_for log t Prepares) ≡ 28
+unfolding record_len
+prepare_len log t = refl
 
-pub returns-clause-piece : goal.returns-clause-piece
-returns-clause-piece c log p befores apart =
+-- where the updates end
+updates_end : (log : List AnyRecord) (t : ℕ) (ws : List Write) (i : ℕ) (piece : List ℕ) (place : Place) → length ws ≤ i → SoFar log t (map Writes (take i ws)) piece place → place.end.0 ≡ end_of (log ++ updates log t ws)
+updates_end log t ws i piece place over h =
+    (updated log t ws i piece place over h).behind.end ∙ ap (λ (more : List AnyRecord). end_of (log ++ more)) (all-updates log t ws)
+
+pub returns-in_ok-spell-in-Commit-2-clause-lsn : goal.returns-in_ok-spell-in-Commit-2-clause-lsn
+returns-in_ok-spell-in-Commit-2-clause-lsn c log p befores apart =
+    updates_end log c.args.start.trans.0 c.args.sets.now c.loop-i.i c.loop-i.piece.items c.loop-i.place c.loop-i-test.false (c.loop-i.invariant.so_far log p befores apart)
+
+pub returns-in_ok-spell-in-Prepare-clause-lsn : goal.returns-in_ok-spell-in-Prepare-clause-lsn
+returns-in_ok-spell-in-Prepare-clause-lsn c log p befores apart =
+    updates_end log c.args.start.trans.0 c.args.sets.now c.loop-i.i c.loop-i.piece.items c.loop-i.place c.loop-i-test.false (c.loop-i.invariant.so_far log p befores apart)
+
+pub returns-in_ok-spell-in-Commit-2-clause-piece : goal.returns-in_ok-spell-in-Commit-2-clause-piece
+returns-in_ok-spell-in-Commit-2-clause-piece c log p befores apart =
     let t : ℕ = c.args.start.trans.0 in
     let ws : List Write = c.args.sets.now in
     let done : List Move = map Writes ws in
     let same : c.loop-i.place.trans.0 ≡ t = ap (λ x. x.0) c.loop-i.invariant.trans in
     let h : SoFar log t done c.loop-i.piece.items c.loop-i.place = updated log t ws c.loop-i.i c.loop-i.piece.items c.loop-i.place c.loop-i-test.false (c.loop-i.invariant.so_far log p befores apart) in
-    let n : SoFar log t (done ++ Commits ∷ []) c.spell-2.new.piece.items c.spell-2.new.self =
-    committed log t done c.loop-i.piece.items c.spell-2.new.piece.items c.loop-i.place c.spell-2.new.self same h
-    (c.in_ok-spell-2.ensures.spelled (log ++ moved log t done) Commits h.behind refl)
-    (c.in_ok-spell-2.ensures.goes_on (log ++ moved log t done) Commits h.behind refl refl refl) in
-    let same_next : c.spell-2.new.self.trans.0 ≡ t = ap (λ x. x.0) c.in_ok-spell-2.ensures.trans ∙ same in
-    ended log t (done ++ Commits ∷ []) c.spell-2.new.piece.items c.spell-3.new.piece.items c.spell-2.new.self same_next n
-    (c.in_ok-spell-3.ensures.spelled (log ++ moved log t (done ++ Commits ∷ [])) Ends n.behind refl)
-    ∙ ap spellings (whole-transaction log t ws)
+    let n : SoFar log t (done ++ Commits ∷ []) c.spell-in-Commit.new.piece.items c.spell-in-Commit.new.self =
+    committed log t done c.loop-i.piece.items c.spell-in-Commit.new.piece.items c.loop-i.place c.spell-in-Commit.new.self same h
+    (c.in_ok-spell-in-Commit.ensures.spelled (log ++ moved log t done) Commits h.behind refl)
+    (c.in_ok-spell-in-Commit.ensures.goes_on (log ++ moved log t done) Commits h.behind refl refl refl) in
+    let same_next : c.spell-in-Commit.new.self.trans.0 ≡ t = ap (λ x. x.0) c.in_ok-spell-in-Commit.ensures.trans ∙ same in
+    subst (λ (b : Closing). c.spell-in-Commit-2.new.piece.items ≡ spellings (records_for b log t ws)) (sym c.in-Commit.is)
+    (ended log t (done ++ Commits ∷ []) c.spell-in-Commit.new.piece.items c.spell-in-Commit-2.new.piece.items c.spell-in-Commit.new.self same_next n
+    (c.in_ok-spell-in-Commit-2.ensures.spelled (log ++ moved log t (done ++ Commits ∷ [])) Ends n.behind refl)
+    ∙ ap spellings (whole-transaction log t ws))
 
-pub returns-clause-end : goal.returns-clause-end
-returns-clause-end c log p befores apart =
+pub returns-in_ok-spell-in-Commit-2-clause-end : goal.returns-in_ok-spell-in-Commit-2-clause-end
+returns-in_ok-spell-in-Commit-2-clause-end c log p befores apart =
     let t : ℕ = c.args.start.trans.0 in
     let ws : List Write = c.args.sets.now in
     let done : List Move = map Writes ws in
     let same : c.loop-i.place.trans.0 ≡ t = ap (λ x. x.0) c.loop-i.invariant.trans in
     let h : SoFar log t done c.loop-i.piece.items c.loop-i.place = updated log t ws c.loop-i.i c.loop-i.piece.items c.loop-i.place c.loop-i-test.false (c.loop-i.invariant.so_far log p befores apart) in
-    let n : SoFar log t (done ++ Commits ∷ []) c.spell-2.new.piece.items c.spell-2.new.self =
-    committed log t done c.loop-i.piece.items c.spell-2.new.piece.items c.loop-i.place c.spell-2.new.self same h
-    (c.in_ok-spell-2.ensures.spelled (log ++ moved log t done) Commits h.behind refl)
-    (c.in_ok-spell-2.ensures.goes_on (log ++ moved log t done) Commits h.behind refl refl refl) in
+    let n : SoFar log t (done ++ Commits ∷ []) c.spell-in-Commit.new.piece.items c.spell-in-Commit.new.self =
+    committed log t done c.loop-i.piece.items c.spell-in-Commit.new.piece.items c.loop-i.place c.spell-in-Commit.new.self same h
+    (c.in_ok-spell-in-Commit.ensures.spelled (log ++ moved log t done) Commits h.behind refl)
+    (c.in_ok-spell-in-Commit.ensures.goes_on (log ++ moved log t done) Commits h.behind refl refl refl) in
     let m : List AnyRecord = log ++ moved log t (done ++ Commits ∷ []) in
-    let last : c.spell-3.new.self.end.0 ≡ c.spell-2.new.self.end.0 + 28 = omega (arith, c.in_ok-spell-3.ensures.end) in
-    last
+    let last : c.spell-in-Commit-2.new.self.end.0 ≡ c.spell-in-Commit.new.self.end.0 + 28 = omega (arith, c.in_ok-spell-in-Commit-2.ensures.end) in
+    subst (λ (b : Closing). c.spell-in-Commit-2.new.self.end.0 ≡ end_of (log ++ records_for b log t ws)) (sym c.in-Commit.is)
+    (last
     ∙ ap (λ (x : ℕ). x + 28) n.behind.end
     ∙ ap (λ (x : ℕ). end_of m + x) (sym (end_len m t))
     ∙ sym (end_of-more log t (done ++ Commits ∷ []) Ends)
-    ∙ ap (λ (more : List AnyRecord). end_of (log ++ more)) (whole-transaction log t ws)
+    ∙ ap (λ (more : List AnyRecord). end_of (log ++ more)) (whole-transaction log t ws))
+
+pub returns-in_ok-spell-in-Prepare-clause-piece : goal.returns-in_ok-spell-in-Prepare-clause-piece
+returns-in_ok-spell-in-Prepare-clause-piece c log p befores apart =
+    let t : ℕ = c.args.start.trans.0 in
+    let ws : List Write = c.args.sets.now in
+    let done : List Move = map Writes ws in
+    let same : c.loop-i.place.trans.0 ≡ t = ap (λ x. x.0) c.loop-i.invariant.trans in
+    let h : SoFar log t done c.loop-i.piece.items c.loop-i.place = updated log t ws c.loop-i.i c.loop-i.piece.items c.loop-i.place c.loop-i-test.false (c.loop-i.invariant.so_far log p befores apart) in
+    let e : c.spell-in-Prepare.new.piece.items ≡ c.loop-i.piece.items ++ spelling (record_for (log ++ moved log t done) t Prepares) =
+    c.in_ok-spell-in-Prepare.ensures.spelled (log ++ moved log t done) Prepares h.behind refl ∙ ap (λ (x : ℕ). c.loop-i.piece.items ++ spelling (record_for (log ++ moved log t done) x Prepares)) same in
+    subst (λ (b : Closing). c.spell-in-Prepare.new.piece.items ≡ spellings (records_for b log t ws)) (sym c.in-Prepare.is)
+    (Spelled-more log t done c.loop-i.piece.items c.spell-in-Prepare.new.piece.items Prepares h.spelled e
+    ∙ ap spellings (whole-prepared log t ws))
+
+pub returns-in_ok-spell-in-Prepare-clause-end : goal.returns-in_ok-spell-in-Prepare-clause-end
+returns-in_ok-spell-in-Prepare-clause-end c log p befores apart =
+    let t : ℕ = c.args.start.trans.0 in
+    let ws : List Write = c.args.sets.now in
+    let done : List Move = map Writes ws in
+    let h : SoFar log t done c.loop-i.piece.items c.loop-i.place = updated log t ws c.loop-i.i c.loop-i.piece.items c.loop-i.place c.loop-i-test.false (c.loop-i.invariant.so_far log p befores apart) in
+    let m : List AnyRecord = log ++ moved log t done in
+    let last : c.spell-in-Prepare.new.self.end.0 ≡ c.loop-i.place.end.0 + 28 = omega (arith, c.in_ok-spell-in-Prepare.ensures.end) in
+    subst (λ (b : Closing). c.spell-in-Prepare.new.self.end.0 ≡ end_of (log ++ records_for b log t ws)) (sym c.in-Prepare.is)
+    (last
+    ∙ ap (λ (x : ℕ). x + 28) h.behind.end
+    ∙ ap (λ (x : ℕ). end_of m + x) (sym (prepare_len m t))
+    ∙ sym (end_of-more log t done Prepares)
+    ∙ ap (λ (more : List AnyRecord). end_of (log ++ more)) (whole-prepared log t ws))

@@ -1,3 +1,4 @@
+use Rattle.std.proofs.lemmas.Result.{err_from_is_err_and}
 use Rattle.std.proofs.Common.{◌≡◌, ℕ, List, cond, sym, ap, subst, ◌∙◌}
 use Rattle.std.specs.List.{list_any, AllByRecursion}
 use Rattle.als_record.specs.declared.key.Key.{Key}
@@ -6,16 +7,18 @@ use Rattle.als_record.specs.Images.{same_key}
 use Rattle.als_record.specs.Commits.{Write, Commit}
 use Rattle.als_engine.specs.Machine.{Machine}
 use Rattle.als_writing.specs.Writing.{last_write}
+use Rattle.als_writer.specs.declared.closing.Closing.TheVariants as closing
 use Rattle.als_writer.specs.Changes.{AreBounds}
 use Rattle.als_writer.proofs.LastBounds.{last_write-commit}
 use Rattle.als_writer.proofs.Bounding.{refused_bounds}
+use Rattle.als_writer.proofs.Closed.{fed_not_written}
 use Rattle.als_writer.proofs.writing.write.Goals as goal
 
 pub returns-in_err-written-clause-bounds : goal.returns-in_err-written-clause-bounds
 returns-in_err-written-clause-bounds g c a bounds =
     let m : Machine = g.E.Events.machine c.args.engine.now in
     let new : Machine = g.E.Events.machine c.feed_plan.new.engine in
-    refused_bounds m c.args.transaction.now c.in_err-written.field-0.0 new c.args.changes.now (c.in_err-written.ensures.refused a (c.in_ok-planned.ensures.planned a)) bounds
+    refused_bounds m c.args.transaction.now c.in_err-written.field-0.0 new c.args.changes.now (c.in_err-written.ensures.refused a closing.Commit (c.in_ok-planned.ensures.planned a)) bounds
 
 pub returns-clause-bounds : goal.returns-clause-bounds
 returns-clause-bounds g c a bounds =
@@ -31,3 +34,9 @@ returns-clause-bounds g c a bounds =
     λ k. last_write-commit m.held.log new.held.log commit d.commits k ∙ ap (λ (x : List Write). cond (list_any (λ w. same_key w.key k) x) c.in_ok-written.written.lsn.0 (last_write m.held.log k)) (sym vs) in
     subst (λ (pages : ℕ). AreBounds c.note.new.self pages new.held.log) (sym (ap (λ (x : Machine). x.held.pages) d.after))
     (c.note.ensures m.held.pages m.held.log new.held.log bounds keys last)
+
+pub returns-in_err-written-clause-refused : goal.returns-in_err-written-clause-refused
+returns-in_err-written-clause-refused g c =
+    let p = err_from_is_err_and c.from_residual-in_err-written.result c.from_residual-in_err-written.ensures.1 in
+    rw (p.1, p.2) (λ a. fed_not_written (g.E.Events.machine c.args.engine.now) c.args.transaction.now c.in_err-written.field-0.0 (g.E.Events.machine c.feed_plan.new.engine)
+    (c.in_err-written.ensures.refused a closing.Commit (c.in_ok-planned.ensures.planned a)))
