@@ -14,7 +14,7 @@ pub(crate) fn print<O: Write>(answer: &Answer, output: &mut O) -> io::Result<()>
             writeln!(output, "lsn={} trans={}", lsn.0, trans.0)
         }
         Answer::Refused(refusal) => print_refusal(refusal, output),
-        Answer::Unknown(_) => Ok(()),
+        Answer::Unknown(_) | Answer::Withheld => Ok(()),
     }
 }
 

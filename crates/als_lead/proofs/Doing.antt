@@ -13,7 +13,7 @@ use Rattle.als_writer.specs.declared.transaction.Transaction.{Transaction}
 use Rattle.als_writer.specs.declared.written.Written.{Written}
 use Rattle.als_writer.specs.Committing.{Commits, NotWritten}
 use Rattle.als_lead.specs.declared.answer.Answer.{Answer}
-use Rattle.als_lead.specs.declared.answer.Answer.TheVariants.{Committed, Refused, Unknown}
+use Rattle.als_lead.specs.declared.answer.Answer.TheVariants.{Committed, Refused, Unknown, Withheld}
 use Rattle.als_lead.specs.declared.told.Told.{Told}
 use Rattle.als_lead.specs.Going.{Grows, Tidies}
 use Rattle.als_lead.specs.Answers.{IsIn, WasRefused, commit_by, commits_in, commits_by}
@@ -34,7 +34,12 @@ is_in old t w new c = record {
 }
 
 pub does_write : (old : Machine) (t : Transaction) (w : Written) (new : Machine) → Commits old t w new → Keeps old new → Does old t (Unknown w) new
-does_write old t w new c k = record { grows = grows_keeps old new k; commits = c.in_log.commits; held = is_in old t w new c }
+does_write old t w new c k = record {
+  grows = grows_keeps old new k;
+  commits = c.in_log.commits;
+  held = is_in old t w new c;
+  published = ap (λ (m : Machine). m.published) c.in_log.after;
+}
 
 same_commits : (old new : Machine) → new ≡ old → commits_of new.held.log ≡ commits_of old.held.log
 same_commits old new e = ap (λ (m : Machine). commits_of m.held.log) e
@@ -52,6 +57,22 @@ refused_commits old t TooMany new n = same_commits old new n.0
 refused_commits old t LogFull new n = same_commits old new n.0
 refused_commits old t (Unplanned fault) new n = same_commits old new n.0
 
+same_shown : (old new : Machine) → new ≡ old → new.published ≡ old.published
+same_shown old new e = ap (λ (m : Machine). m.published) e
+
+refused_shown : (old : Machine) (t : Transaction) (r : Refusal) (new : Machine) → NotWritten old t r new → new.published ≡ old.published
+refused_shown old t (Memory true) new n = ap (λ (m : Machine). m.published) n.after
+refused_shown old t (Memory false) new n = same_shown old new n.0
+refused_shown old t (Invalid flaw) new n = same_shown old new n.0
+refused_shown old t (State fault) new n = same_shown old new n.0
+refused_shown old t Untidy new n = same_shown old new n.0
+refused_shown old t (Held key by) new n = same_shown old new n.0
+refused_shown old t (NotAsAsked key now) new n = same_shown old new n.0
+refused_shown old t NumbersSpent new n = same_shown old new n.0
+refused_shown old t TooMany new n = same_shown old new n.0
+refused_shown old t LogFull new n = same_shown old new n.0
+refused_shown old t (Unplanned fault) new n = same_shown old new n.0
+
 was_refused : (old : Machine) (t : Transaction) (r : Refusal) (new : Machine) → NotWritten old t r new → Keeps old new → WasRefused new t r
 was_refused old t r new n k = record { before = old; after = new; refused = n; grown = grows_keeps old new k; goes_on = grows_refl new }
 
@@ -60,6 +81,7 @@ does_refuse old t r new n k = record {
   grows = grows_keeps old new k;
   commits = refused_commits old t r new n ∙ sym (append-nil (commits_of old.held.log));
   held = inl (was_refused old t r new n k);
+  published = refused_shown old t r new n;
 }
 
 -- ---- what was owed came first
@@ -69,6 +91,7 @@ tidies_first : (old mid new : Machine) (t : Transaction) (r : Refusal) → Does 
 tidies_first old mid new t r first then = record {
   grows = grows_trans old mid new first.grows then.grows;
   commits = then.commits ∙ first.commits ∙ append-nil (commits_of old.held.log);
+  published = then.published ∙ first.published;
 }
 
 pub does_again : (old mid tidied new : Machine) (t : Transaction) (r : Refusal) (answer : Answer) → Does old t (Refused r) mid → Tidies mid tidied → Does tidied t answer new → Does old t answer new
@@ -78,6 +101,7 @@ does_again old mid tidied new t r answer first then last =
       grows = grows_trans old tidied new before.grows last.grows;
       commits = last.commits ∙ ap (λ (cs : List Commit). cs ++ commits_in t answer) before.commits;
       held = last.held;
+      published = last.published ∙ before.published;
     }
 
 held_not_begun : (m : Machine) (t : Transaction) (r : Refusal) → IsNotBegun r → IsHeld m t (Refused r)
@@ -99,6 +123,7 @@ does_untidy old mid new t r q first then n =
       grows = before.grows;
       commits = before.commits ∙ sym (append-nil (commits_of old.held.log));
       held = held_not_begun new t q n;
+      published = before.published;
     }
 
 -- ---- what is held stays so
@@ -120,6 +145,7 @@ was_on mid new t r g w = record { before = w.before; after = w.after; refused = 
 pub held_on : (mid new : Machine) (cs : List Commit) → Grows mid new → commits_of new.held.log ≡ commits_of mid.held.log ++ cs → (t : Transaction) (a : Answer) → IsHeld mid t a → IsHeld new t a
 held_on mid new cs g e t (Committed w) h = in_on mid new cs g e t w h
 held_on mid new cs g e t (Unknown w) h = in_on mid new cs g e t w h
+held_on mid new cs g e t Withheld h = h
 held_on mid new cs g e t (Refused r) h = elim h [
   | inl was ↦ inl (was_on mid new t r g was)
   | inr ended ↦ inr ended
@@ -136,7 +162,7 @@ all_append P [] ys h k = k
 all_append P (x ∷ xs) ys h k = (h.0, all_append P xs ys h.1 k)
 
 pub does_none : (m : Machine) → DoesAll m [] m
-does_none m = record { grows = grows_refl m; commits = sym (append-nil (commits_of m.held.log)); held = tt }
+does_none m = record { grows = grows_refl m; commits = sym (append-nil (commits_of m.held.log)); held = tt; published = refl }
 
 pub does_more : (old mid new : Machine) (told : List Told) (x : Told) → DoesAll old told mid → Does mid x.asked.transaction x.answer new → DoesAll old (told ++ x ∷ []) new
 does_more old mid new told x d last = record {
@@ -144,6 +170,7 @@ does_more old mid new told x d last = record {
   commits = last.commits ∙ ap (λ (cs : List Commit). cs ++ commits_by x) d.commits
       ∙ flat_map_more commits_by (commits_of old.held.log) told x;
   held = all_append (IsHeldOf new) told (x ∷ []) (all_held_on mid new (commits_by x) last.grows last.commits told d.held) (last.held, tt);
+  published = last.published ∙ d.published;
 }
 
 pub does_then : (old mid new : Machine) (told : List Told) → DoesAll old told mid → Tidies mid new → DoesAll old told new
@@ -151,4 +178,5 @@ does_then old mid new told d t = record {
   grows = grows_trans old mid new d.grows t.grows;
   commits = t.commits ∙ d.commits;
   held = all_held_on mid new [] t.grows (t.commits ∙ sym (append-nil (commits_of mid.held.log))) told d.held;
+  published = t.published ∙ d.published;
 }

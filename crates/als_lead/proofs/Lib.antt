@@ -2,3 +2,4 @@ pub mod Going
 pub mod Doing
 pub mod Truths
 pub mod Rounds
+pub mod Confirms

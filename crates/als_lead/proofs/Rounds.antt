@@ -1,20 +1,21 @@
 -- What a leader does, one group after another.
-use Rattle.std.proofs.Common.{◌≡◌, List, [], ◌∷◌, ◌++◌, Option, Some, option_to_list, Result, Ok, Err, IfOk, refl, sym, ap, subst, ◌∙◌, append-nil, append_assoc}
+use Rattle.std.proofs.Common.{◌≡◌, List, [], ◌∷◌, ◌++◌, Option, Some, option_to_list, refl, sym, ap, subst, ◌∙◌, append-nil, append_assoc}
 use Rattle.std.proofs.lemmas.List.{map-append}
 use Rattle.std.proofs.lemmas.List.Concat.{flat_map-append}
-use Rattle.als_record.specs.declared.lsn.Lsn.{Lsn}
+use Rattle.std.specs.List.{AllByRecursion}
+use Rattle.als_record.specs.declared.record.Record.{Record}
 use Rattle.als_record.specs.Commits.{Commit, commits_of}
-use Rattle.als_engine.specs.declared.fault.Fault.{Fault}
 use Rattle.als_engine.specs.Machine.{Machine}
 use Rattle.als_lead.specs.declared.answer.Answer.{Answer}
 use Rattle.als_lead.specs.declared.asked.Asked.{Asked}
+use Rattle.als_lead.specs.declared.forced.Forced.{Forced}
 use Rattle.als_lead.specs.declared.told.Told.{Told}
-use Rattle.als_lead.specs.Going.{Stays, Tidies}
+use Rattle.als_lead.specs.Going.{Grows, Stays, Tidies}
 use Rattle.als_lead.specs.Answers.{IsTrueOf, commits_by, commits_told, asked_of}
-use Rattle.als_lead.specs.Groups.{Does, DoesAll, Fills, IsStableTo, answer_after, all_after}
+use Rattle.als_lead.specs.Groups.{Does, DoesAll, Fills, IsHeldOf, IsStableIn, answer_after, all_after}
 use Rattle.als_lead.specs.Leading.{Leads}
-use Rattle.als_lead.proofs.Going.{grows_refl, grows_trans, stable_on, tidies_stays, tidies_trans}
-use Rattle.als_lead.proofs.Doing.{all_append, does_none, does_more, does_then}
+use Rattle.als_lead.proofs.Going.{grows_refl, grows_trans, tidies_stays, tidies_trans}
+use Rattle.als_lead.proofs.Doing.{all_append, does_none, does_more, does_then, all_held_on}
 use Rattle.als_lead.proofs.Truths.{all_true_after, all_after_commits, all_after_asked, all_true_on}
 
 asked_more : (told : List Told) (x : Told) → asked_of (told ++ x ∷ []) ≡ asked_of told ++ x.asked ∷ []
@@ -48,7 +49,7 @@ fills_same alone old new taken taken_mid taken_now queued queued_now f e = subst
 -- ---- a group is answered
 
 -- one more of the queue is answered
-pub tells_more : (forced : Result Lsn Fault) (told told_now : List Told) (x : Told) (answer : Answer) (rest queued : List Told) → answer ≡ answer_after forced x.answer → told_now ≡ told ++ record { asked = x.asked; answer = answer } ∷ [] → queued ≡ x ∷ rest
+pub tells_more : (forced : Forced) (told told_now : List Told) (x : Told) (answer : Answer) (rest queued : List Told) → answer ≡ answer_after forced x.answer → told_now ≡ told ++ record { asked = x.asked; answer = answer } ∷ [] → queued ≡ x ∷ rest
     → told_now ++ all_after forced rest ≡ told ++ all_after forced queued
 tells_more forced told told_now x answer rest queued a t q =
     ap (λ (l : List Told). l ++ all_after forced rest) t
@@ -58,37 +59,51 @@ tells_more forced told told_now x answer rest queued a t q =
 
 -- ---- a group is served
 
-pub leads_group : (alone : Type 0) (old filled tidied forced new : Machine) (result : Result Lsn Fault) (taken taken_mid taken_now : List Asked) (told told_now : List Told) (queued : List Told)
-    → Fills alone old filled taken taken_mid [] queued → (alone → Tidies filled tidied) → (alone → Stays tidied forced) → IfOk result (λ lsn. alone → IsStableTo forced lsn) → (alone → Stays forced new)
-    → taken_now ≡ taken_mid → told_now ≡ told ++ all_after result queued → Leads alone old new taken taken_now told told_now
-leads_group alone old filled tidied forced new result taken taken_mid taken_now told told_now queued f tidies stays stable shows takes tells =
+-- what a group did once its log is forced
+pub does_forced : (alone : Type 0) (old filled tidied forced : Machine) (taken taken_mid : List Asked) (queued : List Told)
+    → Fills alone old filled taken taken_mid [] queued → (alone → Tidies filled tidied) → (alone → Stays tidied forced) → alone → DoesAll old queued forced
+does_forced alone old filled tidied forced taken taken_mid queued f tidies stays a =
     let joined : queued ≡ f.more = f.joined in
-    let does : alone → DoesAll old f.more new = λ a. does_then old filled new f.more (f.does a)
-    (tidies_trans filled tidied new (tidies a) (tidies_trans tidied forced new (tidies_stays tidied forced (stays a)) (tidies_stays forced new (shows a)))) in
-    record {
-      more = all_after result f.more;
-      answered = tells ∙ ap (λ (q : List Told). told ++ all_after result q) joined;
-      once = takes ∙ f.once ∙ ap (λ (q : List Asked). taken ++ q) (sym (all_after_asked result f.more));
-      commits = λ a. (does a).commits ∙ ap (λ (cs : List Commit). commits_of old.held.log ++ cs) (sym (all_after_commits result f.more));
-      answers = λ a. all_true_after new result (stable_at alone forced new result a (shows a) stable) f.more (does a).held;
-      grows = λ a. (does a).grows;
-    }
-  where
-    stable_at : (alone : Type 0) (forced new : Machine) (result : Result Lsn Fault) → alone → Stays forced new → IfOk result (λ lsn. alone → IsStableTo forced lsn) → IfOk result (IsStableTo new)
-    stable_at alone forced new (Ok lsn) a s t = stable_on forced new lsn s (t a)
-    stable_at alone forced new (Err f) a s t = tt
+    subst (λ (q : List Told). DoesAll old q forced) (sym joined)
+    (does_then old filled forced f.more (f.does a) (tidies_trans filled tidied forced (tidies a) (tidies_stays tidied forced (stays a))))
+
+-- and once it is shown
+pub held_shown : (forced new : Machine) (queued : List Told) → Grows forced new → new.held.log ≡ forced.held.log → AllByRecursion (IsHeldOf forced) queued → AllByRecursion (IsHeldOf new) queued
+held_shown forced new queued g same h =
+    all_held_on forced new [] g (ap (λ (l : List Record). commits_of l) same ∙ sym (append-nil (commits_of forced.held.log))) queued h
+
+pub leads_group : (alone : Type 0) (old forced new : Machine) (result : Forced) (taken taken_mid taken_now : List Asked) (told told_now : List Told) (queued : List Told)
+    → taken_mid ≡ taken ++ asked_of queued → (alone → DoesAll old queued forced) → (alone → Grows forced new) → (alone → new.held.log ≡ forced.held.log) → (alone → IsStableIn result new)
+    → taken_now ≡ taken_mid → told_now ≡ told ++ all_after result queued → Leads alone old new taken taken_now told told_now
+leads_group alone old forced new result taken taken_mid taken_now told told_now queued once does grows same stable takes tells = record {
+  more = all_after result queued;
+  answered = tells;
+  once = takes ∙ once ∙ ap (λ (q : List Asked). taken ++ q) (sym (all_after_asked result queued));
+  commits = λ a. ap (λ (l : List Record). commits_of l) (same a) ∙ (does a).commits ∙ ap (λ (cs : List Commit). commits_of old.held.log ++ cs) (sym (all_after_commits result queued));
+  answers = λ a. all_true_after new result (stable a) queued (held_shown forced new queued (grows a) (same a) (does a).held);
+  grows = λ a. grows_trans old forced new (does a).grows (grows a);
+}
+
+-- what was handed out to a group
+pub group_once : (alone : Type 0) (old filled : Machine) (taken taken_mid : List Asked) (queued : List Told) → Fills alone old filled taken taken_mid [] queued → taken_mid ≡ taken ++ asked_of queued
+group_once alone old filled taken taken_mid queued f =
+    let joined : queued ≡ f.more = f.joined in
+    f.once ∙ ap (λ (q : List Told). taken ++ asked_of q) (sym joined)
 
 -- ---- nothing was asked
 
-pub leads_stays : (alone : Type 0) (old new : Machine) (taken taken_now : List Asked) (told told_now : List Told) → (alone → Stays old new) → taken_now ≡ taken → told_now ≡ told → Leads alone old new taken taken_now told told_now
-leads_stays alone old new taken taken_now told told_now stays takes tells = record {
+pub leads_same : (alone : Type 0) (old new : Machine) (taken taken_now : List Asked) (told told_now : List Told) → (alone → Grows old new) → (alone → new.held.log ≡ old.held.log) → taken_now ≡ taken → told_now ≡ told → Leads alone old new taken taken_now told told_now
+leads_same alone old new taken taken_now told told_now grows same takes tells = record {
   more = [];
   answered = tells ∙ sym (append-nil told);
   once = takes ∙ sym (append-nil taken);
-  commits = λ a. (tidies_stays old new (stays a)).commits ∙ sym (append-nil (commits_of old.held.log));
+  commits = λ a. ap (λ (l : List Record). commits_of l) (same a) ∙ sym (append-nil (commits_of old.held.log));
   answers = λ a. tt;
-  grows = λ a. (stays a).grows;
+  grows = grows;
 }
+
+pub leads_stays : (alone : Type 0) (old new : Machine) (taken taken_now : List Asked) (told told_now : List Told) → (alone → Stays old new) → taken_now ≡ taken → told_now ≡ told → Leads alone old new taken taken_now told told_now
+leads_stays alone old new taken taken_now told told_now stays takes tells = leads_same alone old new taken taken_now told told_now (λ a. (stays a).grows) (λ a. (stays a).same) takes tells
 
 pub leads_none : (alone : Type 0) (m : Machine) (taken : List Asked) (told : List Told) → Leads alone m m taken taken told told
 leads_none alone m taken told = record {

@@ -14,7 +14,7 @@ use Rattle.als_writer.specs.Asking.{IsAsked}
 use Rattle.als_writer.specs.Committing.{NotWritten}
 use Rattle.als_lead.specs.declared.asked.Asked.{Asked}
 use Rattle.als_lead.specs.declared.answer.Answer.{Answer}
-use Rattle.als_lead.specs.declared.answer.Answer.TheVariants.{Committed, Refused, Unknown}
+use Rattle.als_lead.specs.declared.answer.Answer.TheVariants.{Committed, Refused, Unknown, Withheld}
 use Rattle.als_lead.specs.declared.told.Told.{Told}
 use Rattle.als_lead.specs.Going.{Grows}
 
@@ -29,6 +29,7 @@ abbrev pub commits_in : Transaction → Answer → List Commit
 commits_in t (Committed w) = commit_by t w ∷ []
 commits_in t (Refused r) = []
 commits_in t (Unknown w) = commit_by t w ∷ []
+commits_in t Withheld = []
 
 abbrev pub commits_by : Told → List Commit
 commits_by told = commits_in told.asked.transaction told.answer
@@ -73,11 +74,12 @@ pub record IsRefused (m : Machine) (t : Transaction) (r : Refusal) : Type 0 wher
 abbrev pub IsEnded : Refusal → Type 0
 IsEnded r = (f : Fault) × (r ≡ State f)
 
--- an answer is true of a machine
+-- an answer is true of a machine; of what is withheld nothing is said but that no commit came
 abbrev pub IsTrueAnswer : Machine → Transaction → Answer → Type 0
 IsTrueAnswer m t (Committed w) = IsCommitted m t w
 IsTrueAnswer m t (Refused r) = IsRefused m t r ⊎ IsEnded r
 IsTrueAnswer m t (Unknown w) = IsIn m t w
+IsTrueAnswer m t Withheld = Unit {0}
 
 abbrev pub IsTrueOf : Machine → Told → Type 0
 IsTrueOf m told = IsTrueAnswer m told.asked.transaction told.answer

@@ -1,9 +1,9 @@
 -- How a machine goes on that one leader alone drives.
-use Rattle.std.specs.Prelude.{◌≡◌, ◌≤◌, true, false, List, ◌++◌}
+use Rattle.std.specs.Prelude.{◌≡◌, ◌≤◌, ◌⊎◌, true, false, List, ◌++◌}
 use Rattle.als_record.specs.declared.record.Record.{Record}
 use Rattle.als_record.specs.Commits.{commits_of}
 use Rattle.als_store.specs.Stored.{acknowledged}
-use Rattle.als_engine.specs.Machine.{Machine, IsStopped}
+use Rattle.als_engine.specs.Machine.{Machine, IsStopped, acknowledged_in}
 
 -- The log only grows. What is acknowledged and what is published stay so, a stopped engine stays stopped, and none begins to recover.
 pub record Grows (old new : Machine) : Type 0 where
@@ -16,12 +16,20 @@ pub record Grows (old new : Machine) : Type 0 where
   pub listed : old.listed ≡ true → new.listed ≡ true
   pub published : old.published ≤ new.published
 
--- the same, and the log is as it was
+-- the same, the log is as it was, and readers see what they saw
 pub record Stays (old new : Machine) : Type 0 where
   pub grows : Grows old new
   pub same : new.held.log ≡ old.held.log
+  pub published : new.published ≡ old.published
 
--- the log goes on without a commit
+-- the log is as it was, and readers see what they saw, or each commit that was acknowledged
+pub record Publishes (old new : Machine) : Type 0 where
+  pub grows : Grows old new
+  pub same : new.held.log ≡ old.held.log
+  pub published : (new.published ≡ old.published) ⊎ (new.published ≡ acknowledged_in old)
+
+-- the log goes on without a commit, and readers see what they saw
 pub record Tidies (old new : Machine) : Type 0 where
   pub grows : Grows old new
   pub commits : commits_of new.held.log ≡ commits_of old.held.log
+  pub published : new.published ≡ old.published

@@ -17,3 +17,9 @@ pub record Leads (alone : Type 0) (old new : Machine) (taken taken_now : List As
   pub commits : alone → commits_of new.held.log ≡ commits_of old.held.log ++ commits_told more
   pub answers : alone → AllByRecursion (IsTrueOf new) more
   pub grows : alone → Grows old new
+
+-- what was told is what was told before, and behind it answers of which each is such
+pub record AllTold (IsSuch : Told → Type 0) (told told_now : List Told) : Type 0 where
+  pub more : List Told
+  pub answered : told_now ≡ told ++ more
+  pub each : AllByRecursion IsSuch more

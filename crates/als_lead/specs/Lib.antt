@@ -3,3 +3,4 @@ pub mod Account
 pub mod Answers
 pub mod Groups
 pub mod Leading
+pub mod Confirming

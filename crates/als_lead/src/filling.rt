@@ -1,8 +1,10 @@
-ghost use Rattle.std.specs.Prelude.{◌≡◌, ◌<◌, ◌++◌, ◌∷◌, []};
+ghost use Rattle.std.specs.Prelude.{◌≡◌, ◌<◌, ◌++◌, ◌∷◌, [], OnOk};
 ghost use Rattle.std.specs.VecDeque.{deque_len, deque_capacity};
 ghost use Rattle.als_writer.specs.Changes.{AreBounds};
 ghost use Rattle.als_lead.specs.declared.answer.Answer.{Answer as AnyAnswer};
 ghost use Rattle.als_lead.specs.Groups.{Does, Fills};
+ghost use Rattle.als_lead.specs.Leading.{AllTold};
+ghost use Rattle.als_lead.specs.Confirming.{IsTried, IsBegun, IsBegunOf};
 
 use crate::answer::Answer;
 use crate::asked::Asked;
@@ -30,6 +32,7 @@ pub(crate) fn fill<E: Writes, C: Clients>(
         (E.machine engine.old).held.log }
     ensures fills { Fills E.alone (E.machine engine.old) (E.machine engine.new)
         (C.taken clients.old) (C.taken clients.new) queue.old.items queue.new.items }
+    ensures begun { OnOk result (AllTold IsBegunOf queue.old.items queue.new.items) }
     ensures told { C.told clients.new ≡ C.told clients.old }
     ensures bounds { E.alone → AreBounds changes.new (E.machine engine.new).held.pages
         (E.machine engine.new).held.log }
@@ -64,6 +67,7 @@ fn take<E: Writes>(
     ensures does { (answer : AnyAnswer) × (queue.new.items ≡ queue.old.items
         ++ record { asked = asked; answer = answer } ∷ []) × (E.alone
         → Does (E.machine engine.old) asked.transaction answer (E.machine engine.new)) }
+    ensures begun { OnOk result (AllTold IsBegunOf queue.old.items queue.new.items) }
     ensures bounds { E.alone → AreBounds changes.new (E.machine engine.new).held.pages
         (E.machine engine.new).held.log }
     ensures book { E.book engine.new ≡ E.book engine.old }
@@ -75,7 +79,9 @@ fn take<E: Writes>(
 }
 
 /// An `Err` where the engine takes nothing any more.
-fn go_on(answer: &Answer) -> Result<(), Fault> {
+fn go_on(answer: &Answer) -> Result<(), Fault>
+    ensures { OnOk result (IsTried answer.now → IsBegun answer.now) }
+{
     match *answer {
         Answer::Refused(Refusal::State(fault)) => Err(Fault::Refused(fault)),
         Answer::Refused(Refusal::Unplanned(fault)) => Err(Fault::Refused(fault)),

@@ -1,4 +1,5 @@
 ghost use Rattle.std.specs.Prelude.{◌≡◌, IfOk};
+ghost use Rattle.als_store.specs.Stored.{acknowledged};
 ghost use Rattle.als_lead.specs.Going.{Stays};
 ghost use Rattle.als_lead.specs.Groups.{IsStableTo};
 
@@ -12,6 +13,8 @@ use als_record::Lsn;
 pub(crate) fn make_durable<E: Events>(engine: &mut E) -> Result<Lsn, Fault>
     ensures stays { E.alone → Stays (E.machine engine.old) (E.machine engine.new) }
     ensures stable { IfOk result (λ lsn. E.alone → IsStableTo (E.machine engine.new) lsn) }
+    ensures exact { IfOk result (λ lsn. E.alone
+        → lsn.0 ≡ acknowledged (E.machine engine.new).held) }
     ensures book { E.book engine.new ≡ E.book engine.old }
 {
     let before = engine.status();

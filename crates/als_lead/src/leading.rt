@@ -1,9 +1,11 @@
-ghost use Rattle.std.specs.Prelude.{◌≡◌, [], IfOk};
+ghost use Rattle.std.specs.Prelude.{◌≡◌, ℕ, [], IfOk, OnOk};
 ghost use Rattle.als_writer.specs.Changes.{AreBounds};
 ghost use Rattle.als_lead.specs.Going.{Stays};
-ghost use Rattle.als_lead.specs.Leading.{Leads};
+ghost use Rattle.als_lead.specs.Leading.{Leads, AllTold};
+ghost use Rattle.als_lead.specs.Confirming.{IsShown, IsConfirmedOf, IsCarriedOut};
 
 use crate::clients::{Clients, Waited};
+use crate::confirming::confirm_earlier;
 use crate::limits::Limits;
 use crate::serving::serve;
 use crate::told::Told;
@@ -15,7 +17,8 @@ use std::alloc::Global;
 use std::collections::VecDeque;
 
 /// Leads an engine that nobody else drives, until its clients have closed or something fails: their
-/// transactions are written in groups, and each group is answered after its force.
+/// transactions are written in groups, and each group is answered after its force, once enough others
+/// hold it. No group is taken before the last one is confirmed.
 ///
 /// The first failure of the clients, of the engine or of its upkeep. Memory: allocation failed.
 pub fn lead<E: Writes, C: Clients, U: Upkeep>(
@@ -29,6 +32,17 @@ pub fn lead<E: Writes, C: Clients, U: Upkeep>(
     // The log's commits are the old ones and those answered. Each answer is true of the log.
     ensures leads { Leads E.alone (E.machine engine.old) (E.machine engine.new)
         (C.taken clients.old) (C.taken clients.new) (C.told clients.old) (C.told clients.new) }
+    // What was committed, and what refused another one, is confirmed.
+    ensures confirmed { E.alone
+        → AllTold (IsConfirmedOf (U.confirmed upkeep.new) (E.machine engine.new))
+        (C.told clients.old) (C.told clients.new) }
+    // Where it ends well, no transaction was refused because the leader ends, and why one was withheld
+    // is that a confirmation was missed.
+    ensures works { OnOk result (AllTold (IsCarriedOut (U.missed upkeep.new))
+        (C.told clients.old) (C.told clients.new)) }
+    // Readers see what they saw, or what is confirmed.
+    ensures shown { E.alone
+        → IsShown (U.confirmed upkeep.new) (E.machine engine.old) (E.machine engine.new) }
     ensures book { E.book engine.new ≡ E.book engine.old }
 {
     let mut changes = first_changes(alloc, engine)?;
@@ -61,8 +75,8 @@ fn first_changes<E: Writes>(alloc: Global, engine: &E) -> Result<Changes, Fault>
     Ok(changes)
 }
 
-/// Waits for clients, and serves them where they ask. Then upkeep is done. Answers whether there may be
-/// more.
+/// Waits for clients, and serves them where they ask, unless an earlier group is not confirmed. Then
+/// upkeep is done. Answers whether there may be more.
 fn round<E: Writes, C: Clients, U: Upkeep>(
     alloc: Global,
     engine: &mut E,
@@ -77,11 +91,23 @@ fn round<E: Writes, C: Clients, U: Upkeep>(
     requires empty { queue.old.items ≡ [] }
     ensures leads { Leads E.alone (E.machine engine.old) (E.machine engine.new)
         (C.taken clients.old) (C.taken clients.new) (C.told clients.old) (C.told clients.new) }
+    ensures confirmed { E.alone
+        → AllTold (IsConfirmedOf (U.confirmed upkeep.new) (E.machine engine.new))
+        (C.told clients.old) (C.told clients.new) }
+    ensures works { OnOk result (AllTold (IsCarriedOut (U.missed upkeep.new))
+        (C.told clients.old) (C.told clients.new)) }
+    ensures shown { E.alone
+        → IsShown (U.confirmed upkeep.new) (E.machine engine.old) (E.machine engine.new) }
+    ensures keeps { (n : ℕ) → U.confirmed upkeep.old n → U.confirmed upkeep.new n }
+    ensures misses { (n : ℕ) → U.missed upkeep.old n → U.missed upkeep.new n }
     ensures emptied { queue.new.items ≡ [] }
     ensures bounds { E.alone → AreBounds changes.new (E.machine engine.new).held.pages
         (E.machine engine.new).held.log }
     ensures book { E.book engine.new ≡ E.book engine.old }
 {
+    if !confirm_earlier(engine, upkeep)? {
+        return pause(engine, clients, upkeep);
+    }
     match clients.wait()? {
         Waited::Closed => Ok(false),
         Waited::Idle => rest(engine, upkeep),
@@ -92,9 +118,30 @@ fn round<E: Writes, C: Clients, U: Upkeep>(
     }
 }
 
+/// Waits for clients, and takes nothing from them. Answers whether there may be more.
+fn pause<E: Writes, C: Clients, U: Upkeep>(
+    engine: &mut E,
+    clients: &mut C,
+    upkeep: &mut U,
+) -> Result<bool, Fault>
+    ensures stays { E.alone → Stays (E.machine engine.old) (E.machine engine.new) }
+    ensures taken { C.taken clients.new ≡ C.taken clients.old }
+    ensures told { C.told clients.new ≡ C.told clients.old }
+    ensures keeps { (n : ℕ) → U.confirmed upkeep.old n → U.confirmed upkeep.new n }
+    ensures misses { (n : ℕ) → U.missed upkeep.old n → U.missed upkeep.new n }
+    ensures book { E.book engine.new ≡ E.book engine.old }
+{
+    match clients.wait()? {
+        Waited::Closed => Ok(false),
+        Waited::Idle | Waited::Asks => rest(engine, upkeep),
+    }
+}
+
 /// Does what is due where nobody is served. The leader goes on.
 fn rest<E: Writes, U: Upkeep>(engine: &mut E, upkeep: &mut U) -> Result<bool, Fault>
     ensures stays { E.alone → Stays (E.machine engine.old) (E.machine engine.new) }
+    ensures keeps { (n : ℕ) → U.confirmed upkeep.old n → U.confirmed upkeep.new n }
+    ensures misses { (n : ℕ) → U.missed upkeep.old n → U.missed upkeep.new n }
     ensures book { E.book engine.new ≡ E.book engine.old }
 {
     upkeep.keep_up(engine)?;

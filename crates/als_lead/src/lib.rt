@@ -1,16 +1,19 @@
 //! The leader of a primary: it owns the engine alone, and writes what its clients ask for.
 //!
-//! waits for clients -> writes each transaction of a group -> forces the log once -> answers all of
-//! the group, in order -> upkeep -> waits again
+//! waits for clients -> writes each transaction of a group -> forces the log once -> waits until enough
+//! others hold it -> publishes -> answers all of the group, in order -> upkeep -> waits again
 //!
 //! 1. Nobody else makes events. So each answer is true of the engine's own log.
-//! 2. All of a group is answered after its force, refusals too: a refusal may tell of a commit that a
-//!    crash takes back until then.
+//! 2. All of a group is answered after its force and its confirmation, refusals too: a refusal may tell
+//!    of a commit that a crash or a takeover takes back until then.
 //! 3. Each transaction that is taken is answered once, in the order in which it was taken, and to its
 //!    own seat.
 //! 4. Where a force fails, the transactions whose records may be in the log are answered `Unknown`,
 //!    the others are refused, and the leader ends.
-//! 5. What an earlier transaction owes to the log is written before the next one, and before the
+//! 5. A group that too few others hold in time is answered so that nothing is promised: what is written
+//!    `Unknown`, what was refused `Withheld`. It is not published, and no other group is taken, until
+//!    enough others hold it.
+//! 6. What an earlier transaction owes to the log is written before the next one, and before the
 //!    force.
 #![tactic(auto)]
 
@@ -32,6 +35,10 @@ mod writing;
 mod filling;
 // The log made durable.
 mod forcing;
+// What a force came to.
+mod forced;
+// The log confirmed by others, and then published.
+mod confirming;
 // A group answered.
 mod telling;
 // All of a group.

@@ -1,9 +1,11 @@
-ghost use Rattle.std.specs.Prelude.{◌≡◌, ◌++◌, []};
+ghost use Rattle.std.specs.Prelude.{◌≡◌, ◌++◌, ℕ, [], OnOk};
 ghost use Rattle.als_writer.specs.Changes.{AreBounds};
-ghost use Rattle.als_lead.specs.Leading.{Leads};
+ghost use Rattle.als_lead.specs.Leading.{Leads, AllTold};
 ghost use Rattle.als_lead.specs.Going.{Tidies};
+ghost use Rattle.als_lead.specs.Confirming.{IsWhole, IsShown, IsConfirmedOf, IsCarriedOut};
 
 use crate::clients::Clients;
+use crate::confirming::{confirmed, show};
 use crate::filling::fill;
 use crate::forcing::make_durable;
 use crate::limits::Limits;
@@ -16,8 +18,8 @@ use als_writer::{Changes, tidy};
 use std::alloc::Global;
 use std::collections::VecDeque;
 
-/// Serves one group: its transactions are written, the log is forced once, readers see what is
-/// committed, and then all of the group is answered.
+/// Serves one group: its transactions are written, the log is forced once, enough others confirm it,
+/// readers see what is committed, and then all of the group is answered.
 pub(crate) fn serve<E: Writes, C: Clients, U: Upkeep>(
     alloc: Global,
     engine: &mut E,
@@ -27,11 +29,22 @@ pub(crate) fn serve<E: Writes, C: Clients, U: Upkeep>(
     queue: &mut VecDeque<Told>,
     limits: Limits,
 ) -> Result<(), Fault>
+    // No group is taken before enough others hold the whole log.
+    requires whole { E.alone → IsWhole (U.confirmed upkeep.old) (E.machine engine.old) }
     requires bounded { E.alone → AreBounds changes.old (E.machine engine.old).held.pages
         (E.machine engine.old).held.log }
     requires empty { queue.old.items ≡ [] }
     ensures leads { Leads E.alone (E.machine engine.old) (E.machine engine.new)
         (C.taken clients.old) (C.taken clients.new) (C.told clients.old) (C.told clients.new) }
+    ensures confirmed { E.alone
+        → AllTold (IsConfirmedOf (U.confirmed upkeep.new) (E.machine engine.new))
+        (C.told clients.old) (C.told clients.new) }
+    ensures works { OnOk result (AllTold (IsCarriedOut (U.missed upkeep.new))
+        (C.told clients.old) (C.told clients.new)) }
+    ensures shown { E.alone
+        → IsShown (U.confirmed upkeep.new) (E.machine engine.old) (E.machine engine.new) }
+    ensures keeps { (n : ℕ) → U.confirmed upkeep.old n → U.confirmed upkeep.new n }
+    ensures misses { (n : ℕ) → U.missed upkeep.old n → U.missed upkeep.new n }
     ensures emptied { queue.new.items ≡ [] }
     ensures bounds { E.alone → AreBounds changes.new (E.machine engine.new).held.pages
         (E.machine engine.new).held.log }
@@ -39,18 +52,12 @@ pub(crate) fn serve<E: Writes, C: Clients, U: Upkeep>(
 {
     let filled = fill(alloc, engine, changes, clients, queue, limits);
     tidy_owed(alloc, engine, changes);
-    let forced = make_durable(engine);
-    let shown = match upkeep.publish(engine) {
-        Ok(()) => Ok(()),
-        Err(fault) => Err(Fault::Refused(fault)),
-    };
+    let durable = make_durable(engine);
+    let forced = confirmed(upkeep, durable);
+    let shown = show(engine, upkeep, forced);
     let told = tell_all(clients, queue, forced);
     let ended = clients.end_group();
-    let durable = match forced {
-        Ok(_) => shown,
-        Err(fault) => Err(Fault::Refused(fault)),
-    };
-    first(first(filled, durable), first(told, ended))
+    first(first(filled, shown), first(told, ended))
 }
 
 /// Writes what the group owes to the log, where that can be done. Else it is owed on, and what it

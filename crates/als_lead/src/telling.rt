@@ -1,9 +1,11 @@
-ghost use Rattle.std.specs.Prelude.{◌≡◌, ◌++◌, []};
+ghost use Rattle.std.specs.Prelude.{◌≡◌, ◌++◌, [], OnOk, IsOk};
 ghost use Rattle.std.specs.VecDeque.{deque_capacity};
+ghost use Rattle.als_lead.specs.declared.forced.Forced.TheVariants.{Confirmed, Unconfirmed, Failed};
 ghost use Rattle.als_lead.specs.Groups.{answer_after, all_after};
 
 use crate::answer::Answer;
 use crate::clients::Clients;
+use crate::forced::Forced;
 use crate::told::Told;
 use als_engine::Fault as EngineFault;
 use als_operate::Fault;
@@ -16,7 +18,7 @@ use std::collections::VecDeque;
 pub(crate) fn tell_all<C: Clients>(
     clients: &mut C,
     queue: &mut VecDeque<Told>,
-    forced: Result<Lsn, EngineFault>,
+    forced: Forced,
 ) -> Result<(), Fault>
     ensures told { C.told clients.new ≡ C.told clients.old ++ all_after forced queue.old.items }
     ensures taken { C.taken clients.new ≡ C.taken clients.old }
@@ -31,26 +33,62 @@ pub(crate) fn tell_all<C: Clients>(
     ended
 }
 
-/// The answer after a force.
-fn settled(answer: Answer, forced: Result<Lsn, EngineFault>) -> Answer
+/// The answer after a force and its confirmation.
+fn settled(answer: Answer, forced: Forced) -> Answer
     ensures { result ≡ answer_after forced answer }
 {
-    match (forced, answer) {
-        (Ok(lsn), Answer::Committed(written) | Answer::Unknown(written)) => {
+    match forced {
+        Forced::Confirmed(lsn) => confirmed(answer, lsn),
+        Forced::Unconfirmed => unconfirmed(answer),
+        Forced::Failed(fault) => failed(answer, fault),
+    }
+}
+
+/// The answer where enough others hold the log up to an LSN.
+fn confirmed(answer: Answer, lsn: Lsn) -> Answer
+    ensures { result ≡ answer_after (Confirmed lsn) answer }
+{
+    match answer {
+        Answer::Committed(written) | Answer::Unknown(written) => {
+            // What the transaction is the end of may be owed still.
             if written.end.0 <= lsn.0 {
                 Answer::Committed(written)
             } else {
                 Answer::Unknown(written)
             }
         }
-        (Ok(_), Answer::Refused(refusal)) => Answer::Refused(refusal),
-        (Err(_), Answer::Committed(written) | Answer::Unknown(written)) => Answer::Unknown(written),
-        (Err(fault), Answer::Refused(_)) => Answer::Refused(Refusal::State(fault)),
+        Answer::Refused(refusal) => Answer::Refused(refusal),
+        Answer::Withheld => Answer::Withheld,
+    }
+}
+
+/// The answer where too few others hold the log: a takeover may take back what refused a transaction.
+fn unconfirmed(answer: Answer) -> Answer
+    ensures { result ≡ answer_after Unconfirmed answer }
+{
+    match answer {
+        Answer::Committed(written) | Answer::Unknown(written) => Answer::Unknown(written),
+        Answer::Refused(_) | Answer::Withheld => Answer::Withheld,
+    }
+}
+
+/// The answer where the force or its confirmation failed. The leader ends, so that failure is why a
+/// transaction is refused.
+fn failed(answer: Answer, fault: EngineFault) -> Answer
+    ensures { result ≡ answer_after (Failed fault) answer }
+{
+    match answer {
+        Answer::Committed(written) | Answer::Unknown(written) => Answer::Unknown(written),
+        Answer::Refused(_) => Answer::Refused(Refusal::State(fault)),
+        Answer::Withheld => Answer::Withheld,
     }
 }
 
 /// The first failure of two results.
-pub(crate) fn first(earlier: Result<(), Fault>, later: Result<(), Fault>) -> Result<(), Fault> {
+pub(crate) fn first(earlier: Result<(), Fault>, later: Result<(), Fault>) -> Result<(), Fault>
+    ensures earlier { OnOk result (IsOk earlier) }
+    ensures later { OnOk result (IsOk later) }
+{
     match earlier {
         Ok(()) => later,
         Err(fault) => Err(fault),

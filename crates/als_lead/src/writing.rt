@@ -1,6 +1,7 @@
 ghost use Rattle.std.specs.Prelude.{◌≡◌};
 ghost use Rattle.als_writer.specs.Changes.{AreBounds};
 ghost use Rattle.als_lead.specs.Groups.{Does, IsNotBegun};
+ghost use Rattle.als_lead.specs.Confirming.{IsTried};
 
 use crate::answer::Answer;
 use crate::asked::Asked;
@@ -21,6 +22,7 @@ pub(crate) fn write_tidily<E: Writes>(
         (E.machine engine.old).held.log }
     ensures does { E.alone → Does (E.machine engine.old) asked.now.transaction result
         (E.machine engine.new) }
+    ensures tried { IsTried result }
     ensures bounds { E.alone → AreBounds changes.new (E.machine engine.new).held.pages
         (E.machine engine.new).held.log }
     ensures book { E.book engine.new ≡ E.book engine.old }
@@ -45,6 +47,7 @@ fn write_once<E: Writes>(
         (E.machine engine.old).held.log }
     ensures does { E.alone → Does (E.machine engine.old) transaction.now result
         (E.machine engine.new) }
+    ensures tried { IsTried result }
     ensures bounds { E.alone → AreBounds changes.new (E.machine engine.new).held.pages
         (E.machine engine.new).held.log }
     ensures book { E.book engine.new ≡ E.book engine.old }

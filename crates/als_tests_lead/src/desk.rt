@@ -14,6 +14,7 @@ pub enum Seen {
     LogFull,
     Invalid,
     State,
+    Withheld,
     Other,
 }
 
@@ -22,6 +23,8 @@ pub enum Seen {
 #[derive(Drop)]
 pub struct Desk {
     pub asks: VecDeque<Asked>,
+    /// How often the leader may wait before they close.
+    pub waits: u32,
     /// The seats that were answered, in order.
     pub seen: Vec<(u64, Seen)>,
     /// How many groups were answered.
@@ -35,11 +38,11 @@ impl Clients for Desk {
     ghost told = { λ desk. told_of desk.account };
 
     fn wait(&mut self) -> Result<Waited, Fault> {
-        if self.asks.is_empty() {
-            Ok(Waited::Closed)
-        } else {
-            Ok(Waited::Asks)
+        if self.asks.is_empty() || self.waits == 0 {
+            return Ok(Waited::Closed);
         }
+        self.waits -= 1;
+        Ok(Waited::Asks)
     }
 
     fn next(&mut self) -> Result<Option<Asked>, Fault> {
@@ -72,6 +75,7 @@ fn shown(answer: &Answer) -> Seen {
     match answer {
         Answer::Committed(_) => Seen::Committed,
         Answer::Unknown(_) => Seen::Unknown,
+        Answer::Withheld => Seen::Withheld,
         Answer::Refused(Refusal::NotAsAsked { .. }) => Seen::NotAsAsked,
         Answer::Refused(Refusal::LogFull) => Seen::LogFull,
         Answer::Refused(Refusal::Invalid(_)) => Seen::Invalid,

@@ -1,79 +1,11 @@
-use crate::desk::{Desk, Seen};
-use als_disk::{FailingDisk, Fuse, MemDisk};
-use als_engine::{Config, Disks, Engine, Events, Fault as EngineFault};
-use als_lead::{Account, Asked, Limits, PrimaryUpkeep, lead};
+use crate::desk::Seen;
+use crate::made::{desk, primary};
+use als_engine::{Events, Fault as EngineFault};
+use als_lead::{Limits, PrimaryUpkeep, lead};
 use als_operate::Fault;
-use als_record::{ImageView, KeptImage, Key};
-use als_writer::{Ask, Set, Transaction};
 use std::alloc::Global;
-use std::collections::VecDeque;
 use std::process::Abort;
 use std::sync::Wait;
-
-type Disk = FailingDisk<MemDisk>;
-
-/// A primary of four pages, of which eight blocks of log, and what makes its log device fail. `None`:
-/// allocation failed.
-fn primary<R: Wait>(rt: &R, alloc: Global) -> Option<(Engine<Disk>, Fuse)> {
-    let log = Fuse::new(alloc).ok()?;
-    let control = Fuse::new(alloc).ok()?;
-    let pages = Fuse::new(alloc).ok()?;
-    let disks = Disks {
-        log: FailingDisk::new(MemDisk::new(alloc, 8), log.clone().ok()?),
-        control: FailingDisk::new(MemDisk::new(alloc, 321), control),
-        pages: FailingDisk::new(MemDisk::new(alloc, 4), pages),
-    };
-    let config = Config {
-        pages: 4,
-        frames: 4,
-        pending: 1000,
-        readers: 1,
-    };
-    let (engine, _) = Engine::format(alloc, rt, disks, config).ok()?;
-    Some((engine, log))
-}
-
-/// The value of one byte.
-fn value(byte: u8) -> KeptImage {
-    KeptImage::of(&ImageView {
-        bytes: Some(&[byte]),
-    })
-}
-
-/// What a seat asks of the key 0/0: that it has an image, and that it gets one.
-fn asked(alloc: Global, seat: u64, is: Option<KeptImage>, to: Option<KeptImage>) -> Option<Asked> {
-    let key = Key { page: 0, slot: 0 };
-    let mut asks = Vec::new(alloc);
-    let mut sets = Vec::new(alloc);
-    if let Some(image) = is {
-        asks.push(Ask::Is { key, image }).ok()?;
-    }
-    if let Some(image) = to {
-        sets.push(Set { key, image }).ok()?;
-    }
-    let transaction = Transaction { asks, sets };
-    Some(Asked { seat, transaction })
-}
-
-/// Four seats: 7 sets the key to `aa`, 3 wants it absent, 9 sets nothing, and 5 sets it from `aa` to
-/// `bb`.
-fn desk(alloc: Global) -> Option<Desk> {
-    let mut asks = VecDeque::new(alloc);
-    let absent = KeptImage::absent();
-    asks.push_back(asked(alloc, 7, None, Some(value(0xaa)))?)
-        .ok()?;
-    asks.push_back(asked(alloc, 3, Some(absent), Some(value(0xcc)))?)
-        .ok()?;
-    asks.push_back(asked(alloc, 9, None, None)?).ok()?;
-    asks.push_back(asked(alloc, 5, Some(value(0xaa)), Some(value(0xbb)))?)
-        .ok()?;
-    Some(Desk {
-        asks,
-        seen: Vec::new(alloc),
-        groups: 0,
-        account: Account::Nothing,
-    })
-}
 
 /// What a leader answers the four seats in groups of so many, where a call of the log device fails,
 /// counted from 1; none for 0. `None`: memory was refused.

@@ -1,0 +1,106 @@
+-- What enough others hold of the log, and what of it is answered and shown.
+use Rattle.std.specs.Prelude.{◌≡◌, ℕ, ◌≤◌, ◌⊎◌, Result, Ok}
+use Rattle.als_record.specs.declared.lsn.Lsn.{Lsn}
+use Rattle.als_record.specs.LogText.{end_of}
+use Rattle.als_record.specs.Commits.{commits_of}
+use Rattle.als_commits.specs.Counting.{ended_count}
+use Rattle.als_store.specs.Stored.{acknowledged}
+use Rattle.als_engine.specs.declared.fault.Fault.{Fault}
+use Rattle.als_engine.specs.Machine.{Machine}
+use Rattle.als_writer.specs.declared.refusal.Refusal.{Refusal}
+use Rattle.als_writer.specs.declared.refusal.Refusal.TheVariants as refusal
+use Rattle.als_writer.specs.declared.transaction.Transaction.{Transaction}
+use Rattle.als_lead.specs.declared.answer.Answer.{Answer}
+use Rattle.als_lead.specs.declared.answer.Answer.TheVariants.{Committed, Refused, Unknown, Withheld}
+use Rattle.als_lead.specs.declared.forced.Forced.{Forced}
+use Rattle.als_lead.specs.declared.forced.Forced.TheVariants as forced
+use Rattle.als_lead.specs.declared.told.Told.{Told}
+use Rattle.als_lead.specs.Going.{Publishes}
+use Rattle.als_lead.specs.Answers.{WasRefused, IsEnded}
+
+-- ---- the log
+
+-- all of the log is confirmed
+pub record IsWhole (confirmed : ℕ → Type 0) (m : Machine) : Type 0 where
+  pub end : ℕ
+  pub reaches : end_of m.held.log ≤ end
+  pub holds : confirmed end
+
+-- what a force and its confirmation came to: the log is confirmed up to where it was forced, or that was missed, or something failed
+abbrev pub IsForcedBy : (ℕ → Type 0) → (ℕ → Type 0) → Result Lsn Fault → Forced → Type 0
+IsForcedBy confirmed missed durable (forced.Confirmed lsn) = (durable ≡ Ok lsn) × confirmed lsn.0
+IsForcedBy confirmed missed durable forced.Unconfirmed = (end : ℕ) × missed end
+IsForcedBy confirmed missed durable (forced.Failed f) = Unit {0}
+
+-- neither the force nor the confirmation failed
+abbrev pub GoesOn : Forced → Type 0
+GoesOn (forced.Confirmed lsn) = Unit {0}
+GoesOn forced.Unconfirmed = Unit {0}
+GoesOn (forced.Failed f) = ⊥
+
+-- ---- what readers see
+
+-- only a log that is confirmed is shown
+abbrev pub PublishesIn : Forced → Machine → Machine → Type 0
+PublishesIn (forced.Confirmed lsn) old new = Publishes old new
+PublishesIn forced.Unconfirmed old new = new ≡ old
+PublishesIn (forced.Failed f) old new = new ≡ old
+
+-- readers see what they saw, or no commit that ends above an offset which is confirmed
+abbrev pub IsShown : (ℕ → Type 0) → Machine → Machine → Type 0
+IsShown confirmed old new =
+    (new.published ≡ old.published)
+    ⊎ ((end : ℕ) × confirmed end × (new.published ≤ ended_count end (commits_of new.held.log)))
+
+-- ---- what is answered
+
+-- a transaction was refused by a log that is confirmed and acknowledged
+pub record IsRefusedBy (confirmed : ℕ → Type 0) (m : Machine) (t : Transaction) (r : Refusal) : Type 0 where
+  pub was : WasRefused m t r
+  pub end : ℕ
+  pub reaches : end_of was.after.held.log ≤ end
+  pub stable : end ≤ acknowledged m.held
+  pub holds : confirmed end
+
+-- A committed transaction ends at or below an offset that is confirmed, and what refused another one does. Where the leader has ended nothing is
+-- said, nor of what is not known or withheld.
+abbrev pub IsConfirmedBy : (ℕ → Type 0) → Machine → Transaction → Answer → Type 0
+IsConfirmedBy confirmed m t (Committed w) = (end : ℕ) × (w.end.0 ≤ end) × confirmed end
+IsConfirmedBy confirmed m t (Refused r) = IsRefusedBy confirmed m t r ⊎ IsEnded r
+IsConfirmedBy confirmed m t (Unknown w) = Unit {0}
+IsConfirmedBy confirmed m t Withheld = Unit {0}
+
+abbrev pub IsConfirmedOf : (ℕ → Type 0) → Machine → Told → Type 0
+IsConfirmedOf confirmed m told = IsConfirmedBy confirmed m told.asked.transaction told.answer
+
+-- a refusal is not for the end of the leader
+abbrev pub IsForCause : Refusal → Type 0
+IsForCause (refusal.State f) = ⊥
+IsForCause _ = Unit {0}
+
+-- what is answered before a force: written or not
+abbrev pub IsTried : Answer → Type 0
+IsTried (Refused r) = Unit {0}
+IsTried (Committed w) = ⊥
+IsTried (Unknown w) = Unit {0}
+IsTried Withheld = ⊥
+
+-- the same, and not for the end of the leader
+abbrev pub IsBegun : Answer → Type 0
+IsBegun (Refused r) = IsForCause r
+IsBegun (Committed w) = ⊥
+IsBegun (Unknown w) = Unit {0}
+IsBegun Withheld = ⊥
+
+abbrev pub IsBegunOf : Told → Type 0
+IsBegunOf told = IsBegun told.answer
+
+-- an answer is not for the end of the leader, and withheld only where a confirmation was missed
+abbrev pub IsCarried : (ℕ → Type 0) → Answer → Type 0
+IsCarried missed (Refused r) = IsForCause r
+IsCarried missed (Committed w) = Unit {0}
+IsCarried missed (Unknown w) = Unit {0}
+IsCarried missed Withheld = (end : ℕ) × missed end
+
+abbrev pub IsCarriedOut : (ℕ → Type 0) → Told → Type 0
+IsCarriedOut missed told = IsCarried missed told.answer

@@ -1,0 +1,74 @@
+ghost use Rattle.std.specs.Prelude.{◌≡◌, ℕ, true, IfOk, OnOk};
+ghost use Rattle.als_lead.specs.Going.{Grows};
+ghost use Rattle.als_lead.specs.Confirming.{IsForcedBy, GoesOn, PublishesIn, IsWhole, IsShown};
+
+use crate::forced::Forced;
+use crate::forcing::make_durable;
+use crate::upkeep::Upkeep;
+use als_engine::{Events, Fault as EngineFault};
+use als_operate::Fault;
+use als_record::Lsn;
+
+/// What a group's force comes to: waits until enough others hold the log.
+pub(crate) fn confirmed<U: Upkeep>(upkeep: &mut U, forced: Result<Lsn, EngineFault>) -> Forced
+    ensures by { IsForcedBy (U.confirmed upkeep.new) (U.missed upkeep.new) forced result }
+    ensures keeps { (n : ℕ) → U.confirmed upkeep.old n → U.confirmed upkeep.new n }
+    ensures misses { (n : ℕ) → U.missed upkeep.old n → U.missed upkeep.new n }
+{
+    match forced {
+        Ok(lsn) => match upkeep.confirm(lsn) {
+            Ok(true) => Forced::Confirmed(lsn),
+            Ok(false) => Forced::Unconfirmed,
+            Err(fault) => Forced::Failed(fault),
+        },
+        Err(fault) => Forced::Failed(fault),
+    }
+}
+
+/// Shows readers a group that is confirmed, and no other one.
+pub(crate) fn show<E: Events, U: Upkeep>(
+    engine: &mut E,
+    upkeep: &mut U,
+    forced: Forced,
+) -> Result<(), Fault>
+    ensures publishes { E.alone
+        → PublishesIn forced (E.machine engine.old) (E.machine engine.new) }
+    ensures goes_on { OnOk result (GoesOn forced) }
+    ensures keeps { (n : ℕ) → U.confirmed upkeep.old n → U.confirmed upkeep.new n }
+    ensures misses { (n : ℕ) → U.missed upkeep.old n → U.missed upkeep.new n }
+    ensures book { E.book engine.new ≡ E.book engine.old }
+{
+    match forced {
+        Forced::Confirmed(_) => match upkeep.publish(engine) {
+            Ok(()) => Ok(()),
+            Err(fault) => Err(Fault::Refused(fault)),
+        },
+        Forced::Unconfirmed => Ok(()),
+        Forced::Failed(fault) => Err(Fault::Refused(fault)),
+    }
+}
+
+/// Whether enough others hold all of the log, which is made durable first, where it is not. Then readers
+/// see all of it.
+pub(crate) fn confirm_earlier<E: Events, U: Upkeep>(
+    engine: &mut E,
+    upkeep: &mut U,
+) -> Result<bool, Fault>
+    ensures grows { E.alone → Grows (E.machine engine.old) (E.machine engine.new) }
+    ensures same { E.alone
+        → (E.machine engine.new).held.log ≡ (E.machine engine.old).held.log }
+    ensures whole { IfOk result (λ yes. yes ≡ true → E.alone
+        → IsWhole (U.confirmed upkeep.new) (E.machine engine.new)) }
+    ensures shown { E.alone
+        → IsShown (U.confirmed upkeep.new) (E.machine engine.old) (E.machine engine.new) }
+    ensures keeps { (n : ℕ) → U.confirmed upkeep.old n → U.confirmed upkeep.new n }
+    ensures misses { (n : ℕ) → U.missed upkeep.old n → U.missed upkeep.new n }
+    ensures book { E.book engine.new ≡ E.book engine.old }
+{
+    let lsn = make_durable(engine)?;
+    if !upkeep.has_confirmed(lsn)? {
+        return Ok(false);
+    }
+    upkeep.publish(engine)?;
+    Ok(true)
+}

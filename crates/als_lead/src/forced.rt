@@ -1,0 +1,13 @@
+use als_engine::Fault;
+use als_record::Lsn;
+
+/// What a group's force and its confirmation came to.
+#[derive(Clone, Copy)]
+pub(crate) enum Forced {
+    /// The force or the confirmation failed.
+    Failed(Fault),
+    /// The log is durable, and too few others hold it.
+    Unconfirmed,
+    /// The log is durable up to this LSN, and enough others hold it.
+    Confirmed(Lsn),
+}
