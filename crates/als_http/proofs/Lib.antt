@@ -1,6 +1,7 @@
 mod WorkedPaths
 mod WorkedHealth
 mod WorkedHosts
+mod WorkedFollowers
 pub mod AnswerLaws
 pub mod NumberLaws
 pub mod AskingLaws

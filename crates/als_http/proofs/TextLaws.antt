@@ -1,9 +1,11 @@
 -- Texts as lists of tokens, written a few at a time.
-use Rattle.std.specs.Prelude.{◌≡◌, ℕ, List, [], ◌++◌}
+use Rattle.std.specs.Prelude.{◌≡◌, ℕ, List, [], ◌∷◌, ◌++◌}
 use Rattle.std.proofs.Common.{sym, subst, ap, ◌∙◌, append_assoc}
-use Rattle.json.specs.Token.{Token}
+use Rattle.http1.specs.Fields.{Header}
+use Rattle.json.specs.Token.{Token, string}
 use Rattle.json.specs.Print.{print}
 use Rattle.als_http.specs.declared.reply.Reply.{Reply}
+use Rattle.als_http.specs.Followers.{number_tokens}
 use Rattle.als_http.specs.Replies.{HasText}
 
 pub text_same : (reply : Reply) (text sent old : List ℕ) → HasText reply text → sent ≡ old ++ text → old ≡ [] → HasText reply sent
@@ -27,3 +29,25 @@ four start mid late last end a b c d p q r s = two start mid end a (b ++ (c ++ d
 pub five : (start mid late more last end a b c d e : List Token) → mid ≡ start ++ a → late ≡ mid ++ b → more ≡ late ++ c → last ≡ more ++ d
     → end ≡ last ++ e → end ≡ start ++ (a ++ (b ++ (c ++ (d ++ e))))
 five start mid late more last end a b c d e p q r s t = two start mid end a (b ++ (c ++ (d ++ e))) p (four mid late more last end b c d e q r s t)
+
+pub six : (start mid late more much last end a b c d e f : List Token) → mid ≡ start ++ a → late ≡ mid ++ b → more ≡ late ++ c → much ≡ more ++ d
+    → last ≡ much ++ e → end ≡ last ++ f → end ≡ start ++ (a ++ (b ++ (c ++ (d ++ (e ++ f)))))
+six start mid late more much last end a b c d e f p q r s t u =
+    two start mid end a (b ++ (c ++ (d ++ (e ++ f)))) p (five mid late more much last end b c d e f q r s t u)
+
+-- a member whose number is another name of the one that is written
+pub number_is : (end start : List Token) (name : List ℕ) (n m : ℕ) → end ≡ start ++ number_tokens name n → n ≡ m → end ≡ start ++ number_tokens name m
+number_is end start name n m p q = p ∙ ap (λ (k : ℕ). start ++ number_tokens name k) q
+
+-- a text that is another name of the one that is written
+pub string_is : (end start : List Token) (s t : List ℕ) → end ≡ start ++ string s ∷ [] → s ≡ t → end ≡ start ++ string t ∷ []
+string_is end start s t p q = p ∙ ap (λ (k : List ℕ). start ++ string k ∷ []) q
+
+-- three fields, one after the other
+pub three_fields : (start mid late end : List Header) (a b c : Header) → mid ≡ start ++ a ∷ [] → late ≡ mid ++ b ∷ [] → end ≡ late ++ c ∷ []
+    → end ≡ start ++ (a ∷ b ∷ c ∷ [])
+three_fields start mid late end a b c p q r = rw (r, q, p, append_assoc, append_assoc)
+
+-- a field whose name and value are other names of those that are added
+pub field_is : (end start : List Header) (n m v w : List ℕ) → end ≡ start ++ (n, v) ∷ [] → n ≡ m → v ≡ w → end ≡ start ++ (m, w) ∷ []
+field_is end start n m v w p q r = p ∙ ap (λ (k : List ℕ). start ++ (k, v) ∷ []) q ∙ ap (λ (k : List ℕ). start ++ (m, k) ∷ []) r

@@ -1,10 +1,8 @@
 -- Where a standby is never healthy.
-use Rattle.std.specs.Prelude.{◌≡◌, ℕ, Option, Some, None, Bool, true, false, ◌&&◌, nat_le}
-use Rattle.std.proofs.Common.{refl, ap, ◌∙◌}
-use Rattle.als_http.specs.declared.report.Report.{Report}
-use Rattle.als_http.specs.declared.state.State.{State}
-use Rattle.als_http.specs.declared.state.State.TheVariants.{Recovering, Waiting, Following, Refusing, Sealed, Primary, Stopped, Committing}
-use Rattle.als_http.specs.Health.{is_sent_to, is_at_work, is_prompt, is_healthy}
+use Rattle.std.specs.Prelude.{◌≡◌, Some, true, false}
+use Rattle.std.proofs.Common.{refl}
+use Rattle.als_http.specs.declared.state.State.TheVariants.{Waiting, Refusing, Primary, Stopped, Committing, Unconfirmed}
+use Rattle.als_http.specs.Health.{is_sent_to, is_at_work, is_prompt, takes_commits}
 
 stopped_is_not : is_sent_to Stopped ≡ false
 stopped_is_not = refl
@@ -21,6 +19,16 @@ committing_is = refl
 
 primary_is_not : is_at_work Primary ≡ false
 primary_is_not = refl
+
+-- one whose commits wait for followers is not, and yet it takes them; a node that was taken over takes none
+unconfirmed_is_not : is_at_work Unconfirmed ≡ false
+unconfirmed_is_not = refl
+
+unconfirmed_takes : takes_commits Unconfirmed ≡ true
+unconfirmed_takes = refl
+
+primary_takes_none : takes_commits Primary ≡ false
+primary_takes_none = refl
 
 -- a frame that waits for ten seconds is in time, one that waits for eleven is not
 ten_is_prompt : is_prompt (Some 10) ≡ true

@@ -1,7 +1,8 @@
 -- What paths ask for, worked by hand.
 use Rattle.std.specs.Prelude.{◌≡◌, codes, refl}
-use Rattle.als_http.specs.Asking.{asked_by, slot_asked}
-use Rattle.als_http.specs.declared.asked.Asked.TheVariants.{Value, Status, NoNumber, Nothing}
+use Rattle.als_console.specs.declared.text.Text.TheVariants.{Page, Script, Style}
+use Rattle.als_http.specs.Asking.{asked_by, slot_asked, page_asked}
+use Rattle.als_http.specs.declared.asked.Asked.TheVariants.{Value, Status, Console, NoNumber, Nothing}
 
 key_row : asked_by (codes "/keys/17/3") ≡ Value (record { page = 17; slot = 3 })
 unfolding asked_by slot_asked
@@ -32,5 +33,21 @@ unfolding asked_by slot_asked
 status_row = refl
 
 slash_row : asked_by (codes "/status/") ≡ Nothing
-unfolding asked_by slot_asked
+unfolding asked_by slot_asked page_asked
 slash_row = refl
+
+root_row : asked_by (codes "/") ≡ Console Page
+unfolding asked_by slot_asked page_asked
+root_row = refl
+
+script_row : asked_by (codes "/page.js") ≡ Console Script
+unfolding asked_by slot_asked page_asked
+script_row = refl
+
+style_row : asked_by (codes "/page.css") ≡ Console Style
+unfolding asked_by slot_asked page_asked
+style_row = refl
+
+index_row : asked_by (codes "/index.html") ≡ Nothing
+unfolding asked_by slot_asked page_asked
+index_row = refl

@@ -3,7 +3,8 @@ use Rattle.std.specs.Prelude.{ℕ, ◌+◌, ◌==◌, nat_le, ◌&&◌, Bool, Li
 use Rattle.std.specs.List.{position_from}
 use Rattle.als_http.specs.Numbers.{number_of}
 use Rattle.als_http.specs.declared.asked.Asked.{Asked}
-use Rattle.als_http.specs.declared.asked.Asked.TheVariants.{Value, Status, Metrics, Health, NoNumber, Nothing}
+use Rattle.als_console.specs.declared.text.Text.TheVariants.{Page, Script, Style}
+use Rattle.als_http.specs.declared.asked.Asked.TheVariants.{Value, Status, Metrics, Health, Console, NoNumber, Nothing}
 
 -- the key of these numbers, which have 32 bits each
 abbrev pub key_asked : Option ℕ → Option ℕ → Asked
@@ -25,9 +26,16 @@ is_slash c = c == 47
 unfoldable pub slot_asked : List ℕ → Asked
 slot_asked text = numbers_asked text (position_from is_slash 0 text)
 
+-- which text of the page a path asks for
+unfoldable pub page_asked : List ℕ → Asked
+page_asked path =
+    if bytes_eq path (codes "/") then Console Page
+    else (if bytes_eq path (codes "/page.js") then Console Script
+    else (if bytes_eq path (codes "/page.css") then Console Style else Nothing))
+
 unfoldable pub asked_by : List ℕ → Asked
 asked_by path =
     if bytes_eq path (codes "/status") then Status
     else (if bytes_eq path (codes "/metrics") then Metrics
     else (if bytes_eq path (codes "/health") then Health
-    else (if bytes_eq (take 6 path) (codes "/keys/") then slot_asked (drop 6 path) else Nothing)))
+    else (if bytes_eq (take 6 path) (codes "/keys/") then slot_asked (drop 6 path) else page_asked path)))

@@ -2,7 +2,7 @@
 use Rattle.std.specs.Prelude.{ℕ, ◌-◌, Bool, true, false, ◌&&◌, ◌||◌, nat_le, Option, Some, None, is_some}
 use Rattle.als_http.specs.declared.report.Report.{Report}
 use Rattle.als_http.specs.declared.state.State.{State}
-use Rattle.als_http.specs.declared.state.State.TheVariants.{Recovering, Waiting, Following, Refusing, Sealed, Primary, Stopped, Committing}
+use Rattle.als_http.specs.declared.state.State.TheVariants.{Recovering, Waiting, Following, Refusing, Sealed, Primary, Stopped, Committing, Unconfirmed}
 
 -- a primary sends to it
 abbrev pub is_sent_to : State → Bool
@@ -14,11 +14,18 @@ is_sent_to Sealed = false
 is_sent_to Primary = false
 is_sent_to Stopped = false
 is_sent_to Committing = false
+is_sent_to Unconfirmed = false
 
 -- it commits for clients
 abbrev pub is_committing : State → Bool
 is_committing Committing = true
 is_committing s = false
+
+-- it takes transactions of clients, be their commits confirmed now or not
+abbrev pub takes_commits : State → Bool
+takes_commits Committing = true
+takes_commits Unconfirmed = true
+takes_commits s = false
 
 -- it does what it is there for
 abbrev pub is_at_work : State → Bool

@@ -5,5 +5,6 @@ pub mod Asking
 pub mod Hosts
 pub mod Telling
 pub mod Reading
+pub mod Followers
 pub mod Texts
 pub mod Replies

@@ -16,7 +16,8 @@ use Rattle.als_http.specs.declared.query.Query.TheVariants as query
 use Rattle.als_http.specs.declared.query.Wrong.{Wrong}
 use Rattle.als_http.specs.declared.query.Wrong.TheVariants.{Path, Method, Number, Lsn, Host}
 use Rattle.als_http.specs.declared.reply.Reply.{Reply}
-use Rattle.als_http.specs.declared.reply.Reply.TheVariants.{Value, Unread, Status, Metrics, Health, Refused}
+use Rattle.als_console.specs.Texts.{text_of, type_of as type_of_text, policy}
+use Rattle.als_http.specs.declared.reply.Reply.TheVariants.{Value, Unread, Status, Metrics, Health, Console, Refused}
 
 abbrev pub status_of : Reply → ℕ
 status_of (Value a) = 200
@@ -24,6 +25,7 @@ status_of (Unread e) = 503
 status_of (Status r n) = 200
 status_of (Metrics r n) = 200
 status_of (Health r n) = if is_healthy r n then 200 else 503
+status_of (Console t) = 200
 status_of (Refused Path) = 404
 status_of (Refused Method) = 405
 status_of (Refused Number) = 400
@@ -38,6 +40,21 @@ fields_of_wrong Number = []
 fields_of_wrong Lsn = []
 fields_of_wrong Host = []
 
+-- what a browser may load for the page
+abbrev pub policy_field : Header
+policy_field = (codes "content-security-policy", policy)
+
+-- a browser takes each text for what it is said to be
+abbrev pub options_field : Header
+options_field = (codes "x-content-type-options", codes "nosniff")
+
+-- a browser tells nobody that it comes from the page
+abbrev pub referrer_field : Header
+referrer_field = (codes "referrer-policy", codes "no-referrer")
+
+abbrev pub page_fields : List Header
+page_fields = policy_field ∷ options_field ∷ referrer_field ∷ []
+
 -- the header fields beside those of every reply
 abbrev pub own_fields : Reply → List Header
 own_fields (Value a) = (codes "als-lsn", decimal a.lsn.0) ∷ []
@@ -45,6 +62,7 @@ own_fields (Unread e) = []
 own_fields (Status r n) = []
 own_fields (Metrics r n) = []
 own_fields (Health r n) = []
+own_fields (Console t) = page_fields
 own_fields (Refused w) = fields_of_wrong w
 
 -- what its text is
@@ -54,6 +72,7 @@ type_of (Unread e) = codes "application/json"
 type_of (Status r n) = codes "application/json"
 type_of (Metrics r n) = codes "text/plain; version=0.0.4"
 type_of (Health r n) = codes "application/json"
+type_of (Console t) = type_of_text t
 type_of (Refused w) = codes "application/json"
 
 -- nobody may keep an answer: a later one has more commits
@@ -67,6 +86,7 @@ HasText (Unread e) text = text ≡ print (error_tokens (why_unread e))
 HasText (Status r n) text = text ≡ print (status_tokens r n)
 HasText (Metrics r n) text = Unit {0}
 HasText (Health r n) text = text ≡ print (health_tokens (is_healthy r n))
+HasText (Console t) text = text ≡ text_of t
 HasText (Refused w) text = text ≡ print (error_tokens (why_wrong w))
 
 -- the report is one that the standby told, and so many commits a reader knows of, if it was told how many
@@ -80,6 +100,7 @@ Replies tells (query.Value key lsn) (Unread e) old new = IsUnread (known_to old)
 Replies tells query.Status (Status r n) old new = IsTold tells r n new
 Replies tells query.Metrics (Metrics r n) old new = IsTold tells r n new
 Replies tells query.Health (Health r n) old new = IsTold tells r n new
+Replies tells (query.Console t) (Console u) old new = u ≡ t
 Replies tells (query.Refused w) (Refused v) old new = v ≡ w
 Replies tells q r old new = ⊥
 

@@ -1,11 +1,12 @@
 -- The JSON texts of replies, as tokens.
-use Rattle.std.specs.Prelude.{ℕ, Bool, List, [], ◌∷◌, codes, decimal, Option, Some, None}
+use Rattle.std.specs.Prelude.{ℕ, Bool, List, [], ◌∷◌, ◌++◌, codes, decimal, Option, Some, None}
 use Rattle.json.specs.Token.{Token, begin_object, end_object, key, string, number, boolean, null}
 use Rattle.hex.specs.Hex.{encode_lower}
 use Rattle.als_record.specs.Spelling.{Image}
 use Rattle.als_view.specs.declared.answer.Answer.{Answer}
 use Rattle.als_http.specs.States.{name_of_state}
 use Rattle.als_http.specs.Health.{room_of}
+use Rattle.als_http.specs.Followers.{primary_tokens}
 use Rattle.als_http.specs.declared.report.Report.{Report}
 use Rattle.als_http.specs.declared.unread.Unread.{Unread}
 use Rattle.als_http.specs.declared.unread.Unread.TheVariants.{Warming, Stopped, Older}
@@ -47,6 +48,7 @@ redo_tokens r commits =
 abbrev pub room_tokens : Report → List Token
 room_tokens r = key (codes "capacity") ∷ number_token r.capacity ∷ key (codes "left") ∷ number_token (room_of r) ∷ []
 
+-- the members that every node's status has, and behind them those of a node that takes commits
 abbrev pub status_tokens : Report → Option ℕ → List Token
 status_tokens r commits =
     begin_object ∷ key (codes "state") ∷ string (name_of_state r.state) ∷ key (codes "end") ∷ number (decimal r.end.0)
@@ -54,7 +56,7 @@ status_tokens r commits =
     ∷ key (codes "pending") ∷ number (decimal r.pending) ∷ key (codes "leases") ∷ number (decimal r.leases)
     ∷ key (codes "commits") ∷ number_token commits ∷ key (codes "seconds_since_last_frame") ∷ number_token r.silence
     ∷ key (codes "capacity") ∷ number_token r.capacity ∷ key (codes "left") ∷ number_token (room_of r)
-    ∷ end_object ∷ []
+    ∷ (primary_tokens r ++ (end_object ∷ []))
 
 abbrev pub health_tokens : Bool → List Token
 health_tokens healthy = begin_object ∷ key (codes "healthy") ∷ boolean healthy ∷ end_object ∷ []
@@ -68,7 +70,7 @@ why_unread Stopped = codes "31 Stopped: the view has ended"
 why_unread (Older lsn) = codes "the commit that Als-At-Least names is not published yet"
 
 abbrev pub why_wrong : Wrong → List ℕ
-why_wrong Path = codes "no such path: /keys/P/S, /status, /metrics, /health"
+why_wrong Path = codes "no such path: /, /keys/P/S, /status, /metrics, /health"
 why_wrong Method = codes "GET and HEAD alone are answered"
 why_wrong Number = codes "a page and a slot are decimal numbers below 2^32"
 why_wrong Lsn = codes "Als-At-Least is one decimal number below 2^64"

@@ -84,6 +84,7 @@ impl<S: Standing> Answering<S> {
                 let report = self.standing.report();
                 Reply::Health(report, published(&mut self.reader))
             }
+            Query::Console(text) => Reply::Console(text),
             Query::Refused(why) => Reply::Refused(why),
         }
     }

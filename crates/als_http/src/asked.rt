@@ -1,3 +1,4 @@
+use als_console::Text;
 use als_record::Key;
 
 /// What a path asks for.
@@ -11,6 +12,8 @@ pub enum Asked {
     Metrics,
     /// `/health`.
     Health,
+    /// A text of the page: `/`, `/page.js` or `/page.css`.
+    Console(Text),
     /// `/keys/P/S`, where P or S is no number below 2^32.
     NoNumber,
     /// Any other path.

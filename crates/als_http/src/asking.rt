@@ -1,9 +1,10 @@
 ghost use Rattle.std.specs.Prelude.{◌≡◌, ◌<◌, length, IfSome};
 ghost use Rattle.std.specs.List.{position_from};
-ghost use Rattle.als_http.specs.Asking.{asked_by, key_asked, slot_asked, is_slash};
+ghost use Rattle.als_http.specs.Asking.{asked_by, page_asked, key_asked, slot_asked, is_slash};
 
 use crate::asked::Asked;
 use crate::numbers::number;
+use als_console::Text;
 use als_record::Key;
 
 /// The greatest number that a path may name.
@@ -28,8 +29,25 @@ pub fn asked_by(path: &str) -> Asked
     }
     match path.as_bytes().strip_prefix(KEYS) {
         Some(text) => slot_of(text),
-        None => Asked::Nothing,
+        None => page_of(path),
     }
+}
+
+/// Which text of the page a path asks for.
+#[tactic(auto, unfolding(crate::specs::Asking::page_asked))]
+fn page_of(path: &str) -> Asked
+    ensures { result ≡ page_asked path.now }
+{
+    if path == "/" {
+        return Asked::Console(Text::Page);
+    }
+    if path == "/page.js" {
+        return Asked::Console(Text::Script);
+    }
+    if path == "/page.css" {
+        return Asked::Console(Text::Style);
+    }
+    Asked::Nothing
 }
 
 /// What is asked for behind `/keys/`.

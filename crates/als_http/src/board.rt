@@ -1,11 +1,16 @@
-use crate::report::Report;
+use crate::follower::Follower;
+use crate::follower_cells::FollowerCells;
+use crate::follower_row::FollowerRow;
+use crate::report::{MOST_FOLLOWERS, Report};
 use crate::standing::Standing;
 use crate::state::State;
+use crate::work_cells::WorkCells;
 use als_record::Lsn;
+use arrayvec::ArrayVec;
 use std::alloc::Global;
 use std::sync::Arc;
 use std::sync::atomic::{AtomicU64, Ordering};
-use std::time::Clock;
+use std::time::{Clock, Duration};
 
 /// What a session last saw of its standby, in cells. The session writes them as it goes on, and the
 /// threads that answer read them: nobody waits, and no turn of the engine's lock is taken.
@@ -27,6 +32,11 @@ pub struct Board {
     fault: AtomicU64,
     /// The epoch of its history, and 1. 0: not known yet.
     epoch: AtomicU64,
+    /// What it committed for clients.
+    work: WorkCells,
+    /// So many followers have to acknowledge a commit before it is answered.
+    sync: AtomicU64,
+    followers: FollowerCells,
 }
 
 impl Board {
@@ -44,6 +54,9 @@ impl Board {
             failures: AtomicU64::new(0),
             fault: AtomicU64::new(0),
             epoch: AtomicU64::new(0),
+            work: WorkCells::new(),
+            sync: AtomicU64::new(0),
+            followers: FollowerCells::new(),
         }
     }
 
@@ -111,6 +124,22 @@ impl Board {
     pub fn set_epoch(&self, epoch: u64) {
         self.epoch.store(epoch.saturating_add(1), Ordering::SeqCst);
     }
+
+    /// A group of so many transactions was committed, and its force took so long.
+    pub fn note_group(&self, transactions: u64, force: Duration) {
+        self.work.note_group(transactions, force);
+    }
+
+    /// So many followers have to acknowledge a commit before it is answered.
+    pub fn set_sync(&self, count: u64) {
+        self.sync.store(count, Ordering::SeqCst);
+    }
+
+    /// Those that follow, in this order; of more than eight the first eight. One thread at a time calls
+    /// this.
+    pub fn set_followers(&self, rows: &[FollowerRow]) {
+        self.followers.store(rows);
+    }
 }
 
 /// Seconds since a second of the clock that a cell holds, and 1. None: the cell holds none, or the clock
@@ -163,6 +192,33 @@ impl<C: Clock> Standing for Watch<C> {
             failures: board.failures.load(Ordering::SeqCst),
             last_fault: known(&board.fault),
             epoch: board.epoch.load(Ordering::SeqCst).checked_sub(1),
+            work: board.work.work(),
+            sync: board.sync.load(Ordering::SeqCst),
+            followers: followers_now(board, &self.clock),
         }
+    }
+}
+
+/// The followers of a board, with the times of a clock. Nobody, where it can't be read.
+fn followers_now<C: Clock>(board: &Board, clock: &C) -> ArrayVec<Follower, MOST_FOLLOWERS> {
+    let mut followers = ArrayVec::new();
+    let Some(now) = second(clock) else {
+        return followers;
+    };
+    for row in board.followers.load().as_slice() {
+        // There is room for each of them.
+        let _ = followers.try_push(follower_at(row, now));
+    }
+    followers
+}
+
+/// A follower in this second.
+fn follower_at(row: &FollowerRow, now: u64) -> Follower {
+    Follower {
+        peer: row.peer,
+        acknowledged: row.acknowledged,
+        silence: now.saturating_sub(row.answered),
+        age: now.saturating_sub(row.connected),
+        counts: row.counts,
     }
 }

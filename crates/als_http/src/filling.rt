@@ -4,6 +4,7 @@ ghost use Rattle.als_http.specs.Replies.{status_of, fields_for, own_fields, type
 ghost use Rattle.als_http.specs.Replies.{Shows, fields_of_wrong};
 
 use crate::metrics_text::metrics_text;
+use crate::page_fields::{add_page_fields, console_type};
 use crate::query::Wrong;
 use crate::reply::Reply;
 use crate::report_text::{health_text, status_text, unread_text, wrong_text};
@@ -55,6 +56,7 @@ fn text_of(alloc: Global, reply: &Reply) -> Result<Vec<u8>, AllocError>
         Reply::Status(report, commits) => status_text(alloc, report, *commits),
         Reply::Metrics(report, commits) => metrics_text(alloc, report, *commits),
         Reply::Health(report, commits) => health_text(alloc, report.is_healthy(*commits)),
+        Reply::Console(text) => Ok(text.text().as_bytes().to_vec(alloc)?),
         Reply::Refused(why) => wrong_text(alloc, *why),
     }
 }
@@ -65,6 +67,7 @@ fn type_of(reply: &Reply) -> HeaderValue
 {
     match reply {
         Reply::Metrics(..) => HeaderValue::from_static("text/plain; version=0.0.4"),
+        Reply::Console(text) => console_type(*text),
         _ => HeaderValue::from_static("application/json"),
     }
 }
@@ -80,6 +83,7 @@ fn add_own(alloc: Global, reply: &Reply, response: &mut Response) -> Result<(), 
             let lsn = HeaderValue::from_u64(alloc, answer.lsn.0)?;
             response.add_header(HeaderName::from_static("als-lsn"), lsn)?;
         }
+        Reply::Console(_) => add_page_fields(response)?,
         Reply::Refused(why) => add_methods(*why, response)?,
         _ => {}
     }

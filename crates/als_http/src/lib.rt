@@ -12,10 +12,17 @@
 mod board;
 // What a standby tells of itself.
 mod report;
+// A follower of a primary, what a board is told of it, and cells of that.
+mod follower;
+mod follower_cells;
+mod follower_row;
 // Who knows how a standby stands.
 mod standing;
 // What a standby is doing.
 mod state;
+// What a primary committed, and cells of that.
+mod work;
+mod work_cells;
 // Who answers.
 mod answering;
 // What a path asks for.
@@ -31,6 +38,11 @@ mod members;
 mod metrics_text;
 // Decimal numbers in a request.
 mod numbers;
+// The fields of the page's texts.
+mod page_fields;
+// What a primary reports beside, as metrics and as JSON.
+mod primary_metrics;
+mod primary_text;
 // What a request asks for.
 mod query;
 // A key is read, and how many commits there are.
@@ -70,6 +82,8 @@ pub use answering::Answering;
 pub use asked::Asked;
 pub use asking::asked_by;
 pub use board::{Board, Watch};
+pub use follower::Follower;
+pub use follower_row::FollowerRow;
 pub use gate::Gate;
 pub use hosts::{Hosts, is_own};
 pub use limits::{MOST_THREADS, THREADS, config, config_with};
@@ -79,7 +93,7 @@ pub use numbers::number;
 pub use query::{Query, Wrong};
 pub use reading::{published, read};
 pub use reply::Reply;
-pub use report::{PATIENCE, Report};
+pub use report::{MOST_FOLLOWERS, PATIENCE, Report};
 pub use servers::Servers;
 pub use serving::serve_until_closed;
 pub use standing::Standing;
@@ -87,3 +101,4 @@ pub use state::State;
 pub use telling::{AT_LEAST, query_of};
 pub use terms::Terms;
 pub use unread::Unread;
+pub use work::Work;

@@ -1,4 +1,5 @@
 ghost use Rattle.std.specs.Prelude.{◌≡◌, OnOk, ◌++◌};
+ghost use Rattle.als_http.specs.Followers.{number_tokens};
 ghost use Rattle.als_http.specs.Texts.{member_tokens};
 
 use json::Writer;
@@ -15,5 +16,16 @@ pub(crate) fn member(text: &mut Writer, name: &str, value: Option<u64>) -> Resul
         Some(value) => text.u64(value)?,
         None => text.null()?,
     }
+    Ok(())
+}
+
+/// A member that is a number.
+pub(crate) fn number(text: &mut Writer, name: &str, value: u64) -> Result<(), AllocError>
+    ensures tokens { OnOk result
+        (text.new.tokens ≡ text.old.tokens ++ number_tokens name.now value) }
+    ensures before { OnOk result (text.new.before ≡ text.old.before) }
+{
+    text.key(name)?;
+    text.u64(value)?;
     Ok(())
 }

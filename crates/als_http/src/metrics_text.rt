@@ -1,3 +1,4 @@
+use crate::primary_metrics::write_primary;
 use crate::report::Report;
 use std::alloc::{AllocError, Global};
 
@@ -5,7 +6,12 @@ use std::alloc::{AllocError, Global};
 pub const VERSION: &str = "0.2";
 
 /// The lines of a metric that say what it is.
-fn head(text: &mut String, name: &str, help: &str, kind: &str) -> Result<(), AllocError> {
+pub(crate) fn head(
+    text: &mut String,
+    name: &str,
+    help: &str,
+    kind: &str,
+) -> Result<(), AllocError> {
     text.push_str("# HELP ")?;
     text.push_str(name)?;
     text.push_str(" ")?;
@@ -42,6 +48,7 @@ pub(crate) fn metrics_text(
     write_log(&mut text, report)?;
     write_redo(&mut text, report, commits)?;
     write_session(&mut text, report)?;
+    write_primary(&mut text, report)?;
     Ok(text.into_bytes())
 }
 

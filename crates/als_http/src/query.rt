@@ -1,3 +1,4 @@
+use als_console::Text;
 use als_record::{Key, Lsn};
 
 /// What a request asks for.
@@ -8,6 +9,8 @@ pub enum Query {
     Status,
     Metrics,
     Health,
+    /// A text of the page.
+    Console(Text),
     Refused(Wrong),
 }
 

@@ -3,6 +3,7 @@ ghost use Rattle.std.specs.Prelude.{◌≡◌};
 use crate::query::Wrong;
 use crate::report::Report;
 use crate::unread::Unread;
+use als_console::Text;
 use als_view::Answer;
 use http::StatusCode;
 
@@ -19,6 +20,8 @@ pub enum Reply {
     Metrics(Report, Option<u64>),
     /// Whether it is healthy by such a report, with so many published commits.
     Health(Report, Option<u64>),
+    /// A text of the page.
+    Console(Text),
     /// Nothing was asked for.
     Refused(Wrong),
 }
@@ -31,7 +34,9 @@ impl Reply {
         ensures { result ≡ status_of self.now }
     {
         match self {
-            Reply::Value(_) | Reply::Status(..) | Reply::Metrics(..) => StatusCode::OK,
+            Reply::Value(_) | Reply::Status(..) | Reply::Metrics(..) | Reply::Console(_) => {
+                StatusCode::OK
+            }
             Reply::Unread(_) => StatusCode::SERVICE_UNAVAILABLE,
             Reply::Health(report, commits) => {
                 if report.is_healthy(*commits) {

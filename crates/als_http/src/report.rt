@@ -1,14 +1,20 @@
 ghost use Rattle.std.specs.Prelude.{◌≡◌};
 ghost use Rattle.als_http.specs.Health.{is_prompt, is_healthy, room_of};
 
+use crate::follower::Follower;
 use crate::state::State;
+use crate::work::Work;
 use als_record::Lsn;
+use arrayvec::ArrayVec;
 
 /// So many seconds a frame may wait for its acknowledgement. Past them the standby is not healthy.
 pub const PATIENCE: u64 = 10;
 
+/// So many followers a report has at most.
+pub const MOST_FOLLOWERS: usize = 8;
+
 /// What a standby tells of itself.
-#[derive(Clone, Copy, Debug, PartialEq, Eq)]
+#[derive(PartialEq, Drop)]
 pub struct Report {
     pub state: State,
     /// The offset after the last held record.
@@ -31,6 +37,12 @@ pub struct Report {
     pub last_fault: Option<u64>,
     /// The epoch of its history. None: that is not known yet.
     pub epoch: Option<u64>,
+    /// What it committed for clients.
+    pub work: Work,
+    /// So many followers have to acknowledge a commit before it is answered.
+    pub sync: u64,
+    /// Those that follow it.
+    pub followers: ArrayVec<Follower, MOST_FOLLOWERS>,
 }
 
 impl Report {

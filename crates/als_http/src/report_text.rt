@@ -4,6 +4,7 @@ ghost use Rattle.als_http.specs.Texts.{status_tokens, log_tokens, redo_tokens, r
 ghost use Rattle.als_http.specs.Texts.{health_tokens, error_tokens, why_unread, why_wrong};
 
 use crate::members::member;
+use crate::primary_text::write_primary;
 use crate::query::Wrong;
 use crate::report::Report;
 use crate::unread::Unread;
@@ -20,12 +21,17 @@ pub(crate) fn status_text(
     ensures { IfOk result (λ text. text.items ≡ print (status_tokens report.now commits)) }
 {
     let mut text = Writer::new(Vec::new(alloc));
-    write_status(&mut text, report, commits)?;
+    write_status(alloc, &mut text, report, commits)?;
     Ok(text.into_inner())
 }
 
 /// The object of how a standby stands.
-fn write_status(text: &mut Writer, report: &Report, commits: Option<u64>) -> Result<(), AllocError>
+fn write_status(
+    alloc: Global,
+    text: &mut Writer,
+    report: &Report,
+    commits: Option<u64>,
+) -> Result<(), AllocError>
     ensures tokens { OnOk result
         (text.new.tokens ≡ text.old.tokens ++ status_tokens report.now commits) }
     ensures before { OnOk result (text.new.before ≡ text.old.before) }
@@ -34,6 +40,7 @@ fn write_status(text: &mut Writer, report: &Report, commits: Option<u64>) -> Res
     write_log(text, report)?;
     write_redo(text, report, commits)?;
     write_room(text, report)?;
+    write_primary(alloc, text, report)?;
     text.end_object()?;
     Ok(())
 }
@@ -122,7 +129,7 @@ fn why_wrong(why: Wrong) -> &'static str
     ensures { result.now ≡ why_wrong why }
 {
     match why {
-        Wrong::Path => "no such path: /keys/P/S, /status, /metrics, /health",
+        Wrong::Path => "no such path: /, /keys/P/S, /status, /metrics, /health",
         Wrong::Method => "GET and HEAD alone are answered",
         Wrong::Number => "a page and a slot are decimal numbers below 2^32",
         Wrong::Lsn => "Als-At-Least is one decimal number below 2^64",

@@ -1,6 +1,6 @@
 ghost use Rattle.std.specs.Prelude.{◌≡◌};
 ghost use Rattle.als_http.specs.States.{number_of_state, state_of_number, name_of_state, role_of_state};
-ghost use Rattle.als_http.specs.Health.{is_sent_to, is_at_work};
+ghost use Rattle.als_http.specs.Health.{is_sent_to, is_at_work, takes_commits};
 
 /// What a standby is doing.
 #[derive(Clone, Copy, Debug, PartialEq, Eq)]
@@ -19,6 +19,8 @@ pub enum State {
     Primary,
     /// It commits for clients.
     Committing,
+    /// It commits for clients, and waits until enough followers have acknowledged a commit.
+    Unconfirmed,
     /// A device failed, or the standby ends.
     Stopped,
 }
@@ -37,6 +39,7 @@ impl State {
             State::Primary => 5,
             State::Stopped => 6,
             State::Committing => 7,
+            State::Unconfirmed => 8,
         }
     }
 
@@ -52,6 +55,7 @@ impl State {
             4 => State::Sealed,
             5 => State::Primary,
             7 => State::Committing,
+            8 => State::Unconfirmed,
             _ => State::Stopped,
         }
     }
@@ -70,12 +74,19 @@ impl State {
         self.is_sent_to() || matches!(self, State::Committing)
     }
 
+    /// Whether it takes transactions of clients, be their commits confirmed now or not.
+    pub fn takes_commits(self) -> bool
+        ensures { result ≡ takes_commits self }
+    {
+        matches!(self, State::Committing | State::Unconfirmed)
+    }
+
     /// The role of its node.
     pub fn role(self) -> &'static str
         ensures { result.now ≡ role_of_state self }
     {
         match self {
-            State::Sealed | State::Primary | State::Committing => "primary",
+            State::Sealed | State::Primary | State::Committing | State::Unconfirmed => "primary",
             State::Recovering
             | State::Waiting
             | State::Following
@@ -96,6 +107,7 @@ impl State {
             State::Sealed => "sealed",
             State::Primary => "primary",
             State::Committing => "committing",
+            State::Unconfirmed => "unconfirmed",
             State::Stopped => "stopped",
         }
     }

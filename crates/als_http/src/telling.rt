@@ -58,6 +58,7 @@ fn told(asked: Asked, lsn: Option<u64>) -> Query
         Asked::Status => Query::Status,
         Asked::Metrics => Query::Metrics,
         Asked::Health => Query::Health,
+        Asked::Console(text) => Query::Console(text),
         Asked::NoNumber => Query::Refused(Wrong::Number),
         Asked::Nothing => Query::Refused(Wrong::Path),
     }

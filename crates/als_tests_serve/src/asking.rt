@@ -1,13 +1,15 @@
 ghost use Rattle.std.specs.Prelude.{◌<◌, ◌^◌};
 
 use crate::written::{Change, transaction};
-use als_http::{Answering, Hosts, Report, Standing, State, config};
+use als_http::{Answering, Follower, Hosts, MOST_FOLLOWERS, Report, Standing, State, Work, config};
 use als_published_log::PublishedLog;
 use als_record::{Key, Lsn};
 use als_view::Reader;
+use arrayvec::ArrayVec;
 use http_server::{Connection, serve};
 use std::alloc::Global;
 use std::hash::RandomState;
+use std::net::{IpAddr, Ipv4Addr, Ipv6Addr};
 use std::sync::Wait;
 use std::test::*;
 
@@ -34,8 +36,35 @@ impl Standing for Fixed {
             failures: 3,
             last_fault: Some(43),
             epoch: Some(1),
+            work: Work {
+                transactions: 9,
+                groups: 4,
+                force_microseconds: 1_500_007,
+            },
+            sync: 1,
+            followers: followers(),
         }
     }
+}
+
+/// Two followers: one has the whole acknowledged log, and one lacks bytes of it.
+fn followers() -> ArrayVec<Follower, MOST_FOLLOWERS> {
+    let mut followers = ArrayVec::new();
+    let _ = followers.try_push(Follower {
+        peer: IpAddr::V4(Ipv4Addr::LOCALHOST),
+        acknowledged: Lsn(80),
+        silence: 6,
+        age: 70,
+        counts: true,
+    });
+    let _ = followers.try_push(Follower {
+        peer: IpAddr::V6(Ipv6Addr::LOCALHOST),
+        acknowledged: Lsn(52),
+        silence: 7,
+        age: 60,
+        counts: false,
+    });
+    followers
 }
 
 /// A log of two pages in which one commit wrote the byte 171 to slot 3 of page 1, and readers of
@@ -64,7 +93,7 @@ pub fn published<R: Wait>(
 }
 
 /// What is answered to these bytes.
-fn answered<S: Standing>(
+pub fn answered<S: Standing>(
     alloc: Global,
     keys: RandomState,
     answering: &mut Answering<S>,
@@ -78,7 +107,7 @@ fn answered<S: Standing>(
 }
 
 /// Whether these bytes are answered by those.
-fn gives<S: Standing>(
+pub fn gives<S: Standing>(
     alloc: Global,
     keys: RandomState,
     answering: &mut Answering<S>,
@@ -92,7 +121,7 @@ fn gives<S: Standing>(
 }
 
 /// Whether what is answered to these bytes begins so.
-fn begins<S: Standing>(
+pub fn begins<S: Standing>(
     alloc: Global,
     keys: RandomState,
     answering: &mut Answering<S>,
@@ -175,10 +204,17 @@ fn each_refusal_is_answered(rt: HostRuntime) -> Result<(), Fail> {
             "HTTP/1.1 400 ",
         ),
         ("GET /keys/1 HTTP/1.1\r\nHost: a\r\n\r\n", "HTTP/1.1 404 "),
-        ("GET / HTTP/1.1\r\nHost: a\r\n\r\n", "HTTP/1.1 404 "),
+        (
+            "GET /index.html HTTP/1.1\r\nHost: a\r\n\r\n",
+            "HTTP/1.1 404 ",
+        ),
+        (
+            "POST /page HTTP/1.1\r\nHost: a\r\ncontent-length: 1\r\n\r\nx",
+            "HTTP/1.1 404 ",
+        ),
         (
             "POST / HTTP/1.1\r\nHost: a\r\ncontent-length: 1\r\n\r\nx",
-            "HTTP/1.1 404 ",
+            "HTTP/1.1 405 ",
         ),
         ("GET /health HTTP/1.1\r\nHost: a\r\n\r\n", "HTTP/1.1 503 "),
         (
@@ -260,7 +296,7 @@ fn health_of(
 fn health_is_of_a_session_that_goes_on(rt: HostRuntime) -> Result<(), Fail> {
     let alloc = rt.alloc();
     let keys = RandomState::new(&rt)?;
-    let (log, mut readers) = published(&rt, alloc, 10).ok_or("memory")?;
+    let (log, mut readers) = published(&rt, alloc, 12).ok_or("memory")?;
     let table = [
         (State::Following, None, true),
         (State::Following, Some(10), true),
@@ -272,6 +308,9 @@ fn health_is_of_a_session_that_goes_on(rt: HostRuntime) -> Result<(), Fail> {
         (State::Sealed, None, false),
         (State::Primary, None, false),
         (State::Stopped, None, false),
+        (State::Committing, None, true),
+        // Commits wait for followers.
+        (State::Unconfirmed, None, false),
     ];
     for (state, waiting, is_healthy) in table {
         let reader = readers.pop().ok_or("a reader")?;

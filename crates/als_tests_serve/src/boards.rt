@@ -1,6 +1,8 @@
-use als_http::{Board, Report, Standing, State, Watch};
+use als_http::{Board, Follower, FollowerRow, Report, Standing, State, Watch, Work};
 use als_record::Lsn;
+use arrayvec::ArrayVec;
 use std::io;
+use std::net::{IpAddr, Ipv4Addr, Ipv6Addr};
 use std::sync::Arc;
 use std::test::*;
 use std::time::{Clock, Duration};
@@ -48,6 +50,9 @@ fn a_board_tells_what_was_last_seen(rt: HostRuntime) -> Result<(), Fail> {
         failures: 2,
         last_fault: Some(41),
         epoch: Some(2),
+        work: Work::NOTHING,
+        sync: 0,
+        followers: ArrayVec::new(),
     };
     assert!(rt; watch.report() == wanted);
     for state in [
@@ -56,6 +61,8 @@ fn a_board_tells_what_was_last_seen(rt: HostRuntime) -> Result<(), Fail> {
         State::Refusing,
         State::Sealed,
         State::Primary,
+        State::Committing,
+        State::Unconfirmed,
         State::Stopped,
     ] {
         board.set_state(state);
@@ -82,5 +89,59 @@ fn a_refused_session_counts_as_nothing(rt: HostRuntime) -> Result<(), Fail> {
     board.set_state(State::Waiting);
     board.note_answer();
     assert!(rt; watch.report().state == State::Waiting && watch.report().silence == Some(5));
+    Ok(())
+}
+
+/// A follower's row, which connected in the second 40.
+fn row(peer: IpAddr, acknowledged: u64, answered: u64, counts: bool) -> FollowerRow {
+    FollowerRow {
+        peer,
+        acknowledged: Lsn(acknowledged),
+        connected: 40,
+        answered,
+        counts,
+    }
+}
+
+#[test]
+fn a_board_has_the_work_of_a_primary(rt: HostRuntime) -> Result<(), Fail> {
+    let board = Arc::new(rt.alloc(), Board::new())?;
+    let watch = Watch::new(Arc::try_clone(&board)?, At(100));
+    board.note_group(3, Duration::from_micros(1_250));
+    board.note_group(1, Duration::from_millis(2));
+    board.set_sync(2);
+    let wanted = Work {
+        transactions: 4,
+        groups: 2,
+        force_microseconds: 3_250,
+    };
+    let found = watch.report();
+    assert!(rt; found.work == wanted && found.sync == 2);
+    Ok(())
+}
+
+#[test]
+fn a_board_has_the_followers_of_a_primary(rt: HostRuntime) -> Result<(), Fail> {
+    let board = Arc::new(rt.alloc(), Board::new())?;
+    let watch = Watch::new(Arc::try_clone(&board)?, At(100));
+    let four = IpAddr::V4(Ipv4Addr::new(192, 0, 2, 7));
+    let six = IpAddr::V6(Ipv6Addr::new(0x2001, 0xdb8, 0, 1, 0, 0, 0, 0x2a));
+    board.set_followers(&[row(four, 80, 97, true), row(six, 52, 40, false)]);
+    let found = watch.report().followers;
+    assert!(rt; found.as_slice().len() == 2);
+    let first = Follower {
+        peer: four,
+        acknowledged: Lsn(80),
+        silence: 3,
+        age: 60,
+        counts: true,
+    };
+    assert!(rt; found.as_slice()[0] == first);
+    assert!(rt; found.as_slice()[1].peer == six && found.as_slice()[1].silence == 60);
+    // Of nine the first eight are reported, and none of them once they left.
+    board.set_followers(&[row(four, 1, 100, true); 9]);
+    assert!(rt; watch.report().followers.as_slice().len() == 8);
+    board.set_followers(&[]);
+    assert!(rt; watch.report().followers.as_slice().is_empty());
     Ok(())
 }

@@ -7,6 +7,12 @@ mod asking;
 // What a session tells of its standby.
 #[cfg(test)]
 mod boards;
+// The page.
+#[cfg(test)]
+mod page;
+// What a primary reports.
+#[cfg(test)]
+mod primary;
 // Threads that serve a listener of the loopback.
 #[cfg(test)]
 mod loopback;

@@ -1,0 +1,8 @@
+use Rattle.std.specs.Prelude.{codes}
+use Rattle.als_console.specs.Texts.{policy}
+use Rattle.als_http.proofs.TextLaws.{field_is}
+use Rattle.als_http.proofs.page_fields.add_policy.Goals as goal
+
+pub returns-clause-fields : goal.returns-clause-fields
+returns-clause-fields c =
+    field_is _ _ _ (codes "content-security-policy") _ policy c.in_ok-add_header.ensures.headers c.from_static.ensures c.page_policy-policy.ensures

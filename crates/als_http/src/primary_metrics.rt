@@ -1,0 +1,116 @@
+use crate::follower::Follower;
+use crate::metrics_text::head;
+use crate::report::Report;
+use crate::work::Work;
+use std::alloc::AllocError;
+
+/// The microseconds of a second.
+const SECOND: u64 = 1_000_000;
+
+/// What a node that takes commits reports beside, in Prometheus's text format.
+pub(crate) fn write_primary(text: &mut String, report: &Report) -> Result<(), AllocError> {
+    if !report.state.takes_commits() {
+        return Ok(());
+    }
+    write_work(text, &report.work)?;
+    let sync = report.sync;
+    head(
+        text,
+        "als_sync_followers",
+        "Followers that have to acknowledge a commit before it is answered.",
+        "gauge",
+    )?;
+    write!(text, "als_sync_followers {sync}\n")?;
+    write_figure(text, report, Figure::Connected)?;
+    write_figure(text, report, Figure::Acknowledged)?;
+    write_figure(text, report, Figure::Behind)?;
+    write_figure(text, report, Figure::SecondsBehind)
+}
+
+/// What it committed.
+fn write_work(text: &mut String, work: &Work) -> Result<(), AllocError> {
+    counter(
+        text,
+        "als_transactions_total",
+        "Transactions of clients that are committed.",
+        work.transactions,
+    )?;
+    counter(
+        text,
+        "als_groups_total",
+        "Groups of them, of which each was acknowledged by one force.",
+        work.groups,
+    )?;
+    head(
+        text,
+        "als_force_seconds_total",
+        "Seconds that these forces took.",
+        "counter",
+    )?;
+    let seconds = work.force_microseconds / SECOND;
+    let micros = work.force_microseconds % SECOND;
+    write!(text, "als_force_seconds_total {seconds}.{micros:06}\n")
+}
+
+/// A number that only grows.
+fn counter(text: &mut String, name: &str, help: &str, value: u64) -> Result<(), AllocError> {
+    head(text, name, help, "counter")?;
+    write!(text, "{name} {value}\n")
+}
+
+/// What of a follower a metric is.
+#[derive(Clone, Copy)]
+enum Figure {
+    Connected,
+    Acknowledged,
+    Behind,
+    SecondsBehind,
+}
+
+impl Figure {
+    fn name(self) -> &'static str {
+        match self {
+            Figure::Connected => "als_follower_connected_seconds",
+            Figure::Acknowledged => "als_follower_acknowledged_bytes",
+            Figure::Behind => "als_follower_behind_bytes",
+            Figure::SecondsBehind => "als_follower_seconds_behind",
+        }
+    }
+
+    fn help(self) -> &'static str {
+        match self {
+            Figure::Connected => "Seconds since a follower connected.",
+            Figure::Acknowledged => "Offset below which a follower has the log.",
+            Figure::Behind => "Bytes of the acknowledged log that a follower lacks.",
+            Figure::SecondsBehind => {
+                "Seconds for which a follower that lacks some acknowledged nothing."
+            }
+        }
+    }
+
+    fn of(self, report: &Report, follower: &Follower) -> u64 {
+        match self {
+            Figure::Connected => follower.age,
+            Figure::Acknowledged => follower.acknowledged.0,
+            Figure::Behind => follower.behind(report.acknowledged),
+            Figure::SecondsBehind => follower.seconds_behind(report.acknowledged),
+        }
+    }
+}
+
+/// A line of each follower. Two of one address have different seats.
+fn write_figure(text: &mut String, report: &Report, figure: Figure) -> Result<(), AllocError> {
+    let name = figure.name();
+    head(text, name, figure.help(), "gauge")?;
+    let followers = report.followers.as_slice();
+    for seat in 0..followers.len() {
+        let follower = &followers[seat];
+        let peer = follower.peer;
+        let value = figure.of(report, follower);
+        write!(
+            text,
+            "{name}{{follower=\"{peer}\",seat=\"{seat}\"}} {value}\n"
+        )?;
+    }
+    Ok(())
+}
