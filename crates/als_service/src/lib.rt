@@ -5,8 +5,13 @@
 //!                                          |                                               |
 //!                                        Board  <---------- /status, /health ----------  threads <-- HTTP
 //! ```
+//!
+//! A standby that listens has followers of its own: each sync of its control block raises the tail below which
+//! their sessions read its log.
 #![tactic(auto)]
 
+// What its events share with the sessions of its own followers.
+mod cascade;
 // Events whose statuses are stored on a board.
 mod reporting;
 // A stream that tells a board when something came.
@@ -31,15 +36,21 @@ mod next_session;
 mod keeping;
 // A thread for each reader.
 mod seats;
+// What a standby is asked for.
+mod service;
+// The sessions of its own followers.
+mod shipping;
 // The standby of a folder.
 mod standing_by;
 // What is true of a value that is read over HTTP.
 mod laws;
 
+pub use cascade::Cascade;
 pub use keeping::{Kept, Pace, follow_sessions};
 pub use laws::replies_are_of_published_commits;
 pub use met::Met;
 pub use outages::Outages;
 pub use primaries::Primaries;
 pub use reporting::{BoardReporter, Reported};
-pub use standing_by::{Service, standby};
+pub use service::Service;
+pub use standing_by::standby;

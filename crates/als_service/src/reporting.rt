@@ -1,25 +1,31 @@
-use als_engine::{State as EngineState, Status};
+use crate::cascade::Cascade;
+use als_engine::{History, State as EngineState, Status};
 use als_http::{Board, State};
+use als_record::Lsn;
 use als_share::{Observed, Observer};
+use std::sync::Wait;
 
 /// The observer that stores each status that is asked for on a board, which the threads that answer
-/// requests read.
+/// requests read, and tells the sessions of the standby's own followers what is durable.
 #[derive(Drop)]
-pub struct BoardReporter<'a> {
+pub struct BoardReporter<'a, R> {
+    rt: &'a R,
     board: &'a Board,
+    /// None: nobody may follow the standby.
+    cascade: Option<&'a Cascade>,
 }
 
 /// Events whose statuses are stored on a board.
-pub type Reported<'a, E> = Observed<BoardReporter<'a>, E>;
+pub type Reported<'a, R, E> = Observed<BoardReporter<'a, R>, E>;
 
-impl<'a> BoardReporter<'a> {
+impl<'a, R> BoardReporter<'a, R> {
     /// An observer that stores them there.
-    pub fn new(board: &'a Board) -> BoardReporter<'a> {
-        BoardReporter { board }
+    pub fn new(rt: &'a R, board: &'a Board, cascade: Option<&'a Cascade>) -> BoardReporter<'a, R> {
+        BoardReporter { rt, board, cascade }
     }
 }
 
-impl Observer for BoardReporter<'_> {
+impl<R: Wait> Observer for BoardReporter<'_, R> {
     // Whether a primary sends is not part of a status.
     fn after_status(&self, status: &Status) {
         let board = self.board;
@@ -31,6 +37,18 @@ impl Observer for BoardReporter<'_> {
             EngineState::Sealed => board.set_state(State::Sealed),
             EngineState::Primary => board.set_state(State::Primary),
             EngineState::Stopped => board.set_state(State::Stopped),
+        }
+    }
+
+    fn after_ctl_sync(&self, acknowledged: Lsn) {
+        if let Some(cascade) = self.cascade {
+            cascade.synced(self.rt, acknowledged);
+        }
+    }
+
+    fn after_adopt(&self, history: History) {
+        if let Some(cascade) = self.cascade {
+            cascade.adopted(self.rt, history);
         }
     }
 }

@@ -1,14 +1,20 @@
 use crate::answered::Answered;
+use crate::cascade::Cascade;
 use crate::heard::Heard;
 use crate::keeping::{Kept, Pace, follow_sessions};
 use crate::outages::Outages;
 use crate::primaries::{Dialled, Primaries};
 use crate::reporting::{BoardReporter, Reported};
 use crate::seats::{new_board, serve_reads};
+use crate::service::Service;
+use crate::shipping::{Shipping, end_sessions, log_file, ship, shipping_of};
+use als_cascade::StandbySource;
+use als_disk::FileDisk;
 use als_drive::{Progress, recover_telling};
-use als_engine::{Events, Reader};
+use als_engine::{Engine, Events, Reader};
 use als_folder::Folder;
 use als_follow::{Followed, follow_beside};
+use als_followers::Followers;
 use als_http::{Board, Servers, State, listen};
 use als_operate::{Fault, Following, Held, conclude, follow, hold};
 use als_share::{Counts, Observed, Runtime};
@@ -28,25 +34,12 @@ const MEGABYTE: u64 = 1_048_576;
 /// The bytes of a block.
 const BLOCK: u64 = 512;
 
-/// What a standby does beside following one session.
-#[derive(Clone, Copy, Debug)]
-pub struct Service<'a> {
-    /// Threads that redo pages; at least one does.
-    pub workers: usize,
-    /// Where its reads are answered over HTTP. None: nowhere.
-    pub serve: Option<&'a str>,
-    /// Threads that answer, 1 to 8.
-    pub readers: u64,
-    /// It follows one session after another, for ever.
-    pub keep: bool,
-}
-
 /// The standby of a folder that answers reads over HTTP, follows one session or one after another, and
 /// then prints `end=E ack=A`. Its reads are answered from the moment that its folder is held: 503 until
 /// what that holds is redone.
 ///
-/// As `als_operate::hold` says. Stream: the address can't be listened at, and no file was touched; or
-/// the primary does not answer. Then as a session ends; with `keep` only by what asking again can't mend.
+/// As `als_operate::hold` says. Stream: an address can't be listened at, and no file was touched; or
+/// the primary does not answer. BadConfig: also what is asked of its own followers. Then as a session ends; with `keep` only by what asking again can't mend.
 pub fn standby<
     R: AllocGlobal
         + Files<File = File>
@@ -71,22 +64,12 @@ pub fn standby<
         Some(addr) => Some(listen(rt, rt.alloc(), addr)?),
         None => None,
     };
+    let shipping = shipping_of(rt, service)?;
     // A standby that is kept waits for its primary, also the first time: until that has answered, the
     // folder has no database.
     let held = hold(rt, following, seats(service.readers), !service.keep)?;
-    let pace = Pace {
-        workers: service.workers,
-        each: following.checkpoint_mb.saturating_mul(MEGABYTE),
-    };
     stand(
-        rt,
-        held,
-        listener,
-        following,
-        pace,
-        service.keep,
-        progress,
-        output,
+        rt, held, listener, shipping, following, service, progress, output,
     )
 }
 
@@ -124,9 +107,9 @@ fn stand<
     rt: &R,
     held: Held<TcpStream>,
     listener: Option<TcpListener>,
+    shipping: Option<Shipping>,
     following: Following<'_>,
-    pace: Pace,
-    keep: bool,
+    service: Service<'_>,
     progress: &mut P,
     output: &mut O,
 ) -> Result<(), Fault> {
@@ -143,13 +126,62 @@ fn stand<
     }
     let unkept = if is_new { Some(&folder) } else { None };
     let mut primaries = Dialled::new(rt, following, unkept, greeted);
+    let (cascade, followers) = cascade_of(
+        rt,
+        shipping,
+        &engine,
+        following,
+        service.window,
+        is_new,
+    )?;
+    let pace = Pace {
+        workers: service.workers,
+        each: following.checkpoint_mb.saturating_mul(MEGABYTE),
+    };
+    let reporter = BoardReporter::new(rt, &board, cascade.as_ref());
     let Kept {
         events: engine,
         ended,
-    } = drive(rt, engine, pace, keep, &mut primaries, &board, progress);
+    } = drive(
+        rt,
+        engine,
+        reporter,
+        pace,
+        service.keep,
+        &mut primaries,
+        &board,
+        progress,
+    );
     board.set_state(State::Stopped);
+    end_sessions(rt, followers);
     close(rt, servers);
     conclude(&folder, &engine, ended, output)
+}
+
+/// What the standby shares with the sessions of its own followers, and these sessions, where somebody may
+/// follow it.
+fn cascade_of<
+    R: AllocGlobal + Files<File = File> + Runtime + Clock + Clone + Send + Drop + 'static,
+>(
+    rt: &R,
+    shipping: Option<Shipping>,
+    engine: &Engine<FileDisk>,
+    following: Following<'_>,
+    window: u32,
+    is_new: bool,
+) -> Result<(Option<Cascade>, Option<Followers<StandbySource<R>>>), Fault> {
+    let Some(shipping) = shipping else {
+        return Ok((None, None));
+    };
+    let end = engine.status().acknowledged;
+    let cascade = Cascade::new(rt.alloc(), end, engine.history())?;
+    if is_new {
+        // Nobody follows a folder that has no database yet: it has one at its first sync.
+        cascade.adopted(rt, engine.history());
+    }
+    let file = log_file(rt, following.dir, is_new)?;
+    let followers = ship(rt, shipping, file, &cascade, following.timeout, window)?;
+    Ok((Some(cascade), Some(followers)))
 }
 
 /// A board, and, where somebody may come to ask, the threads that answer by it.
@@ -187,13 +219,14 @@ fn drive<
 >(
     rt: &R,
     engine: E,
+    reporter: BoardReporter<'_, R>,
     pace: Pace,
     keep: bool,
     primaries: &mut L,
     board: &Board,
     progress: &mut P,
 ) -> Kept<E, Result<(), Fault>> {
-    let mut events: Reported<'_, E> = Observed::new(BoardReporter::new(board), engine);
+    let mut events: Reported<'_, R, E> = Observed::new(reporter, engine);
     let ended = match recover_telling(rt, &mut events, progress) {
         Ok(()) => None,
         Err(fault) => Some(Fault::Refused(fault)),

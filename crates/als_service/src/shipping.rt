@@ -1,0 +1,105 @@
+use crate::cascade::Cascade;
+use crate::service::Service;
+use als_cascade::StandbySource;
+use als_engine::Fault as EngineFault;
+use als_followers::{Allowed, Block, Followers, Quorum, Terms};
+use als_http::listen;
+use als_operate::{Fault, silence};
+use als_quorum::SEATS;
+use als_sending::WINDOW_LIMIT;
+use std::alloc::{AllocError, Global};
+use std::fs::File;
+use std::net::{Net, TcpListener, TcpStream};
+use std::path::PathBuf;
+use std::rt::Files;
+use std::sync::{Arc, Wait};
+use std::thread::Threads;
+use std::time::Clock;
+
+/// Where followers connect, and who may.
+#[derive(Drop)]
+pub(crate) struct Shipping {
+    listener: TcpListener,
+    allowed: Allowed,
+}
+
+/// Where followers connect, and who may. None: nobody may follow.
+///
+/// BadConfig: the window is out of its range, one who may follow is no address and no block, or somebody may
+/// and there is no address to connect to. Stream: that can't be listened at.
+pub(crate) fn shipping_of<R: AllocGlobal + Net<Listener = TcpListener, Stream = TcpStream>>(
+    rt: &R,
+    service: Service<'_>,
+) -> Result<Option<Shipping>, Fault> {
+    let alloc = rt.alloc();
+    let allowed = allowed_of(alloc, service.followers)?;
+    let is_alone = service.listen.is_none() && !service.followers.is_empty();
+    if is_alone || !(1..=WINDOW_LIMIT).contains(&service.window) {
+        return Err(Fault::Refused(EngineFault::BadConfig));
+    }
+    let Some(addr) = service.listen else {
+        return Ok(None);
+    };
+    let listener = listen(rt, alloc, addr)?;
+    Ok(Some(Shipping { listener, allowed }))
+}
+
+/// Who may follow. BadConfig: one of them is no address and no block.
+fn allowed_of(alloc: Global, texts: &[&str]) -> Result<Allowed, Fault> {
+    let mut allowed = Allowed::new(alloc);
+    for text in texts {
+        let Some(block) = Block::parse(text) else {
+            return Err(Fault::Refused(EngineFault::BadConfig));
+        };
+        allowed.add(block)?;
+    }
+    Ok(allowed)
+}
+
+/// The log of a folder, to be read. That of a new database has another name until its first primary has
+/// answered, and is the same file then.
+pub(crate) fn log_file<R: AllocGlobal + Files<File = File>>(
+    rt: &R,
+    dir: &str,
+    is_new: bool,
+) -> Result<File, Fault> {
+    let alloc = rt.alloc();
+    let folder = PathBuf::from_str(alloc, dir)?;
+    let path = folder.join(alloc, if is_new { "log.new" } else { "log.blk" })?;
+    let file = File::open(rt, path.as_path())?;
+    Ok(file)
+}
+
+/// A seat for each follower.
+fn new_quorum(alloc: Global) -> Result<Arc<Quorum, Global>, AllocError> {
+    Ok(Arc::new(alloc, Quorum::new(alloc, SEATS)?)?)
+}
+
+/// Starts the sessions of a standby's own followers.
+pub(crate) fn ship<R: AllocGlobal + Threads + Wait + Clock + Clone + Send + Sync + Drop + 'static>(
+    rt: &R,
+    shipping: Shipping,
+    file: File,
+    cascade: &Cascade,
+    timeout: u64,
+    window: u32,
+) -> Result<Followers<StandbySource<R>>, Fault> {
+    let Shipping { listener, allowed } = shipping;
+    let alloc = rt.alloc();
+    let source = StandbySource::new(rt.clone()?, file, cascade.tail()?, cascade.era()?, timeout);
+    let terms = Terms::new(window, silence(timeout));
+    let tail = cascade.tail()?;
+    let quorum = new_quorum(alloc)?;
+    let followers = Followers::start(rt, alloc, listener, source, tail, quorum, allowed, terms)?;
+    Ok(followers)
+}
+
+/// Ends the sessions, if there are any.
+pub(crate) fn end_sessions<R: Threads + Wait + Drop>(
+    rt: &R,
+    followers: Option<Followers<StandbySource<R>>>,
+) {
+    if let Some(followers) = followers {
+        followers.close(rt);
+    }
+}
