@@ -1,19 +1,43 @@
-ghost use Rattle.std.specs.Prelude.{◌≡◌, ◌≤◌, IfOk, IfSome, length, vec_len};
+ghost use Rattle.std.specs.Prelude.{◌≡◌, ◌≤◌, IfErr, []};
+ghost use Rattle.als_wire.specs.Reading.{IsHeader};
+ghost use Rattle.als_ship.specs.declared.fault.Fault.TheVariants as fault;
+ghost use Rattle.als_sending.specs.Accounts.{reads_of};
 
 use crate::strayed::Strayed;
+use als_epochs::History;
 use als_folder::LOG_LIMIT;
 use als_record::LogHeader;
-use als_ship::{Fault, PIECE_LIMIT};
-use bytes::Bytes;
-use std::alloc::{AllocError, Global};
+use als_sending::{Account, Growing, Grown};
+use als_ship::Fault;
 use std::fs::{File, Metadata, OpenFile};
 use std::io::ErrorKind;
 use std::os::unix::fs::{FileExt, MetadataExt};
 use std::rt::Files;
-use std::vec::Vec;
-use std::{fs, io};
+use std::time::{Clock, Duration};
+use std::{fs, io, thread};
 
-/// A log file that may grow. Only its header is looked at.
+/// Milliseconds after which a file at whose end a session waits is looked at again.
+const NAP: u64 = 50;
+
+/// So many of them pass at most before the last byte is sent once more.
+const LONG_BEAT: u64 = 200;
+
+/// Naps in a second.
+const SECOND: u64 = 1000 / NAP;
+
+/// After how many naps at the end of a file its last byte is sent once more, so that both ends know
+/// that the other one is there: after a third of the seconds for which an end may be silent (0: as long
+/// as it likes), and ten seconds at most.
+pub(crate) fn beat_for(timeout: u64) -> u64 {
+    if timeout == 0 {
+        LONG_BEAT
+    } else {
+        (timeout.saturating_mul(SECOND) / 3).min(LONG_BEAT)
+    }
+}
+
+/// A log file that may grow, of a node before which there was no takeover. Only its header is looked
+/// at.
 pub(crate) struct GrowingLog<'a, R> {
     rt: &'a R,
     path: &'a str,
@@ -21,9 +45,16 @@ pub(crate) struct GrowingLog<'a, R> {
     header: LogHeader,
     /// How long it was at least.
     len: u64,
+    /// The end that was told last.
+    shown: u64,
+    /// How many naps a session waits at its end before it gives a sign. None: it does not wait.
+    beat: Option<u64>,
     /// Why it is no longer the file that it was, if it is not.
     strayed: Option<Strayed>,
     is_told: bool,
+    /// What was read of it.
+    account: Account,
+    ghost range: { IsHeader header },
 }
 
 impl<R> Drop for GrowingLog<'_, R> {
@@ -34,16 +65,20 @@ impl<R> Drop for GrowingLog<'_, R> {
             file,
             header: _,
             len: _,
+            shown: _,
+            beat: _,
             strayed: _,
             is_told: _,
+            account: _,
         } = self;
         drop(file);
     }
 }
 
 impl<'a, R: Files<File = File>> GrowingLog<'a, R> {
-    /// The log of a file. BadHeader: it begins with none. Stream: it can't be read.
-    pub fn open(rt: &'a R, path: &'a str) -> Result<GrowingLog<'a, R>, Fault> {
+    /// The log of a file, at whose end a session waits for so many naps before it gives a sign; without
+    /// any it ends there. BadHeader: it begins with none. Stream: it can't be read.
+    pub fn open(rt: &'a R, path: &'a str, beat: Option<u64>) -> Result<GrowingLog<'a, R>, Fault> {
         let file = File::open(rt, path)?;
         let mut front = [0; 16];
         let len = file.metadata()?.len();
@@ -58,19 +93,20 @@ impl<'a, R: Files<File = File>> GrowingLog<'a, R> {
                 file,
                 header,
                 len,
+                shown: 0,
+                beat,
                 strayed: None,
                 is_told: false,
+                account: Account::Nothing,
             }),
             Ok(None) | Err(_) => Err(Fault::BadHeader),
         }
     }
 
-    pub fn header(&self) -> LogHeader {
-        self.header
-    }
-
     /// Why it is no longer the file that it was, where that was not told yet.
-    pub fn told_once(&mut self) -> Option<Strayed> {
+    pub fn told_once(&mut self) -> Option<Strayed>
+        ensures { self.new.account ≡ self.old.account }
+    {
         if self.is_told {
             return None;
         }
@@ -79,7 +115,12 @@ impl<'a, R: Files<File = File>> GrowingLog<'a, R> {
     }
 
     /// How much of it is served now. Stream: it strayed, and `strayed` has how.
-    pub fn end(&mut self) -> Result<u64, Fault> {
+    fn served(&mut self) -> Result<u64, Fault>
+        ensures account { self.new.account ≡ self.old.account }
+        ensures shown { self.new.shown ≡ self.old.shown }
+        ensures header { self.new.header ≡ self.old.header }
+        ensures fails { IfErr result (λ f. f ≡ fault.Stream) }
+    {
         match self.look() {
             Ok(len) => {
                 self.len = len;
@@ -96,7 +137,11 @@ impl<'a, R: Files<File = File>> GrowingLog<'a, R> {
     }
 
     /// It is no longer the file that it was.
-    fn stray(&mut self, why: Strayed) {
+    fn stray(&mut self, why: Strayed)
+        ensures account { self.new.account ≡ self.old.account }
+        ensures shown { self.new.shown ≡ self.old.shown }
+        ensures header { self.new.header ≡ self.old.header }
+    {
         self.strayed = Some(why);
         self.is_told = false;
     }
@@ -120,18 +165,59 @@ impl<'a, R: Files<File = File>> GrowingLog<'a, R> {
         }
         Ok(len)
     }
+}
 
-    /// So many bytes from an offset on, at most as many as a frame takes. Stream: they are not there.
-    pub fn piece(&mut self, alloc: Global, at: u64, len: u64) -> Result<Bytes, Fault>
-        ensures { IfOk result (λ bytes. length bytes ≤ 65536) }
-    {
-        let mut bytes = Vec::new(alloc);
-        bytes.resize(len.min(PIECE_LIMIT as u64) as usize, 0)?;
-        if let Err(e) = self.file.read_exact_at(bytes.as_mut_slice(), at) {
-            self.stray(of_read(&e));
-            return Err(Fault::Stream);
+impl<R: Files<File = File> + Clock> Growing for GrowingLog<'_, R> {
+    ghost reads = { λ log. reads_of log.account };
+
+    ghost seals = { λ _. [] };
+
+    ghost pages = { λ log. log.header.pages };
+
+    ghost shown = { λ log. log.shown };
+
+    fn header(&self) -> LogHeader {
+        self.header
+    }
+
+    fn history(&self) -> History {
+        History::empty()
+    }
+
+    fn end(&mut self) -> Result<u64, Fault> {
+        let end = self.served()?;
+        self.shown = end.max(self.shown);
+        Ok(self.shown)
+    }
+
+    fn wait_past(&mut self, at: u64) -> Result<Grown, Fault> {
+        let Some(beat) = self.beat else {
+            return Ok(if self.served()? > at {
+                Grown::Past
+            } else {
+                Grown::Ends
+            });
+        };
+        for _ in 0..beat.max(1) {
+            if self.served()? > at {
+                return Ok(Grown::Past);
+            }
+            thread::sleep(self.rt, Duration::from_millis(NAP));
         }
-        Ok(shared(bytes)?)
+        Ok(Grown::Beat)
+    }
+
+    fn read_at(&mut self, at: u64, buf: &mut [u8]) -> Result<(), Fault> {
+        match self.file.read_exact_at(buf, at) {
+            Ok(()) => {
+                self.account.read(at, buf);
+                Ok(())
+            }
+            Err(e) => {
+                self.stray(of_read(&e));
+                Err(Fault::Stream)
+            }
+        }
     }
 }
 
@@ -154,11 +240,4 @@ fn of_read(e: &io::Error) -> Strayed {
         ErrorKind::UnexpectedEof => Strayed::Shrank,
         _ => Strayed::Unreadable,
     }
-}
-
-/// The bytes of a vector.
-fn shared(bytes: Vec<u8>) -> Result<Bytes, AllocError>
-    ensures { IfOk result (λ shared. shared ≡ bytes.items) }
-{
-    Ok(Bytes::from_vec(bytes)?)
 }

@@ -1,13 +1,17 @@
+ghost use Rattle.std.specs.Prelude.{◌≤◌};
+
 use crate::callers::Callers;
-use crate::growing_log::GrowingLog;
-use crate::growing_session::{Sent, beat_for, serve_growing};
+use crate::growing_log::{GrowingLog, beat_for};
 use crate::meeting::Meetings;
 use crate::node_command::{NodeShipping, source_of};
+use crate::sent::Sent;
 use crate::shipping::{Shipping, asks_nothing, serve};
 use crate::strayed::Strayed;
 use crate::visitors::Visitors;
+use als_engine::Fault as EngineFault;
 use als_folder::Folder;
 use als_operate::{Fault, named, silence};
+use als_sending::{WINDOW_LIMIT, send_log};
 use als_ship::{Fault as SessionFault, Shipper};
 use std::fs::File;
 use std::io::{Read, Write};
@@ -27,7 +31,12 @@ pub struct Lasting {
     pub keep: bool,
     /// A session waits at the end of the file for it to grow.
     pub grows: bool,
+    /// How many frames may be without an answer: 1 to 64.
+    pub window: u32,
 }
+
+/// How many frames may be without an answer where nothing else is asked for.
+pub const WINDOW: u32 = 16;
 
 /// Receives the sessions of a shipper that goes on.
 pub trait Sessions: Meetings {
@@ -47,7 +56,7 @@ pub trait Sessions: Meetings {
 /// is no log that goes on.
 ///
 /// Session: as `ship` says, and Stream where the file strayed. Stream: the file, the address or the output
-/// failed.
+/// failed. Refused BadConfig: the window is not 1 to 64; no file was touched.
 pub fn ship_on<R: AllocGlobal + Files<File = File> + Net + Clock, M: Sessions, O: Write>(
     rt: &R,
     shipping: Shipping<'_>,
@@ -55,20 +64,23 @@ pub fn ship_on<R: AllocGlobal + Files<File = File> + Net + Clock, M: Sessions, O
     meetings: &mut M,
     output: &mut O,
 ) -> Result<(), Fault> {
-    let mut log = GrowingLog::open(rt, shipping.log)?;
-    let listener = TcpListener::bind(rt, shipping.listen)?;
-    let mut callers = Callers::new(rt.alloc(), &listener, rt, silence(shipping.timeout));
+    if lasting.window == 0 || lasting.window > WINDOW_LIMIT {
+        return Err(Fault::Refused(EngineFault::BadConfig));
+    }
     let beat = if lasting.grows {
         Some(beat_for(shipping.timeout))
     } else {
         None
     };
+    let mut log = GrowingLog::open(rt, shipping.log, beat)?;
+    let listener = TcpListener::bind(rt, shipping.listen)?;
+    let mut callers = Callers::new(rt.alloc(), &listener, rt, silence(shipping.timeout));
     for _ in 0..u64::MAX {
         let met = meet(
             rt,
             &mut log,
             lasting.keep,
-            beat,
+            lasting.window,
             &mut callers,
             meetings,
             output,
@@ -91,11 +103,14 @@ fn meet<
     rt: &R,
     log: &mut GrowingLog<'_, R>,
     keep: bool,
-    beat: Option<u64>,
+    window: u32,
     visitors: &mut V,
     meetings: &mut M,
     output: &mut O,
-) -> Result<bool, Fault> {
+) -> Result<bool, Fault>
+    requires some { 1 ≤ window }
+    requires few { window ≤ 64 }
+{
     let (mut reader, mut writer) = match visitors.next() {
         Ok(streams) => streams,
         Err(e) if keep => {
@@ -106,7 +121,7 @@ fn meet<
     };
     let mut sent = Sent::new();
     let alloc = rt.alloc();
-    let served = serve_growing(rt, alloc, log, beat, &mut reader, &mut writer, &mut sent);
+    let served = send_log(alloc, log, &mut sent, window, &mut reader, &mut writer);
     visitors.part(reader, writer);
     if let Some(why) = log.told_once() {
         meetings.strayed(why);
@@ -115,9 +130,9 @@ fn meet<
         }
     }
     match served {
-        Ok(()) => {
+        Ok(bytes) => {
             meetings.acknowledged(sent.acknowledged);
-            writeln!(output, "sent={}", sent.bytes)?;
+            writeln!(output, "sent={bytes}")?;
             output.flush()?;
             Ok(true)
         }

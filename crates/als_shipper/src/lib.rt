@@ -33,14 +33,14 @@ mod node_command;
 mod strayed;
 // A log file that may grow.
 mod growing_log;
-// A session of such a log.
-mod growing_session;
+// What a session of it told of its follower.
+mod sent;
 // One follower after another.
 mod lasting;
 
 pub use bounded::Bounded;
 pub use callers::Callers;
-pub use lasting::{Lasting, Sessions, ship_node_on, ship_on};
+pub use lasting::{Lasting, Sessions, WINDOW, ship_node_on, ship_on};
 pub use meeting::{Meetings, Untold};
 pub use node_command::{NodeShipping, ship_node};
 pub use shipping::{Shipping, serve, serve_next, ship};
