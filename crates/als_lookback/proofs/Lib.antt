@@ -1,0 +1,6 @@
+mod FrontLaws
+mod JudgeLaws
+mod SeenLaws
+mod StepLaws
+mod Taken
+mod FindLaws

@@ -1,0 +1,130 @@
+use crate::cutting::cut_log;
+use crate::fault::Fault;
+use crate::finding::find_commit;
+use crate::listing::list_commits;
+use crate::looking::look_back;
+use crate::seen::Seen;
+use crate::source::{check_reaches, open};
+use crate::until::Until;
+use als_record::{Key, Lsn, SLOT_COUNT, TransId};
+use als_text::ShownImage;
+use std::fs::File;
+use std::io::Write;
+use std::rt::Files;
+
+/// Writes the text of the log of a file or a folder, up to the last record that a look takes, and
+/// answers where it ends.
+///
+/// As `cut_log`. Folder, BadControl: the folder or a file of it failed, another program has it, or
+/// nothing says how far its log is acknowledged.
+pub fn cut<R: AllocGlobal + Files<File = File>, O: Write>(
+    rt: &R,
+    path: &str,
+    until: Until,
+    output: &mut O,
+) -> Result<Lsn, Fault> {
+    let source = open(rt, path)?;
+    check_reaches(&source, until)?;
+    let (reader, folder) = source.into_parts();
+    let end = cut_log(rt.alloc(), reader, until, output)?;
+    drop(folder);
+    Ok(end)
+}
+
+/// Where the log of a file or a folder ends in front of a transaction's commit record.
+///
+/// As `find_commit`, and Folder and BadControl as `cut`.
+pub fn commit_of<R: AllocGlobal + Files<File = File>>(
+    rt: &R,
+    path: &str,
+    trans: TransId,
+) -> Result<Lsn, Fault> {
+    let (reader, folder) = open(rt, path)?.into_parts();
+    let lsn = find_commit(rt.alloc(), reader, trans)?;
+    drop(folder);
+    Ok(lsn)
+}
+
+/// Prints what the commits up to the last record that a look takes left at a key, as `als get` does:
+/// `VALUE commits=C lsn=L`, with `-` where the key has nothing.
+///
+/// As `look_back`, and Folder and BadControl as `cut`. Stream: the output failed too.
+pub fn get<R: AllocGlobal + Files<File = File>, O: Write>(
+    rt: &R,
+    path: &str,
+    key: Key,
+    until: Until,
+    output: &mut O,
+) -> Result<(), Fault> {
+    let seen = seen_in(rt, path, until)?;
+    let (commits, lsn) = (seen.commits(), seen.last().0);
+    let value = seen.value(key);
+    writeln!(output, "{} commits={commits} lsn={lsn}", ShownImage(&value))?;
+    Ok(())
+}
+
+/// Prints what they left at each key that has a value, a line each in key order, as `als takeover`
+/// does; one line `empty` where none has.
+///
+/// As `get`.
+pub fn show<R: AllocGlobal + Files<File = File>, O: Write>(
+    rt: &R,
+    path: &str,
+    until: Until,
+    output: &mut O,
+) -> Result<(), Fault> {
+    let seen = seen_in(rt, path, until)?;
+    let mut is_empty = true;
+    for page in 0..seen.pages() {
+        if list_page(&seen, page, output)? {
+            is_empty = false;
+        }
+    }
+    if is_empty {
+        writeln!(output, "empty")?;
+    }
+    Ok(())
+}
+
+/// A line for each slot that has a value. Whether there was one is answered.
+fn list_page<O: Write>(seen: &Seen, page: u32, output: &mut O) -> Result<bool, Fault> {
+    let mut is_listed = false;
+    for slot in 0..SLOT_COUNT as u8 {
+        let value = seen.value(Key { page, slot });
+        if value.is_some() {
+            writeln!(output, "{page}/{slot} {}", ShownImage(&value))?;
+            is_listed = true;
+        }
+    }
+    Ok(is_listed)
+}
+
+/// Prints a line for each commit of the log of a file or a folder: its LSN, its transaction, and the
+/// keys that it writes. Where a record is not sound, those before it are printed, and then it is
+/// refused.
+///
+/// As `find_commit`, and Folder and BadControl as `cut`. Stream: the output failed too.
+pub fn commits<R: AllocGlobal + Files<File = File>, O: Write + Drop>(
+    rt: &R,
+    path: &str,
+    output: O,
+) -> Result<(), Fault> {
+    let (reader, folder) = open(rt, path)?.into_parts();
+    list_commits(rt.alloc(), reader, output)?;
+    drop(folder);
+    Ok(())
+}
+
+/// What the commits of a file's or a folder's log left.
+fn seen_in<R: AllocGlobal + Files<File = File>>(
+    rt: &R,
+    path: &str,
+    until: Until,
+) -> Result<Seen, Fault> {
+    let source = open(rt, path)?;
+    check_reaches(&source, until)?;
+    let (reader, folder) = source.into_parts();
+    let seen = look_back(rt.alloc(), reader, until)?;
+    drop(folder);
+    Ok(seen)
+}
