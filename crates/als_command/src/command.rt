@@ -17,6 +17,7 @@ pub enum Command<'a> {
         timeout: u64,
         keep: bool,
         follow: bool,
+        window: u32,
         explain: bool,
     },
     /// The log of a folder's node to one follower, or to one after another.
@@ -40,6 +41,9 @@ pub enum Command<'a> {
         serve: Option<&'a str>,
         readers: u64,
         forget_unreached: bool,
+        listen: Option<&'a str>,
+        window: u32,
+        followers: Option<&'a str>,
         explain: bool,
     },
     /// A standby to a primary.
@@ -56,7 +60,7 @@ pub enum Command<'a> {
         skip_bad: bool,
         explain: bool,
     },
-    /// A folder's primary, which commits and answers reads over HTTP.
+    /// A folder's primary, which commits and answers reads over HTTP, and serves its log to followers.
     Primary {
         dir: &'a str,
         serve: &'a str,
@@ -65,6 +69,11 @@ pub enum Command<'a> {
         token_file: Option<&'a str>,
         connections: u64,
         commit_timeout: u64,
+        listen: Option<&'a str>,
+        sync: u32,
+        window: u32,
+        followers: Option<&'a str>,
+        timeout: u64,
         explain: bool,
     },
     /// The pages of a folder's node anew from its log.
@@ -88,6 +97,35 @@ pub enum Command<'a> {
         page: Option<u32>,
         explain: bool,
     },
+    /// The commits of a log file or of a node's log.
+    Commits {
+        path: &'a str,
+        explain: bool,
+    },
+    /// The log of a file or of a node up to an LSN.
+    CutAt {
+        path: &'a str,
+        lsn: u64,
+        explain: bool,
+    },
+    /// The same up to a transaction's commit record.
+    CutBefore {
+        path: &'a str,
+        trans: u32,
+        explain: bool,
+    },
+    /// What the committed transactions left at all keys, up to an LSN.
+    Show {
+        path: &'a str,
+        at: Option<u64>,
+        explain: bool,
+    },
+    /// A longer log device for a folder's node.
+    Grow {
+        dir: &'a str,
+        log_blocks: u64,
+        explain: bool,
+    },
     /// Whether a log file or a standby is sound.
     Verify {
         path: &'a str,
@@ -98,11 +136,12 @@ pub enum Command<'a> {
         dir: &'a str,
         explain: bool,
     },
-    /// What the committed transactions left at a key of a standby's folder.
+    /// What the committed transactions left at a key of a node's folder, or, up to an LSN, of a log.
     Get {
         dir: &'a str,
         page: u32,
         slot: u8,
+        at: Option<u64>,
         explain: bool,
     },
 }

@@ -15,7 +15,7 @@ pub(crate) struct Line {
 }
 
 /// The command lines that the program knows, in the order of its help.
-pub(crate) const LINES: [Line; 13] = [
+pub(crate) const LINES: [Line; 16] = [
     Line {
         name: "make",
         about: texts::MAKE_ABOUT,
@@ -59,6 +59,7 @@ pub(crate) const LINES: [Line; 13] = [
                 name: "follow",
                 help: "Wait at the end of FILE for it to grow",
             },
+            WINDOW,
             EXPLAIN,
         ],
         choice: &["log", "dir"],
@@ -118,6 +119,9 @@ pub(crate) const LINES: [Line; 13] = [
                 name: "forget-unreached",
                 help: "Forget the takeovers of which DIR holds nothing",
             },
+            LISTEN,
+            FOLLOWER,
+            WINDOW,
             EXPLAIN,
         ],
         choice: &[],
@@ -201,6 +205,16 @@ pub(crate) const LINES: [Line; 13] = [
                 help: "How long a transaction may wait to begin, 1 to 3600 [default: 10]",
                 is_wanted: false,
             },
+            LISTEN,
+            Word::Short {
+                name: "sync",
+                value: "K",
+                help: "Answer a commit once K standbys acknowledged it, 0 to 8 [default: 0]",
+                is_wanted: false,
+            },
+            FOLLOWER,
+            WINDOW,
+            TIMEOUT,
             EXPLAIN,
         ],
         choice: &[],
@@ -260,6 +274,50 @@ pub(crate) const LINES: [Line; 13] = [
                 help: "Only records that change this page",
                 is_wanted: false,
             },
+            Word::Flag {
+                name: "commits",
+                help: "A line for each commit, with its keys, and no other option",
+            },
+            EXPLAIN,
+        ],
+        choice: &[],
+    },
+    Line {
+        name: "cut",
+        about: texts::CUT_ABOUT,
+        help: texts::CUT_HELP,
+        words: &[
+            PATH,
+            AT,
+            Word::Short {
+                name: "before-commit",
+                value: "T",
+                help: "Up to the commit record of transaction T, without it",
+                is_wanted: false,
+            },
+            EXPLAIN,
+        ],
+        choice: &["at", "before-commit"],
+    },
+    Line {
+        name: "show",
+        about: texts::SHOW_ABOUT,
+        help: texts::SHOW_HELP,
+        words: &[PATH, AT, EXPLAIN],
+        choice: &[],
+    },
+    Line {
+        name: "grow",
+        about: texts::GROW_ABOUT,
+        help: texts::GROW_HELP,
+        words: &[
+            DIR,
+            Word::Long {
+                name: "log-blocks",
+                value: "B",
+                help: "Blocks that the log is to have, up to 4194304",
+                is_wanted: true,
+            },
             EXPLAIN,
         ],
         choice: &[],
@@ -282,7 +340,7 @@ pub(crate) const LINES: [Line; 13] = [
         name: "get",
         about: texts::GET_ABOUT,
         help: texts::GET_HELP,
-        words: &[FOLDER, KEY_PAGE, KEY_SLOT, EXPLAIN],
+        words: &[PATH_OR_FOLDER, KEY_PAGE, KEY_SLOT, AT, EXPLAIN],
         choice: &[],
     },
 ];
@@ -307,10 +365,46 @@ const TIMEOUT: Word = Word::Long {
     is_wanted: false,
 };
 
+/// Where followers of the log connect.
+const LISTEN: Word = Word::Free {
+    name: "listen",
+    value: "HOST:PORT",
+    help: "Serve the log to up to 8 standbys there",
+};
+
+/// Who may follow.
+const FOLLOWER: Word = Word::Free {
+    name: "follower",
+    value: "ADDRS",
+    help: "Standbys that may follow, as ADDR or ADDR/BITS, with commas between",
+};
+
+/// How far a session sends ahead.
+const WINDOW: Word = Word::Short {
+    name: "window",
+    value: "W",
+    help: "Frames sent ahead of their acknowledgements, 1 to 64 [default: 16]",
+    is_wanted: false,
+};
+
 const PATH: Word = Word::Place {
     name: "path",
     value: "PATH",
     help: "A log file, or the folder of a standby",
+};
+
+/// Looks at a log up to an LSN.
+const AT: Word = Word::Long {
+    name: "at",
+    value: "LSN",
+    help: "Up to the last record that ends at or below this LSN",
+    is_wanted: false,
+};
+
+const PATH_OR_FOLDER: Word = Word::Place {
+    name: "path",
+    value: "DIR",
+    help: "The folder of a node; with --at a log file too",
 };
 
 const FOLDER: Word = Word::Place {

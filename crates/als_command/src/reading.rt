@@ -27,6 +27,9 @@ const CONNECTIONS: u64 = 64;
 /// The seconds that a transaction may wait to begin, where the command line does not say.
 const COMMIT_TIMEOUT: u64 = 10;
 
+/// The frames that are sent ahead of their answers, where the command line does not say.
+const WINDOW: u32 = 16;
+
 /// What is said of words of which one is of a file, and the other of a folder.
 const PARTED: &str =
     "the argument '--follow' cannot be used with '--dir <DIR>': a node's log does not grow while it is shipped; --keep can";
@@ -104,6 +107,9 @@ fn asked<'a>(name: &str, matches: &ArgMatches<'a>) -> Option<Command<'a>> {
         "resolve" => resolve(matches),
         "rebuild-pages" => rebuild_pages(matches),
         "dump" => dump(matches),
+        "cut" => cut(matches),
+        "show" => show(matches),
+        "grow" => grow(matches),
         "verify" => verify(matches),
         "status" => status(matches),
         "get" => get(matches),
@@ -124,6 +130,7 @@ fn ship<'a>(matches: &ArgMatches<'a>) -> Option<Command<'a>> {
             timeout,
             keep,
             follow,
+            window: matches.get_one("window").unwrap_or(WINDOW),
             explain,
         });
     };
@@ -149,6 +156,9 @@ fn standby<'a>(matches: &ArgMatches<'a>) -> Option<Command<'a>> {
         serve: matches.get_str("serve"),
         readers: matches.get_one("readers").unwrap_or(READERS),
         forget_unreached: matches.get_flag("forget-unreached"),
+        listen: matches.get_str("listen"),
+        window: matches.get_one("window").unwrap_or(WINDOW),
+        followers: matches.get_str("follower"),
         explain: matches.get_flag("explain"),
     })
 }
@@ -180,6 +190,11 @@ fn primary<'a>(matches: &ArgMatches<'a>) -> Option<Command<'a>> {
         token_file: matches.get_str("token-file"),
         connections: matches.get_one("connections").unwrap_or(CONNECTIONS),
         commit_timeout: matches.get_one("commit-timeout").unwrap_or(COMMIT_TIMEOUT),
+        listen: matches.get_str("listen"),
+        sync: matches.get_one("sync").unwrap_or(0),
+        window: matches.get_one("window").unwrap_or(WINDOW),
+        followers: matches.get_str("follower"),
+        timeout: matches.get_one("timeout").unwrap_or(TIMEOUT),
         explain: matches.get_flag("explain"),
     })
 }
@@ -201,11 +216,45 @@ fn rebuild_pages<'a>(matches: &ArgMatches<'a>) -> Option<Command<'a>> {
 }
 
 fn dump<'a>(matches: &ArgMatches<'a>) -> Option<Command<'a>> {
+    let path = matches.get_str("path")?;
+    let explain = matches.get_flag("explain");
+    if matches.get_flag("commits") {
+        return Some(Command::Commits { path, explain });
+    }
     Some(Command::Dump {
-        path: matches.get_str("path")?,
+        path,
         from: matches.get_one("from").unwrap_or(0),
         trans: matches.get_one("trans"),
         page: matches.get_one("page"),
+        explain,
+    })
+}
+
+fn cut<'a>(matches: &ArgMatches<'a>) -> Option<Command<'a>> {
+    let path = matches.get_str("path")?;
+    let explain = matches.get_flag("explain");
+    match matches.get_one("at") {
+        Some(lsn) => Some(Command::CutAt { path, lsn, explain }),
+        None => Some(Command::CutBefore {
+            path,
+            trans: matches.get_one("before-commit")?,
+            explain,
+        }),
+    }
+}
+
+fn show<'a>(matches: &ArgMatches<'a>) -> Option<Command<'a>> {
+    Some(Command::Show {
+        path: matches.get_str("path")?,
+        at: matches.get_one("at"),
+        explain: matches.get_flag("explain"),
+    })
+}
+
+fn grow<'a>(matches: &ArgMatches<'a>) -> Option<Command<'a>> {
+    Some(Command::Grow {
+        dir: matches.get_str("dir")?,
+        log_blocks: matches.get_one("log-blocks")?,
         explain: matches.get_flag("explain"),
     })
 }
@@ -226,9 +275,10 @@ fn status<'a>(matches: &ArgMatches<'a>) -> Option<Command<'a>> {
 
 fn get<'a>(matches: &ArgMatches<'a>) -> Option<Command<'a>> {
     Some(Command::Get {
-        dir: matches.get_str("folder")?,
+        dir: matches.get_str("path")?,
         page: matches.get_one("key-page")?,
         slot: matches.get_one("key-slot")?,
+        at: matches.get_one("at"),
         explain: matches.get_flag("explain"),
     })
 }

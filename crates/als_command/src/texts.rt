@@ -90,7 +90,8 @@ terminal, standard error says what was passed over, and up to where the follower
 acknowledged the log: no crash of it loses what is below.
 With --keep it serves one follower after another, for ever, a line for each session that came
 to the end; what ends a session early is said on standard error. With --follow a session waits
-at the end of FILE for it to grow; 44 where it shrank. With either FILE is read piece by piece.
+at the end of FILE for it to grow; 44 where it shrank. With either FILE is read piece by piece,
+and W frames are sent ahead of their acknowledgements.
 The file has to stay the one that it was: where it shrank, was replaced or removed or can't be
 read, standard error says so, and it ends with 44, with --keep too. One that is longer than the
 largest log is served up to there.
@@ -106,6 +107,7 @@ Example:
 Exit statuses: 0 done, 2 a fault of the command line, 3 `als: refused N Name`:
   1   FILE has no header, or the follower has another database
   32  there was no memory for FILE
+  37  W is not 1 to 64; no file was touched
   40  the follower holds more than there is
   41  what came is no frame of a follower
   42  the follower's log goes past the seal with which the history goes on
@@ -135,7 +137,9 @@ of 5 s to 60 s; only 21, 29, 30, 31, 33, 34, 42 and 48 end it. With --explain, o
 standard error says once a minute at most that nothing comes.
 With --serve it answers over HTTP: GET /keys/P/S, /status, /metrics and /health. Nothing is
 encrypted, and nobody is asked who he is.
-With --keep or --serve one thread redoes at least: --workers 0 is 1.
+With --keep, --serve or --listen one thread redoes at least: --workers 0 is 1.
+With --listen it serves what it has acknowledged to up to 8 standbys of its own, which follow it as
+they would follow a primary; with --follower only those at these addresses.
 With --forget-unreached it first forgets the takeovers that were sealed at the end of the log in
 DIR or above it, of which DIR holds nothing, and says so on standard error. So it follows its old
 primary again, where the node that took over is gone for good.
@@ -152,8 +156,8 @@ Exit statuses: 0 done, 2 a fault of the command line, 3 `als: refused N Name`:
   30  DIR or a file of it failed, or another program has DIR; or control.blk is missing,
       but log.blk or pages.blk has data: nothing was touched
   34  DIR has a database of another number of pages, or a damaged one (1, 33 too)
-  37  N is not 1 to 4,096, B not 1 to 4,194,304, W not 0 to 8, or R not 1 to 8; no file
-      was touched
+  37  N is not 1 to 4,096, B not 1 to 4,194,304, a number of threads not 0 to 8 or 1 to 8, a
+      window not 1 to 64, or ADDRS no addresses; no file was touched
   40, 41 what came is no frame that may come
   43  the primary went away; it does so too where its log is another or a shorter one, or has
       another number of pages than N
@@ -246,7 +250,13 @@ Without --token-file ADDR has to be of the loopback. FILE has mode 0600 and at l
 a request to commit brings them, without a last line end, as `Authorization: Bearer TOKEN` (401
 without, 403 with others). Nothing is encrypted. A transaction that is not begun after SECONDS is
 not written (503).
-`als ship --dir DIR` serves the log while it does not run.
+With --listen it serves its log to up to 8 standbys at once, each as far as the log is durable
+here: `als standby --from HOST:PORT`. With --sync K a commit is answered, and readers see it, once
+K standbys at different addresses have acknowledged it. Where fewer are there it waits, and
+never answers with less: a transaction that is not begun after SECONDS is 503, one that was is
+504 with its LSN. /health is 503 then, and standard error says so once a minute. With --follower
+only standbys at these addresses may connect, and only they count; without it whoever connects
+does. `als ship --dir DIR` serves the log while it does not run.
 
 Example:
   mkdir a
@@ -259,9 +269,10 @@ Exit statuses: 2 a fault of the command line, of FILE or of ADDR without it, 3
   30  DIR or a file of it failed, or another program has DIR; or control.blk is missing,
       but log.blk or pages.blk has data: nothing was touched
   33, 34, 1 to 16 a file of it is damaged
-  37  N is missing for a new database or not 1 to 4,096, B not 1 to 4,194,304, C not 1 to 64, or
-      SECONDS not 1 to 3,600; no file was touched
-  44  ADDR can't be listened at
+  37  N is missing for a new database or not 1 to 4,096, B not 1 to 4,194,304, C not 1 to 64,
+      SECONDS not 1 to 3,600, K over 8 or without --listen, W not 1 to 64, or ADDRS no addresses;
+      no file was touched
+  44  ADDR or HOST:PORT can't be listened at
   46  DIR is the folder of a standby: take it over first";
 
 pub const RESOLVE_ABOUT: &str = "Decides a transaction in doubt after a takeover";
@@ -318,6 +329,8 @@ Writes standard output: a line for each record that all options admit.
   L begin_chkpt, L end_chkpt prev=V
 Where a record is not sound, the lines of those in front of it are written, and then it is
 refused: `als verify` tells where.
+With --commits a line for each commit in place of that: `L trans=T P/S P/S ..`, the LSN of its
+commit record, and the keys that it wrote.
 
 Example:
   als dump standby --trans 2 --from 1024
@@ -360,6 +373,56 @@ Exit statuses: 0 done, 2 a fault of the command line, 3 `als: refused N Name`:
   30  DIR or a file of it failed, it has no database, or a standby runs there: ask that one
   33, 34, 1 to 16 a file of it is damaged: `als verify` tells where";
 
+pub const CUT_ABOUT: &str = "Writes the log of a file or of a node up to an LSN";
+
+pub const CUT_HELP: &str =
+    "Reads PATH and changes nothing: a log file as `als ship` serves it, or the folder of a node
+that does not run, of which the log is read as far as it is acknowledged.
+Writes the log text to standard output: its header and each whole record that ends at or below
+LSN, or that stands in front of the commit record of T. So a damaged database is taken back to a
+moment: ship the text to an empty folder, and take over. Nothing is damaged by a wrong LSN: the
+text is another file.
+`als dump PATH --commits` prints the LSN, the transaction and the keys of each commit.
+
+Example:
+  als cut a --before-commit 7 > earlier.log
+  als ship --log earlier.log --listen 127.0.0.1:7070
+
+Exit statuses: 0 done, 2 a fault of the command line, 3 `als: refused N Name`:
+  30  PATH is a folder that failed, has no database, or is in use
+  33, 34, 1 to 16 a file of it is damaged up to there: `als verify` tells where
+  37  LSN is within the header or past the end of the log, or T has no commit
+  43  the file ends within a record
+  44  the file can't be read, or standard output failed";
+
+pub const SHOW_ABOUT: &str = "Prints all values of a log file or of a node";
+
+pub const SHOW_HELP: &str =
+    "Reads PATH and changes nothing: a log file as `als ship` serves it, or the folder of a node
+that does not run, of which the log is read as far as it is acknowledged.
+Writes standard output: a line `P/S VALUE` for each key that has a value, by the commits that end
+at or below LSN (without --at: all), in the order of pages and slots; `empty` where none has.
+
+Example:
+  als show a --at 4096
+
+Exit statuses: 0 done, 2 a fault of the command line, 3 `als: refused N Name`, as `als cut` has
+them.";
+
+pub const GROW_ABOUT: &str = "Gives a node's log device more blocks";
+
+pub const GROW_HELP: &str =
+    "Needs DIR, the folder of a node that does not run, for itself alone. Writes zeros behind
+the last block of log.blk, and syncs it, until it has B blocks of 512 bytes. Killed at any time
+it leaves the node as it was: run it again.
+
+Example:
+  als grow --dir standby --log-blocks 1048576
+
+Exit statuses: 0 done, 2 a fault of the command line, 3 `als: refused N Name`:
+  30  DIR or a file of it failed, its disk has no room, it has no database, or it is in use
+  37  the log has more than B blocks, or B is over 4,194,304";
+
 pub const GET_ABOUT: &str = "Prints what the committed transactions left at a key";
 
 pub const GET_HELP: &str =
@@ -368,6 +431,8 @@ standby in a copy in memory, and reads slot S of page P there.
 Writes standard output: a line `VALUE commits=C lsn=L`: the value in lower case hexadecimal,
 `.` for the empty value, `-` where the key has none or lies outside the database; how many
 commits were counted, and the LSN of the last one.
+With --at it reads the log alone, which DIR may be a file of, and counts the commits that end at
+or below LSN.
 
 Example:
   als get standby 0 3

@@ -11,5 +11,6 @@ abbrev pub fate_of : Outcome Answer → Fate
 fate_of (outcome.Answered (answer.Committed written)) = fate.Committed written
 fate_of (outcome.Answered (answer.Refused refusal)) = fate.Refused refusal
 fate_of (outcome.Answered (answer.Unknown written)) = fate.Unknown written
+fate_of (outcome.Answered answer.Withheld) = fate.NotBegun
 fate_of outcome.NotBegun = fate.NotBegun
 fate_of outcome.Lost = fate.Lost

@@ -1,3 +1,4 @@
+use als_followers::Notice;
 use als_record::Lsn;
 use std::net::SocketAddr;
 
@@ -6,8 +7,18 @@ pub trait Announces {
     /// It serves from now on.
     fn serves(&mut self, dir: &str, addr: SocketAddr, epoch: u32, end: Lsn);
 
+    /// Followers may connect there, and so many of them have to acknowledge a commit.
+    fn listens(&mut self, addr: SocketAddr, sync: u32);
+
     /// Its log has used nine tenths of its device.
     fn nearly_full(&mut self, end: Lsn, capacity: u64);
+
+    /// For so many seconds it has waited until this number of followers acknowledge a commit. It is told
+    /// once a minute.
+    fn unconfirmed(&mut self, sync: u32, seconds: u64);
+
+    /// A follower came or went, or was hung up on.
+    fn follower(&mut self, notice: Notice);
 }
 
 impl<A: Announces> Announces for &mut A {
@@ -15,7 +26,19 @@ impl<A: Announces> Announces for &mut A {
         (**self).serves(dir, addr, epoch, end);
     }
 
+    fn listens(&mut self, addr: SocketAddr, sync: u32) {
+        (**self).listens(addr, sync);
+    }
+
     fn nearly_full(&mut self, end: Lsn, capacity: u64) {
         (**self).nearly_full(end, capacity);
+    }
+
+    fn unconfirmed(&mut self, sync: u32, seconds: u64) {
+        (**self).unconfirmed(sync, seconds);
+    }
+
+    fn follower(&mut self, notice: Notice) {
+        (**self).follower(notice);
     }
 }

@@ -80,7 +80,8 @@ fn fate_of(outcome: Outcome<Answer>) -> Fate
         Outcome::Answered(Answer::Committed(written)) => Fate::Committed(written),
         Outcome::Answered(Answer::Refused(refusal)) => Fate::Refused(refusal),
         Outcome::Answered(Answer::Unknown(written)) => Fate::Unknown(written),
-        Outcome::NotBegun => Fate::NotBegun,
+        // Why nothing of it is committed is not told.
+        Outcome::Answered(Answer::Withheld) | Outcome::NotBegun => Fate::NotBegun,
         Outcome::Lost => Fate::Lost,
     }
 }

@@ -2,11 +2,14 @@ ghost use Rattle.std.specs.Prelude.{◌≡◌, []};
 ghost use Rattle.als_lead.specs.Account.{taken_of, told_of};
 ghost use Rattle.als_seats.specs.Places.{number_of};
 
+use crate::group::Group;
+use als_http::Board;
 use als_lead::{Account, Answer, Asked, Clients, Waited};
 use als_operate::Fault;
 use als_seats::{Ask, Leader, Place, Waited as Met};
 use als_writer::Transaction;
-use std::sync::Wait;
+use std::alloc::Global;
+use std::sync::{Arc, Wait};
 use std::time::{Clock, Duration};
 
 /// Nobody asked for a while: after so many milliseconds.
@@ -15,32 +18,43 @@ const IDLE: u64 = 100;
 /// Those who ask, as the leader meets them: each sits in a seat of his own.
 pub(crate) struct Desk<'a, R> {
     rt: &'a R,
+    board: Arc<Board, Global>,
     leader: Leader<Transaction, Answer>,
     account: Account,
+    group: Group,
 }
 
 impl<R> Drop for Desk<'_, R> {
     fn drop(self) {
         let Desk {
             rt: _,
+            board,
             leader,
             account,
+            group: _,
         } = self;
+        drop(board);
         drop(leader);
         drop(account);
     }
 }
 
 impl<'a, R: Wait + Clock> Desk<'a, R> {
-    /// Nobody was answered yet.
-    pub fn new(rt: &'a R, leader: Leader<Transaction, Answer>) -> Desk<'a, R>
+    /// Nobody was answered yet. The board receives what each group came to.
+    pub fn new(
+        rt: &'a R,
+        board: Arc<Board, Global>,
+        leader: Leader<Transaction, Answer>,
+    ) -> Desk<'a, R>
         ensures taken { taken_of result.account ≡ [] }
         ensures told { told_of result.account ≡ [] }
     {
         Desk {
             rt,
+            board,
             leader,
             account: Account::Nothing,
+            group: Group::NONE,
         }
     }
 
@@ -49,9 +63,12 @@ impl<'a, R: Wait + Clock> Desk<'a, R> {
     pub fn end(self) {
         let Desk {
             rt,
+            board,
             leader,
             account,
+            group: _,
         } = self;
+        drop(board);
         leader.end(rt);
         drop(account);
     }
@@ -74,6 +91,7 @@ impl<R: Wait + Clock> Clients for Desk<'_, R> {
     }
 
     fn next(&mut self) -> Result<Option<Asked>, Fault> {
+        self.group.take(now_of(self.rt));
         match self.leader.next(self.rt) {
             Some(ask) => {
                 let asked = asked_of(ask);
@@ -86,6 +104,8 @@ impl<R: Wait + Clock> Clients for Desk<'_, R> {
 
     fn tell(&mut self, asked: Asked, answer: Answer) -> Result<(), Fault> {
         self.account.tell(&asked, again(&answer));
+        self.group
+            .tell(now_of(self.rt), matches!(answer, Answer::Committed(_)));
         // Each transaction that was taken came from a place.
         if let Some(place) = Place::of(asked.seat) {
             self.leader.tell(self.rt, place, answer);
@@ -95,7 +115,18 @@ impl<R: Wait + Clock> Clients for Desk<'_, R> {
 
     // Whoever is answered is awake.
     fn end_group(&mut self) -> Result<(), Fault> {
+        if let Some((committed, forced)) = self.group.end() {
+            self.board.note_group(committed, forced);
+        }
         Ok(())
+    }
+}
+
+/// The time of a clock. One that can't be read is at its beginning.
+fn now_of<C: Clock>(clock: &C) -> Duration {
+    match clock.monotonic() {
+        Ok(now) => now,
+        Err(_) => Duration::ZERO,
     }
 }
 

@@ -11,7 +11,9 @@
 //! 2. Each thread has a seat of its own. The threads share the eight readers of the view.
 //! 3. Who may commit is settled before the folder is touched: whoever brings the token, or, where
 //!    there is none, whoever reaches an address of the loopback.
-//! 4. However the leader ends, what was not begun is answered so, what is held is put on the devices,
+//! 4. Followers read the log below what is forced, each in a session of its own. With `sync` above 0 a
+//!    group is answered, and published, once so many of different addresses have acknowledged it.
+//! 5. However the leader ends, what was not begun is answered so, what is held is put on the devices,
 //!    and each thread is joined.
 #![tactic(auto)]
 
@@ -21,6 +23,8 @@ mod serving;
 mod refusal;
 // Those who ask, as the leader meets them.
 mod desk;
+// What a group came to.
+mod group;
 // A thread's way to the leader.
 mod chair;
 // What each thread answers by.
@@ -35,11 +39,20 @@ mod guarding;
 mod announcing;
 // The upkeep, and a board of how the primary stands.
 mod watching;
+// What the quorum answered.
+mod answers;
+// What a leader and the sessions of its followers share.
+mod others;
+// Since when followers are waited for.
+mod delay;
+// The sessions of followers.
+mod following;
 // The threads that answer.
 mod beginning;
 // All of the command.
 mod running;
 
+pub use als_followers::{Notice, What};
 pub use announcing::Announces;
 pub use bad_token::BadToken;
 pub use refusal::Refusal;

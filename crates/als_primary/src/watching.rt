@@ -1,21 +1,37 @@
-ghost use Rattle.std.specs.Prelude.{◌≡◌};
+ghost use Rattle.std.specs.Prelude.{◌≡◌, ℕ, true, false};
 ghost use Rattle.als_lead.specs.Going.{Stays};
+ghost use Rattle.als_primary.specs.Others.{IsConfirmed, IsMissed};
 
 use crate::announcing::Announces;
+use crate::delay::Delay;
+use crate::others::Others;
 use als_engine::{Events, Fault, Status};
-use als_http::Board;
+use als_followers::{Followers, NodeSource};
+use als_http::{Board, State};
 use als_lead::{PrimaryUpkeep, Upkeep};
 use als_operate::NearlyFull;
+use als_record::Lsn;
+use std::fs::File;
 use std::sync::Wait;
-use std::time::Clock;
+use std::time::{Clock, Duration};
 
 /// The seconds of an hour.
 const HOUR: u64 = 3_600;
 
-/// The upkeep of a primary. After each of its turns a board has how the primary stands, and, once an
-/// hour, a log with little room left is reported.
+/// Milliseconds that a leader waits for its followers, until it looks after what else is due.
+const MOMENT: u64 = 100;
+
+/// So many notices are told in one turn at most.
+const NOTICES: u32 = 64;
+
+/// So often in a row redo or the readers' list may meet want of memory, before a primary ends.
+const SHORT: u32 = 100;
+
+/// The upkeep of a primary, and what its followers have acknowledged. After each of its turns a board has
+/// how the primary stands, and what is due is told: once an hour a log with little room left, once a minute
+/// that followers are waited for, and who came and went.
 #[derive(Drop)]
-pub(crate) struct Watching<'a, R: Wait, A> {
+pub(crate) struct Watching<'a, R: Wait + Drop, A> {
     pub upkeep: PrimaryUpkeep<'a, R>,
     pub board: &'a Board,
     pub clock: &'a R,
@@ -23,33 +39,176 @@ pub(crate) struct Watching<'a, R: Wait, A> {
     /// The bytes that its log takes at most. None: not known.
     pub capacity: Option<u64>,
     pub full: NearlyFull,
+    pub others: Others<'a, R>,
+    /// For how many moments a group waits for them at most.
+    pub moments: u64,
+    pub delay: Delay,
+    /// The sessions. None: nobody may follow.
+    pub followers: Option<&'a Followers<NodeSource<R, File>>>,
+    /// How often in a row memory was short.
+    pub short: u32,
 }
 
-impl<R: Wait + Clock, A: Announces> Watching<'_, R, A> {
-    /// Writes how a primary stands.
-    fn note(&mut self, status: &Status) {
-        let board = self.board;
-        board.set_log(status.end, status.acknowledged);
-        board.set_redo(status.pending as u64, status.leases as u64);
-        let (Some(capacity), Ok(now)) = (self.capacity, self.clock.monotonic()) else {
-            return;
-        };
-        let hour = now.as_secs() / HOUR;
-        if self.full.is_due(status.end.0, capacity, hour) {
-            self.lines.nearly_full(status.end, capacity);
+impl<R: Wait + Clock + Drop, A: Announces> Watching<'_, R, A> {
+    /// Waits for a moment until enough followers have acknowledged the log up to there. Whether they have.
+    fn ask(&mut self, end: Lsn) -> bool
+        ensures confirms { result ≡ true
+            → IsConfirmed self.new.others.count self.new.others.answers end.0 }
+        ensures fails { result ≡ false
+            → IsMissed self.new.others.count self.new.others.answers end.0 }
+        ensures keeps { (k n : ℕ) → IsConfirmed k self.old.others.answers n
+            → IsConfirmed k self.new.others.answers n }
+        ensures misses { (k n : ℕ) → IsMissed k self.old.others.answers n
+            → IsMissed k self.new.others.answers n }
+        ensures same { self.new.others.count ≡ self.old.others.count }
+    {
+        let is_enough = self.others.ask(end, Duration::from_millis(MOMENT));
+        if is_enough {
+            if self.delay.is_on() {
+                self.board.set_state(State::Committing);
+            }
+            self.delay.end();
+        } else {
+            self.others.note(self.board);
+            self.board.set_state(State::Unconfirmed);
+            tell_delay(
+                &mut self.delay,
+                self.clock,
+                self.others.count(),
+                &mut self.lines,
+            );
         }
+        is_enough
+    }
+
+    /// The same, for as many moments as a group may wait.
+    fn ask_long(&mut self, end: Lsn) -> bool
+        ensures confirms { result ≡ true
+            → IsConfirmed self.new.others.count self.new.others.answers end.0 }
+        ensures fails { result ≡ false
+            → IsMissed self.new.others.count self.new.others.answers end.0 }
+        ensures keeps { (k n : ℕ) → IsConfirmed k self.old.others.answers n
+            → IsConfirmed k self.new.others.answers n }
+        ensures misses { (k n : ℕ) → IsMissed k self.old.others.answers n
+            → IsMissed k self.new.others.answers n }
+        ensures same { self.new.others.count ≡ self.old.others.count }
+    {
+        for _ in 1..self.moments {
+            if self.ask(end) {
+                return true;
+            }
+        }
+        self.ask(end)
     }
 }
 
-impl<R: Wait + Clock, A: Announces> Upkeep for Watching<'_, R, A> {
+/// Writes how a primary stands, and tells of a log with little room left where that is due.
+fn note<C: Clock, A: Announces>(
+    board: &Board,
+    clock: &C,
+    capacity: Option<u64>,
+    full: &mut NearlyFull,
+    lines: &mut A,
+    status: &Status,
+) {
+    board.set_log(status.end, status.acknowledged);
+    board.set_redo(status.pending as u64, status.leases as u64);
+    let (Some(capacity), Ok(now)) = (capacity, clock.monotonic()) else {
+        return;
+    };
+    let hour = now.as_secs() / HOUR;
+    if full.is_due(status.end.0, capacity, hour) {
+        lines.nearly_full(status.end, capacity);
+    }
+}
+
+/// Tells who came and who went.
+fn tell_notices<R: Wait + Drop, A: Announces>(
+    clock: &R,
+    followers: Option<&Followers<NodeSource<R, File>>>,
+    lines: &mut A,
+) {
+    let Some(followers) = followers else {
+        return;
+    };
+    for _ in 0..NOTICES {
+        let Some(notice) = followers.notice(clock) else {
+            break;
+        };
+        lines.follower(notice);
+    }
+}
+
+/// The moments of so many seconds.
+pub(crate) fn moments_of(seconds: u64) -> u64 {
+    seconds.saturating_mul(1_000) / MOMENT
+}
+
+/// Tells that followers are waited for, where that is due.
+fn tell_delay<C: Clock, A: Announces>(delay: &mut Delay, clock: &C, count: u32, lines: &mut A) {
+    let Ok(now) = clock.monotonic() else {
+        return;
+    };
+    if let Some(seconds) = delay.note(now.as_secs()) {
+        lines.unconfirmed(count, seconds);
+    }
+}
+
+/// Whether want of memory is waited out: so often in a row it is.
+fn waits_out(short: &mut u32, met: &Result<(), Fault>) -> bool {
+    if !matches!(met, Err(Fault::Memory)) {
+        *short = 0;
+        return false;
+    }
+    *short = short.saturating_add(1);
+    *short < SHORT
+}
+
+impl<R: Wait + Clock + Drop, A: Announces> Upkeep for Watching<'_, R, A> {
+    ghost use Rattle.als_primary.specs.Others.{IsConfirmed, IsMissed};
+
+    // The quorum answered that enough have acknowledged it.
+    ghost confirmed = { λ watching n. IsConfirmed watching.others.count watching.others.answers n };
+
+    // The quorum answered that too few have.
+    ghost missed = { λ watching n. IsMissed watching.others.count watching.others.answers n };
+
+    // Where memory is short, readers see the rest before the next group.
     fn publish<E: Events>(&mut self, engine: &mut E) -> Result<(), Fault> {
-        self.upkeep.publish(engine)
+        let published = self.upkeep.publish(engine);
+        if waits_out(&mut self.short, &published) {
+            return Ok(());
+        }
+        published
     }
 
     fn keep_up<E: Events>(&mut self, engine: &mut E) -> Result<(), Fault> {
-        self.upkeep.keep_up(engine)?;
+        let kept = self.upkeep.keep_up(engine);
+        if kept.is_err() && !waits_out(&mut self.short, &kept) {
+            return kept;
+        }
         let status = engine.status();
-        self.note(&status);
+        self.others.show(status.acknowledged);
+        note(
+            self.board,
+            self.clock,
+            self.capacity,
+            &mut self.full,
+            &mut self.lines,
+            &status,
+        );
+        self.others.note(self.board);
+        tell_notices(self.clock, self.followers, &mut self.lines);
         Ok(())
+    }
+
+    fn confirm(&mut self, end: Lsn) -> Result<bool, Fault> {
+        self.others.show(end);
+        Ok(self.ask_long(end))
+    }
+
+    fn has_confirmed(&mut self, end: Lsn) -> Result<bool, Fault> {
+        self.others.show(end);
+        Ok(self.ask(end))
     }
 }

@@ -14,11 +14,13 @@ use als_fault::FaultKind;
 use als_folder::Trouble;
 use als_follow::standby as standby_with_workers;
 use als_inspect::{Wanted, check_pages, dump, get, status, verify};
+use als_lookback::{Until, commit_of, commits, cut, get as get_at, grow, show};
 use als_operate::{Following, TakenOver, Verdict, forget, resolve, standby, takeover};
 use als_rebuild::rebuild_pages;
 use als_record::{Key, Lsn, TransId};
 use als_service::{Service, standby as serve_standby};
 use als_shipper::{Lasting, NodeShipping, Shipping, ship, ship_node, ship_node_on, ship_on};
+use std::alloc::{AllocError, Global};
 use std::fs;
 use std::fs::File;
 use std::io::Write;
@@ -128,7 +130,13 @@ fn attempt<
         Command::Dump { .. }
         | Command::Verify { .. }
         | Command::Status { .. }
-        | Command::Get { .. } => inspect(rt, command, output),
+        | Command::Get { at: None, .. } => inspect(rt, command, output),
+        Command::Commits { .. }
+        | Command::CutAt { .. }
+        | Command::CutBefore { .. }
+        | Command::Show { .. }
+        | Command::Get { .. }
+        | Command::Grow { .. } => look(rt, command, output),
     }
 }
 
@@ -147,6 +155,7 @@ fn serve_log<R: AllocGlobal + Files<File = File> + Net + Wait + Clock, O: Write,
             timeout,
             keep,
             follow,
+            window,
             explain,
         } => {
             let shipping = Shipping {
@@ -157,6 +166,7 @@ fn serve_log<R: AllocGlobal + Files<File = File> + Net + Wait + Clock, O: Write,
             let lasting = Lasting {
                 keep,
                 grows: follow,
+                window,
             };
             let mut lines = MeetingLines::new(errors, seen || explain);
             if keep || follow {
@@ -218,6 +228,9 @@ fn follow<
         serve,
         readers,
         forget_unreached,
+        listen,
+        window,
+        followers,
         explain,
     } = command
     else {
@@ -239,17 +252,32 @@ fn follow<
         forget(rt, dir, &mut lines)?
     }
     check_sound(rt, dir)?;
-    if keep || serve.is_some() {
+    if keep || serve.is_some() || listen.is_some() {
+        let followers = named_in(rt.alloc(), followers)?;
         let service = Service {
             workers: workers_of(workers)?,
             serve,
             readers,
             keep,
+            listen,
+            window,
+            followers: followers.as_slice(),
         };
         serve_standby(rt, following, service, &mut lines, output)?;
         return Ok(());
     }
     stand_by(rt, following, workers, &mut lines, output)
+}
+
+/// The addresses of a list, which have commas between them.
+pub fn named_in(alloc: Global, list: Option<&str>) -> Result<Vec<&str>, AllocError> {
+    let mut named = Vec::new(alloc);
+    if let Some(list) = list {
+        for name in list.split(',') {
+            named.push(name)?;
+        }
+    }
+    Ok(named)
 }
 
 /// `als takeover`, `als rebuild-pages` and `als resolve`.
@@ -313,6 +341,49 @@ fn inspect<R: AllocGlobal + Files<File = File> + Wait, O: Write>(
         _ => {}
     }
     Ok(())
+}
+
+/// The commands that look back in a log, and that which makes its device longer.
+fn look<R: AllocGlobal + Files<File = File>, O: Write>(
+    rt: &R,
+    command: Command,
+    output: &mut O,
+) -> Result<(), Refusal> {
+    match command {
+        Command::Commits { path, .. } => commits(rt, path, &mut *output)?,
+        Command::CutAt { path, lsn, .. } => {
+            let _ = cut(rt, path, Until::At(Lsn(lsn)), output)?;
+        }
+        Command::CutBefore { path, trans, .. } => {
+            let lsn = commit_of(rt, path, TransId(trans))?;
+            let _ = cut(rt, path, Until::At(lsn), output)?;
+        }
+        Command::Show { path, at, .. } => show(rt, path, until(at), output)?,
+        Command::Get {
+            dir,
+            page,
+            slot,
+            at,
+            ..
+        } => get_at(rt, dir, Key { page, slot }, until(at), output)?,
+        Command::Grow {
+            dir,
+            log_blocks,
+            ..
+        } => {
+            let _ = grow(rt, dir, log_blocks)?;
+        }
+        _ => {}
+    }
+    Ok(())
+}
+
+/// Up to where a log is looked at: to its end, where no LSN is given.
+fn until(at: Option<u64>) -> Until {
+    match at {
+        Some(lsn) => Until::At(Lsn(lsn)),
+        None => Until::End,
+    }
 }
 
 /// Follows a session with this many threads that redo; with none in the calling thread alone.
@@ -461,6 +532,11 @@ fn told_of(command: Command<'_>, seen: bool) -> Option<&str> {
         Command::Dump { path, explain, .. } => (path, explain),
         Command::Verify { path, explain } => (path, explain),
         Command::Status { dir, explain } => (dir, explain),
+        Command::Commits { path, explain } => (path, explain),
+        Command::CutAt { path, explain, .. } => (path, explain),
+        Command::CutBefore { path, explain, .. } => (path, explain),
+        Command::Show { path, explain, .. } => (path, explain),
+        Command::Grow { dir, explain, .. } => (dir, explain),
         Command::Get { dir, explain, .. } => (dir, explain),
     };
     if explain || seen { Some(path) } else { None }

@@ -1,7 +1,9 @@
 use als_fault::FaultKind;
 use als_folder::Trouble;
 use als_inspect::Fault as InspectFault;
+use als_lookback::Fault as LookFault;
 use als_operate::Fault as OperateFault;
+use std::alloc::AllocError;
 
 /// Why a command on files is refused.
 #[derive(Clone, Copy, Debug)]
@@ -23,6 +25,24 @@ impl From<OperateFault> for Refusal {
 
 impl From<InspectFault> for Refusal {
     fn from(fault: InspectFault) -> Refusal {
+        Refusal {
+            kind: fault.kind(),
+            trouble: fault.trouble(),
+        }
+    }
+}
+
+impl From<AllocError> for Refusal {
+    fn from(_e: AllocError) -> Refusal {
+        Refusal {
+            kind: FaultKind::Memory,
+            trouble: None,
+        }
+    }
+}
+
+impl From<LookFault> for Refusal {
+    fn from(fault: LookFault) -> Refusal {
         Refusal {
             kind: fault.kind(),
             trouble: fault.trouble(),

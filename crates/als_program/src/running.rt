@@ -3,7 +3,7 @@ ghost use Rattle.als_program.specs.Status.{IsStatus};
 
 use crate::committing::commit_lines;
 use crate::failure::Failure;
-use crate::files::operate;
+use crate::files::{named_in, operate};
 use crate::lines::{Telling, make_lines, run_script};
 use crate::remarks::Language;
 use crate::serving::serve_primary;
@@ -188,8 +188,14 @@ fn obey<
             token_file,
             connections,
             commit_timeout,
+            listen,
+            sync,
+            window,
+            followers,
+            timeout,
             explain: _,
         } => {
+            let followers = named_in(rt.alloc(), followers)?;
             let serving = Serving {
                 dir,
                 serve,
@@ -198,6 +204,11 @@ fn obey<
                 token_file,
                 connections,
                 commit_timeout,
+                listen,
+                sync,
+                window,
+                timeout,
+                followers: followers.as_slice(),
             };
             serve_primary(rt, terminals, command, serving, output, errors)
         }

@@ -1,5 +1,6 @@
 use crate::redo_lines::RedoLines;
 use als_drive::Progress;
+use als_followers::{Notice, What};
 use als_primary::{Announces, BadToken, Refusal, Serving};
 use als_record::Lsn;
 use std::alloc::{AllocError, Global};
@@ -35,6 +36,32 @@ impl<W: Write> Announces for ServingLines<W> {
             "primary of {dir} serves at {addr}: epoch {epoch}, LSN {}",
             end.0
         );
+    }
+
+    fn listens(&mut self, addr: SocketAddr, sync: u32) {
+        let _ = writeln!(
+            self.redo.errors(),
+            "standbys may follow at {addr}; a commit waits for {sync} of them"
+        );
+    }
+
+    fn unconfirmed(&mut self, sync: u32, seconds: u64) {
+        let _ = writeln!(
+            self.redo.errors(),
+            "als: commits have waited for {seconds} s: {sync} standbys at different addresses have to acknowledge them"
+        );
+    }
+
+    fn follower(&mut self, notice: Notice) {
+        let peer = notice.peer;
+        let errors = self.redo.errors();
+        let _ = match notice.what {
+            What::Came(lsn) => writeln!(errors, "als: {peer} follows from {}", lsn.0),
+            What::Ended => writeln!(errors, "als: {peer} follows no more"),
+            What::Went(fault) => writeln!(errors, "als: {peer} follows no more: {fault}"),
+            What::Stranger => writeln!(errors, "als: {peer} may not follow"),
+            What::Crowded => writeln!(errors, "als: {peer} was hung up on: 8 standbys follow"),
+        };
     }
 
     fn nearly_full(&mut self, end: Lsn, capacity: u64) {

@@ -44,6 +44,10 @@ fn help_is_written(rt: HostRuntime) {
         "verify",
         "status",
         "get",
+        "primary",
+        "cut",
+        "show",
+        "grow",
     ] {
         asks(&rt, &["als", command, "--help"], "      --explain");
     }
@@ -111,6 +115,12 @@ fn faults_are_told(rt: HostRuntime) {
         );
     }
     errs(&rt, &["als", "standby", "--serve"], "--serve <ADDR>");
+    errs(&rt, &["als", "primary", "--sync", "two"], "--sync <K>");
+    errs(
+        &rt,
+        &["als", "cut", "db"],
+        "<--at <LSN>|--before-commit <T>>",
+    );
     errs(
         &rt,
         &["als", "ship", "--keep", "--keep"],

@@ -94,3 +94,6 @@ mod progressing;
 // `als commit`.
 #[cfg(test)]
 mod committing;
+// Looks back in a log.
+#[cfg(test)]
+mod looking_back;

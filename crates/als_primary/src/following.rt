@@ -1,0 +1,83 @@
+use crate::announcing::Announces;
+use crate::others::Others;
+use crate::serving::Serving;
+use als_disk::FileDisk;
+use als_engine::{Engine, Events, Fault as EngineFault};
+use als_folder::Folder;
+use als_followers::{Allowed, Block, Followers, NodeSource, Terms};
+use als_operate::{Fault, silence};
+use als_ship::Fault as SessionFault;
+use std::alloc::Global;
+use std::fs::{File, OpenFile};
+use std::net::{OpenListener, TcpListener};
+use std::rt::Files;
+use std::sync::Wait;
+use std::thread::Threads;
+use std::time::Clock;
+
+/// Where followers connect, and who may.
+#[derive(Drop)]
+pub(crate) struct Shipping {
+    pub listener: TcpListener,
+    pub allowed: Allowed,
+}
+
+/// Who may follow. BadConfig: one of them is no address and no block.
+pub(crate) fn allowed_of(alloc: Global, texts: &[&str]) -> Result<Allowed, Fault> {
+    let mut allowed = Allowed::new(alloc);
+    for text in texts {
+        let Some(block) = Block::parse(text) else {
+            return Err(Fault::Refused(EngineFault::BadConfig));
+        };
+        allowed.add(block)?;
+    }
+    Ok(allowed)
+}
+
+/// Starts the sessions of a folder's log. None: nobody may follow.
+pub(crate) fn follow<
+    R: AllocGlobal
+        + Files<File = File>
+        + Threads
+        + Wait
+        + Clock
+        + Clone
+        + Send
+        + Sync
+        + Drop
+        + 'static,
+    P: Announces,
+>(
+    rt: &R,
+    folder: &Folder,
+    engine: &Engine<FileDisk>,
+    others: &Others<'_, R>,
+    shipping: Option<Shipping>,
+    serving: Serving<'_>,
+    lines: &mut P,
+) -> Result<Option<Followers<NodeSource<R, File>>>, Fault> {
+    let Some(Shipping { listener, allowed }) = shipping else {
+        return Ok(None);
+    };
+    let alloc = rt.alloc();
+    let addr = listener.local_addr()?;
+    let file = folder.open_to_read(rt)?.log.try_clone()?;
+    let source = match NodeSource::new(
+        rt.clone()?,
+        alloc,
+        file,
+        others.tail()?,
+        engine.history(),
+        serving.timeout,
+    ) {
+        Ok(source) => source,
+        Err(SessionFault::Memory) => return Err(Fault::Memory),
+        Err(fault) => return Err(Fault::Session(fault)),
+    };
+    let terms = Terms::new(serving.window, silence(serving.timeout));
+    let tail = others.tail()?;
+    let quorum = others.quorum()?;
+    let followers = Followers::start(rt, alloc, listener, source, tail, quorum, allowed, terms)?;
+    lines.listens(addr, serving.sync);
+    Ok(Some(followers))
+}
