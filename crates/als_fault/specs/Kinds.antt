@@ -2,7 +2,7 @@
 use Rattle.std.specs.Prelude.{ℕ, List, [], ◌++◌, Option, Some, None, codes}
 use Rattle.std.specs.Fmt.{decimal}
 use Rattle.als_fault.specs.declared.fault_kind.FaultKind.{FaultKind}
-use Rattle.als_fault.specs.declared.fault_kind.FaultKind.TheVariants.{BadHeader, BadLength, BadType, BadReserved, WrongLsn, BadKey, BadValue, BadPrev, OldTransaction, WrongState, WrongUndoNext, WrongCompensation, RecordHeld, BeforeImage, TooManyTransactions, BadCheckpoint, Recovering, Sealed, LogBehind, NotDrained, PoolFull, PageLent, Stranger, NothingToDo, CkptBusy, LogFull, Device, Stopped, Memory, BadPage, BadControl, Warming, Backlog, BadConfig, NotSealed, BadSlot, Gap, BadFrame, Diverged, Cut, Stream, NumbersSpent, NotPrimary, NotInDoubt, OtherEpoch, EpochsSpent}
+use Rattle.als_fault.specs.declared.fault_kind.FaultKind.TheVariants.{BadHeader, BadLength, BadType, BadReserved, WrongLsn, BadKey, BadValue, BadPrev, OldTransaction, WrongState, WrongUndoNext, WrongCompensation, RecordHeld, BeforeImage, TooManyTransactions, BadCheckpoint, Recovering, Sealed, LogBehind, NotDrained, PoolFull, PageLent, Stranger, NothingToDo, CkptBusy, LogFull, Device, Stopped, Memory, BadPage, BadControl, Warming, Backlog, BadConfig, NotSealed, BadSlot, Gap, BadFrame, Diverged, Cut, Stream, NumbersSpent, NotPrimary, NotInDoubt, OtherEpoch, EpochsSpent, OtherLog}
 
 abbrev pub number_of : FaultKind → ℕ
 number_of BadHeader = 1
@@ -51,6 +51,7 @@ number_of NotPrimary = 46
 number_of NotInDoubt = 47
 number_of (OtherEpoch epoch) = 48
 number_of EpochsSpent = 49
+number_of OtherLog = 50
 
 abbrev pub name_of : FaultKind → List ℕ
 name_of BadHeader = codes "BadHeader"
@@ -99,6 +100,7 @@ name_of NotPrimary = codes "NotPrimary"
 name_of NotInDoubt = codes "NotInDoubt"
 name_of (OtherEpoch epoch) = codes "OtherEpoch"
 name_of EpochsSpent = codes "EpochsSpent"
+name_of OtherLog = codes "OtherLog"
 
 -- the number that a fault carries
 abbrev pub carried_of : FaultKind → Option ℕ

@@ -111,6 +111,8 @@ pub enum FaultKind {
     },
     /// The history has room for no more seals.
     EpochsSpent,
+    /// The held log and that of another node part where both have bytes.
+    OtherLog,
 }
 
 impl FaultKind {
@@ -165,6 +167,7 @@ impl FaultKind {
             FaultKind::NotInDoubt => 47,
             FaultKind::OtherEpoch { epoch: _ } => 48,
             FaultKind::EpochsSpent => 49,
+            FaultKind::OtherLog => 50,
         }
     }
 
@@ -219,6 +222,7 @@ impl FaultKind {
             FaultKind::NotInDoubt => "NotInDoubt",
             FaultKind::OtherEpoch { epoch: _ } => "OtherEpoch",
             FaultKind::EpochsSpent => "EpochsSpent",
+            FaultKind::OtherLog => "OtherLog",
         }
     }
 

@@ -8,7 +8,7 @@ use Rattle.als_folder.specs.declared.trouble.Trouble.{Trouble}
 use Rattle.als_ship.specs.Faults.{kind_of as session_kind_of}
 use Rattle.als_folder.specs.Troubles.{trouble_of_kind}
 use Rattle.als_operate.specs.declared.fault.Fault.{Fault}
-use Rattle.als_operate.specs.declared.fault.Fault.TheVariants.{Memory, Stream, Folder, Session, Refused}
+use Rattle.als_operate.specs.declared.fault.Fault.TheVariants.{Memory, Stream, Folder, Session, Refused, OtherLog}
 
 abbrev pub kind_of : Fault → FaultKind
 kind_of Memory = kind.Memory
@@ -16,6 +16,7 @@ kind_of Stream = kind.Stream
 kind_of (Folder fault) = folder_kind_of fault
 kind_of (Session fault) = session_kind_of fault
 kind_of (Refused fault) = engine_kind_of fault
+kind_of OtherLog = kind.OtherLog
 
 -- what of the folder is wrong; what a session refuses is no file's fault
 abbrev pub trouble_of : Fault → Option Trouble
@@ -24,6 +25,7 @@ trouble_of Stream = None
 trouble_of (Folder fault) = folder_trouble_of fault
 trouble_of (Session fault) = None
 trouble_of (Refused fault) = trouble_of_kind (engine_kind_of fault)
+trouble_of OtherLog = None
 
 -- a reader failed or has too much, or an allocation failed
 abbrev pub IsOfReader : Fault → Type 0

@@ -28,6 +28,8 @@ pub enum Fault {
     Session(SessionFault),
     /// There is no standby, or it refused an event.
     Refused(EngineFault),
+    /// The held log and that of the other end part where both have bytes.
+    OtherLog,
 }
 
 impl Fault {
@@ -41,6 +43,7 @@ impl Fault {
             Fault::Folder(fault) => fault.kind(),
             Fault::Session(fault) => fault.kind(),
             Fault::Refused(fault) => fault.kind(),
+            Fault::OtherLog => FaultKind::OtherLog,
         }
     }
 
@@ -51,7 +54,7 @@ impl Fault {
         match self {
             Fault::Folder(fault) => fault.trouble(),
             Fault::Refused(fault) => trouble_of(fault.kind()),
-            Fault::Memory | Fault::Stream | Fault::Session(_) => None,
+            Fault::Memory | Fault::Stream | Fault::Session(_) | Fault::OtherLog => None,
         }
     }
 

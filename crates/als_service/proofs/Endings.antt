@@ -6,7 +6,7 @@ use Rattle.std.proofs.lemmas.Bool.{true≢false}
 use Rattle.als_ship.specs.declared.fault.Fault.{Fault as SessionFault}
 use Rattle.als_ship.specs.declared.fault.Fault.TheVariants as session
 use Rattle.als_operate.specs.declared.fault.Fault.{Fault}
-use Rattle.als_operate.specs.declared.fault.Fault.TheVariants.{Memory, Stream, Folder, Session as OfSession, Refused}
+use Rattle.als_operate.specs.declared.fault.Fault.TheVariants.{Memory, Stream, Folder, Session as OfSession, Refused, OtherLog}
 use Rattle.als_operate.specs.FaultNames.{kind_of}
 use Rattle.als_service.specs.Endings.{is_final, ends_it}
 use Rattle.als_service.specs.Losses.{IsLost}
@@ -55,3 +55,4 @@ final_is_not_lost Stream final lost = true≢false (sym final)
 final_is_not_lost (Folder fault) final lost = lost
 final_is_not_lost (OfSession fault) final lost = lost_session fault final lost
 final_is_not_lost (Refused cause) final lost = lost
+final_is_not_lost OtherLog final lost = lost

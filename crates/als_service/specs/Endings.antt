@@ -16,6 +16,7 @@ is_final (kind.BadPage page) = true
 is_final kind.BadControl = true
 is_final (kind.Diverged seal) = true
 is_final (kind.OtherEpoch epoch) = true
+is_final kind.OtherLog = true
 is_final _ = false
 
 -- a session ended with such a fault

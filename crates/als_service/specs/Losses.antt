@@ -2,7 +2,7 @@
 use Rattle.als_ship.specs.declared.fault.Fault.{Fault as SessionFault}
 use Rattle.als_ship.specs.declared.fault.Fault.TheVariants as session
 use Rattle.als_operate.specs.declared.fault.Fault.{Fault}
-use Rattle.als_operate.specs.declared.fault.Fault.TheVariants.{Memory, Stream, Folder, Session, Refused}
+use Rattle.als_operate.specs.declared.fault.Fault.TheVariants.{Memory, Stream, Folder, Session, Refused, OtherLog}
 
 -- the stream of a session ended early, or it failed
 abbrev pub IsLostSession : SessionFault → Type 0
@@ -23,3 +23,4 @@ IsLost Stream = Unit {0}
 IsLost (Folder fault) = ⊥
 IsLost (Session fault) = IsLostSession fault
 IsLost (Refused cause) = ⊥
+IsLost OtherLog = ⊥

@@ -40,6 +40,7 @@ fn is_final(kind: FaultKind) -> bool
         FaultKind::BadControl => true,
         FaultKind::Diverged { seal: _ } => true,
         FaultKind::OtherEpoch { epoch: _ } => true,
+        FaultKind::OtherLog => true,
         _ => false,
     }
 }
