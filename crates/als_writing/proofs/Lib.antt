@@ -14,4 +14,5 @@ pub mod Ahead
 pub mod Owed
 pub mod LastWrites
 pub mod Preparing
+pub mod Doubting
 mod Worked

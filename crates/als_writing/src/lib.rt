@@ -23,7 +23,7 @@ mod laws;
 
 pub use laws::{rollback_follows, transaction_commits, transaction_follows};
 pub use moves::{moves_follow, moves_leave_others};
-pub use prepared::{prepared_fits, prepared_follows};
+pub use prepared::{a_prepared_transaction_keeps_its_writes, prepared_fits, prepared_follows};
 pub use room::{room_is_a_sum, transaction_fits};
 pub use stopped::tail_ends_a_transaction;
 pub use unchanged::{transaction_is_the_last_write, unchanged_key_is_seen_as_then};

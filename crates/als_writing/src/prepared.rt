@@ -2,10 +2,10 @@ ghost use Rattle.std.specs.Prelude.{◌≡◌, ℕ, ◌+◌, ◌≤◌, ◌^◌,
 ghost use Rattle.als_record.specs.declared.key.Key.{Key as AnyKey};
 ghost use Rattle.als_record.specs.declared.record.Record.{Record as AnyRecord};
 ghost use Rattle.als_record.specs.LogText.{end_of};
-ghost use Rattle.als_record.specs.Transactions.{unended, in_doubt};
+ghost use Rattle.als_record.specs.Transactions.{records_of, unended, in_doubt, is_in_doubt};
 ghost use Rattle.als_record.specs.Images.{kept};
-ghost use Rattle.als_record.specs.Validity.{may_follow_all, IsValidLog};
-ghost use Rattle.als_record.specs.Commits.{Write as AnyWrite, commits_of, after_write};
+ghost use Rattle.als_record.specs.Validity.{may_follow_all, is_valid, IsValidLog};
+ghost use Rattle.als_record.specs.Commits.{Write as AnyWrite, commits_of, after_write, writes_of};
 ghost use Rattle.als_record.specs.Tail.{tail_of, reserve_of};
 ghost use Rattle.als_writing.specs.Writing.{prepared, room_for, MayWrite};
 
@@ -50,4 +50,18 @@ pub fn prepared_fits()
         → (rest : List AnyWrite) → IsValidLog pages log → MayWrite pages log t (w ∷ rest)
         → end_of (log ++ prepared log t (w ∷ rest)) + reserve_of (log ++ prepared log t (w ∷ rest))
         ≡ end_of log + reserve_of log + room_for log t (w ∷ rest) + 56 }
+{}
+
+/// A transaction that prepared and is still in doubt has written what it prepared, whatever other
+/// transactions wrote behind it. It has no record behind its prepare record. So a commit that decides
+/// it is a commit with exactly these writes.
+pub fn a_prepared_transaction_keeps_its_writes()
+    ensures writes { (pages : ℕ) → (log front more : List AnyRecord) → (t : ℕ)
+        → (writes : List AnyWrite) → log ≡ (front ++ prepared front t writes) ++ more
+        → IsTrue (is_valid log) → MayWrite pages front t writes → IsTrue (is_in_doubt log t)
+        → writes_of log t ≡ writes }
+    ensures records { (pages : ℕ) → (log front more : List AnyRecord) → (t : ℕ)
+        → (writes : List AnyWrite) → log ≡ (front ++ prepared front t writes) ++ more
+        → IsTrue (is_valid log) → MayWrite pages front t writes → IsTrue (is_in_doubt log t)
+        → records_of more t ≡ [] }
 {}
