@@ -1,7 +1,6 @@
 -- A transaction that was planned, fed with its commit.
-use Rattle.std.proofs.Common.{◌≡◌, ◌⊎◌, ℕ, suc, ◌<◌, true, List, [], ◌∷◌, ◌++◌, length, Ok, Err, refl, sym, ap, ◌∙◌, inl, inr, append_assoc, append-nil, arith}
+use Rattle.std.proofs.Common.{◌≡◌, ◌⊎◌, ℕ, ◌<◌, true, List, [], ◌∷◌, ◌++◌, length, Ok, Err, refl, sym, ap, ◌∙◌, inl, inr, append_assoc, append-nil, arith}
 use Rattle.als_record.specs.declared.record.Record.{Record}
-use Rattle.als_record.specs.LogText.{end_of}
 use Rattle.als_record.specs.Validity.{is_valid}
 use Rattle.als_record.specs.Commits.{Write, Commit, commits_of}
 use Rattle.als_record.proofs.CommitSteps.{commits_of-push}
@@ -15,7 +14,6 @@ use Rattle.als_engine.specs.Feeds.{grown, Feeds}
 use Rattle.als_writer.specs.declared.closing.Closing.TheVariants as closing
 use Rattle.als_writer.specs.declared.planning.Plan.{Plan}
 use Rattle.als_writer.specs.declared.transaction.Transaction.{Transaction}
-use Rattle.als_writer.specs.declared.written.Written.{Written}
 use Rattle.als_writer.specs.Planning.{IsPlan}
 use Rattle.als_writer.specs.Committing.{committed, AreCommitted, IsInLog}
 use Rattle.als_writer.proofs.Feeding.{feed_done}

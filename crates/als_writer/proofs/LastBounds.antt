@@ -58,6 +58,24 @@ module _ (k : Key) where
   pub last_write-below : (log : List Record) → is_valid log ≡ true → last_write log k ≤ last_commit log
   last_write-below log v = (valid_induction Bounded bounded_none (λ l r valid h a. bounded_by (is_commit r.body) l r refl (is_valid-push l r ∙ ap (λ (b : Bool). b && may_follow l r) valid ∙ may_follow-admitted l r a) a.place h) log v).below
 
+  last_write-within : (log : List Record) → is_valid log ≡ true → last_write log k ≤ end_of log
+  last_write-within log v =
+      let b : Bounded log = valid_induction Bounded bounded_none (λ l r valid h a. bounded_by (is_commit r.body) l r refl (is_valid-push l r ∙ ap (λ (b : Bool). b && may_follow l r) valid ∙ may_follow-admitted l r a) a.place h) log v in
+      omega (arith, b.below, b.within)
+
+-- all at the end of the log, where a commit may come next
+pub AreBounds-raised : (old bounds : List ℕ) (pages : ℕ) (log more : List Record) (c : Commit) → is_valid log ≡ true → AreBounds old pages log → commits_of more ≡ commits_of log ++ c ∷ [] → c.lsn.0 ≡ end_of log → length bounds ≡ length old → ((i : ℕ) (d : ℕ) → i < length old → get_or bounds i d ≡ end_of log) → AreBounds bounds pages more
+AreBounds-raised old bounds pages log more c v a e at len all = record {
+  count = len ∙ a.count;
+  each = λ k d p s.
+      let before : last_write log k ≤ end_of log = last_write-within k log v in
+      let here : get_or bounds (place_of k) d ≡ end_of log = all (place_of k) d (omega (arith, p, s, a.count)) in
+      let now = last_write-more k log more c e in
+      let below : cond (list_any (λ (w : Write). same_key w.key k) c.writes) c.lsn.0 (last_write log k) ≤ end_of log =
+      cond_both (list_any (λ (w : Write). same_key w.key k) c.writes) c.lsn.0 (last_write log k) (λ x. x ≤ end_of log) (λ y. omega (arith, at)) (λ n. before) in
+      omega (arith, here, now, below);
+}
+
 -- all at the last commit
 pub AreBounds-new : (bounds : List ℕ) (pages last : ℕ) (log : List Record) → is_valid log ≡ true → last ≡ last_commit log → length bounds ≡ pages * 15 → ((i : ℕ) (d : ℕ) → i < pages * 15 → get_or bounds i d ≡ last) → AreBounds bounds pages log
 AreBounds-new bounds pages last log v e count all = record {

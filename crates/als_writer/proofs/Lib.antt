@@ -8,7 +8,9 @@ pub mod Feeding
 pub mod Closed
 pub mod Committed
 pub mod Prepared
+pub mod Nexts
 pub mod Owing
+pub mod Doubts
 pub mod Looking
 pub mod Below
 pub mod Fitting

@@ -1,39 +1,33 @@
 -- What is owed to a log, fed one record after another.
-use Rattle.std.proofs.Common.{◌≡◌, ◌⊎◌, ℕ, zero, suc, ◌+◌, ◌*◌, ◌<◌, ◌≤◌, ◌^◌, Bool, true, false, cond, List, [], ◌∷◌, ◌++◌, length, take, drop, Option, None, Some, Result, Ok, Err, refl, sym, ap, subst, ◌∙◌, inl, inr, append-nil, arith}
+use Rattle.std.proofs.Common.{◌≡◌, ℕ, zero, suc, ◌+◌, Bool, false, cond, List, [], ◌∷◌, ◌++◌, take, drop, Option, None, Some, Result, Ok, Err, refl, sym, ap, subst, ◌∙◌, inl, inr, append-nil, arith}
 use Rattle.std.specs.Prelude.{MatchOption}
-use Rattle.std.proofs.lemmas.Bool.{and_parts, and_from}
 use Rattle.als_record.specs.declared.lsn.Lsn.{Lsn}
 use Rattle.als_record.specs.declared.record.Record.{Record}
 use Rattle.als_record.specs.declared.record.Body.{Body}
 use Rattle.als_record.specs.declared.record.Body.TheVariants.{Update, Compensation, Commit, Rollback, End, BeginCheckpoint, EndCheckpoint, Prepare}
-use Rattle.als_record.specs.Spelling.{record_len, spelling}
-use Rattle.als_record.specs.LogText.{spellings, end_of}
+use Rattle.als_record.specs.Spelling.{record_len}
+use Rattle.als_record.specs.LogText.{end_of}
 use Rattle.als_record.specs.Transactions.{is_commit}
-use Rattle.als_record.specs.Validity.{is_valid, may_follow, may_follow_all, IsValidLog}
 use Rattle.als_record.specs.Commits.{commits_of}
 use Rattle.als_record.specs.Tail.{TailStep, Ends, Undoes, undone, record_for, numbered, tail_steps, tail_of, reserve_of}
-use Rattle.als_record.proofs.LogLaws.{spellings-nil, spellings-cons}
 use Rattle.als_record.proofs.Places.{end_of-push}
-use Rattle.als_record.proofs.Validity.{is_valid-push}
 use Rattle.als_record.proofs.CommitSteps.{commits_of-push, commit_by}
 use Rattle.als_record.proofs.TailFirst.{IsValidLog-next, is_undone-tail_of}
 use Rattle.als_record.proofs.TailSteps.{tail_of-front}
 use Rattle.als_record.proofs.Reserve.{room-next}
-use Rattle.als_store.specs.Stored.{Stored, IsTooLong}
+use Rattle.als_store.specs.Stored.{Stored}
 use Rattle.als_engine.specs.declared.fault.Fault.{Fault}
-use Rattle.als_engine.specs.declared.fault.Fault.TheVariants as fault
-use Rattle.als_engine.specs.declared.fed.Fed.{Fed}
-use Rattle.als_engine.specs.declared.fed.FeedFault.{FeedFault}
 use Rattle.als_engine.specs.declared.step.Step.TheVariants as step
 use Rattle.als_engine.specs.Machine.{Machine, Keeps}
 use Rattle.als_engine.proofs.KeepLaws.{keeps_equal}
-use Rattle.als_engine.specs.Refusals.{refusal, feed_refusal}
+use Rattle.als_engine.specs.Refusals.{refusal}
 use Rattle.als_engine.specs.Events.{resynced, Resyncs, DropsPartial}
-use Rattle.als_engine.specs.Feeds.{grown, Feeds, refused_whole}
+use Rattle.als_engine.specs.Feeds.{grown}
 use Rattle.als_writer.specs.Changes.{AreBounds}
 use Rattle.als_writer.proofs.LastBounds.{AreBounds-same}
+use Rattle.als_writer.specs.Feeding.{IsNext, TakesNext}
 use Rattle.als_writer.specs.Tidying.{tidied_to, Tidied, NotTidied, IsOwedTo, TakesOwed}
-use Rattle.als_writer.proofs.Feeding.{IsPlanned, IsHeldFront, grown_none, grown_more, feed_done, feed_refused}
+use Rattle.als_writer.proofs.Feeding.{grown_none, grown_more}
 
 -- ---- the first record of a tail is no commit
 
@@ -59,99 +53,26 @@ tail_no_commit log r rest e = no_commit_first log (tail_steps log) r rest e
 
 -- ---- one record that is owed
 
-one_only : (r s : Record) (front more : List Record) → r ∷ [] ≡ front ++ s ∷ more → (front ≡ []) × (r ≡ s)
-one_only r s [] more e = let q : r ≡ s = cc e in (refl, q)
-one_only r s (x ∷ []) more e = cc e
-one_only r s (x ∷ y ∷ front) more e = cc e
+module _ (m : Machine) (r : Record) (o : IsOwedTo m r) where
+  pub owed_next : IsNext m r
+  owed_next = record {
+    partial = o.partial;
+    follows = λ valid short. IsValidLog-next m.held.pages m.held.log r o.rest valid short o.first;
+    reserved =
+        let same : end_of (m.held.log ++ r ∷ []) + reserve_of (m.held.log ++ r ∷ []) ≡ end_of m.held.log + reserve_of m.held.log = room-next m.held.log r o.rest o.first in
+        let pushed : end_of (m.held.log ++ r ∷ []) ≡ end_of m.held.log + record_len r = end_of-push m.held.log r in
+        omega (arith, same, pushed);
+  }
 
-one_front : (r : Record) (front more : List Record) → r ∷ [] ≡ front ++ more → (front ≡ []) ⊎ (front ≡ r ∷ [])
-one_front r [] more e = inl refl
-one_front r (x ∷ []) more e = let q : x ≡ r = cc e in inr (ap (λ (y : Record). y ∷ []) q)
-one_front r (x ∷ y ∷ front) more e = cc e
-
-module _ (m : Machine) (r : Record) (o : IsOwedTo m r) (valid : IsValidLog m.held.pages m.held.log) (short : end_of m.held.log < 2 ^ 64) (roomy : end_of m.held.log + reserve_of m.held.log ≤ 512 * m.held.blocks) where
-  next : IsValidLog m.held.pages (m.held.log ++ r ∷ [])
-  next = IsValidLog-next m.held.pages m.held.log r o.rest valid short o.first
-
-  fits : (front : List Record) (s : Record) (more : List Record) → r ∷ [] ≡ front ++ s ∷ more → IsTooLong (grown m.held front) s → ⊥
-  fits front s more e long =
-      let q = one_only r s front more e in
-      let here : 512 * m.held.blocks < end_of (m.held.log ++ []) + record_len r + reserve_of ((m.held.log ++ []) ++ r ∷ []) =
-      subst (λ (f : List Record). 512 * m.held.blocks < end_of (m.held.log ++ f) + record_len r + reserve_of ((m.held.log ++ f) ++ r ∷ [])) q.0
-      (subst (λ (x : Record). 512 * m.held.blocks < end_of (m.held.log ++ front) + record_len x + reserve_of ((m.held.log ++ front) ++ x ∷ [])) (sym q.1) long) in
-      let over : 512 * m.held.blocks < end_of m.held.log + record_len r + reserve_of (m.held.log ++ r ∷ []) =
-      subst (λ (l : List Record). 512 * m.held.blocks < end_of l + record_len r + reserve_of (l ++ r ∷ [])) (append-nil m.held.log) here in
-      let same : end_of (m.held.log ++ r ∷ []) + reserve_of (m.held.log ++ r ∷ []) ≡ end_of m.held.log + reserve_of m.held.log = room-next m.held.log r o.rest o.first in
-      let pushed : end_of (m.held.log ++ r ∷ []) ≡ end_of m.held.log + record_len r = end_of-push m.held.log r in
-      absurd (omega (arith, over, same, pushed, roomy))
-
-  may : may_follow_all m.held.log (r ∷ []) ≡ true
-  unfolding may_follow_all
-  may = and_from (may_follow m.held.log r) true (and_parts (is_valid m.held.log) (may_follow m.held.log r) (sym (is_valid-push m.held.log r) ∙ next.valid)).1 refl
-
-  planned : IsPlanned m (r ∷ [])
-  planned = record { partial = o.partial; text = next.text; each = may; fits = fits }
-
-  held : (new : Machine) → new ≡ record m { held = grown m.held (r ∷ []) } → TakesOwed m r new
-  held new after = record {
-    after = after;
+  pub owed_taken : (new : Machine) → TakesNext m r new → TakesOwed m r new
+  owed_taken new t = record {
+    after = t.after;
     commits =
-        ap (λ (x : Machine). commits_of x.held.log) after
-        ∙ commits_of-push m.held.log r next.valid
+        ap (λ (x : Machine). commits_of x.held.log) t.after
+        ∙ commits_of-push m.held.log r t.valid.valid
         ∙ ap (λ (b : Bool). commits_of m.held.log ++ cond b (commit_by m.held.log r ∷ []) []) (tail_no_commit m.held.log r o.rest o.first)
         ∙ append-nil (commits_of m.held.log);
   }
-
-  module _ (piece : List ℕ) (spelled : piece ≡ spellings (r ∷ [])) where
-    done_by : (cause : Option Fault) (fed : Fed) (new : Machine) → feed_refusal m ≡ cause → Feeds m piece cause (Ok fed) new → TakesOwed m r new
-    done_by None fed new e f = held new (feed_done m (r ∷ []) piece spelled planned fed new e (subst (λ (o : Option Fault). Feeds m piece o (Ok fed) new) (sym e) f))
-    done_by (Some cause) fed new e f = cc f.0
-
-    pub owed_done : (fed : Fed) (new : Machine) → Feeds m piece (feed_refusal m) (Ok fed) new → TakesOwed m r new
-    owed_done fed new f = done_by (feed_refusal m) fed new refl f
-
-    -- it is held for all that, or nothing is
-    pub record Stopped (refusal : FeedFault) (new : Machine) : Type 0 where
-      pub held_one : 0 < refusal.records → TakesOwed m r new
-      pub held_none : refusal.records ≡ 0 → new ≡ m
-      pub other : (refusal.fault ≡ fault.Memory → ⊥) → new ≡ m
-
-    stopped_front : (refusal : FeedFault) (new : Machine) → (h : IsHeldFront m (r ∷ []) piece spelled planned refusal new) → (h.front ≡ []) ⊎ (h.front ≡ r ∷ []) → Stopped refusal new
-    stopped_front refusal new h (inl e) =
-        let none : length h.front ≡ 0 = ap length e in
-        let c : refusal.records ≡ length h.front = h.count in
-        record {
-          held_one = λ some. absurd (omega (arith, none, c, some));
-          held_none = λ z. h.after ∙ ap (λ (l : List Record). record m { held = grown m.held l }) e ∙ ap (λ (s : Stored). record m { held = s }) (grown_none m.held);
-          other = λ n. absurd (n h.cause);
-        }
-    stopped_front refusal new h (inr e) =
-        let one : length h.front ≡ 1 = ap length e in
-        let c : refusal.records ≡ length h.front = h.count in
-        record {
-          held_one = λ some. held new (h.after ∙ ap (λ (l : List Record). record m { held = grown m.held l }) e);
-          held_none = λ z. absurd (omega (arith, one, c, z));
-          other = λ n. absurd (n h.cause);
-        }
-
-    stopped_by : (cause : Option Fault) (refusal : FeedFault) (new : Machine) → feed_refusal m ≡ cause → Feeds m piece cause (Err refusal) new → Stopped refusal new
-    stopped_by None refusal new e f =
-        let h = feed_refused m (r ∷ []) piece spelled planned refusal new e (subst (λ (o : Option Fault). Feeds m piece o (Err refusal) new) (sym e) f) in
-        stopped_front refusal new h (one_front r h.front h.more h.parts)
-    stopped_by (Some cause) refusal new e f =
-        let same : refusal ≡ refused_whole cause = cc f.0 in
-        let none : refusal.records ≡ 0 = ap (λ (x : FeedFault). x.records) same in
-        record {
-          held_one = λ some. absurd (omega (arith, none, some));
-          held_none = λ z. f.1;
-          other = λ n. f.1;
-        }
-
-    pub owed_stopped : (refusal : FeedFault) (new : Machine) → Feeds m piece (feed_refusal m) (Err refusal) new → Stopped refusal new
-    owed_stopped refusal new f = stopped_by (feed_refusal m) refusal new refl f
-
-pub spelled_one : (r : Record) (piece : List ℕ) → piece ≡ [] ++ spelling r → piece ≡ spellings (r ∷ [])
-spelled_one r piece e = e ∙ sym (append-nil (spelling r)) ∙ ap (λ (b : List ℕ). spelling r ++ b) (sym spellings-nil) ∙ sym (spellings-cons r [])
 
 -- ---- all that is owed
 
@@ -201,6 +122,10 @@ so_far_more old mid new r rest s e takes =
       commits = takes.commits ∙ s.commits;
     }
 
+-- what is owed next
+pub still_owed : (old mid : Machine) (r : Record) (rest : List Record) → TidiedSoFar old mid → tail_of mid.held.log ≡ r ∷ rest → IsOwedTo mid r
+still_owed old mid r rest s e = record { partial = so_far_partial old mid s; rest = rest; first = e }
+
 pub so_far_all : (old new : Machine) → TidiedSoFar old new → tail_of new.held.log ≡ [] → Tidied old new
 so_far_all old new s e =
     let all : take s.n (tail_of old.held.log) ≡ tail_of old.held.log = take_rest_none (tail_of old.held.log) s.n (sym (left old new s) ∙ e) in
@@ -236,7 +161,7 @@ resync_refused f old new e =
 
 -- ---- what is acknowledged stays
 
-keeps_grown : (m : Machine) (records : List Record) → Keeps m (record (resynced m) { held = grown m.held records })
+pub keeps_grown : (m : Machine) (records : List Record) → Keeps m (record (resynced m) { held = grown m.held records })
 keeps_grown m records =
     let k : Keeps m m = keeps_equal m m refl in
     record {

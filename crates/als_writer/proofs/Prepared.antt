@@ -1,5 +1,5 @@
 -- A transaction that was planned, fed with its prepare record.
-use Rattle.std.proofs.Common.{◌≡◌, ℕ, suc, ◌+◌, ◌==◌, ◌<◌, Bool, true, false, ◌||◌, List, [], ◌∷◌, ◌++◌, length, filter_map, reverse, Ok, Err, refl, sym, ap, ◌∙◌, append-nil, arith}
+use Rattle.std.proofs.Common.{◌≡◌, ℕ, ◌==◌, ◌<◌, Bool, true, false, ◌||◌, List, [], ◌∷◌, ◌++◌, length, filter_map, reverse, Ok, Err, refl, sym, ap, ◌∙◌, append-nil, arith}
 use Rattle.als_record.specs.declared.record.Record.{Record}
 use Rattle.als_record.specs.Transactions.{to_undo, surviving, is_in_doubt, in_doubt, is_among}
 use Rattle.als_record.specs.Validity.{is_valid}
@@ -19,7 +19,6 @@ use Rattle.als_engine.specs.Feeds.{grown, Feeds}
 use Rattle.als_writer.specs.declared.closing.Closing.TheVariants as closing
 use Rattle.als_writer.specs.declared.planning.Plan.{Plan}
 use Rattle.als_writer.specs.declared.transaction.Transaction.{Transaction}
-use Rattle.als_writer.specs.declared.written.Written.{Written}
 use Rattle.als_writer.specs.Planning.{IsPlan}
 use Rattle.als_writer.specs.Preparing.{IsPrepared}
 use Rattle.als_writer.proofs.Feeding.{feed_done}

@@ -8,4 +8,6 @@ pub mod Refused
 pub mod Planning
 pub mod Committing
 pub mod Preparing
+pub mod Feeding
 pub mod Tidying
+pub mod Deciding

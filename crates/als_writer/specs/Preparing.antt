@@ -1,5 +1,5 @@
 -- What a transaction that prepares leaves, and what one leaves that does not.
-use Rattle.std.specs.Prelude.{◌≡◌, ◌+◌, true, List, [], ◌∷◌, ◌++◌, All}
+use Rattle.std.specs.Prelude.{◌≡◌, ◌+◌, true, [], ◌∷◌, ◌++◌, All}
 use Rattle.als_record.specs.LogText.{end_of}
 use Rattle.als_record.specs.Transactions.{greatest_trans, in_doubt, is_in_doubt}
 use Rattle.als_record.specs.Validity.{IsValidLog}

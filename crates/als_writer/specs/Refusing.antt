@@ -2,6 +2,8 @@
 use Rattle.std.specs.Prelude.{Option, Some, None}
 use Rattle.als_engine.specs.declared.fault.Fault.{Fault}
 use Rattle.als_engine.specs.declared.fault.Fault.TheVariants as fault
+use Rattle.als_writer.specs.declared.not_decided.NotDecided.{NotDecided}
+use Rattle.als_writer.specs.declared.not_decided.NotDecided.TheVariants as undecided
 use Rattle.als_writer.specs.declared.refusal.Refusal.{Refusal}
 use Rattle.als_writer.specs.declared.refusal.Refusal.TheVariants.{Invalid, State, Untidy, Held, NotAsAsked, NumbersSpent, TooMany, LogFull, Memory, Unplanned}
 
@@ -17,3 +19,10 @@ fault_of TooMany = Some fault.TooManyTransactions
 fault_of LogFull = Some fault.LogFull
 fault_of (Memory owed) = Some fault.Memory
 fault_of (Unplanned f) = Some f
+
+-- the fault by which it is printed that a transaction is not decided
+abbrev pub fault_undecided : NotDecided → Option Fault
+fault_undecided undecided.NotInDoubt = Some fault.NotInDoubt
+fault_undecided undecided.Untidy = None
+fault_undecided (undecided.State f) = Some f
+fault_undecided undecided.Memory = Some fault.Memory

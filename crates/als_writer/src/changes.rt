@@ -1,16 +1,21 @@
-ghost use Rattle.std.specs.Prelude.{◌≡◌, ℕ, ◌<◌, ◌≤◌, true, List, length, slice_set, IfOk, IsTrue};
+ghost use Rattle.std.specs.Prelude.{◌≡◌, ℕ, ◌<◌, ◌≤◌, true, List, ◌++◌, length, slice_set, slice_index_or, IfOk, IsTrue};
 ghost use Rattle.std.specs.Prelude.{if◌then◌else◌};
 ghost use Rattle.std.specs.List.{list_any, AllByRecursion};
 ghost use Rattle.als_record.specs.declared.record.Record.{Record as AnyRecord};
 ghost use Rattle.als_record.specs.declared.key.Key.{Key as AnyKey};
+ghost use Rattle.als_record.specs.declared.trans_id.TransId.{TransId as AnyTrans};
+ghost use Rattle.als_record.specs.LogText.{end_of};
+ghost use Rattle.als_record.specs.Commits.{commits_of};
 ghost use Rattle.als_record.specs.Spelling.{IsKey};
 ghost use Rattle.als_record.specs.Images.{same_key};
 ghost use Rattle.als_record.specs.Validity.{is_valid};
 ghost use Rattle.als_writing.specs.Writing.{last_write};
 ghost use Rattle.als_tables.specs.Counting.{last_commit};
 ghost use Rattle.als_writer.specs.Changes.{AreBounds, place_of};
+ghost use Rattle.als_writer.specs.Deciding.{commits_by};
 
 use crate::set::Set;
+use als_engine::Decision;
 use als_record::{Key, Lsn, SLOT_COUNT};
 use std::alloc::{AllocError, Global};
 use std::marker::Model;
@@ -67,6 +72,30 @@ impl Changes {
         match self.bounds.get(place(key)) {
             Some(bound) => *bound <= since.0,
             None => false,
+        }
+    }
+
+    /// A transaction in doubt was decided by the record at this LSN. Which keys a commit of it wrote is
+    /// not known here, so that each bound becomes its LSN.
+    pub(crate) fn note_decision(&mut self, verdict: Decision, lsn: Lsn)
+        ensures { (pages : ℕ) → (log more : List AnyRecord) → (t : AnyTrans)
+            → AreBounds self.old pages log → IsTrue (is_valid log) → lsn.0 ≡ end_of log
+            → commits_of more ≡ commits_of log ++ commits_by log t verdict
+            → AreBounds self.new pages more }
+    {
+        match verdict {
+            Decision::Commit => self.raise_all(lsn),
+            Decision::Rollback => {}
+        }
+    }
+
+    /// Makes this LSN the bound of each key.
+    fn raise_all(&mut self, lsn: Lsn)
+        ensures count { length self.new ≡ length self.old }
+        ensures each { (i d : ℕ) → i < length self.old → slice_index_or self.new i d ≡ lsn.0 }
+    {
+        for i in 0..self.bounds.len() {
+            self.bounds[i] = lsn.0;
         }
     }
 

@@ -45,17 +45,27 @@ mod planning;
 mod writing;
 // The same, for a coordinator to decide.
 mod preparing;
+// One record fed.
+mod next;
 // What is owed after a stop.
 mod tidying;
+// A transaction in doubt decided.
+mod deciding;
+mod not_decided;
+// A transaction to commit, one to prepare, or a decision.
+mod work;
 
 pub use ask::Ask;
 pub use changes::Changes;
 pub use checking::find_flaw;
+pub use deciding::decide;
 pub use flaw::Flaw;
+pub use not_decided::NotDecided;
 pub use preparing::prepare;
 pub use refusal::Refusal;
 pub use set::Set;
 pub use tidying::tidy;
 pub use transaction::{LIMIT, Transaction};
+pub use work::Work;
 pub use writing::write;
 pub use written::Written;

@@ -1,12 +1,11 @@
-ghost use Rattle.std.specs.Prelude.{◌≡◌, ℕ, List, [], ◌++◌, IfOk, OnOk, OnErr};
-ghost use Rattle.als_record.specs.Spelling.{spelling};
+ghost use Rattle.std.specs.Prelude.{◌≡◌, ℕ, List, OnOk, OnErr};
 ghost use Rattle.als_engine.specs.Machine.{Keeps};
 ghost use Rattle.als_writer.specs.Changes.{AreBounds};
-ghost use Rattle.als_writer.specs.Tidying.{Tidied, NotTidied, IsOwedTo, TakesOwed};
+ghost use Rattle.als_writer.specs.Tidying.{Tidied, NotTidied};
 
+use crate::next::feed_record;
 use crate::refusal::Refusal;
-use als_engine::{Fault, Writes};
-use als_record::{Record, encode};
+use als_engine::Writes;
 use std::alloc::Global;
 
 /// Writes what is owed to the log: after a stop in the middle of a transaction its end, or the
@@ -30,48 +29,10 @@ pub fn tidy<E: Writes>(alloc: Global, engine: &mut E) -> Result<(), Refusal>
     }
     for _ in 0..u64::MAX {
         match engine.next_of_tail() {
-            Ok(Some(owed)) => feed_owed(alloc, engine, &owed)?,
+            Ok(Some(owed)) => feed_record(alloc, engine, &owed)?,
             Ok(None) => return Ok(()),
             Err(fault) => return Err(Refusal::State(fault)),
         }
     }
     Err(Refusal::Memory { owed: true })
-}
-
-/// Feeds the first record that is owed.
-fn feed_owed<E: Writes>(alloc: Global, engine: &mut E, owed: &Record) -> Result<(), Refusal>
-    ensures done { OnOk result (E.alone → IsOwedTo (E.machine engine.old) owed.now
-        → TakesOwed (E.machine engine.old) owed.now (E.machine engine.new)) }
-    ensures refused { OnErr result (E.alone → IsOwedTo (E.machine engine.old) owed.now
-        → E.machine engine.new ≡ E.machine engine.old) }
-    ensures book { E.book engine.new ≡ E.book engine.old }
-{
-    let piece = piece_of(alloc, owed)?;
-    // For the prover alone: what always holds of the log, and of its room.
-    let _ = engine.status();
-    let _ = engine.writing();
-    match engine.feed(&piece) {
-        Ok(_) => Ok(()),
-        Err(refusal) => match refusal.fault {
-            Fault::Memory => {
-                // It is held all the same.
-                if refusal.records > 0 {
-                    return Ok(());
-                }
-                Err(Refusal::Memory { owed: true })
-            }
-            fault => Err(Refusal::State(fault)),
-        },
-    }
-}
-
-/// The bytes of one record.
-fn piece_of(alloc: Global, logged: &Record) -> Result<Vec<u8>, Refusal>
-    ensures { IfOk result (λ piece. piece.items ≡ [] ++ spelling logged.now) }
-{
-    let mut piece = Vec::new(alloc);
-    match encode(logged, &mut piece) {
-        Ok(()) => Ok(piece),
-        Err(_) => Err(Refusal::Memory { owed: true }),
-    }
 }

@@ -8,7 +8,7 @@ use Rattle.als_record.specs.Commits.{Write}
 use Rattle.als_writing.specs.Writing.{updates, room_for, is_free}
 use Rattle.als_writing.proofs.Going.{IsNew-is_new}
 use Rattle.als_writer.specs.declared.closing.Closing.{Closing}
-use Rattle.als_writer.specs.Closing.{records_for, extra_of}
+use Rattle.als_writer.specs.Closing.{records_for}
 use Rattle.als_writer.specs.Asking.{AreFreeNow, IsTold}
 use Rattle.als_writer.specs.Checking.{AreApart}
 use Rattle.als_writer.specs.Placing.{AreBefores}

@@ -1,6 +1,6 @@
-use Rattle.als_writer.proofs.Owing.{so_far_same, so_far_bounds, not_tidied_bounds}
 use Rattle.std.proofs.Common.{◌∙◌}
-use Rattle.als_writer.proofs.Owing.{so_far_partial, so_far_more, so_far_all, resync_refused}
+use Rattle.std.proofs.lemmas.Result.{err_from_is_err_and}
+use Rattle.als_writer.proofs.Owing.{still_owed, owed_next, owed_taken, so_far_more, so_far_all, so_far_same, so_far_bounds, resync_refused, not_tidied_bounds}
 use Rattle.als_writer.proofs.tidying.tidy.Goals as goal
 
 pub returns-in-Err-clause-refused : goal.returns-in-Err-clause-refused
@@ -16,13 +16,25 @@ loop-preserved g c = record {
   so_far = λ a.
       let old = g.E.Events.machine c.args.engine.now in
       let mid = g.E.Events.machine c.loop.engine in
-      let new = g.E.Events.machine c.feed_owed.new.engine in
+      let new = g.E.Events.machine c.feed_record.new.engine in
       let s = c.loop.invariant.so_far a in
       let owed = rw c.in-Ok-Some.field-0-is at (c.in-Ok-Some.ensures.next a) in
       so_far_more old mid new c.in-Ok-Some.owed owed.1.rest s owed.1.first
-      (c.in_ok-feed_owed-in-Ok-Some.ensures.done a (record { partial = so_far_partial old mid s; rest = owed.1.rest; first = owed.1.first }));
-  book = c.feed_owed.ensures.book ∙ c.loop.invariant.book;
+      (owed_taken mid c.in-Ok-Some.owed (still_owed old mid c.in-Ok-Some.owed owed.1.rest s owed.1.first) new
+      (c.in_ok-feed_record-in-Ok-Some.ensures.done a (owed_next mid c.in-Ok-Some.owed (still_owed old mid c.in-Ok-Some.owed owed.1.rest s owed.1.first))));
+  book = c.feed_record.ensures.book ∙ c.loop.invariant.book;
 }
+
+pub returns-in_err-feed_record-in-Ok-Some-clause-refused : goal.returns-in_err-feed_record-in-Ok-Some-clause-refused
+returns-in_err-feed_record-in-Ok-Some-clause-refused g c =
+    let p = err_from_is_err_and c.from_residual.result c.from_residual.ensures.1 in
+    rw p.1 (λ a.
+    let old = g.E.Events.machine c.args.engine.now in
+    let mid = g.E.Events.machine c.loop.engine in
+    let new = g.E.Events.machine c.feed_record.new.engine in
+    let s = c.loop.invariant.so_far a in
+    let owed = rw c.in-Ok-Some.field-0-is at (c.in-Ok-Some.ensures.next a) in
+    so_far_same old mid new s (c.in_err-feed_record-in-Ok-Some.ensures.same a (owed_next mid c.in-Ok-Some.owed (still_owed old mid c.in-Ok-Some.owed owed.1.rest s owed.1.first))))
 
 pub returns-in-Err-clause-bounds : goal.returns-in-Err-clause-bounds
 returns-in-Err-clause-bounds g c bounds a b =
@@ -30,14 +42,14 @@ returns-in-Err-clause-bounds g c bounds a b =
     let new = g.E.Events.machine c.resync.new.self in
     not_tidied_bounds old new bounds (resync_refused c.in-Err.fault old new (c.in-Err.ensures.resyncs a)) b
 
-pub returns-in_err-feed_owed-in-Ok-Some-clause-bounds : goal.returns-in_err-feed_owed-in-Ok-Some-clause-bounds
-returns-in_err-feed_owed-in-Ok-Some-clause-bounds g c bounds a b =
+pub returns-in_err-feed_record-in-Ok-Some-clause-bounds : goal.returns-in_err-feed_record-in-Ok-Some-clause-bounds
+returns-in_err-feed_record-in-Ok-Some-clause-bounds g c bounds a b =
     let old = g.E.Events.machine c.args.engine.now in
     let mid = g.E.Events.machine c.loop.engine in
-    let new = g.E.Events.machine c.feed_owed.new.engine in
+    let new = g.E.Events.machine c.feed_record.new.engine in
     let s = c.loop.invariant.so_far a in
     let owed = rw c.in-Ok-Some.field-0-is at (c.in-Ok-Some.ensures.next a) in
-    let same = c.in_err-feed_owed-in-Ok-Some.ensures.refused a (record { partial = so_far_partial old mid s; rest = owed.1.rest; first = owed.1.first }) in
+    let same = c.in_err-feed_record-in-Ok-Some.ensures.same a (owed_next mid c.in-Ok-Some.owed (still_owed old mid c.in-Ok-Some.owed owed.1.rest s owed.1.first)) in
     not_tidied_bounds old new bounds (so_far_same old mid new s same) b
 
 pub returns-in-Ok-None-clause-bounds : goal.returns-in-Ok-None-clause-bounds
