@@ -1,32 +1,25 @@
 use crate::cuts::Cuts;
+use crate::deed::{Deed, Given};
 use crate::stop::Stop;
 use crate::values::Values;
-use als_engine::{Events, Writes};
-use als_record::{Body, Lsn};
-use als_writer::{Transaction, Written};
+use als_engine::{Decision, Events, Writes};
+use als_record::{Lsn, TransId};
+use als_writer::{Set, Written};
 use std::alloc::Global;
-
-/// A transaction that was answered as written.
-#[derive(Drop)]
-struct Given {
-    transaction: Transaction,
-    written: Written,
-}
 
 /// What a writer was answered, kept apart from its engine.
 #[derive(Drop)]
 pub struct Book {
-    /// The transactions that were answered as written, in order. A crash may take those back that
-    /// were not forced.
+    /// What was answered as written, in order. A crash may take that back which was not forced.
     given: Vec<Given>,
-    /// How many of them were forced.
+    /// How much of it was forced.
     forced: usize,
     /// What crashes cut.
     cuts: Cuts,
 }
 
 impl Book {
-    /// No transaction was written.
+    /// Nothing was written.
     pub fn new(alloc: Global) -> Book {
         Book {
             given: Vec::new(alloc),
@@ -40,19 +33,28 @@ impl Book {
         self.cuts
     }
 
-    /// An opening found this many unended transactions.
-    pub fn note_unended(&mut self, unended: usize) {
-        if unended > 0 {
-            self.cuts.unended = self.cuts.unended.saturating_add(1);
-        }
+    /// An opening found a log that is owed records.
+    pub fn note_owed(&mut self) {
+        self.cuts.unended = self.cuts.unended.saturating_add(1);
     }
 
-    /// How many transactions were written.
+    /// How much was written.
     pub fn count(&self) -> usize {
         self.given.len()
     }
 
-    /// Makes room for one more transaction, before it is written.
+    /// How many transactions in doubt were decided.
+    pub fn decided(&self) -> u64 {
+        let mut count = 0u64;
+        for given in self.given.iter() {
+            if matches!(given.deed, Deed::Decided(_)) {
+                count = count.saturating_add(1);
+            }
+        }
+        count
+    }
+
+    /// Makes room for one more deed, before it is done.
     pub fn reserve(&mut self) -> Result<(), Stop> {
         match self.given.reserve(1) {
             Ok(()) => Ok(()),
@@ -60,12 +62,9 @@ impl Book {
         }
     }
 
-    /// A transaction was answered as written.
-    pub fn note(&mut self, transaction: Transaction, written: Written) -> Result<(), Stop> {
-        match self.given.push(Given {
-            transaction,
-            written,
-        }) {
+    /// A deed was answered as written.
+    pub fn note(&mut self, deed: Deed, written: Written) -> Result<(), Stop> {
+        match self.given.push(Given { deed, written }) {
             Ok(()) => Ok(()),
             Err(_) => Err(Stop::Memory),
         }
@@ -76,50 +75,112 @@ impl Book {
         self.forced = self.given.len();
     }
 
-    /// What each key has by all that was written.
+    /// The first transaction in doubt.
+    pub fn doubt(&self) -> Option<TransId> {
+        for given in self.given.iter() {
+            if matches!(given.deed, Deed::Prepared(_)) && !self.is_decided(given.written.trans) {
+                return Some(given.written.trans);
+            }
+        }
+        None
+    }
+
+    /// How many transactions are in doubt.
+    pub fn doubts(&self) -> usize {
+        let mut count = 0usize;
+        for given in self.given.iter() {
+            if matches!(given.deed, Deed::Prepared(_)) && !self.is_decided(given.written.trans) {
+                count = count.saturating_add(1);
+            }
+        }
+        count
+    }
+
+    /// Whether a transaction in doubt was decided.
+    fn is_decided(&self, trans: TransId) -> bool {
+        for given in self.given.iter() {
+            if matches!(given.deed, Deed::Decided(_)) && given.written.trans == trans {
+                return true;
+            }
+        }
+        false
+    }
+
+    /// What a transaction that was prepared sets.
+    fn prepared(&self, trans: TransId) -> &[Set] {
+        for given in self.given.iter() {
+            if let Deed::Prepared(transaction) = &given.deed {
+                if given.written.trans == trans {
+                    return transaction.sets.as_slice();
+                }
+            }
+        }
+        &[]
+    }
+
+    /// What each key has by all that was written, and who holds it.
     pub fn values(&self, alloc: Global) -> Result<Values, Stop> {
         let mut values = Values::new(alloc)?;
         for given in self.given.iter() {
-            values.set(given.transaction.sets.as_slice());
+            match &given.deed {
+                Deed::Committed(transaction) => values.set(transaction.sets.as_slice()),
+                Deed::Decided(Decision::Commit) => values.set(self.prepared(given.written.trans)),
+                Deed::Decided(Decision::Rollback) | Deed::Prepared(_) => {}
+            }
+        }
+        for given in self.given.iter() {
+            if let Deed::Prepared(transaction) = &given.deed {
+                if !self.is_decided(given.written.trans) {
+                    values.hold(transaction.sets.as_slice(), given.written.trans);
+                }
+            }
         }
         Ok(values)
     }
 
-    /// An engine was opened after a crash: whether it has each transaction that was forced, and none
-    /// out of order. Those that it has not are struck out.
+    /// An engine was opened after a crash: whether it has all that was forced, and nothing out of
+    /// order. What it has not is struck out.
     pub fn settle<E: Writes>(&mut self, engine: &mut E) -> Result<(), Stop> {
-        let last = engine.writing().last_commit;
-        let Some(count) = self.count_to(last) else {
-            return Err(Stop::Lost("a commit that was not answered"));
-        };
+        let count = self.found(engine)?;
         if count < self.forced {
-            return Err(Stop::Lost("a forced transaction"));
+            return Err(Stop::Lost("what was forced"));
         }
         let lost = self.given.len().saturating_sub(count);
         self.cuts.lost = self.cuts.lost.saturating_add(lost as u64);
         self.given.truncate(count);
-        for given in self.given.iter() {
-            check_commit(engine, given.written)?;
-        }
         Ok(())
     }
 
-    /// How many transactions there are up to the one whose commit has this LSN. 0: no commit.
-    fn count_to(&self, last: Lsn) -> Option<usize> {
-        if last.0 == 0 {
-            return Some(0);
+    /// How much of what was written an engine's log has, from the first on.
+    fn found<E: Events>(&self, engine: &mut E) -> Result<usize, Stop> {
+        let mut count = 0usize;
+        for given in self.given.iter() {
+            if !is_found(engine, given)? {
+                break;
+            }
+            count = count.saturating_add(1);
         }
-        let at = self
-            .given
-            .iter()
-            .position(|given| given.written.lsn == last)?;
-        Some(at.saturating_add(1))
+        Ok(count)
+    }
+
+    /// The LSN of the last commit. 0: no commit.
+    fn last_commit(&self) -> Lsn {
+        let mut last = Lsn(0);
+        for given in self.given.iter() {
+            if given.deed.commits() {
+                last = given.written.lsn;
+            }
+        }
+        last
     }
 
     /// Whether an engine has what was written, and nothing else: in its log and in its pages.
     pub fn check<E: Writes>(&self, alloc: Global, engine: &mut E) -> Result<(), Stop> {
         let numbers = engine.writing();
-        if numbers.unended > 0 || self.count_to(numbers.last_commit) != Some(self.given.len()) {
+        if numbers.last_commit != self.last_commit() {
+            return Err(Stop::Lost("a commit that was not answered"));
+        }
+        if numbers.unended != self.doubts() {
             return Err(Stop::Lost("what an unwritten transaction left"));
         }
         let values = self.values(alloc)?;
@@ -128,13 +189,10 @@ impl Book {
     }
 }
 
-/// Whether an engine's log has the commit of a transaction at its place.
-fn check_commit<E: Events>(engine: &mut E, written: Written) -> Result<(), Stop> {
-    let Some(found) = engine.record_at(written.lsn)? else {
-        return Err(Stop::Lost("the commit of a transaction"));
+/// Whether an engine's log has the record of a deed at its place.
+fn is_found<E: Events>(engine: &mut E, given: &Given) -> Result<bool, Stop> {
+    let Some(found) = engine.record_at(given.written.lsn)? else {
+        return Ok(false);
     };
-    if found.trans != written.trans || !matches!(found.body, Body::Commit) {
-        return Err(Stop::Lost("the commit of a transaction"));
-    }
-    Ok(())
+    Ok(found.trans == given.written.trans && given.deed.is_said_by(&found.body))
 }

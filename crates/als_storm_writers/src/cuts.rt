@@ -1,9 +1,9 @@
 /// What the crashes of writers cut.
 #[derive(Clone, Copy, Debug)]
 pub struct Cuts {
-    /// Transactions that were answered and not forced, and were not found again.
+    /// Deeds that were answered and not forced, and were not found again.
     pub lost: u64,
-    /// Openings that found a transaction without its end.
+    /// Openings that found a log which is owed records.
     pub unended: u64,
 }
 

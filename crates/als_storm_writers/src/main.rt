@@ -1,7 +1,8 @@
 //! A storm over writers of transactions, from a seed: each device call fails in turn, the power is cut at
 //! each step in turn, and what a crash leaves has what was forced and nothing else.
 //!
-//! 1. A writer is begun over new devices and writes random transactions, most of which are forced.
+//! 1. A writer is begun over new devices and writes random transactions, most of which are forced. Some
+//!    prepare, and a later decision commits them or rolls them back.
 //! 2. It is stopped once: by a device, by the power, or by an allocation that fails.
 //! 3. Its devices are opened as the crash leaves them, recovered and tidied.
 //! 4. The log, the keys and the pages are compared with a plain list of what was answered, and it goes on.
@@ -23,8 +24,13 @@ mod values;
 mod cuts;
 // What a writer was answered.
 mod book;
+mod deed;
 // Random transactions.
 mod transfers;
+// A transaction written.
+mod putting;
+// One in doubt decided.
+mod deciding;
 // Writers that are stopped, and go on.
 mod writers;
 // The storms, as they are asked for.

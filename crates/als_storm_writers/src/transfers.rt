@@ -1,7 +1,7 @@
 use crate::failing::PAGES;
 use crate::stop::Stop;
 use crate::values::Values;
-use als_record::{ImageView, KeptImage, Key, SLOT_COUNT};
+use als_record::{ImageView, KeptImage, Key, SLOT_COUNT, TransId};
 use als_sample_logs::Dice;
 use als_writer::{Ask, Set, Transaction};
 use std::alloc::Global;
@@ -9,11 +9,14 @@ use std::alloc::Global;
 /// The most sets of a transaction. Each is of another page.
 const SETS: u32 = 4;
 
-/// A transaction, and whether what it asks holds.
+/// A transaction, and what becomes of it.
 #[derive(Drop)]
 pub struct Rolled {
     pub transaction: Transaction,
+    /// Whether what it asks holds.
     pub holds: bool,
+    /// The transaction in doubt that holds the first of its keys that is held.
+    pub holder: Option<TransId>,
 }
 
 /// A transaction of 1 to 4 sets, which asks for what the first of its keys has. One in six asks for
@@ -39,9 +42,11 @@ pub fn roll(alloc: Global, dice: &mut Dice, values: &Values) -> Result<Rolled, S
     if let Some(first) = sets.first() {
         put(&mut asks, ask(values, first.key, holds))?;
     }
+    let holder = values.first_holder(&sets);
     Ok(Rolled {
         transaction: Transaction { asks, sets },
         holds,
+        holder,
     })
 }
 

@@ -2,17 +2,18 @@ use crate::failing::PAGES;
 use crate::stop::Stop;
 use als_engine::{Events, Writes};
 use als_page::Page;
-use als_record::{ImageView, KeptImage, Key, SLOT_COUNT};
+use als_record::{ImageView, KeptImage, Key, SLOT_COUNT, TransId};
 use als_writer::Set;
 use std::alloc::Global;
 
 /// The keys of the database.
 const KEYS: usize = PAGES as usize * SLOT_COUNT;
 
-/// What each key has.
+/// What each key has, and the transaction in doubt that holds it.
 #[derive(Drop)]
 pub struct Values {
     images: Vec<KeptImage>,
+    holders: Vec<Option<TransId>>,
 }
 
 /// Where a key's image is.
@@ -21,10 +22,13 @@ fn place(key: Key) -> usize {
 }
 
 impl Values {
-    /// No key has a value.
+    /// No key has a value, nor is one held.
     pub fn new(alloc: Global) -> Result<Values, Stop> {
-        match vec![in alloc; KeptImage::absent(); KEYS] {
-            Ok(images) => Ok(Values { images }),
+        let Ok(images) = vec![in alloc; KeptImage::absent(); KEYS] else {
+            return Err(Stop::Memory);
+        };
+        match vec![in alloc; None; KEYS] {
+            Ok(holders) => Ok(Values { images, holders }),
             Err(_) => Err(Stop::Memory),
         }
     }
@@ -46,7 +50,36 @@ impl Values {
         }
     }
 
-    /// Whether an engine has exactly these, and no open transaction holds a key.
+    /// Gives keys what a transaction in doubt wrote, which holds them.
+    pub fn hold(&mut self, sets: &[Set], by: TransId) {
+        self.set(sets);
+        for set in sets {
+            if let Some(holder) = self.holders.get_mut(place(set.key)) {
+                *holder = Some(by);
+            }
+        }
+    }
+
+    /// The transaction that holds a key.
+    pub fn holder(&self, key: Key) -> Option<TransId> {
+        match self.holders.get(place(key)) {
+            Some(holder) => *holder,
+            None => None,
+        }
+    }
+
+    /// The transaction that holds the first of these keys that is held.
+    pub fn first_holder(&self, sets: &[Set]) -> Option<TransId> {
+        for set in sets {
+            let holder = self.holder(set.key);
+            if holder.is_some() {
+                return holder;
+            }
+        }
+        None
+    }
+
+    /// Whether an engine has exactly these, held by these and no others.
     pub fn check<E: Writes>(&self, engine: &E) -> Result<(), Stop> {
         for page in 0..PAGES {
             for slot in 0..SLOT_COUNT as u8 {
@@ -58,11 +91,11 @@ impl Values {
 
     fn check_key<E: Writes>(&self, engine: &E, key: Key) -> Result<(), Stop> {
         let now = engine.key_now(key)?;
-        if now.holder.is_some() {
-            return Err(Stop::Lost("a key is held by a transaction that is over"));
+        if now.holder != self.holder(key) {
+            return Err(Stop::Lost("a key is held by another transaction, or by none"));
         }
         if !self.get(key).is(&now.image.shown()) {
-            return Err(Stop::Lost("a key has another value than the commits gave it"));
+            return Err(Stop::Lost("a key has another value than it was given"));
         }
         Ok(())
     }
@@ -83,7 +116,7 @@ impl Values {
             let image = page.image(slot);
             let key = Key { page: number, slot };
             if !self.get(key).is(&ImageView::of(&image)) {
-                return Err(Stop::Lost("a page has another value than the commits gave it"));
+                return Err(Stop::Lost("a page has another value than it was given"));
             }
         }
         Ok(())

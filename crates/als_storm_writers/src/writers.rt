@@ -1,21 +1,26 @@
 use crate::book::Book;
 use crate::cuts::Cuts;
+use crate::deciding::decide_one;
 use crate::failing::{CONFIG, NEVER, PARTS, Part};
 use crate::media::Medium;
+use crate::putting::{put, tidied};
 use crate::steps::{Steps, force, force_block, keep_up};
 use crate::stop::Stop;
-use crate::transfers::{Rolled, roll};
+use crate::transfers::roll;
 use crate::trouble::Trouble;
 use als_disk::BlockDisk;
 use als_drive::{drain, recover};
 use als_engine::{Disks, Engine, Writes};
 use als_sample_logs::Dice;
-use als_writer::{Changes, Refusal, tidy, write};
+use als_writer::Changes;
 use std::alloc::Global;
 use std::sync::Wait;
 
-/// The transactions of a writer, from its empty log on.
-const COUNT: usize = 24;
+/// The deeds of a writer, from its empty log on: a commit, a prepare and a decision are one each.
+const COUNT: usize = 28;
+
+/// The most transactions in doubt at once.
+const DOUBTS: usize = 2;
 
 /// A writer that is disturbed once is begun again at most so often.
 const LIVES: u32 = 50;
@@ -54,10 +59,23 @@ pub const OUTCOMES: [Outcome; 3] = [Outcome::Oldest, Outcome::Newest, Outcome::M
 pub struct Met {
     /// Device calls and steps at which a writer ended.
     pub ended: u64,
-    /// Transactions of all writers.
-    pub transactions: u64,
+    /// Deeds of all writers.
+    pub deeds: u64,
+    /// The decisions among them.
+    pub decided: u64,
     /// What the crashes cut.
     pub cuts: Cuts,
+}
+
+/// What a writer met on its way.
+#[derive(Clone, Copy)]
+struct Through {
+    /// How often it was stopped.
+    stops: u32,
+    /// The decisions in its log.
+    decided: u64,
+    /// What the crashes cut.
+    cuts: Cuts,
 }
 
 /// Has each device call of a writer fail in turn, and cuts the power before each of its steps. What
@@ -71,7 +89,8 @@ pub fn storm<R: Wait, D: BlockDisk + Drop, M: Medium<D>>(
 ) -> Result<Met, Trouble> {
     let mut met = Met {
         ended: 0,
-        transactions: 0,
+        deeds: 0,
+        decided: 0,
         cuts: Cuts::NONE,
     };
     for outcome in outcomes {
@@ -143,8 +162,7 @@ pub fn undisturbed<R: Wait, D: BlockDisk + Drop, M: Medium<D>>(
         steps: NEVER,
         outcome: Outcome::Oldest,
     };
-    let (stops, _) = write_through(rt, alloc, medium, mishap, seed)?;
-    Ok(stops)
+    Ok(write_through(rt, alloc, medium, mishap, seed)?.stops)
 }
 
 /// A writer that is disturbed once, and counted: whether the mishap was met.
@@ -156,24 +174,25 @@ fn disturb<R: Wait, D: BlockDisk + Drop, M: Medium<D>>(
     seed: u64,
     met: &mut Met,
 ) -> Result<bool, Trouble> {
-    let (stops, cuts) = write_through(rt, alloc, medium, mishap, seed)?;
-    met.cuts.add(cuts);
-    met.transactions = met.transactions.saturating_add(COUNT as u64);
-    if stops > 0 {
+    let through = write_through(rt, alloc, medium, mishap, seed)?;
+    met.cuts.add(through.cuts);
+    met.deeds = met.deeds.saturating_add(COUNT as u64);
+    met.decided = met.decided.saturating_add(through.decided);
+    if through.stops > 0 {
         met.ended = met.ended.saturating_add(1);
     }
-    Ok(stops > 0)
+    Ok(through.stops > 0)
 }
 
-/// Writes transactions until a count of them is in the log, over crashes, and one more behind a crash
-/// of the last of them. It returns how often the writer was stopped before, and what the crashes cut.
+/// Writes transactions until a count of deeds is in the log, over crashes, and one more behind a crash
+/// of the last of them.
 fn write_through<R: Wait, D: BlockDisk + Drop, M: Medium<D>>(
     rt: &R,
     alloc: Global,
     medium: &mut M,
     mishap: Mishap,
     seed: u64,
-) -> Result<(u32, Cuts), Trouble> {
+) -> Result<Through, Trouble> {
     let mut dice = Dice::new(seed);
     let mut book = Book::new(alloc);
     let mut steps = Steps::new(mishap.steps);
@@ -201,7 +220,11 @@ fn write_through<R: Wait, D: BlockDisk + Drop, M: Medium<D>>(
         match ended {
             Ok(()) if count > COUNT => {
                 drop(engine.into_disks(rt));
-                return Ok((stops, book.cuts()));
+                return Ok(Through {
+                    stops,
+                    decided: book.decided(),
+                    cuts: book.cuts(),
+                });
             }
             Ok(()) => count = COUNT + 1,
             Err(Stop::Lost(what)) => {
@@ -218,8 +241,8 @@ fn write_through<R: Wait, D: BlockDisk + Drop, M: Medium<D>>(
     Err(Trouble::Lost("a writer does not come to its end"))
 }
 
-/// A writer from the opening of its engine on, until its log has so many transactions: it recovers,
-/// tidies, and goes on. What it finds is what it was answered before.
+/// A writer from the opening of its engine on, until its log has so many deeds: it recovers, tidies,
+/// and goes on. What it finds is what it was answered before.
 fn live<R: Wait, E: Writes>(
     rt: &R,
     alloc: Global,
@@ -230,7 +253,9 @@ fn live<R: Wait, E: Writes>(
     count: usize,
 ) -> Result<(), Stop> {
     recover(rt, engine)?;
-    book.note_unended(engine.writing().unended);
+    if engine.next_of_tail()?.is_some() {
+        book.note_owed();
+    }
     tidied(alloc, engine)?;
     drain(engine)?;
     book.settle(engine)?;
@@ -252,7 +277,8 @@ fn live<R: Wait, E: Writes>(
     Ok(())
 }
 
-/// One transaction, perhaps a force of one block or of all, and then perhaps a checkpoint.
+/// One transaction, committed or prepared, or the decision of one in doubt; perhaps a force of one
+/// block or of all, and then perhaps a checkpoint.
 fn turn<E: Writes>(
     alloc: Global,
     engine: &mut E,
@@ -261,9 +287,14 @@ fn turn<E: Writes>(
     dice: &mut Dice,
     steps: &mut Steps,
 ) -> Result<(), Stop> {
-    let rolled = roll(alloc, dice, &book.values(alloc)?)?;
     steps.take()?;
-    put(alloc, engine, changes, book, rolled)?;
+    if book.doubts() > 0 && dice.below(3) == 0 {
+        decide_one(alloc, engine, changes, book, dice)?;
+    } else {
+        let rolled = roll(alloc, dice, &book.values(alloc)?)?;
+        let prepares = book.doubts() < DOUBTS && dice.below(3) == 0;
+        put(alloc, engine, changes, book, rolled, prepares)?;
+    }
     if dice.below(2) == 0 {
         force_block(engine, steps)?;
     }
@@ -275,47 +306,6 @@ fn turn<E: Writes>(
         }
     }
     Ok(())
-}
-
-/// Writes a transaction, and notes it where it was answered so. One that is refused leaves nothing. What
-/// the one before left to be written comes first.
-fn put<E: Writes>(
-    alloc: Global,
-    engine: &mut E,
-    changes: &mut Changes,
-    book: &mut Book,
-    rolled: Rolled,
-) -> Result<(), Stop> {
-    let Rolled { transaction, holds } = rolled;
-    book.reserve()?;
-    let answer = match write(alloc, engine, changes, &transaction) {
-        Err(Refusal::Untidy) => {
-            tidied(alloc, engine)?;
-            write(alloc, engine, changes, &transaction)
-        }
-        answer => answer,
-    };
-    match answer {
-        Ok(written) if holds => book.note(transaction, written),
-        Ok(_) => Err(Stop::Lost("a transaction of which an ask fails is written")),
-        Err(Refusal::NotAsAsked { .. }) if !holds => Ok(()),
-        Err(Refusal::Memory { .. }) => tidied(alloc, engine),
-        Err(Refusal::State(fault) | Refusal::Unplanned(fault)) => Err(Stop::from(fault)),
-        Err(_) => Err(Stop::Lost("a transaction is refused")),
-    }
-}
-
-/// Writes what is owed to the log. Want of memory is met once.
-fn tidied<E: Writes>(alloc: Global, engine: &mut E) -> Result<(), Stop> {
-    for _ in 0..2 {
-        match tidy(alloc, engine) {
-            Ok(()) => return Ok(()),
-            Err(Refusal::Memory { .. }) => {}
-            Err(Refusal::State(fault) | Refusal::Unplanned(fault)) => return Err(Stop::from(fault)),
-            Err(_) => return Err(Stop::Lost("what is owed is refused")),
-        }
-    }
-    Err(Stop::Memory)
 }
 
 /// A new standby's engine, which a writer may feed.

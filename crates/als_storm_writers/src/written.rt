@@ -25,11 +25,14 @@ pub fn storm<R: Print + AllocGlobal + Files<File = File> + Wait>(
     };
     let Met {
         ended,
-        transactions,
+        deeds,
+        decided,
         cuts,
     } = met;
     let Cuts { lost, unended } = cuts;
-    println!(rt; "ended={ended} transactions={transactions} unforced={lost} unended={unended}")?;
+    println!(rt;
+        "ended={ended} deeds={deeds} decided={decided} unforced={lost} unended={unended}"
+    )?;
     Ok(())
 }
 
@@ -53,6 +56,9 @@ pub fn small<R: Print + AllocGlobal + Wait>(rt: &R) -> Result<(), Trouble> {
     let met = disturb(rt, rt.alloc(), &mut medium, &[Outcome::Newest], 1)?;
     if met.ended == 0 {
         return Err(Trouble::Lost("no call of a device fails"));
+    }
+    if met.decided == 0 {
+        return Err(Trouble::Lost("no transaction is decided"));
     }
     println!(rt; "writers: nothing lost")?;
     Ok(())
