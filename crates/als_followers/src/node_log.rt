@@ -2,10 +2,11 @@ ghost use Rattle.std.specs.Prelude.{◌≡◌, IfOk};
 ghost use Rattle.als_wire.specs.Reading.{IsHeader};
 
 use crate::serves::Serves;
+use als_comparing::serve_log;
 use als_epochs::History;
 use als_quorum::Tail;
 use als_record::LogHeader;
-use als_sending::{Account, Growing, Grown, Marks, send_log};
+use als_sending::{Account, Growing, Grown, Marks};
 use als_ship::Fault;
 use std::alloc::Global;
 use std::io::{Read, Write};
@@ -204,6 +205,6 @@ impl<R: Wait + Clock + Clone + Drop, F: FileExt + Drop> Serves for NodeSource<R,
         writer: &mut W,
     ) -> Result<u64, Fault> {
         let mut log = self.open()?;
-        send_log(alloc, &mut log, marks, window, reader, writer)
+        serve_log(alloc, &mut log, marks, window, reader, writer)
     }
 }

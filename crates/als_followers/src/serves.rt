@@ -11,7 +11,9 @@ pub trait Serves {
     /// Sends the log over two streams, from where the follower goes on, with a window of this number of
     /// frames. It answers how many log bytes were new to the follower.
     ///
-    /// As `als_sending::send_log` says. Stream: the log can't be opened either.
+    /// Whoever asks what log it is gets the answer in place of it: 0, and `marks` hears nothing.
+    ///
+    /// As `als_comparing::serve_log` says. Stream: the log can't be opened either.
     fn serve<M: Marks, I: Read, W: Write>(
         &self,
         alloc: Global,

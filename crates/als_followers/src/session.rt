@@ -59,10 +59,12 @@ pub(crate) fn serve<R: Wait + Clock, O: Serves, S: Read + Write + OpenStream + D
     let served = send(rt, alloc, common, &mut seated, stream, &pace);
     let has_begun = seated.has_begun();
     seated.leave();
+    if !has_begun {
+        // Whoever did not ask for the log is no follower, as one who only asked what log it is.
+        return;
+    }
     let what = match served {
         Ok(()) => What::Ended,
-        // Whoever did not ask for the log is no follower.
-        Err(_) if !has_begun => return,
         Err(fault) => What::Went(fault),
     };
     common.notices.put(rt, Notice { peer, what });

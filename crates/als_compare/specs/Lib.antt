@@ -1,0 +1,4 @@
+pub mod Summaries
+pub mod Verdicts
+pub mod Frames
+pub mod Reading

@@ -1,0 +1,35 @@
+ghost use Rattle.std.specs.Prelude.{◌≡◌, ◌≤◌, ℕ, List, length, take, Ok};
+ghost use Rattle.sha2.specs.Sha256.{sha256};
+ghost use Rattle.als_epochs.specs.declared.step.Step.{Step as AnyStep};
+ghost use Rattle.als_epochs.specs.Judging.{Judges};
+ghost use Rattle.als_compare.specs.declared.summary.Summary.{Summary as AnySummary};
+ghost use Rattle.als_compare.specs.declared.verdict.Verdict.{Verdict as AnyVerdict};
+ghost use Rattle.als_compare.specs.declared.verdict.Verdict.TheVariants as verdict;
+ghost use Rattle.als_compare.specs.Summaries.{summary_of};
+ghost use Rattle.als_compare.specs.Verdicts.{IsVerdict};
+
+/// A follower that a session would let go on, and that holds a front of the source's text, is answered that
+/// it is the same: there is no false alarm.
+pub fn front_is_the_same()
+    ensures { (text own seals : List ℕ) (n end : ℕ) (step : AnyStep) (v : AnyVerdict)
+        → Judges own seals n (Ok step) → n ≤ length text → n ≤ end
+        → IsVerdict text end seals (summary_of (length own) (take n text)) v → v ≡ verdict.Same }
+{}
+
+/// Whoever is answered that it holds another log does: the source's text goes on as far, and is another one
+/// there.
+pub fn other_text_differs()
+    ensures other { (text seals held : List ℕ) (epoch end : ℕ)
+        → IsVerdict text end seals (summary_of epoch held) verdict.Other
+        → (length held ≤ end) × (take (length held) text ≡ held → ⊥) }
+    // Whoever is answered that it holds the same one has a text of the same digest.
+    ensures same { (text seals held : List ℕ) (epoch end : ℕ)
+        → IsVerdict text end seals (summary_of epoch held) verdict.Same
+        → sha256 (take (length held) text) ≡ sha256 held }
+{}
+
+/// There is one answer to a question, and no more.
+pub fn one_answer()
+    ensures { (text seals : List ℕ) (end : ℕ) (question : AnySummary) (v w : AnyVerdict)
+        → IsVerdict text end seals question v → IsVerdict text end seals question w → v ≡ w }
+{}
