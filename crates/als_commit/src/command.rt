@@ -26,13 +26,13 @@ const CHECKPOINT_BYTES: u64 = 4_194_304;
 pub enum Ending {
     /// Each line was answered, or passed over.
     Done,
-    /// A line was no transaction, and those behind it were not read.
+    /// A line was no transaction and no decision, and those behind it were not read.
     BadLine,
 }
 
-/// Writes a transaction for each line of the input into the log of a folder's primary, and prints a
-/// line for each once it is durable. `lines` receives the progress of the redo before that, and
-/// each line that is no transaction.
+/// Writes each line of the input, a transaction or a decision, into the log of a folder's primary, and
+/// prints a line for each once it is durable. `lines` receives the progress of the redo before that,
+/// and each line that is neither.
 ///
 /// BadConfig: the batch is not 1 to 1,000, or a size of a new database is out of its range or missing.
 /// Stream: the input or the output failed. Else as `als_lead::open` says, or the first refusal of an
@@ -81,8 +81,8 @@ fn write_all<R: AllocGlobal + Wait, E: Writes, I: Read + Drop, B: BadLines, O: W
     bad: &mut B,
     output: &mut O,
 ) -> Result<Ending, Fault>
-    // Each line that is a transaction was answered once, in order, by what is true of the log at the
-    // end; and no other transaction was committed.
+    // Each line that is a transaction or a decision was answered once, in order, by what is true of the
+    // log at the end; and the log has no other new commit.
     ensures leads { (asked : List AnyAsked) × (told : List AnyTold) × Leads E.alone
         (E.machine engine.old) (E.machine engine.new) [] asked [] told }
     ensures book { E.book engine.new ≡ E.book engine.old }

@@ -9,6 +9,6 @@ pub struct Committing<'a> {
     pub log_blocks: u64,
     /// The lines that one force makes durable, 1 to 1,000.
     pub batch: u64,
-    /// A line that is no transaction is passed over.
+    /// A line that is no transaction and no decision is passed over.
     pub skip_bad: bool,
 }

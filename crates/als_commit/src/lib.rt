@@ -1,12 +1,14 @@
-//! The writer of a primary from lines: it opens the folder of a primary, and writes a transaction for
-//! each line. It is a leader (als_lead) whose clients are the lines.
+//! The writer of a primary from lines: it opens the folder of a primary, and writes what each line asks
+//! for, a transaction or a decision. It is a leader (als_lead) whose clients are the lines.
 //!
 //! 1. Who may write: a new folder, one whose `role` says that it is a primary of its own epoch, or
 //!    one that was taken over. The role is made before anything else is.
 //! 2. What a crash left in mid-transaction is tidied first, in one force.
 //! 3. Each line that is a transaction is planned, and refused or fed as a whole. A group of lines is
 //!    forced once, and only then its lines are answered, in order, refusals too.
-//! 4. After each group its changes are redone, and after 4 MiB of log a checkpoint is taken. At the
+//! 4. A line may prepare a transaction, and a later one decides it by the number that was printed, also
+//!    after a restart.
+//! 5. After each group its changes are redone, and after 4 MiB of log a checkpoint is taken. At the
 //!    end everything is put on the devices.
 #![tactic(auto)]
 
@@ -14,7 +16,7 @@
 mod committing;
 // A line of the input.
 mod input_lines;
-// A line that is no transaction.
+// A line that is none.
 mod bad_line;
 // The line of an answer.
 mod printing;

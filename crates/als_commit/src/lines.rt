@@ -6,8 +6,8 @@ use crate::input_lines::{InputLine, next_line};
 use crate::printing::print;
 use als_lead::{Account, Answer, Asked, Clients, Waited};
 use als_operate::Fault;
-use als_request::{Mistake, transaction};
-use als_writer::{Transaction, find_flaw};
+use als_request::{Mistake, work};
+use als_writer::{Flaw, Work, find_flaw};
 use std::alloc::Global;
 use std::io::{BufReader, Read, Write};
 
@@ -16,14 +16,14 @@ use std::io::{BufReader, Read, Write};
 pub(crate) enum LinesEnd {
     /// The input is at its end.
     End,
-    /// A line is no transaction.
+    /// A line is no transaction and no decision.
     Bad,
 }
 
 /// A line of the input, read.
 enum Line {
-    /// It is a transaction.
-    Transaction(Transaction),
+    /// It is a transaction, or a decision.
+    Work(Work),
     /// It is none, which `bad` received.
     Bad,
     /// There is none any more.
@@ -41,7 +41,7 @@ pub(crate) struct Lines<'a, I: Read, B: BadLines, O: Write> {
     pub number: u64,
     /// The pages of the database.
     pub pages: u32,
-    /// A line that is no transaction is passed over.
+    /// A line that is no transaction and no decision is passed over.
     pub skip_bad: bool,
     /// None: more lines may be taken.
     pub end: Option<LinesEnd>,
@@ -64,11 +64,11 @@ impl<I: Read + Drop, B: BadLines, O: Write> Clients for Lines<'_, I, B, O> {
     }
 
     fn next(&mut self) -> Result<Option<Asked>, Fault> {
-        match self.next_transaction()? {
-            Some(transaction) => {
+        match self.next_work()? {
+            Some(work) => {
                 let asked = Asked {
                     seat: self.number,
-                    transaction,
+                    work,
                 };
                 self.account.take(&asked);
                 Ok(Some(asked))
@@ -78,7 +78,7 @@ impl<I: Read + Drop, B: BadLines, O: Write> Clients for Lines<'_, I, B, O> {
     }
 
     fn tell(&mut self, asked: Asked, answer: Answer) -> Result<(), Fault> {
-        let printed = print(&answer, self.output);
+        let printed = print(&asked.work, &answer, self.output);
         self.account.tell(&asked, answer);
         printed?;
         Ok(())
@@ -91,8 +91,8 @@ impl<I: Read + Drop, B: BadLines, O: Write> Clients for Lines<'_, I, B, O> {
 }
 
 impl<I: Read + Drop, B: BadLines, O: Write> Lines<'_, I, B, O> {
-    /// The next transaction. None: no more lines are taken.
-    fn next_transaction(&mut self) -> Result<Option<Transaction>, Fault>
+    /// What the next line asks for. None: no more lines are taken.
+    fn next_work(&mut self) -> Result<Option<Work>, Fault>
         ensures { self.new.account ≡ self.old.account }
     {
         for _ in 0..u64::MAX {
@@ -100,7 +100,7 @@ impl<I: Read + Drop, B: BadLines, O: Write> Lines<'_, I, B, O> {
                 break;
             }
             match self.read()? {
-                Line::Transaction(transaction) => return Ok(Some(transaction)),
+                Line::Work(work) => return Ok(Some(work)),
                 Line::Bad if self.skip_bad => {}
                 Line::Bad => self.end = Some(LinesEnd::Bad),
                 Line::End => self.end = Some(LinesEnd::End),
@@ -122,20 +122,29 @@ impl<I: Read + Drop, B: BadLines, O: Write> Lines<'_, I, B, O> {
             }
             InputLine::Whole => self.number = self.number.saturating_add(1),
         }
-        let transaction = match transaction(self.alloc, self.line.as_slice()) {
-            Ok(transaction) => transaction,
+        let asked = match work(self.alloc, self.line.as_slice()) {
+            Ok(asked) => asked,
             Err(Mistake::Memory) => return Err(Fault::Memory),
             Err(mistake) => {
                 self.bad.unreadable(self.number, mistake);
                 return Ok(Line::Bad);
             }
         };
-        match find_flaw(&transaction, self.pages) {
-            None => Ok(Line::Transaction(transaction)),
+        match flaw_in(&asked, self.pages) {
+            None => Ok(Line::Work(asked)),
             Some(flaw) => {
                 self.bad.invalid(self.number, flaw);
                 Ok(Line::Bad)
             }
         }
+    }
+}
+
+/// What is wrong with a transaction, in a database with this many pages. Nothing with a decision: whether
+/// there is anything to decide the log says.
+fn flaw_in(work: &Work, pages: u32) -> Option<Flaw> {
+    match work {
+        Work::Commit(transaction) | Work::Prepare(transaction) => find_flaw(transaction, pages),
+        Work::Decide { .. } => None,
     }
 }

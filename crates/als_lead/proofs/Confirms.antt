@@ -1,5 +1,5 @@
 -- What others hold of a log, and what of it is answered and shown.
-use Rattle.std.proofs.Common.{◌≡◌, ◌≤◌, ◌+◌, ℕ, Bool, true, false, List, [], ◌∷◌, ◌++◌, Result, Ok, Err, IfOk, OnOk, refl, sym, ap, subst, ◌∙◌, inl, inr, arith, append-nil, append_assoc, leb-true}
+use Rattle.std.proofs.Common.{◌≡◌, ◌≤◌, ◌+◌, ℕ, Bool, true, false, List, [], ◌∷◌, ◌++◌, ◌⊎◌, Result, Ok, Err, IfOk, OnOk, refl, sym, ap, subst, ◌∙◌, inl, inr, arith, append-nil, append_assoc, leb-true}
 use Rattle.std.specs.Prelude.{nat_le, if◌then◌else◌, IsOk}
 use Rattle.std.specs.List.{AllByRecursion}
 use Rattle.als_record.specs.declared.lsn.Lsn.{Lsn}
@@ -12,22 +12,24 @@ use Rattle.als_store.specs.Stored.{acknowledged}
 use Rattle.als_engine.specs.declared.fault.Fault.{Fault}
 use Rattle.als_operate.specs.declared.fault.Fault.{Fault as OperateFault}
 use Rattle.als_engine.specs.Machine.{Machine, acknowledged_in}
+use Rattle.als_writer.specs.declared.not_decided.NotDecided.{NotDecided as Undecided}
 use Rattle.als_writer.specs.declared.refusal.Refusal.{Refusal}
-use Rattle.als_writer.specs.declared.transaction.Transaction.{Transaction}
+use Rattle.als_writer.specs.declared.work.Work.{Work}
+use Rattle.als_writer.specs.declared.work.Work.TheVariants as work
 use Rattle.als_writer.specs.declared.written.Written.{Written}
 use Rattle.als_lead.specs.declared.answer.Answer.{Answer}
-use Rattle.als_lead.specs.declared.answer.Answer.TheVariants.{Committed, Refused, Unknown, Withheld}
+use Rattle.als_lead.specs.declared.answer.Answer.TheVariants.{Committed, Prepared, Decided, Refused, NotDecided, Unknown, Withheld}
 use Rattle.als_lead.specs.declared.forced.Forced.{Forced}
 use Rattle.als_lead.specs.declared.forced.Forced.TheVariants as forced
 use Rattle.als_lead.specs.declared.told.Told.{Told}
 use Rattle.als_lead.specs.Going.{Grows, Stays, Publishes}
-use Rattle.als_lead.specs.Answers.{WasRefused}
-use Rattle.als_lead.specs.Groups.{IsHeld, IsHeldOf, IsStableTo, IsStableIn, answer_after, all_after}
+use Rattle.als_lead.specs.Answers.{WasRefused, IsEnded}
+use Rattle.als_lead.specs.Groups.{IsHeld, IsHeldOf, IsStableTo, IsStableIn, done_by, written_after, refused_after, undecided_after, answer_after, all_after}
 use Rattle.als_lead.specs.Leading.{AllTold}
-use Rattle.als_lead.specs.Confirming.{IsForcedBy, GoesOn, PublishesIn, IsShown, IsRefusedBy, IsConfirmedBy, IsConfirmedOf, IsBegun, IsBegunOf, IsCarried, IsCarriedOut}
-use Rattle.als_lead.proofs.Going.{grows_refl, grows_trans, stable_on}
-use Rattle.als_lead.proofs.Doing.{all_append}
-use Rattle.als_lead.proofs.Truths.{grows_end}
+use Rattle.als_lead.specs.Confirming.{IsForcedBy, GoesOn, PublishesIn, IsShown, IsRefusedBy, IsConfirmedTo, IsConfirmedBy, IsConfirmedOf, IsForCause, IsOpenForCause, IsBegun, IsBegunOf, IsCarried, IsCarriedOut}
+use Rattle.als_lead.proofs.Going.{grows_refl, stable_on}
+use Rattle.als_lead.proofs.Doing.{all_append, was_on}
+use Rattle.als_lead.proofs.Truths.{grows_end, ended_refused, ended_undecided}
 
 -- ---- answers that are all such
 
@@ -170,87 +172,132 @@ shown_stays confirmed confirmed_now old mid new keeps p s =
 
 -- ---- what is confirmed of the answers
 
-written_confirmed : (confirmed : ℕ → Type 0) (m : Machine) (lsn : Lsn) (t : Transaction) (w : Written) (b : Bool) → nat_le w.end.0 lsn.0 ≡ b → confirmed lsn.0 → IsConfirmedBy confirmed m t (if b then Committed w else Unknown w)
-written_confirmed confirmed m lsn t w true e h = (lsn.0, leb-true w.end.0 lsn.0 e, h)
-written_confirmed confirmed m lsn t w false e h = tt
+done_confirmed : (confirmed : ℕ → Type 0) (m : Machine) (asked : Work) (w : Written) → IsConfirmedTo confirmed w → IsConfirmedBy confirmed m asked (done_by asked w)
+done_confirmed confirmed m (work.Commit t) w h = h
+done_confirmed confirmed m (work.Prepare t) w h = h
+done_confirmed confirmed m (work.Decide trans verdict) w h = h
 
-refused_confirmed : (confirmed : ℕ → Type 0) (m : Machine) (lsn : Lsn) (t : Transaction) (r : Refusal) → IsStableTo m lsn → confirmed lsn.0 → WasRefused m t r → IsRefusedBy confirmed m t r
-refused_confirmed confirmed m lsn t r s h w = record { was = w; end = lsn.0; reaches = omega (arith, grows_end w.after m w.goes_on, s.whole); stable = s.reaches; holds = h }
+if_confirmed : (confirmed : ℕ → Type 0) (m : Machine) (lsn : Lsn) (asked : Work) (w : Written) (b : Bool) → nat_le w.end.0 lsn.0 ≡ b → confirmed lsn.0 → IsConfirmedBy confirmed m asked (if b then done_by asked w else Unknown w)
+if_confirmed confirmed m lsn asked w true e h = done_confirmed confirmed m asked w (lsn.0, leb-true w.end.0 lsn.0 e, h)
+if_confirmed confirmed m lsn asked w false e h = tt
 
-confirmed_after : (confirmed : ℕ → Type 0) (m : Machine) (result : Forced) → IsStableIn result m → HoldsIn confirmed result → (t : Transaction) (a : Answer) → IsHeld m t a → IsConfirmedBy confirmed m t (answer_after result a)
-confirmed_after confirmed m (forced.Confirmed lsn) s c t (Committed w) h = written_confirmed confirmed m lsn t w (nat_le w.end.0 lsn.0) refl c
-confirmed_after confirmed m (forced.Confirmed lsn) s c t (Unknown w) h = written_confirmed confirmed m lsn t w (nat_le w.end.0 lsn.0) refl c
-confirmed_after confirmed m (forced.Confirmed lsn) s c t (Refused r) h = elim h [
-  | inl was ↦ inl (refused_confirmed confirmed m lsn t r s c was)
+written_confirmed : (confirmed : ℕ → Type 0) (m : Machine) (result : Forced) → HoldsIn confirmed result → (asked : Work) (w : Written) → IsConfirmedBy confirmed m asked (written_after result asked w)
+written_confirmed confirmed m (forced.Confirmed lsn) c asked w = if_confirmed confirmed m lsn asked w (nat_le w.end.0 lsn.0) refl c
+written_confirmed confirmed m forced.Unconfirmed c asked w = tt
+written_confirmed confirmed m (forced.Failed f) c asked w = tt
+
+refused_to : (confirmed : ℕ → Type 0) (m : Machine) (lsn : Lsn) (asked : Work) (a : Answer) → IsStableTo m lsn → confirmed lsn.0 → WasRefused m asked a → IsRefusedBy confirmed m asked a
+refused_to confirmed m lsn asked a s h w = record { was = w; end = lsn.0; reaches = omega (arith, grows_end w.after m w.goes_on, s.whole); stable = s.reaches; holds = h }
+
+refused_confirmed : (confirmed : ℕ → Type 0) (m : Machine) (result : Forced) → IsStableIn result m → HoldsIn confirmed result → (asked : Work) (r : Refusal) → WasRefused m asked (Refused r) ⊎ IsEnded asked (Refused r) → IsConfirmedBy confirmed m asked (refused_after result r)
+refused_confirmed confirmed m (forced.Confirmed lsn) s c asked r h = elim h [
+  | inl was ↦ inl (refused_to confirmed m lsn asked (Refused r) s c was)
   | inr ended ↦ inr ended
 ]
-confirmed_after confirmed m (forced.Confirmed lsn) s c t Withheld h = tt
-confirmed_after confirmed m forced.Unconfirmed s c t (Committed w) h = tt
-confirmed_after confirmed m forced.Unconfirmed s c t (Unknown w) h = tt
-confirmed_after confirmed m forced.Unconfirmed s c t (Refused r) h = tt
-confirmed_after confirmed m forced.Unconfirmed s c t Withheld h = tt
-confirmed_after confirmed m (forced.Failed f) s c t (Committed w) h = tt
-confirmed_after confirmed m (forced.Failed f) s c t (Unknown w) h = tt
-confirmed_after confirmed m (forced.Failed f) s c t (Refused r) h = inr (f, refl)
-confirmed_after confirmed m (forced.Failed f) s c t Withheld h = tt
+refused_confirmed confirmed m forced.Unconfirmed s c asked r h = tt
+refused_confirmed confirmed m (forced.Failed f) s c asked r h = inr (ended_refused m asked r f h)
+
+undecided_confirmed : (confirmed : ℕ → Type 0) (m : Machine) (result : Forced) → IsStableIn result m → HoldsIn confirmed result → (asked : Work) (r : Undecided) → WasRefused m asked (NotDecided r) ⊎ IsEnded asked (NotDecided r) → IsConfirmedBy confirmed m asked (undecided_after result r)
+undecided_confirmed confirmed m (forced.Confirmed lsn) s c asked r h = elim h [
+  | inl was ↦ inl (refused_to confirmed m lsn asked (NotDecided r) s c was)
+  | inr ended ↦ inr ended
+]
+undecided_confirmed confirmed m forced.Unconfirmed s c asked r h = tt
+undecided_confirmed confirmed m (forced.Failed f) s c asked r h = inr (ended_undecided m asked r f h)
+
+confirmed_after : (confirmed : ℕ → Type 0) (m : Machine) (result : Forced) → IsStableIn result m → HoldsIn confirmed result → (asked : Work) (a : Answer) → IsHeld m asked a → IsConfirmedBy confirmed m asked (answer_after result asked a)
+confirmed_after confirmed m result s c asked (Committed w) h = written_confirmed confirmed m result c asked w
+confirmed_after confirmed m result s c asked (Prepared w) h = written_confirmed confirmed m result c asked w
+confirmed_after confirmed m result s c asked (Decided w) h = written_confirmed confirmed m result c asked w
+confirmed_after confirmed m result s c asked (Unknown w) h = written_confirmed confirmed m result c asked w
+confirmed_after confirmed m result s c asked (Refused r) h = refused_confirmed confirmed m result s c asked r h
+confirmed_after confirmed m result s c asked (NotDecided r) h = undecided_confirmed confirmed m result s c asked r h
+confirmed_after confirmed m result s c asked Withheld h = tt
 
 all_confirmed_after : (confirmed : ℕ → Type 0) (m : Machine) (result : Forced) → IsStableIn result m → HoldsIn confirmed result → (told : List Told) → AllByRecursion (IsHeldOf m) told → AllByRecursion (IsConfirmedOf confirmed m) (all_after result told)
 all_confirmed_after confirmed m result s c [] h = tt
-all_confirmed_after confirmed m result s c (x ∷ xs) h = (confirmed_after confirmed m result s c x.asked.transaction x.answer h.0, all_confirmed_after confirmed m result s c xs h.1)
+all_confirmed_after confirmed m result s c (x ∷ xs) h = (confirmed_after confirmed m result s c x.asked.work x.answer h.0, all_confirmed_after confirmed m result s c xs h.1)
 
 pub confirmed_group : (confirmed : ℕ → Type 0) (m : Machine) (result : Forced) (told told_now queued : List Told) → IsStableIn result m → HoldsIn confirmed result → AllByRecursion (IsHeldOf m) queued → told_now ≡ told ++ all_after result queued → AllTold (IsConfirmedOf confirmed m) told told_now
 confirmed_group confirmed m result told told_now queued s c h tells = record { more = all_after result queued; answered = tells; each = all_confirmed_after confirmed m result s c queued h }
 
 -- what is confirmed stays so
-refused_on : (confirmed confirmed_now : ℕ → Type 0) (mid new : Machine) (t : Transaction) (r : Refusal) → Grows mid new → ((n : ℕ) → confirmed n → confirmed_now n) → IsRefusedBy confirmed mid t r → IsRefusedBy confirmed_now new t r
-refused_on confirmed confirmed_now mid new t r g keeps i =
+refused_on : (confirmed confirmed_now : ℕ → Type 0) (mid new : Machine) (asked : Work) (a : Answer) → Grows mid new → ((n : ℕ) → confirmed n → confirmed_now n) → IsRefusedBy confirmed mid asked a → IsRefusedBy confirmed_now new asked a
+refused_on confirmed confirmed_now mid new asked a g keeps i =
     let reaches : end_of i.was.after.held.log ≤ i.end = i.reaches in
     record {
-      was = record { before = i.was.before; after = i.was.after; refused = i.was.refused; grown = i.was.grown; goes_on = grows_trans i.was.after mid new i.was.goes_on g };
+      was = was_on mid new asked a g i.was;
       end = i.end;
       reaches = reaches;
       stable = omega (arith, i.stable, g.acknowledged);
       holds = keeps i.end i.holds;
     }
 
-confirmed_on : (confirmed confirmed_now : ℕ → Type 0) (mid new : Machine) (t : Transaction) (a : Answer) → Grows mid new → ((n : ℕ) → confirmed n → confirmed_now n) → IsConfirmedBy confirmed mid t a → IsConfirmedBy confirmed_now new t a
-confirmed_on confirmed confirmed_now mid new t (Committed w) g keeps h = (h.0, h.1, keeps h.0 h.2)
-confirmed_on confirmed confirmed_now mid new t (Unknown w) g keeps h = tt
-confirmed_on confirmed confirmed_now mid new t Withheld g keeps h = tt
-confirmed_on confirmed confirmed_now mid new t (Refused r) g keeps h = elim h [
-  | inl by ↦ inl (refused_on confirmed confirmed_now mid new t r g keeps by)
+to_on : (confirmed confirmed_now : ℕ → Type 0) (w : Written) → ((n : ℕ) → confirmed n → confirmed_now n) → IsConfirmedTo confirmed w → IsConfirmedTo confirmed_now w
+to_on confirmed confirmed_now w keeps h = (h.0, h.1, keeps h.0 h.2)
+
+confirmed_on : (confirmed confirmed_now : ℕ → Type 0) (mid new : Machine) (asked : Work) (a : Answer) → Grows mid new → ((n : ℕ) → confirmed n → confirmed_now n) → IsConfirmedBy confirmed mid asked a → IsConfirmedBy confirmed_now new asked a
+confirmed_on confirmed confirmed_now mid new asked (Committed w) g keeps h = to_on confirmed confirmed_now w keeps h
+confirmed_on confirmed confirmed_now mid new asked (Prepared w) g keeps h = to_on confirmed confirmed_now w keeps h
+confirmed_on confirmed confirmed_now mid new asked (Decided w) g keeps h = to_on confirmed confirmed_now w keeps h
+confirmed_on confirmed confirmed_now mid new asked (Unknown w) g keeps h = tt
+confirmed_on confirmed confirmed_now mid new asked Withheld g keeps h = tt
+confirmed_on confirmed confirmed_now mid new asked (Refused r) g keeps h = elim h [
+  | inl by ↦ inl (refused_on confirmed confirmed_now mid new asked (Refused r) g keeps by)
+  | inr ended ↦ inr ended
+]
+confirmed_on confirmed confirmed_now mid new asked (NotDecided r) g keeps h = elim h [
+  | inl by ↦ inl (refused_on confirmed confirmed_now mid new asked (NotDecided r) g keeps by)
   | inr ended ↦ inr ended
 ]
 
 pub told_confirmed_on : (confirmed confirmed_now : ℕ → Type 0) (mid new : Machine) (told told_now : List Told) → Grows mid new → ((n : ℕ) → confirmed n → confirmed_now n) → AllTold (IsConfirmedOf confirmed mid) told told_now → AllTold (IsConfirmedOf confirmed_now new) told told_now
 told_confirmed_on confirmed confirmed_now mid new told told_now g keeps t =
-    told_map (IsConfirmedOf confirmed mid) (IsConfirmedOf confirmed_now new) told told_now (λ x h. confirmed_on confirmed confirmed_now mid new x.asked.transaction x.answer g keeps h) t
+    told_map (IsConfirmedOf confirmed mid) (IsConfirmedOf confirmed_now new) told told_now (λ x h. confirmed_on confirmed confirmed_now mid new x.asked.work x.answer g keeps h) t
 
 pub told_confirmed_both : (confirmed confirmed_now : ℕ → Type 0) (mid new : Machine) (told told_mid told_now : List Told) → Grows mid new → ((n : ℕ) → confirmed n → confirmed_now n) → AllTold (IsConfirmedOf confirmed mid) told told_mid → AllTold (IsConfirmedOf confirmed_now new) told_mid told_now
     → AllTold (IsConfirmedOf confirmed_now new) told told_now
 told_confirmed_both confirmed confirmed_now mid new told told_mid told_now g keeps p q =
-    told_both (IsConfirmedOf confirmed mid) (IsConfirmedOf confirmed_now new) told told_mid told_now (λ x h. confirmed_on confirmed confirmed_now mid new x.asked.transaction x.answer g keeps h) p q
+    told_both (IsConfirmedOf confirmed mid) (IsConfirmedOf confirmed_now new) told told_mid told_now (λ x h. confirmed_on confirmed confirmed_now mid new x.asked.work x.answer g keeps h) p q
 
 -- ---- no answer is for the end of the leader
 
-carried_if : (missed : ℕ → Type 0) (w : Written) (b : Bool) → IsCarried missed (if b then Committed w else Unknown w)
-carried_if missed w true = tt
-carried_if missed w false = tt
+carried_done : (missed : ℕ → Type 0) (asked : Work) (w : Written) → IsCarried missed (done_by asked w)
+carried_done missed (work.Commit t) w = tt
+carried_done missed (work.Prepare t) w = tt
+carried_done missed (work.Decide trans verdict) w = tt
 
-carried_after : (missed : ℕ → Type 0) (result : Forced) → GoesOn result → MissesIn missed result → (a : Answer) → IsBegun a → IsCarried missed (answer_after result a)
-carried_after missed (forced.Confirmed lsn) g m (Committed w) h = absurd h
-carried_after missed (forced.Confirmed lsn) g m (Unknown w) h = carried_if missed w (nat_le w.end.0 lsn.0)
-carried_after missed (forced.Confirmed lsn) g m (Refused r) h = h
-carried_after missed (forced.Confirmed lsn) g m Withheld h = absurd h
-carried_after missed forced.Unconfirmed g m (Committed w) h = tt
-carried_after missed forced.Unconfirmed g m (Unknown w) h = tt
-carried_after missed forced.Unconfirmed g m (Refused r) h = m
-carried_after missed forced.Unconfirmed g m Withheld h = m
-carried_after missed (forced.Failed f) g m a h = absurd g
+carried_if : (missed : ℕ → Type 0) (asked : Work) (w : Written) (b : Bool) → IsCarried missed (if b then done_by asked w else Unknown w)
+carried_if missed asked w true = carried_done missed asked w
+carried_if missed asked w false = tt
+
+carried_written : (missed : ℕ → Type 0) (result : Forced) (asked : Work) (w : Written) → IsCarried missed (written_after result asked w)
+carried_written missed (forced.Confirmed lsn) asked w = carried_if missed asked w (nat_le w.end.0 lsn.0)
+carried_written missed forced.Unconfirmed asked w = tt
+carried_written missed (forced.Failed f) asked w = tt
+
+carried_refused : (missed : ℕ → Type 0) (result : Forced) → GoesOn result → MissesIn missed result → (r : Refusal) → IsForCause r → IsCarried missed (refused_after result r)
+carried_refused missed (forced.Confirmed lsn) g m r h = h
+carried_refused missed forced.Unconfirmed g m r h = m
+carried_refused missed (forced.Failed f) g m r h = absurd g
+
+carried_undecided : (missed : ℕ → Type 0) (result : Forced) → GoesOn result → MissesIn missed result → (r : Undecided) → IsOpenForCause r → IsCarried missed (undecided_after result r)
+carried_undecided missed (forced.Confirmed lsn) g m r h = h
+carried_undecided missed forced.Unconfirmed g m r h = m
+carried_undecided missed (forced.Failed f) g m r h = absurd g
+
+carried_after : (missed : ℕ → Type 0) (result : Forced) → GoesOn result → MissesIn missed result → (asked : Work) (a : Answer) → IsBegun a → IsCarried missed (answer_after result asked a)
+carried_after missed result g m asked (Committed w) h = absurd h
+carried_after missed result g m asked (Prepared w) h = absurd h
+carried_after missed result g m asked (Decided w) h = absurd h
+carried_after missed result g m asked (Unknown w) h = carried_written missed result asked w
+carried_after missed result g m asked (Refused r) h = carried_refused missed result g m r h
+carried_after missed result g m asked (NotDecided r) h = carried_undecided missed result g m r h
+carried_after missed result g m asked Withheld h = absurd h
 
 all_carried_after : (missed : ℕ → Type 0) (result : Forced) → GoesOn result → MissesIn missed result → (told : List Told) → AllByRecursion IsBegunOf told → AllByRecursion (IsCarriedOut missed) (all_after result told)
 all_carried_after missed result g m [] h = tt
-all_carried_after missed result g m (x ∷ xs) h = (carried_after missed result g m x.answer h.0, all_carried_after missed result g m xs h.1)
+all_carried_after missed result g m (x ∷ xs) h = (carried_after missed result g m x.asked.work x.answer h.0, all_carried_after missed result g m xs h.1)
 
 pub works_group : (missed : ℕ → Type 0) (result : Forced) (told told_now queued : List Told) → GoesOn result → MissesIn missed result → AllTold IsBegunOf [] queued → told_now ≡ told ++ all_after result queued → AllTold (IsCarriedOut missed) told told_now
 works_group missed result told told_now queued g m b tells =
@@ -259,8 +306,11 @@ works_group missed result told told_now queued g m b tells =
 
 carried_on : (missed missed_now : ℕ → Type 0) (a : Answer) → ((n : ℕ) → missed n → missed_now n) → IsCarried missed a → IsCarried missed_now a
 carried_on missed missed_now (Committed w) keeps h = tt
+carried_on missed missed_now (Prepared w) keeps h = tt
+carried_on missed missed_now (Decided w) keeps h = tt
 carried_on missed missed_now (Unknown w) keeps h = tt
 carried_on missed missed_now (Refused r) keeps h = h
+carried_on missed missed_now (NotDecided r) keeps h = h
 carried_on missed missed_now Withheld keeps h = (h.0, keeps h.0 h.1)
 
 pub told_works_on : (missed missed_now : ℕ → Type 0) (told told_now : List Told) → ((n : ℕ) → missed n → missed_now n) → AllTold (IsCarriedOut missed) told told_now → AllTold (IsCarriedOut missed_now) told told_now

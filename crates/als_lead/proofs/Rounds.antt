@@ -1,7 +1,6 @@
 -- What a leader does, one group after another.
 use Rattle.std.proofs.Common.{◌≡◌, List, [], ◌∷◌, ◌++◌, Option, Some, option_to_list, refl, sym, ap, subst, ◌∙◌, append-nil, append_assoc}
 use Rattle.std.proofs.lemmas.List.{map-append}
-use Rattle.std.proofs.lemmas.List.Concat.{flat_map-append}
 use Rattle.std.specs.List.{AllByRecursion}
 use Rattle.als_record.specs.declared.record.Record.{Record}
 use Rattle.als_record.specs.Commits.{Commit, commits_of}
@@ -11,12 +10,12 @@ use Rattle.als_lead.specs.declared.asked.Asked.{Asked}
 use Rattle.als_lead.specs.declared.forced.Forced.{Forced}
 use Rattle.als_lead.specs.declared.told.Told.{Told}
 use Rattle.als_lead.specs.Going.{Grows, Stays, Tidies}
-use Rattle.als_lead.specs.Answers.{IsTrueOf, commits_by, commits_told, asked_of}
+use Rattle.als_lead.specs.Answers.{IsTrueOf, asked_of}
 use Rattle.als_lead.specs.Groups.{Does, DoesAll, Fills, IsHeldOf, IsStableIn, answer_after, all_after}
-use Rattle.als_lead.specs.Leading.{Leads}
+use Rattle.als_lead.specs.Leading.{GoesOnBy, Leads}
 use Rattle.als_lead.proofs.Going.{grows_refl, grows_trans, tidies_stays, tidies_trans}
-use Rattle.als_lead.proofs.Doing.{all_append, does_none, does_more, does_then, all_held_on}
-use Rattle.als_lead.proofs.Truths.{all_true_after, all_after_commits, all_after_asked, all_true_on}
+use Rattle.als_lead.proofs.Doing.{all_append, does_none, does_more, does_then, all_held_on, adds_grown, adds_both}
+use Rattle.als_lead.proofs.Truths.{all_true_after, all_after_adds, all_after_asked, all_true_on}
 
 asked_more : (told : List Told) (x : Told) → asked_of (told ++ x ∷ []) ≡ asked_of told ++ x.asked ∷ []
 asked_more told x = map-append (λ (y : Told). y.asked) told (x ∷ [])
@@ -34,7 +33,7 @@ pub fills_none : (alone : Type 0) (m : Machine) (taken : List Asked) (queued : L
 fills_none alone m taken queued = record { more = []; joined = sym (append-nil queued); once = sym (append-nil taken); does = λ a. does_none m }
 
 pub fills_more : (alone : Type 0) (old mid new : Machine) (taken taken_mid taken_now : List Asked) (queued queued_mid queued_now : List Told) (x : Told) → Fills alone old mid taken taken_mid queued queued_mid
-    → taken_now ≡ taken_mid ++ x.asked ∷ [] → queued_now ≡ queued_mid ++ x ∷ [] → (alone → Does mid x.asked.transaction x.answer new) → Fills alone old new taken taken_now queued queued_now
+    → taken_now ≡ taken_mid ++ x.asked ∷ [] → queued_now ≡ queued_mid ++ x ∷ [] → (alone → Does mid x.asked.work x.answer new) → Fills alone old new taken taken_now queued queued_now
 fills_more alone old mid new taken taken_mid taken_now queued queued_mid queued_now x f takes joins does = record {
   more = f.more ++ x ∷ [];
   joined = joins ∙ ap (λ (q : List Told). q ++ x ∷ []) f.joined ∙ append_assoc queued f.more (x ∷ []);
@@ -49,7 +48,7 @@ fills_same alone old new taken taken_mid taken_now queued queued_now f e = subst
 -- ---- a group is answered
 
 -- one more of the queue is answered
-pub tells_more : (forced : Forced) (told told_now : List Told) (x : Told) (answer : Answer) (rest queued : List Told) → answer ≡ answer_after forced x.answer → told_now ≡ told ++ record { asked = x.asked; answer = answer } ∷ [] → queued ≡ x ∷ rest
+pub tells_more : (forced : Forced) (told told_now : List Told) (x : Told) (answer : Answer) (rest queued : List Told) → answer ≡ answer_after forced x.asked.work x.answer → told_now ≡ told ++ record { asked = x.asked; answer = answer } ∷ [] → queued ≡ x ∷ rest
     → told_now ++ all_after forced rest ≡ told ++ all_after forced queued
 tells_more forced told told_now x answer rest queued a t q =
     ap (λ (l : List Told). l ++ all_after forced rest) t
@@ -79,7 +78,11 @@ leads_group alone old forced new result taken taken_mid taken_now told told_now 
   more = all_after result queued;
   answered = tells;
   once = takes ∙ once ∙ ap (λ (q : List Asked). taken ++ q) (sym (all_after_asked result queued));
-  commits = λ a. ap (λ (l : List Record). commits_of l) (same a) ∙ (does a).commits ∙ ap (λ (cs : List Commit). commits_of old.held.log ++ cs) (sym (all_after_commits result queued));
+  commits = λ a. record {
+    added = (does a).added;
+    commits = ap (λ (l : List Record). commits_of l) (same a) ∙ (does a).commits;
+    adds = all_after_adds new.held.log result queued (does a).added (adds_grown forced new queued (does a).added (grows a) (does a).adds);
+  };
   answers = λ a. all_true_after new result (stable a) queued (held_shown forced new queued (grows a) (same a) (does a).held);
   grows = λ a. grows_trans old forced new (does a).grows (grows a);
 }
@@ -92,12 +95,15 @@ group_once alone old filled taken taken_mid queued f =
 
 -- ---- nothing was asked
 
+goes_none : (old new : Machine) → new.held.log ≡ old.held.log → GoesOnBy old new []
+goes_none old new same = record { added = []; commits = ap (λ (l : List Record). commits_of l) same ∙ sym (append-nil (commits_of old.held.log)); adds = refl }
+
 pub leads_same : (alone : Type 0) (old new : Machine) (taken taken_now : List Asked) (told told_now : List Told) → (alone → Grows old new) → (alone → new.held.log ≡ old.held.log) → taken_now ≡ taken → told_now ≡ told → Leads alone old new taken taken_now told told_now
 leads_same alone old new taken taken_now told told_now grows same takes tells = record {
   more = [];
   answered = tells ∙ sym (append-nil told);
   once = takes ∙ sym (append-nil taken);
-  commits = λ a. ap (λ (l : List Record). commits_of l) (same a) ∙ sym (append-nil (commits_of old.held.log));
+  commits = λ a. goes_none old new (same a);
   answers = λ a. tt;
   grows = grows;
 }
@@ -110,12 +116,19 @@ leads_none alone m taken told = record {
   more = [];
   answered = sym (append-nil told);
   once = sym (append-nil taken);
-  commits = λ a. sym (append-nil (commits_of m.held.log));
+  commits = λ a. goes_none m m refl;
   answers = λ a. tt;
   grows = λ a. grows_refl m;
 }
 
 -- ---- one after another
+
+goes_both : (a b c : Machine) (xs ys : List Told) → GoesOnBy a b xs → GoesOnBy b c ys → Grows b c → GoesOnBy a c (xs ++ ys)
+goes_both a b c xs ys p q g = record {
+  added = p.added ++ q.added;
+  commits = q.commits ∙ ap (λ (x : List Commit). x ++ q.added) p.commits ∙ append_assoc (commits_of a.held.log) p.added q.added;
+  adds = adds_both c.held.log xs ys p.added q.added (adds_grown b c xs p.added g p.adds) q.adds;
+}
 
 pub leads_both : (alone : Type 0) (a b c : Machine) (taken taken_mid taken_now : List Asked) (told told_mid told_now : List Told) → Leads alone a b taken taken_mid told told_mid → Leads alone b c taken_mid taken_now told_mid told_now
     → Leads alone a c taken taken_now told told_now
@@ -124,9 +137,8 @@ leads_both alone a b c taken taken_mid taken_now told told_mid told_now p q = re
   answered = q.answered ∙ ap (λ (x : List Told). x ++ q.more) p.answered ∙ append_assoc told p.more q.more;
   once = q.once ∙ ap (λ (x : List Asked). x ++ asked_of q.more) p.once ∙ append_assoc taken (asked_of p.more) (asked_of q.more)
       ∙ ap (λ (x : List Asked). taken ++ x) (sym (asked_both p.more q.more));
-  commits = λ m. q.commits m ∙ ap (λ (x : List Commit). x ++ commits_told q.more) (p.commits m) ∙ append_assoc (commits_of a.held.log) (commits_told p.more) (commits_told q.more)
-      ∙ ap (λ (x : List Commit). commits_of a.held.log ++ x) (sym (flat_map-append commits_by p.more q.more));
-  answers = λ m. all_append (IsTrueOf c) p.more q.more (all_true_on b c (commits_told q.more) (q.grows m) (q.commits m) p.more (p.answers m)) (q.answers m);
+  commits = λ m. goes_both a b c p.more q.more (p.commits m) (q.commits m) (q.grows m);
+  answers = λ m. all_append (IsTrueOf c) p.more q.more (all_true_on b c (q.commits m).added (q.grows m) (q.commits m).commits p.more (p.answers m)) (q.answers m);
   grows = λ m. grows_trans a b c (p.grows m) (q.grows m);
 }
 

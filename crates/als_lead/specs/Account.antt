@@ -5,13 +5,13 @@ use Rattle.als_lead.specs.declared.account.Account.TheVariants.{Nothing, Taken',
 use Rattle.als_lead.specs.declared.asked.Asked.{Asked}
 use Rattle.als_lead.specs.declared.told.Told.{Told}
 
--- the transactions that were handed out, in order
+-- what was handed out, in order
 abbrev pub taken_of : Account → List Asked
 taken_of Nothing = []
 taken_of (Taken' mark before asked) = taken_of before ++ asked.value ∷ []
 taken_of (Answered' mark before asked answer) = taken_of before
 
--- those that were answered, with their answers, in order
+-- what was answered, with the answers, in order
 abbrev pub told_of : Account → List Told
 told_of Nothing = []
 told_of (Taken' mark before asked) = told_of before

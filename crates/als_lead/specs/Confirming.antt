@@ -7,11 +7,14 @@ use Rattle.als_commits.specs.Counting.{ended_count}
 use Rattle.als_store.specs.Stored.{acknowledged}
 use Rattle.als_engine.specs.declared.fault.Fault.{Fault}
 use Rattle.als_engine.specs.Machine.{Machine}
+use Rattle.als_writer.specs.declared.not_decided.NotDecided.{NotDecided as Undecided}
+use Rattle.als_writer.specs.declared.not_decided.NotDecided.TheVariants as undecided
 use Rattle.als_writer.specs.declared.refusal.Refusal.{Refusal}
 use Rattle.als_writer.specs.declared.refusal.Refusal.TheVariants as refusal
-use Rattle.als_writer.specs.declared.transaction.Transaction.{Transaction}
+use Rattle.als_writer.specs.declared.work.Work.{Work}
+use Rattle.als_writer.specs.declared.written.Written.{Written}
 use Rattle.als_lead.specs.declared.answer.Answer.{Answer}
-use Rattle.als_lead.specs.declared.answer.Answer.TheVariants.{Committed, Refused, Unknown, Withheld}
+use Rattle.als_lead.specs.declared.answer.Answer.TheVariants.{Committed, Prepared, Decided, Refused, NotDecided, Unknown, Withheld}
 use Rattle.als_lead.specs.declared.forced.Forced.{Forced}
 use Rattle.als_lead.specs.declared.forced.Forced.TheVariants as forced
 use Rattle.als_lead.specs.declared.told.Told.{Told}
@@ -54,43 +57,54 @@ IsShown confirmed old new =
 
 -- ---- what is answered
 
--- a transaction was refused by a log that is confirmed and acknowledged
-pub record IsRefusedBy (confirmed : ℕ → Type 0) (m : Machine) (t : Transaction) (r : Refusal) : Type 0 where
-  pub was : WasRefused m t r
+-- what was asked for was refused by a log that is confirmed and acknowledged
+pub record IsRefusedBy (confirmed : ℕ → Type 0) (m : Machine) (asked : Work) (answer : Answer) : Type 0 where
+  pub was : WasRefused m asked answer
   pub end : ℕ
   pub reaches : end_of was.after.held.log ≤ end
   pub stable : end ≤ acknowledged m.held
   pub holds : confirmed end
 
--- A committed transaction ends at or below an offset that is confirmed, and what refused another one does. Where the leader has ended nothing is
--- said, nor of what is not known or withheld.
-abbrev pub IsConfirmedBy : (ℕ → Type 0) → Machine → Transaction → Answer → Type 0
-IsConfirmedBy confirmed m t (Committed w) = (end : ℕ) × (w.end.0 ≤ end) × confirmed end
-IsConfirmedBy confirmed m t (Refused r) = IsRefusedBy confirmed m t r ⊎ IsEnded r
-IsConfirmedBy confirmed m t (Unknown w) = Unit {0}
-IsConfirmedBy confirmed m t Withheld = Unit {0}
+-- what is done ends at or below an offset that is confirmed
+abbrev pub IsConfirmedTo : (ℕ → Type 0) → Written → Type 0
+IsConfirmedTo confirmed w = (end : ℕ) × (w.end.0 ≤ end) × confirmed end
+
+-- What is done ends at or below an offset that is confirmed, and what refused another work does. Where the leader has ended nothing is said,
+-- nor of what is not known or withheld.
+abbrev pub IsConfirmedBy : (ℕ → Type 0) → Machine → Work → Answer → Type 0
+IsConfirmedBy confirmed m asked (Committed w) = IsConfirmedTo confirmed w
+IsConfirmedBy confirmed m asked (Prepared w) = IsConfirmedTo confirmed w
+IsConfirmedBy confirmed m asked (Decided w) = IsConfirmedTo confirmed w
+IsConfirmedBy confirmed m asked (Refused r) = IsRefusedBy confirmed m asked (Refused r) ⊎ IsEnded asked (Refused r)
+IsConfirmedBy confirmed m asked (NotDecided r) = IsRefusedBy confirmed m asked (NotDecided r) ⊎ IsEnded asked (NotDecided r)
+IsConfirmedBy confirmed m asked (Unknown w) = Unit {0}
+IsConfirmedBy confirmed m asked Withheld = Unit {0}
 
 abbrev pub IsConfirmedOf : (ℕ → Type 0) → Machine → Told → Type 0
-IsConfirmedOf confirmed m told = IsConfirmedBy confirmed m told.asked.transaction told.answer
+IsConfirmedOf confirmed m told = IsConfirmedBy confirmed m told.asked.work told.answer
 
 -- a refusal is not for the end of the leader
 abbrev pub IsForCause : Refusal → Type 0
 IsForCause (refusal.State f) = ⊥
 IsForCause _ = Unit {0}
 
+abbrev pub IsOpenForCause : Undecided → Type 0
+IsOpenForCause (undecided.State f) = ⊥
+IsOpenForCause _ = Unit {0}
+
 -- what is answered before a force: written or not
 abbrev pub IsTried : Answer → Type 0
 IsTried (Refused r) = Unit {0}
-IsTried (Committed w) = ⊥
+IsTried (NotDecided r) = Unit {0}
 IsTried (Unknown w) = Unit {0}
-IsTried Withheld = ⊥
+IsTried _ = ⊥
 
 -- the same, and not for the end of the leader
 abbrev pub IsBegun : Answer → Type 0
 IsBegun (Refused r) = IsForCause r
-IsBegun (Committed w) = ⊥
+IsBegun (NotDecided r) = IsOpenForCause r
 IsBegun (Unknown w) = Unit {0}
-IsBegun Withheld = ⊥
+IsBegun _ = ⊥
 
 abbrev pub IsBegunOf : Told → Type 0
 IsBegunOf told = IsBegun told.answer
@@ -98,9 +112,9 @@ IsBegunOf told = IsBegun told.answer
 -- an answer is not for the end of the leader, and withheld only where a confirmation was missed
 abbrev pub IsCarried : (ℕ → Type 0) → Answer → Type 0
 IsCarried missed (Refused r) = IsForCause r
-IsCarried missed (Committed w) = Unit {0}
-IsCarried missed (Unknown w) = Unit {0}
+IsCarried missed (NotDecided r) = IsOpenForCause r
 IsCarried missed Withheld = (end : ℕ) × missed end
+IsCarried missed _ = Unit {0}
 
 abbrev pub IsCarriedOut : (ℕ → Type 0) → Told → Type 0
 IsCarriedOut missed told = IsCarried missed told.answer

@@ -15,7 +15,7 @@ pub enum Account {
 }
 
 impl Account {
-    /// A transaction is handed out.
+    /// One is handed out.
     pub fn take(&mut self, asked: &Asked)
         ensures taken { taken_of self.new ≡ taken_of self.old ++ asked.now ∷ [] }
         ensures told { told_of self.new ≡ told_of self.old }

@@ -1,8 +1,8 @@
-use als_writer::Transaction;
+use als_writer::Work;
 
-/// A transaction, and the seat that its answer goes to.
+/// What a client asks for, and the seat that its answer goes to.
 #[derive(Drop)]
 pub struct Asked {
     pub seat: u64,
-    pub transaction: Transaction,
+    pub work: Work,
 }

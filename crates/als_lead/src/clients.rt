@@ -17,12 +17,12 @@ pub enum Waited {
     Closed,
 }
 
-/// Who asks a leader for transactions, and gets its answers.
+/// Who asks a leader for transactions and decisions, and gets its answers.
 pub trait Clients {
-    /// The transactions that were handed out, in order.
+    /// What was handed out, in order.
     ghost taken: { Self → List AnyAsked };
 
-    /// Those that were answered, with their answers, in order.
+    /// What was answered, with the answers, in order.
     ghost told: { Self → List AnyTold };
 
     /// Waits until somebody asks. It may block.
@@ -30,14 +30,14 @@ pub trait Clients {
         ensures taken { taken self.new ≡ taken self.old }
         ensures told { told self.new ≡ told self.old };
 
-    /// The next transaction that is asked for, `None` where nobody asks now. It never blocks.
+    /// What is asked for next, `None` where nobody asks now. It never blocks.
     fn next(&mut self) -> Result<Option<Asked>, Fault>
         ensures taken { IfOk result (λ next. taken self.new
             ≡ taken self.old ++ option_to_list next) }
         ensures none { OnErr result (taken self.new ≡ taken self.old) }
         ensures told { told self.new ≡ told self.old };
 
-    /// Receives the answer to a transaction that was handed out.
+    /// Receives the answer to what was handed out.
     fn tell(&mut self, asked: Asked, answer: Answer) -> Result<(), Fault>
         ensures taken { taken self.new ≡ taken self.old }
         ensures told { told self.new ≡ told self.old ++ record { asked = asked; answer = answer }

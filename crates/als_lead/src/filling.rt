@@ -14,12 +14,12 @@ use crate::told::Told;
 use crate::writing::write_tidily;
 use als_engine::Writes;
 use als_operate::Fault;
-use als_writer::{Changes, Refusal};
+use als_writer::{Changes, NotDecided, Refusal};
 use std::alloc::Global;
 use std::collections::VecDeque;
 
-/// Takes transactions of clients, and writes each one, until nobody asks, or the group is full. An
-/// `Err` ends the group too: the clients failed, or the engine takes nothing any more.
+/// Takes what clients ask for, and writes each work, until nobody asks, or the group is full. An `Err`
+/// ends the group too: the clients failed, or the engine takes nothing any more.
 pub(crate) fn fill<E: Writes, C: Clients>(
     alloc: Global,
     engine: &mut E,
@@ -52,8 +52,8 @@ pub(crate) fn fill<E: Writes, C: Clients>(
     Ok(())
 }
 
-/// Writes one transaction, and queues it with its answer. An `Err` says that the engine takes nothing
-/// any more; it is queued all the same.
+/// Writes one work, and queues it with its answer. An `Err` says that the engine takes nothing any
+/// more; it is queued all the same.
 fn take<E: Writes>(
     alloc: Global,
     engine: &mut E,
@@ -66,13 +66,13 @@ fn take<E: Writes>(
     requires room { deque_len queue.old < deque_capacity queue.old }
     ensures does { (answer : AnyAnswer) × (queue.new.items ≡ queue.old.items
         ++ record { asked = asked; answer = answer } ∷ []) × (E.alone
-        → Does (E.machine engine.old) asked.transaction answer (E.machine engine.new)) }
+        → Does (E.machine engine.old) asked.work answer (E.machine engine.new)) }
     ensures begun { OnOk result (AllTold IsBegunOf queue.old.items queue.new.items) }
     ensures bounds { E.alone → AreBounds changes.new (E.machine engine.new).held.pages
         (E.machine engine.new).held.log }
     ensures book { E.book engine.new ≡ E.book engine.old }
 {
-    let answer = write_tidily(alloc, engine, changes, &asked);
+    let answer = write_tidily(alloc, engine, changes, &asked.work);
     let goes_on = go_on(&answer);
     queue.push_back_reserved(Told { asked, answer });
     goes_on
@@ -85,6 +85,7 @@ fn go_on(answer: &Answer) -> Result<(), Fault>
     match *answer {
         Answer::Refused(Refusal::State(fault)) => Err(Fault::Refused(fault)),
         Answer::Refused(Refusal::Unplanned(fault)) => Err(Fault::Refused(fault)),
+        Answer::NotDecided(NotDecided::State(fault)) => Err(Fault::Refused(fault)),
         _ => Ok(()),
     }
 }

@@ -16,9 +16,9 @@ use als_writer::Changes;
 use std::alloc::Global;
 use std::collections::VecDeque;
 
-/// Leads an engine that nobody else drives, until its clients have closed or something fails: their
-/// transactions are written in groups, and each group is answered after its force, once enough others
-/// hold it. No group is taken before the last one is confirmed.
+/// Leads an engine that nobody else drives, until its clients have closed or something fails: what they
+/// ask for is written in groups, and each group is answered after its force, once enough others hold
+/// it. No group is taken before the last one is confirmed.
 ///
 /// The first failure of the clients, of the engine or of its upkeep. Memory: allocation failed.
 pub fn lead<E: Writes, C: Clients, U: Upkeep>(
@@ -28,16 +28,16 @@ pub fn lead<E: Writes, C: Clients, U: Upkeep>(
     upkeep: &mut U,
     limits: Limits,
 ) -> Result<(), Fault>
-    // However it ends: each transaction that was taken is answered once, in order, to its own seat.
-    // The log's commits are the old ones and those answered. Each answer is true of the log.
+    // However it ends: what was taken is answered once, in order, to its own seat. The log's commits are
+    // the old ones and those answered. Each answer is true of the log.
     ensures leads { Leads E.alone (E.machine engine.old) (E.machine engine.new)
         (C.taken clients.old) (C.taken clients.new) (C.told clients.old) (C.told clients.new) }
-    // What was committed, and what refused another one, is confirmed.
+    // What is done, and what refused another work, is confirmed.
     ensures confirmed { E.alone
         → AllTold (IsConfirmedOf (U.confirmed upkeep.new) (E.machine engine.new))
         (C.told clients.old) (C.told clients.new) }
-    // Where it ends well, no transaction was refused because the leader ends, and why one was withheld
-    // is that a confirmation was missed.
+    // Where it ends well, nothing was refused because the leader ends, and why an answer was withheld is
+    // that a confirmation was missed.
     ensures works { OnOk result (AllTold (IsCarriedOut (U.missed upkeep.new))
         (C.told clients.old) (C.told clients.new)) }
     // Readers see what they saw, or what is confirmed.

@@ -1,23 +1,23 @@
 //! The leader of a primary: it owns the engine alone, and writes what its clients ask for.
 //!
-//! waits for clients -> writes each transaction of a group -> forces the log once -> waits until enough
+//! waits for clients -> writes each work of a group -> forces the log once -> waits until enough
 //! others hold it -> publishes -> answers all of the group, in order -> upkeep -> waits again
 //!
 //! 1. Nobody else makes events. So each answer is true of the engine's own log.
 //! 2. All of a group is answered after its force and its confirmation, refusals too: a refusal may tell
 //!    of a commit that a crash or a takeover takes back until then.
-//! 3. Each transaction that is taken is answered once, in the order in which it was taken, and to its
-//!    own seat.
-//! 4. Where a force fails, the transactions whose records may be in the log are answered `Unknown`,
-//!    the others are refused, and the leader ends.
+//! 3. What is taken is answered once, in the order in which it was taken, and to its own seat.
+//! 4. Where a force fails, what may be in the log is answered `Unknown`, the rest is refused, and the
+//!    leader ends.
 //! 5. A group that too few others hold in time is answered so that nothing is promised: what is written
 //!    `Unknown`, what was refused `Withheld`. It is not published, and no other group is taken, until
 //!    enough others hold it.
-//! 6. What an earlier transaction owes to the log is written before the next one, and before the
-//!    force.
+//! 6. What an earlier work owes to the log is written before the next one, and before the force.
+//! 7. A work is a transaction that commits, one that prepares, or the decision of one in doubt. Each kind
+//!    has its own answer.
 #![tactic(auto)]
 
-// A transaction and where its answer goes.
+// What is asked for, and where its answer goes.
 mod asked;
 // What becomes of it.
 mod answer;
@@ -29,9 +29,9 @@ mod account;
 mod clients;
 // What a group may have.
 mod limits;
-// One transaction written.
+// One work written.
 mod writing;
-// The transactions of a group written.
+// The works of a group written.
 mod filling;
 // The log made durable.
 mod forcing;
@@ -60,7 +60,7 @@ pub use answer::Answer;
 pub use asked::Asked;
 pub use clients::{Clients, Waited};
 pub use keeping_up::PrimaryUpkeep;
-pub use laws::a_true_answer_stays_true;
+pub use laws::{a_decision_commits_what_was_prepared, a_true_answer_stays_true};
 pub use leading::lead;
 pub use limits::Limits;
 pub use opening::{Database, Primary, open};

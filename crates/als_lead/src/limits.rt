@@ -1,8 +1,8 @@
-/// What a group may have: the transactions that one force makes durable.
+/// What a group may have: the works that one force makes durable.
 #[derive(Clone, Copy, Debug, PartialEq, Eq)]
 pub struct Limits {
-    /// The most transactions, 1 at least.
+    /// The most works, 1 at least.
     pub transactions: usize,
-    /// A group of so many log bytes takes no more transactions.
+    /// A group of so many log bytes takes no more.
     pub bytes: u64,
 }

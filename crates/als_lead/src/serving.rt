@@ -18,8 +18,8 @@ use als_writer::{Changes, tidy};
 use std::alloc::Global;
 use std::collections::VecDeque;
 
-/// Serves one group: its transactions are written, the log is forced once, enough others confirm it,
-/// readers see what is committed, and then all of the group is answered.
+/// Serves one group: its works are written, the log is forced once, enough others confirm it, readers
+/// see what is committed, and then all of the group is answered.
 pub(crate) fn serve<E: Writes, C: Clients, U: Upkeep>(
     alloc: Global,
     engine: &mut E,

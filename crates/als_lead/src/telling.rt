@@ -1,7 +1,7 @@
 ghost use Rattle.std.specs.Prelude.{◌≡◌, ◌++◌, [], OnOk, IsOk};
 ghost use Rattle.std.specs.VecDeque.{deque_capacity};
 ghost use Rattle.als_lead.specs.declared.forced.Forced.TheVariants.{Confirmed, Unconfirmed, Failed};
-ghost use Rattle.als_lead.specs.Groups.{answer_after, all_after};
+ghost use Rattle.als_lead.specs.Groups.{done_by, answer_after, all_after};
 
 use crate::answer::Answer;
 use crate::clients::Clients;
@@ -10,7 +10,7 @@ use crate::told::Told;
 use als_engine::Fault as EngineFault;
 use als_operate::Fault;
 use als_record::Lsn;
-use als_writer::Refusal;
+use als_writer::{NotDecided, Refusal, Work, Written};
 use std::collections::VecDeque;
 
 /// Answers all of a group, in order, after its force. Each one is answered, also where an earlier
@@ -27,59 +27,83 @@ pub(crate) fn tell_all<C: Clients>(
     let mut ended = Ok(());
     'tell: while let Some(told) = queue.pop_front() {
         let Told { asked, answer } = told;
-        let result = clients.tell(asked, settled(answer, forced));
+        let answer = settled(&asked.work, answer, forced);
+        let result = clients.tell(asked, answer);
         ended = first(ended, result);
     }
     ended
 }
 
 /// The answer after a force and its confirmation.
-fn settled(answer: Answer, forced: Forced) -> Answer
-    ensures { result ≡ answer_after forced answer }
+fn settled(work: &Work, answer: Answer, forced: Forced) -> Answer
+    ensures { result ≡ answer_after forced work.now answer }
 {
     match forced {
-        Forced::Confirmed(lsn) => confirmed(answer, lsn),
-        Forced::Unconfirmed => unconfirmed(answer),
-        Forced::Failed(fault) => failed(answer, fault),
+        Forced::Confirmed(lsn) => confirmed(work, answer, lsn),
+        Forced::Unconfirmed => unconfirmed(work, answer),
+        Forced::Failed(fault) => failed(work, answer, fault),
     }
 }
 
 /// The answer where enough others hold the log up to an LSN.
-fn confirmed(answer: Answer, lsn: Lsn) -> Answer
-    ensures { result ≡ answer_after (Confirmed lsn) answer }
+fn confirmed(work: &Work, answer: Answer, lsn: Lsn) -> Answer
+    ensures { result ≡ answer_after (Confirmed lsn) work.now answer }
 {
     match answer {
-        Answer::Committed(written) | Answer::Unknown(written) => {
+        Answer::Committed(written)
+        | Answer::Prepared(written)
+        | Answer::Decided(written)
+        | Answer::Unknown(written) => {
             // What the transaction is the end of may be owed still.
             if written.end.0 <= lsn.0 {
-                Answer::Committed(written)
+                done(work, written)
             } else {
                 Answer::Unknown(written)
             }
         }
         Answer::Refused(refusal) => Answer::Refused(refusal),
+        Answer::NotDecided(reason) => Answer::NotDecided(reason),
         Answer::Withheld => Answer::Withheld,
     }
 }
 
-/// The answer where too few others hold the log: a takeover may take back what refused a transaction.
-fn unconfirmed(answer: Answer) -> Answer
-    ensures { result ≡ answer_after Unconfirmed answer }
+/// The answer to what is done.
+fn done(work: &Work, written: Written) -> Answer
+    ensures { result ≡ done_by work.now written }
 {
-    match answer {
-        Answer::Committed(written) | Answer::Unknown(written) => Answer::Unknown(written),
-        Answer::Refused(_) | Answer::Withheld => Answer::Withheld,
+    match work {
+        Work::Commit(_) => Answer::Committed(written),
+        Work::Prepare(_) => Answer::Prepared(written),
+        Work::Decide { .. } => Answer::Decided(written),
     }
 }
 
-/// The answer where the force or its confirmation failed. The leader ends, so that failure is why a
-/// transaction is refused.
-fn failed(answer: Answer, fault: EngineFault) -> Answer
-    ensures { result ≡ answer_after (Failed fault) answer }
+/// The answer where too few others hold the log: a takeover may take back what refused it.
+fn unconfirmed(work: &Work, answer: Answer) -> Answer
+    ensures { result ≡ answer_after Unconfirmed work.now answer }
 {
     match answer {
-        Answer::Committed(written) | Answer::Unknown(written) => Answer::Unknown(written),
+        Answer::Committed(written)
+        | Answer::Prepared(written)
+        | Answer::Decided(written)
+        | Answer::Unknown(written) => Answer::Unknown(written),
+        Answer::Refused(_) | Answer::Withheld => Answer::Withheld,
+        Answer::NotDecided(_) => Answer::Withheld,
+    }
+}
+
+/// The answer where the force or its confirmation failed. The leader ends, so that failure is why
+/// anything is refused.
+fn failed(work: &Work, answer: Answer, fault: EngineFault) -> Answer
+    ensures { result ≡ answer_after (Failed fault) work.now answer }
+{
+    match answer {
+        Answer::Committed(written)
+        | Answer::Prepared(written)
+        | Answer::Decided(written)
+        | Answer::Unknown(written) => Answer::Unknown(written),
         Answer::Refused(_) => Answer::Refused(Refusal::State(fault)),
+        Answer::NotDecided(_) => Answer::NotDecided(NotDecided::State(fault)),
         Answer::Withheld => Answer::Withheld,
     }
 }

@@ -1,7 +1,7 @@
 use crate::answer::Answer;
 use crate::asked::Asked;
 
-/// A transaction with its answer.
+/// What a client asked for, with its answer.
 #[derive(Drop)]
 pub struct Told {
     pub asked: Asked,

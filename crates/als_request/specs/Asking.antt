@@ -93,15 +93,24 @@ abbrev pub count_with : Option Json → ℕ
 count_with None = 1
 count_with (Some j) = 2
 
--- a transaction: what is asked, and what is set
-abbrev pub transaction_in : Json → Option (List Ask × List Write)
-transaction_in j =
-    if member_count j == count_with (get (codes "if") j) then option_and_then (λ asks. option_map (λ sets. (asks, sets)) (option_and_then (all_in set_in) (get (codes "set") j))) (asks_in (get (codes "if") j))
+-- a transaction: what is asked, and what is set; so many members are beside them
+abbrev pub transaction_beside : ℕ → Json → Option (List Ask × List Write)
+transaction_beside extra j =
+    if member_count j == count_with (get (codes "if") j) + extra
+    then option_and_then (λ asks. option_map (λ sets. (asks, sets)) (option_and_then (all_in set_in) (get (codes "set") j))) (asks_in (get (codes "if") j))
     else None
 
--- the text is a JSON value in which no object has a name twice, and that value says this transaction
-pub record IsRead (text : List ℕ) (t : Transaction) : Type 0 where
-  pub value : Json
+-- a transaction, and nothing beside it
+abbrev pub transaction_in : Json → Option (List Ask × List Write)
+transaction_in j = transaction_beside 0 j
+
+-- the text is a JSON value in which no object has a name twice
+pub record IsSaid (text : List ℕ) (value : Json) : Type 0 where
   pub document : document text ≡ Some value
   pub unique : HasUniqueKeys value
+
+-- the text is such a value, and that value says this transaction
+pub record IsRead (text : List ℕ) (t : Transaction) : Type 0 where
+  pub value : Json
+  pub said : IsSaid text value
   pub says : transaction_in value ≡ Some (t.asks.items, t.sets.items)

@@ -15,7 +15,7 @@ pub enum Wrong {
     Lsn,
 }
 
-/// Why a text is no transaction.
+/// Why a text is no transaction and no decision.
 #[derive(Clone, Copy, Debug, PartialEq, Eq)]
 pub enum Mistake {
     /// An allocation failed.
@@ -30,6 +30,16 @@ pub enum Mistake {
     If(usize, Wrong),
     /// The set at this place of `set`, counted from 1, is wrong.
     Set(usize, Wrong),
+    /// `prepare` is not true.
+    Prepare,
+    /// `decide` has members beside it.
+    Alone,
+    /// It is no object of `trans` and `commit` alone.
+    Decision,
+    /// `trans` is no number from 1 to 2^32 - 1.
+    Trans,
+    /// `commit` is neither true nor false.
+    Verdict,
 }
 
 impl From<AllocError> for Mistake {
@@ -90,6 +100,13 @@ impl fmt::Display for Mistake {
             }
             Mistake::If(place, wrong) => write!(f, "comparison {place} of \"if\" {wrong}"),
             Mistake::Set(place, wrong) => write!(f, "set {place} of \"set\" {wrong}"),
+            Mistake::Prepare => f.write_str("\"prepare\" is not true"),
+            Mistake::Alone => f.write_str("\"decide\" has members beside it"),
+            Mistake::Decision => {
+                f.write_str("no decision: an object of \"trans\" and \"commit\"")
+            }
+            Mistake::Trans => f.write_str("\"trans\" is no number from 1 to 4294967295"),
+            Mistake::Verdict => f.write_str("\"commit\" is neither true nor false"),
         }
     }
 }

@@ -1,10 +1,12 @@
-ghost use Rattle.std.specs.Prelude.{◌≡◌, ◌⊎◌, Some, None, IfOk, IfErr};
+ghost use Rattle.std.specs.Prelude.{◌≡◌, ◌≤◌, ◌⊎◌, Some, None, IfOk, IfErr};
 ghost use Rattle.json.specs.Value.{value_view, items_view};
-ghost use Rattle.als_request.specs.Asking.{transaction_in, all_in, each, ask_in, set_in, IsRead};
+ghost use Rattle.als_request.specs.Asking.{transaction_beside, all_in, each, ask_in, set_in};
+ghost use Rattle.als_request.specs.Asking.{IsRead};
 ghost use Rattle.als_request.specs.declared.mistake.Mistake.TheVariants.{Memory};
 
 use crate::members::{ask, member_count, set};
 use crate::mistake::Mistake;
+use crate::parsing::parse;
 use als_writer::{Ask, Set, Transaction};
 use json::{Scratch, Value};
 use std::alloc::Global;
@@ -15,22 +17,21 @@ pub fn transaction(alloc: Global, text: &[u8]) -> Result<Transaction, Mistake>
     ensures found { IfOk result (λ t. IsRead text.now t) }
 {
     let mut scratch = Scratch::new(alloc);
-    let text = match std::str::from_utf8(text) {
-        Ok(text) => text,
-        Err(_) => return Err(Mistake::NoJson),
-    };
-    let value = Value::parse_strict(alloc, text, &mut scratch)?;
-    asked(alloc, &value)
+    let value = parse(alloc, text, &mut scratch)?;
+    asked(alloc, &value, 0)
 }
 
-/// The transaction that a value says.
-fn asked(alloc: Global, value: &Value<'_>) -> Result<Transaction, Mistake>
-    ensures found { IfOk result (λ t. transaction_in (value_view value.now) ≡ Some (t.asks.items, t.sets.items)) }
-    ensures none { IfErr result (λ m. (m ≡ Memory) ⊎ (transaction_in (value_view value.now) ≡ None)) }
+/// The transaction that a value says, which has so many members beside it.
+pub(crate) fn asked(alloc: Global, value: &Value<'_>, extra: usize) -> Result<Transaction, Mistake>
+    requires { extra ≤ 1 }
+    ensures found { IfOk result (λ t. transaction_beside extra (value_view value.now)
+        ≡ Some (t.asks.items, t.sets.items)) }
+    ensures none { IfErr result (λ m. (m ≡ Memory)
+        ⊎ (transaction_beside extra (value_view value.now) ≡ None)) }
 {
     let compared = value.get("if");
     let count = if compared.is_some() { 2 } else { 1 };
-    if member_count(value) != count {
+    if member_count(value) != count + extra {
         return Err(Mistake::Members);
     }
     let asks = match compared {

@@ -1,5 +1,5 @@
-use crate::desk::Seen;
-use crate::made::{desk, primary};
+use crate::desk::{Desk, Seen};
+use crate::made::{desk, doubts, primary};
 use crate::others::{Others, Word};
 use als_engine::{Events, Fault as EngineFault};
 use als_lead::{Limits, lead};
@@ -27,11 +27,12 @@ struct Led {
     left: usize,
 }
 
-/// What a leader answers the four seats, whose others confirm by these scripts: each group, and before each
+/// What a leader answers these seats, whose others confirm by these scripts: each group, and before each
 /// group. `None`: memory was refused.
 fn leads<R: Wait + Abort>(
     rt: &R,
     alloc: Global,
+    mut desk: Desk,
     asking: Asking,
     groups: &[Word],
     before: &[Word],
@@ -39,7 +40,6 @@ fn leads<R: Wait + Abort>(
 ) -> Option<Led> {
     let (mut engine, fuse) = primary(rt, alloc)?;
     drop(fuse);
-    let mut desk = desk(alloc)?;
     desk.waits = asking.waits;
     let limits = Limits {
         transactions: asking.transactions,
@@ -79,7 +79,15 @@ fn late<R: Wait + Abort + AllocGlobal>(rt: &R) -> Option<()> {
         (9, Seen::Invalid),
         (5, Seen::Committed),
     ];
-    let led = leads(rt, rt.alloc(), asking, &[Word::No], &before, &wanted)?;
+    let led = leads(
+        rt,
+        rt.alloc(),
+        desk(rt.alloc())?,
+        asking,
+        &[Word::No],
+        &before,
+        &wanted,
+    )?;
     assert!(rt; led.ended == Ok(()));
     assert!(rt; led.groups == 4);
     // Before the first group, once the first is confirmed, and before and after each other one; and
@@ -107,7 +115,15 @@ fn unconfirmed<R: Wait + Abort + AllocGlobal>(rt: &R) -> Option<()> {
         (9, Seen::Withheld),
         (5, Seen::Unknown),
     ];
-    let led = leads(rt, rt.alloc(), asking, &[Word::No], &before, &wanted)?;
+    let led = leads(
+        rt,
+        rt.alloc(),
+        desk(rt.alloc())?,
+        asking,
+        &[Word::No],
+        &before,
+        &wanted,
+    )?;
     assert!(rt; led.ended == Ok(()));
     assert!(rt; led.groups == 1);
     assert!(rt; led.shown == 1);
@@ -119,13 +135,57 @@ fn an_unconfirmed_group_promises_nothing(rt: HostRuntime) {
     assert!(rt; unconfirmed(&rt).is_some() || unconfirmed(&rt).is_some());
 }
 
+/// A group that prepares and decides is not confirmed, and the clients close.
+fn in_doubt<R: Wait + Abort + AllocGlobal>(rt: &R) -> Option<()> {
+    let asking = Asking {
+        transactions: 64,
+        waits: u32::MAX,
+    };
+    let before = [Word::Yes, Word::No];
+    let wanted = [
+        (7, Seen::Unknown),
+        (3, Seen::Withheld),
+        (9, Seen::Unknown),
+        (5, Seen::Unknown),
+        (4, Seen::Unknown),
+        (6, Seen::Unknown),
+        (8, Seen::Withheld),
+        (2, Seen::Unknown),
+    ];
+    let led = leads(
+        rt,
+        rt.alloc(),
+        doubts(rt.alloc())?,
+        asking,
+        &[Word::No],
+        &before,
+        &wanted,
+    )?;
+    assert!(rt; led.ended == Ok(()));
+    assert!(rt; led.groups == 1);
+    Some(())
+}
+
+#[test]
+fn an_unconfirmed_decision_is_unknown(rt: HostRuntime) {
+    assert!(rt; in_doubt(&rt).is_some() || in_doubt(&rt).is_some());
+}
+
 /// Nothing is confirmed, and the clients close at the fourth wait.
 fn never<R: Wait + Abort + AllocGlobal>(rt: &R) -> Option<()> {
     let asking = Asking {
         transactions: 64,
         waits: 3,
     };
-    let led = leads(rt, rt.alloc(), asking, &[], &[Word::No; 9], &[])?;
+    let led = leads(
+        rt,
+        rt.alloc(),
+        desk(rt.alloc())?,
+        asking,
+        &[],
+        &[Word::No; 9],
+        &[],
+    )?;
     assert!(rt; led.ended == Ok(()));
     assert!(rt; led.groups == 0);
     assert!(rt; led.shown == 0);
@@ -151,7 +211,15 @@ fn failed<R: Wait + Abort + AllocGlobal>(rt: &R) -> Option<()> {
         (9, Seen::State),
         (5, Seen::Unknown),
     ];
-    let led = leads(rt, rt.alloc(), asking, &[Word::Fails], &[], &wanted)?;
+    let led = leads(
+        rt,
+        rt.alloc(),
+        desk(rt.alloc())?,
+        asking,
+        &[Word::Fails],
+        &[],
+        &wanted,
+    )?;
     assert!(rt; led.ended == Err(Fault::Refused(EngineFault::Device)));
     assert!(rt; led.groups == 1);
     assert!(rt; led.shown == 1);
@@ -169,7 +237,15 @@ fn deaf<R: Wait + Abort + AllocGlobal>(rt: &R) -> Option<()> {
         transactions: 64,
         waits: u32::MAX,
     };
-    let led = leads(rt, rt.alloc(), asking, &[], &[Word::Fails], &[])?;
+    let led = leads(
+        rt,
+        rt.alloc(),
+        desk(rt.alloc())?,
+        asking,
+        &[],
+        &[Word::Fails],
+        &[],
+    )?;
     assert!(rt; led.ended == Err(Fault::Refused(EngineFault::Device)));
     assert!(rt; led.groups == 0);
     assert!(rt; led.left == 4);

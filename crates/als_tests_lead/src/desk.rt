@@ -2,14 +2,22 @@ ghost use Rattle.als_lead.specs.Account.{taken_of, told_of};
 
 use als_lead::{Account, Answer, Asked, Clients, Waited};
 use als_operate::Fault;
-use als_writer::Refusal;
+use als_writer::{NotDecided, Refusal};
 use std::collections::VecDeque;
 
 /// What a test compares of an answer.
 #[derive(Clone, Copy, PartialEq, Eq)]
 pub enum Seen {
     Committed,
+    /// With the number of the transaction.
+    Prepared(u32),
+    Decided(u32),
+    NotInDoubt,
+    /// The engine takes no decision any more.
+    NotDecided,
     Unknown,
+    /// A key is held by the transaction of this number.
+    Held(u32),
     NotAsAsked,
     LogFull,
     Invalid,
@@ -18,8 +26,8 @@ pub enum Seen {
     Other,
 }
 
-/// Clients that ask for transactions, each as soon as the leader takes one, and note what they are
-/// answered.
+/// Clients that ask for transactions and decisions, each as soon as the leader takes one, and note what
+/// they are answered.
 #[derive(Drop)]
 pub struct Desk {
     pub asks: VecDeque<Asked>,
@@ -74,9 +82,15 @@ impl Clients for Desk {
 fn shown(answer: &Answer) -> Seen {
     match answer {
         Answer::Committed(_) => Seen::Committed,
+        Answer::Prepared(written) => Seen::Prepared(written.trans.0),
+        Answer::Decided(written) => Seen::Decided(written.trans.0),
+        Answer::NotDecided(NotDecided::NotInDoubt) => Seen::NotInDoubt,
+        Answer::NotDecided(NotDecided::State(_)) => Seen::NotDecided,
+        Answer::NotDecided(_) => Seen::Other,
         Answer::Unknown(_) => Seen::Unknown,
         Answer::Withheld => Seen::Withheld,
         Answer::Refused(Refusal::NotAsAsked { .. }) => Seen::NotAsAsked,
+        Answer::Refused(Refusal::Held { by, .. }) => Seen::Held(by.0),
         Answer::Refused(Refusal::LogFull) => Seen::LogFull,
         Answer::Refused(Refusal::Invalid(_)) => Seen::Invalid,
         Answer::Refused(Refusal::State(_)) => Seen::State,

@@ -1,4 +1,4 @@
-use crate::desk::Seen;
+use crate::desk::{Desk, Seen};
 use crate::made::{desk, primary};
 use als_engine::{Events, Fault as EngineFault};
 use als_lead::{Limits, PrimaryUpkeep, lead};
@@ -7,17 +7,17 @@ use std::alloc::Global;
 use std::process::Abort;
 use std::sync::Wait;
 
-/// What a leader answers the four seats in groups of so many, where a call of the log device fails,
-/// counted from 1; none for 0. `None`: memory was refused.
-fn leads<R: Wait + Abort>(
+/// What a leader answers these seats in groups of so many, where a call of the log device fails, counted
+/// from 1; none for 0. `None`: memory was refused.
+pub fn leads<R: Wait + Abort>(
     rt: &R,
     alloc: Global,
+    mut desk: Desk,
     transactions: usize,
     fails_at: u64,
     wanted: &[(u64, Seen)],
 ) -> Option<(Result<(), Fault>, u32)> {
     let (mut engine, log) = primary(rt, alloc)?;
-    let mut desk = desk(alloc)?;
     if fails_at > 0 {
         log.fail_at(fails_at);
     }
@@ -49,7 +49,7 @@ const ANSWERS: [(u64, Seen); 4] = [
 ];
 
 fn one_group<R: Wait + Abort + AllocGlobal>(rt: &R) -> Option<()> {
-    let (ended, groups) = leads(rt, rt.alloc(), 64, 0, &ANSWERS)?;
+    let (ended, groups) = leads(rt, rt.alloc(), desk(rt.alloc())?, 64, 0, &ANSWERS)?;
     assert!(rt; ended == Ok(()));
     assert!(rt; groups == 1);
     Some(())
@@ -61,7 +61,7 @@ fn a_group_is_answered_in_order(rt: HostRuntime) {
 }
 
 fn four_groups<R: Wait + Abort + AllocGlobal>(rt: &R) -> Option<()> {
-    let (ended, groups) = leads(rt, rt.alloc(), 1, 0, &ANSWERS)?;
+    let (ended, groups) = leads(rt, rt.alloc(), desk(rt.alloc())?, 1, 0, &ANSWERS)?;
     assert!(rt; ended == Ok(()));
     assert!(rt; groups == 4);
     Some(())
@@ -81,7 +81,7 @@ const FAILED: [(u64, Seen); 4] = [
 ];
 
 fn failed_force<R: Wait + Abort + AllocGlobal>(rt: &R) -> Option<()> {
-    let (ended, groups) = leads(rt, rt.alloc(), 64, 1, &FAILED)?;
+    let (ended, groups) = leads(rt, rt.alloc(), desk(rt.alloc())?, 64, 1, &FAILED)?;
     assert!(rt; ended == Err(Fault::Refused(EngineFault::Device)));
     assert!(rt; groups == 1);
     Some(())
@@ -93,7 +93,14 @@ fn a_failed_force_answers_unknown(rt: HostRuntime) {
 }
 
 fn first_group_fails<R: Wait + Abort + AllocGlobal>(rt: &R) -> Option<()> {
-    let (ended, groups) = leads(rt, rt.alloc(), 1, 1, &[(7, Seen::Unknown)])?;
+    let (ended, groups) = leads(
+        rt,
+        rt.alloc(),
+        desk(rt.alloc())?,
+        1,
+        1,
+        &[(7, Seen::Unknown)],
+    )?;
     assert!(rt; ended == Err(Fault::Refused(EngineFault::Device)));
     assert!(rt; groups == 1);
     Some(())

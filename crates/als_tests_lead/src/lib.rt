@@ -13,6 +13,9 @@ mod made;
 // Groups and their answers.
 #[cfg(test)]
 mod groups;
+// Groups that prepare and decide.
+#[cfg(test)]
+mod doubting;
 // Groups that others confirm, or not.
 #[cfg(test)]
 mod confirming;

@@ -1,5 +1,4 @@
 use Rattle.std.proofs.Common.{refl, ◌∙◌}
-use Rattle.als_lead.specs.Answers.{commits_told}
 use Rattle.als_lead.specs.Confirming.{IsConfirmedOf, IsCarriedOut}
 use Rattle.als_lead.proofs.Rounds.{leads_none, leads_both}
 use Rattle.als_lead.proofs.Confirms.{told_none, told_confirmed_both, told_works_both, shown_refl, shown_both}
@@ -28,7 +27,7 @@ loop-preserved g c = record {
       (g.C.Clients.told c.args.clients.now) (g.C.Clients.told c.loop.clients) (g.C.Clients.told c.round.new.clients)
       c.round.ensures.misses c.loop.invariant.works c.in_ok-goes_on.ensures.works;
   shown = λ a. shown_both (g.U.Upkeep.confirmed c.loop.upkeep) (g.U.Upkeep.confirmed c.round.new.upkeep) (g.E.Events.machine c.args.engine.now) (g.E.Events.machine c.loop.engine) (g.E.Events.machine c.round.new.engine)
-      (commits_told c.round.ensures.leads.more) (c.round.ensures.leads.commits a) c.round.ensures.keeps (c.loop.invariant.shown a) (c.round.ensures.shown a);
+      (c.round.ensures.leads.commits a).added (c.round.ensures.leads.commits a).commits c.round.ensures.keeps (c.loop.invariant.shown a) (c.round.ensures.shown a);
   empty = c.round.ensures.emptied;
   bounds = c.round.ensures.bounds;
   book = c.round.ensures.book ∙ c.loop.invariant.book;
@@ -67,7 +66,7 @@ returns-in_err-goes_on-clause-confirmed g c a =
 pub returns-in_err-goes_on-clause-shown : goal.returns-in_err-goes_on-clause-shown
 returns-in_err-goes_on-clause-shown g c a =
     shown_both (g.U.Upkeep.confirmed c.loop.upkeep) (g.U.Upkeep.confirmed c.round.new.upkeep) (g.E.Events.machine c.args.engine.now) (g.E.Events.machine c.loop.engine) (g.E.Events.machine c.round.new.engine)
-    (commits_told c.round.ensures.leads.more) (c.round.ensures.leads.commits a) c.round.ensures.keeps (c.loop.invariant.shown a) (c.round.ensures.shown a)
+    (c.round.ensures.leads.commits a).added (c.round.ensures.leads.commits a).commits c.round.ensures.keeps (c.loop.invariant.shown a) (c.round.ensures.shown a)
 
 pub returns-then-not-goes_on-clause-leads : goal.returns-then-not-goes_on-clause-leads
 returns-then-not-goes_on-clause-leads g c =
@@ -84,7 +83,7 @@ returns-then-not-goes_on-clause-confirmed g c a =
 pub returns-then-not-goes_on-clause-shown : goal.returns-then-not-goes_on-clause-shown
 returns-then-not-goes_on-clause-shown g c a =
     shown_both (g.U.Upkeep.confirmed c.loop.upkeep) (g.U.Upkeep.confirmed c.round.new.upkeep) (g.E.Events.machine c.args.engine.now) (g.E.Events.machine c.loop.engine) (g.E.Events.machine c.round.new.engine)
-    (commits_told c.round.ensures.leads.more) (c.round.ensures.leads.commits a) c.round.ensures.keeps (c.loop.invariant.shown a) (c.round.ensures.shown a)
+    (c.round.ensures.leads.commits a).added (c.round.ensures.leads.commits a).commits c.round.ensures.keeps (c.loop.invariant.shown a) (c.round.ensures.shown a)
 
 pub returns-then-not-goes_on-clause-works : goal.returns-then-not-goes_on-clause-works
 returns-then-not-goes_on-clause-works g c =

@@ -1,18 +1,33 @@
 use Rattle.std.proofs.Common.{ℕ, List, refl}
 use Rattle.als_engine.specs.Machine.{Machine}
 use Rattle.als_lead.specs.declared.told.Told.{Told}
-use Rattle.als_lead.specs.Answers.{commits_told}
 use Rattle.als_lead.specs.Leading.{Leads, AllTold}
 use Rattle.als_lead.specs.Confirming.{IsShown, IsConfirmedOf, IsCarriedOut}
 use Rattle.als_lead.proofs.Rounds.{leads_same, leads_waited, leads_both, leads_rest}
 use Rattle.als_lead.proofs.Confirms.{on_ok_any, told_from, told_confirmed_on, told_works_on, shown_both, shown_stays}
 use Rattle.als_lead.proofs.leading.round.Goals as goal
 
+pub returns-in_err-serve-in-Asks-clause-leads : goal.returns-in_err-serve-in-Asks-clause-leads
+returns-in_err-serve-in-Asks-clause-leads g c =
+    let alone = g.E.Events.alone in
+    let old : Machine = g.E.Events.machine c.args.engine.now in
+    let earlier : Machine = g.E.Events.machine c.confirm_earlier.new.engine in
+    let served : Machine = g.E.Events.machine c.serve.new.engine in
+    let taken = g.C.Clients.taken c.args.clients.now in
+    let taken_now = g.C.Clients.taken c.serve.new.clients in
+    let told : List Told = g.C.Clients.told c.args.clients.now in
+    let told_now : List Told = g.C.Clients.told c.serve.new.clients in
+    let waited : Leads alone earlier served taken taken_now told told_now =
+    leads_waited alone earlier served taken (g.C.Clients.taken c.wait.new.self) taken_now told (g.C.Clients.told c.wait.new.self) told_now
+    c.wait.ensures.taken c.wait.ensures.told c.serve.ensures.leads in
+    leads_both alone old earlier served taken taken taken_now told told told_now
+    (leads_same alone old earlier taken taken told told c.confirm_earlier.ensures.grows c.confirm_earlier.ensures.same refl refl) waited
+
 pub returns-in_err-serve-in-Asks-clause-shown : goal.returns-in_err-serve-in-Asks-clause-shown
 returns-in_err-serve-in-Asks-clause-shown g c a =
     shown_both (g.U.Upkeep.confirmed c.confirm_earlier.new.upkeep) (g.U.Upkeep.confirmed c.serve.new.upkeep)
     (g.E.Events.machine c.args.engine.now) (g.E.Events.machine c.confirm_earlier.new.engine) (g.E.Events.machine c.serve.new.engine)
-    (commits_told c.serve.ensures.leads.more) (c.serve.ensures.leads.commits a) c.serve.ensures.keeps (c.confirm_earlier.ensures.shown a) (c.serve.ensures.shown a)
+    (c.serve.ensures.leads.commits a).added (c.serve.ensures.leads.commits a).commits c.serve.ensures.keeps (c.confirm_earlier.ensures.shown a) (c.serve.ensures.shown a)
 
 pub returns-in_ok-serve-in-Asks-clause-leads : goal.returns-in_ok-serve-in-Asks-clause-leads
 returns-in_ok-serve-in-Asks-clause-leads g c =
@@ -62,5 +77,5 @@ returns-in_ok-serve-in-Asks-clause-shown g c a =
     let confirmed : ℕ → Type 0 = g.U.Upkeep.confirmed c.serve.new.upkeep in
     let shown : IsShown confirmed old served =
     shown_both (g.U.Upkeep.confirmed c.confirm_earlier.new.upkeep) confirmed old (g.E.Events.machine c.confirm_earlier.new.engine) served
-    (commits_told c.serve.ensures.leads.more) (c.serve.ensures.leads.commits a) c.serve.ensures.keeps (c.confirm_earlier.ensures.shown a) (c.serve.ensures.shown a) in
+    (c.serve.ensures.leads.commits a).added (c.serve.ensures.leads.commits a).commits c.serve.ensures.keeps (c.confirm_earlier.ensures.shown a) (c.serve.ensures.shown a) in
     shown_stays confirmed (g.U.Upkeep.confirmed c.rest-in-Asks.new.upkeep) old served new c.rest-in-Asks.ensures.keeps shown (c.rest-in-Asks.ensures.stays a)
