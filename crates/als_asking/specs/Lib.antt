@@ -1,5 +1,6 @@
 pub mod Bodies
 pub mod Entering
 pub mod Taking
+pub mod Deciding
 pub mod Telling
 pub mod Answering

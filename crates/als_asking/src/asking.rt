@@ -1,9 +1,11 @@
 ghost use Rattle.std.specs.Prelude.{◌≡◌};
 
 use crate::commits::Commits;
+use crate::deciding::{decide, list};
 use crate::entry::{Entry, entry_of};
 use crate::filling::show;
 use crate::guard::Guard;
+use crate::manner::Manner;
 use crate::taking::take;
 use crate::told::Told;
 use als_http::Hosts;
@@ -37,7 +39,7 @@ impl<C: Commits + Drop, R: Service + Drop> Drop for Asking<C, R> {
 }
 
 impl<C: Commits, R: Service> Asking<C, R> {
-    /// Requests for commits come from whom the guard takes, and name one of these hosts.
+    /// Requests for changes come from whom the guard takes, and name one of these hosts.
     pub fn new(alloc: Global, guard: Guard, hosts: Hosts, commits: C, reads: R) -> Asking<C, R>
         ensures guard { result.guard ≡ guard }
         ensures hosts { result.hosts ≡ hosts }
@@ -61,7 +63,7 @@ impl<C: Commits, R: Service> Service for Asking<C, R> {
     ghost use Rattle.als_asking.specs.Answering.{Answers};
 
     ghost answers = { λ old request response new.
-        Answers R.answers C.commits (entry_of old.guard old.hosts (head_of request)) request
+        Answers R.answers C.commits C.doubts (entry_of old.guard old.hosts (head_of request)) request
         old.reads old.commits response new.reads new.commits
         × (new.guard ≡ old.guard) × (new.hosts ≡ old.hosts) };
 
@@ -74,7 +76,24 @@ impl<C: Commits, R: Service> Service for Asking<C, R> {
         match entry_of(request, &self.guard, self.hosts) {
             Entry::Reads => self.reads.call(request, response),
             Entry::Commits => {
-                let told = take(self.alloc, &mut self.commits, request.body());
+                let manner = Manner::Commit;
+                let told = take(self.alloc, &mut self.commits, manner, request.body());
+                show(self.alloc, &told, response);
+                Ok(())
+            }
+            Entry::Prepares => {
+                let manner = Manner::Prepare;
+                let told = take(self.alloc, &mut self.commits, manner, request.body());
+                show(self.alloc, &told, response);
+                Ok(())
+            }
+            Entry::Decides => {
+                let told = decide(self.alloc, &mut self.commits, request.body());
+                show(self.alloc, &told, response);
+                Ok(())
+            }
+            Entry::InDoubt => {
+                let told = list(&self.commits);
                 show(self.alloc, &told, response);
                 Ok(())
             }

@@ -1,17 +1,26 @@
-ghost use Rattle.std.specs.Prelude.{List};
-ghost use Rattle.als_writer.specs.declared.transaction.Transaction.{Transaction as AnyTransaction};
+ghost use Rattle.std.specs.Prelude.{List, IfSome};
+ghost use Rattle.als_writer.specs.declared.work.Work.{Work as AnyWork};
+ghost use Rattle.als_asking.specs.declared.doubt.Doubt.{Doubt as AnyDoubt};
 ghost use Rattle.als_asking.specs.declared.outcome.Outcome.{Outcome as AnyOutcome};
 
+use crate::doubt::Doubt;
 use crate::outcome::Outcome;
-use als_writer::Transaction;
+use als_writer::Work;
 
-/// Commits transactions for a client, which waits.
+/// Commits, prepares and decides transactions for a client, which waits.
 pub trait Commits {
-    // From the first state, these transactions have these outcomes, and leave the second state.
-    ghost commits: { Self → List AnyTransaction → List AnyOutcome → Self → Type 0 };
+    // From the first state, this work has these outcomes, and leaves the second state.
+    ghost commits: { Self → List AnyWork → List AnyOutcome → Self → Type 0 };
 
-    /// Commits each of these on its own, and returns their outcomes in the same order. A transaction
-    /// without an outcome counts as `Lost`.
-    fn commit(&mut self, asked: Vec<Transaction>) -> Vec<Outcome>
+    // In this state, these transactions are in doubt.
+    ghost doubts: { Self → List AnyDoubt → Type 0 };
+
+    /// Does each piece of work on its own, and returns their outcomes in the same order. A piece without
+    /// an outcome counts as `Lost`.
+    fn commit(&mut self, asked: Vec<Work>) -> Vec<Outcome>
         ensures { commits self.old asked.items result.items self.new };
+
+    /// The transactions in doubt, in rising number. None: there is no memory for them.
+    fn in_doubt(&self) -> Option<Vec<Doubt>>
+        ensures { IfSome result (λ found. doubts self.now found.items) };
 }

@@ -1,6 +1,6 @@
 ghost use Rattle.std.specs.Prelude.{◌≡◌};
 ghost use Rattle.http.specs.Request.{head_of};
-ghost use Rattle.als_asking.specs.Entering.{is_there, entered, way_of, entry_of};
+ghost use Rattle.als_asking.specs.Entering.{is_there, looked, entered, way_of, entry_of};
 
 use crate::denied::Denied;
 use crate::guard::Guard;
@@ -12,13 +12,28 @@ use http_header::GetAll;
 /// The path at which transactions are committed.
 const COMMIT: &str = "/commit";
 
+/// The path at which they are prepared.
+const PREPARE: &str = "/prepare";
+
+/// The path at which those in doubt are decided.
+const DECIDE: &str = "/decide";
+
+/// The path at which those in doubt are listed.
+const IN_DOUBT: &str = "/in-doubt";
+
 /// Which way a request goes.
 #[derive(Clone, Copy, Debug, PartialEq, Eq)]
 pub enum Entry {
     /// To the reads.
     Reads,
-    /// To the commits.
+    /// To the commits: transactions are committed.
     Commits,
+    /// Transactions are prepared.
+    Prepares,
+    /// A transaction in doubt is decided.
+    Decides,
+    /// Those in doubt are listed.
+    InDoubt,
     /// It is denied.
     Denied(Denied),
 }
@@ -27,21 +42,32 @@ pub enum Entry {
 pub fn entry_of(request: &Request<Bytes>, guard: &Guard, hosts: Hosts) -> Entry
     ensures { result ≡ entry_of guard.now hosts (head_of request.now) }
 {
-    if request.uri().path() != COMMIT {
-        return Entry::Reads;
+    let path = request.uri().path();
+    if path == COMMIT {
+        return way_of(Entry::Commits, request, guard, hosts);
     }
-    way_of(request, guard, hosts)
+    if path == PREPARE {
+        return way_of(Entry::Prepares, request, guard, hosts);
+    }
+    if path == DECIDE {
+        return way_of(Entry::Decides, request, guard, hosts);
+    }
+    if path == IN_DOUBT {
+        let own = is_own(hosts, request.headers().get_all("host"));
+        return looked(own, request.method().as_str());
+    }
+    Entry::Reads
 }
 
-/// Which way a request for commits goes.
-fn way_of(request: &Request<Bytes>, guard: &Guard, hosts: Hosts) -> Entry
-    ensures { result ≡ way_of guard.now hosts (head_of request.now) }
+/// Which way a request goes that asks for a change.
+fn way_of(to: Entry, request: &Request<Bytes>, guard: &Guard, hosts: Hosts) -> Entry
+    ensures { result ≡ way_of to guard.now hosts (head_of request.now) }
 {
     let headers = request.headers();
     let own = is_own(hosts, headers.get_all("host"));
     let from_page = is_there(headers.get_all("origin"));
     let denial = guard.denial(headers.get_all("authorization"));
-    entered(own, request.method().as_str(), from_page, denial)
+    entered(to, own, request.method().as_str(), from_page, denial)
 }
 
 /// Whether there is a field.
@@ -55,10 +81,10 @@ fn is_there(fields: GetAll<'_, HeaderValue>) -> bool
     }
 }
 
-/// The way of a request for commits.
+/// The way of a request that asks for a change.
 #[tactic(auto, unfolding(crate::specs::Entering::entered))]
-fn entered(own: bool, method: &str, from_page: bool, denial: Option<Denied>) -> Entry
-    ensures { result ≡ entered own method.now from_page denial }
+fn entered(to: Entry, own: bool, method: &str, from_page: bool, denial: Option<Denied>) -> Entry
+    ensures { result ≡ entered to own method.now from_page denial }
 {
     if !own {
         return Entry::Denied(Denied::Host);
@@ -71,6 +97,21 @@ fn entered(own: bool, method: &str, from_page: bool, denial: Option<Denied>) -> 
     }
     match denial {
         Some(why) => Entry::Denied(why),
-        None => Entry::Commits,
+        None => to,
+    }
+}
+
+/// The way of a request for the transactions in doubt.
+#[tactic(auto, unfolding(crate::specs::Entering::looked))]
+fn looked(own: bool, method: &str) -> Entry
+    ensures { result ≡ looked own method.now }
+{
+    if !own {
+        return Entry::Denied(Denied::Host);
+    }
+    if method == "GET" || method == "HEAD" {
+        Entry::InDoubt
+    } else {
+        Entry::Denied(Denied::NoRead)
     }
 }

@@ -1,12 +1,14 @@
 ghost use Rattle.std.specs.Prelude.{◌≡◌, OnOk, ◌++◌, codes};
 ghost use Rattle.http_server.specs.Response.{IsBlank, fields_of};
-ghost use Rattle.als_asking.specs.Telling.{status_of, fields_for, own_fields, lsn_field, denied_fields};
-ghost use Rattle.als_asking.specs.Telling.{retry_field, HasText, Shows};
+ghost use Rattle.als_asking.specs.Telling.{status_of, fields_for, own_fields, written_field};
+ghost use Rattle.als_asking.specs.Telling.{denied_fields, retry_field, HasText, Shows};
 
 use crate::denied::Denied;
 use crate::outcome::Outcome;
 use crate::told::Told;
 use crate::told_text::told_text;
+use als_engine::Decision;
+use als_writer::Written;
 use bytes::Bytes;
 use http::{HeaderName, HeaderValue, StatusCode};
 use http_server::Response;
@@ -65,13 +67,28 @@ fn add_own(alloc: Global, told: &Told, response: &mut Response) -> Result<(), Al
     ensures body { OnOk result (response.new.body ≡ response.old.body) }
 {
     match told {
-        Told::One(Outcome::Committed(written)) => {
-            let lsn = HeaderValue::from_u64(alloc, written.lsn.0)?;
-            response.add_header(HeaderName::from_static("als-lsn"), lsn)?;
+        Told::One(Outcome::Committed(written) | Outcome::Prepared(written)) => {
+            add_lsn(alloc, written, response)?;
         }
+        Told::Decision {
+            verdict: Decision::Commit,
+            outcome: Outcome::Decided(written),
+            ..
+        } => add_lsn(alloc, written, response)?,
         Told::Denied(why) => add_denied(*why, response)?,
         _ => {}
     }
+    Ok(())
+}
+
+/// The LSN of what is in the log.
+fn add_lsn(alloc: Global, written: &Written, response: &mut Response) -> Result<(), AllocError>
+    ensures fields { OnOk result
+        (fields_of response.new ≡ fields_of response.old ++ written_field written.now) }
+    ensures body { OnOk result (response.new.body ≡ response.old.body) }
+{
+    let lsn = HeaderValue::from_u64(alloc, written.lsn.0)?;
+    response.add_header(HeaderName::from_static("als-lsn"), lsn)?;
     Ok(())
 }
 
@@ -84,6 +101,9 @@ fn add_denied(why: Denied, response: &mut Response) -> Result<(), AllocError>
     match why {
         Denied::Method => {
             response.add_header(HeaderName::from_static("allow"), post())?;
+        }
+        Denied::NoRead => {
+            response.add_header(HeaderName::from_static("allow"), get_and_head())?;
         }
         Denied::NoToken => {
             response.add_header(HeaderName::from_static("www-authenticate"), bearer())?;
@@ -119,6 +139,13 @@ fn post() -> HeaderValue
     ensures { result.bytes ≡ codes "POST" }
 {
     HeaderValue::from_static("POST")
+}
+
+/// The methods of what reads.
+fn get_and_head() -> HeaderValue
+    ensures { result.bytes ≡ codes "GET, HEAD" }
+{
+    HeaderValue::from_static("GET, HEAD")
 }
 
 /// The scheme of a token.

@@ -2,19 +2,27 @@
 //!
 //! ```text
 //!     request --entry_of--> Reads ----> the reads' own answer
-//!                           Commits --wanted--> transactions --Commits--> outcomes --> response
+//!                           Commits, Prepares --wanted--> transactions --+
+//!                           Decides --decision------------> a decision --+-Commits-> outcomes -> response
+//!                           InDoubt --Commits--> what is in doubt --> response
 //!                           Denied ---> response
 //! ```
 //!
-//! 1. A commit is a POST to `/commit` that names one of the node's hosts. It comes from whom the guard
-//!    takes, and from no page of a browser.
-//! 2. Its body is one transaction, or an array of them, each of which is committed on its own.
-//! 3. 200 is answered of what is durable alone, 503 where nothing was written, 504 where a restart
+//! 1. A change is a POST to `/commit`, `/prepare` or `/decide` that names one of the node's hosts. It
+//!    comes from whom the guard takes, and from no page of a browser.
+//! 2. The body of the first two is one transaction, or an array of them, each of which is committed or
+//!    prepared on its own. The body of the third is one decision of a transaction in doubt.
+//! 3. `/in-doubt` lists what is in doubt to whoever may read.
+//! 4. 200 is answered of what is durable alone, 503 where nothing was written, 504 where a restart
 //!    may find it or not.
 #![tactic(auto)]
 
 // What becomes of a transaction.
 mod outcome;
+// Whether it commits or prepares.
+mod manner;
+// A transaction in doubt.
+mod doubt;
 // Who commits.
 mod commits;
 // Which request asks for commits, and who may ask.
@@ -29,7 +37,11 @@ mod wanted;
 // What is committed, and what is answered.
 mod taking;
 mod told;
+// What is decided, and what is in doubt.
+mod deciding;
 // The response of that.
+mod decision_text;
+mod doubt_text;
 mod filling;
 mod members;
 mod outcome_text;
@@ -41,10 +53,13 @@ mod lent;
 
 pub use asking::Asking;
 pub use commits::Commits;
+pub use deciding::{decide, list};
 pub use denied::Denied;
+pub use doubt::Doubt;
 pub use entry::{Entry, entry_of};
 pub use guard::Guard;
 pub use lent::Lent;
+pub use manner::Manner;
 pub use outcome::Outcome;
 pub use reading::wanted_in;
 pub use taking::take;

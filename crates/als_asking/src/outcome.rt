@@ -1,16 +1,23 @@
-use als_writer::{Refusal, Written};
+use als_writer::{NotDecided, Refusal, Written};
 
-/// What becomes of a transaction that a client asks for.
+/// What becomes of what a client asks for.
 #[derive(Clone, Copy)]
 pub enum Outcome {
-    /// It is committed and durable.
+    /// The transaction is committed and durable.
     Committed(Written),
-    /// Nothing of it is committed, and nothing will be.
+    /// The transaction is prepared and durable. It is in doubt until a decision.
+    Prepared(Written),
+    /// The record that decides the transaction is durable.
+    Decided(Written),
+    /// Nothing of the transaction is committed or prepared, and nothing will be.
     Refused(Refusal),
+    /// Nothing of the decision is in the log, and nothing will be.
+    NotDecided(NotDecided),
     /// It is in the log, but the force failed: a restart may find it or not.
     Unknown(Written),
-    /// It never reached the writer.
+    /// Nothing of it is in the log, and nothing will be: it was not begun in time, or why it was
+    /// refused is withheld.
     NotBegun,
-    /// The writer took it and its answer never came: it may be committed or not.
+    /// The writer took it and its answer never came: it may be done or not.
     Lost,
 }

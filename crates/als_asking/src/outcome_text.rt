@@ -2,14 +2,15 @@ ghost use Rattle.std.specs.Prelude.{◌≡◌, OnOk, ◌++◌, ◌∷◌, [], co
 ghost use Rattle.json.specs.Token.{begin_array, begin_object, end_array, end_object, key};
 ghost use Rattle.als_asking.specs.Telling.{written_tokens, fault_tokens, flaw_tokens, flaw_key, why_flaw};
 ghost use Rattle.als_asking.specs.Telling.{unmet_tokens, kind_or, refusal_tokens, unknown_tokens};
+ghost use Rattle.als_asking.specs.Telling.{not_begun_tokens};
 ghost use Rattle.als_asking.specs.Telling.{outcome_tokens};
-ghost use Rattle.als_writer.specs.Refusing.{fault_of};
+ghost use Rattle.als_writer.specs.Refusing.{fault_of, fault_undecided};
 
-use crate::members::{key, number, string, value};
+use crate::members::{key, nothing, number, string, truth, value};
 use crate::outcome::Outcome;
 use als_fault::FaultKind;
 use als_record::{KeptImage, Key};
-use als_writer::{Flaw, Refusal, Written};
+use als_writer::{Flaw, NotDecided, Refusal, Written};
 use json::Writer;
 use std::alloc::{AllocError, Global};
 
@@ -24,13 +25,20 @@ pub(crate) fn outcome_members(
     ensures before { OnOk result (text.new.before ≡ text.old.before) }
 {
     match outcome {
-        Outcome::Committed(written) => written_members(text, written)?,
+        Outcome::Committed(written) | Outcome::Decided(written) => {
+            written_members(text, written)?;
+        }
+        Outcome::Prepared(written) => {
+            written_members(text, written)?;
+            truth(text, "prepared", true)?;
+        }
         Outcome::Refused(refusal) => refusal_members(alloc, text, refusal)?,
         Outcome::Unknown(written) => {
             unknown_member(text)?;
             written_members(text, written)?;
         }
-        Outcome::NotBegun => fault_members(text, FaultKind::Stopped)?,
+        Outcome::NotDecided(why) => fault_members(text, kind_undecided(why))?,
+        Outcome::NotBegun => not_begun_members(text)?,
         Outcome::Lost => unknown_member(text)?,
     }
     Ok(())
@@ -41,13 +49,21 @@ fn unknown_member(text: &mut Writer) -> Result<(), AllocError>
     ensures tokens { OnOk result (text.new.tokens ≡ text.old.tokens ++ unknown_tokens) }
     ensures before { OnOk result (text.new.before ≡ text.old.before) }
 {
-    text.key("unknown")?;
-    text.boolean(true)?;
+    truth(text, "unknown", true)
+}
+
+/// That nothing of it is in the log, and no fault has a number for that.
+fn not_begun_members(text: &mut Writer) -> Result<(), AllocError>
+    ensures tokens { OnOk result (text.new.tokens ≡ text.old.tokens ++ not_begun_tokens) }
+    ensures before { OnOk result (text.new.before ≡ text.old.before) }
+{
+    nothing(text, "refused")?;
+    string(text, "name", "NotBegun")?;
     Ok(())
 }
 
-/// What is in the log: the transaction's number and its commit's LSN.
-fn written_members(text: &mut Writer, written: &Written) -> Result<(), AllocError>
+/// What is in the log: the transaction's number, and the LSN of the record that says so.
+pub(crate) fn written_members(text: &mut Writer, written: &Written) -> Result<(), AllocError>
     ensures tokens { OnOk result (text.new.tokens ≡ text.old.tokens ++ written_tokens written.now) }
     ensures before { OnOk result (text.new.before ≡ text.old.before) }
 {
@@ -75,6 +91,16 @@ fn kind_of(refusal: &Refusal) -> FaultKind
     ensures { result ≡ kind_or (fault_of refusal.now) }
 {
     match refusal.fault() {
+        Some(fault) => fault.kind(),
+        None => FaultKind::NotDrained,
+    }
+}
+
+/// The fault for which a transaction is not decided. A log that is not tidy is not drained.
+fn kind_undecided(why: &NotDecided) -> FaultKind
+    ensures { result ≡ kind_or (fault_undecided why.now) }
+{
+    match why.fault() {
         Some(fault) => fault.kind(),
         None => FaultKind::NotDrained,
     }

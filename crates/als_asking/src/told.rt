@@ -3,19 +3,30 @@ ghost use Rattle.als_asking.specs.Telling.{status_of_refusal, status_of_outcome,
 ghost use Rattle.als_asking.specs.Telling.{status_of, status_unwritten};
 
 use crate::denied::Denied;
+use crate::doubt::Doubt;
 use crate::outcome::Outcome;
 use crate::unread::Unread;
-use als_writer::Refusal;
+use als_engine::Decision;
+use als_record::TransId;
+use als_writer::{NotDecided, Refusal};
 use http::StatusCode;
 
-/// What a request for commits is answered.
+/// What a request for changes, or for what is in doubt, is answered.
 #[derive(Drop)]
 pub enum Told {
     /// The outcome of its one transaction. Lost: of an array, no list of outcomes was left.
     One(Outcome),
     /// The outcomes of its array of transactions, in order.
     Each(Vec<Outcome>),
-    /// It asks for no transaction.
+    /// The outcome of its decision.
+    Decision {
+        trans: TransId,
+        verdict: Decision,
+        outcome: Outcome,
+    },
+    /// The transactions in doubt, in rising number.
+    InDoubt(Vec<Doubt>),
+    /// It asks for no transaction and no decision.
     Unread(Unread),
     /// It may not commit.
     Denied(Denied),
@@ -29,7 +40,8 @@ impl Told {
     {
         match self {
             Told::One(outcome) => status_of_outcome(outcome),
-            Told::Each(_) => StatusCode::OK,
+            Told::Each(_) | Told::InDoubt(_) => StatusCode::OK,
+            Told::Decision { outcome, .. } => status_of_outcome(outcome),
             Told::Unread(Unread::Memory) => StatusCode::SERVICE_UNAVAILABLE,
             Told::Unread(_) => StatusCode::BAD_REQUEST,
             Told::Denied(why) => status_of_denied(*why),
@@ -41,19 +53,21 @@ impl Told {
         ensures { result ≡ status_unwritten self.now }
     {
         match self {
-            Told::One(_) | Told::Each(_) => StatusCode::GATEWAY_TIMEOUT,
-            Told::Unread(_) | Told::Denied(_) => StatusCode::SERVICE_UNAVAILABLE,
+            Told::One(_) | Told::Each(_) | Told::Decision { .. } => StatusCode::GATEWAY_TIMEOUT,
+            Told::InDoubt(_) | Told::Unread(_) | Told::Denied(_) => StatusCode::SERVICE_UNAVAILABLE,
         }
     }
 }
 
-/// The status of one transaction.
+/// The status of one transaction, or of a decision.
 pub fn status_of_outcome(outcome: &Outcome) -> StatusCode
     ensures { result ≡ status_of_outcome outcome.now }
 {
     match outcome {
-        Outcome::Committed(_) => StatusCode::OK,
+        Outcome::Committed(_) | Outcome::Prepared(_) | Outcome::Decided(_) => StatusCode::OK,
         Outcome::Refused(refusal) => status_of_refusal(refusal),
+        Outcome::NotDecided(NotDecided::NotInDoubt) => StatusCode::NOT_FOUND,
+        Outcome::NotDecided(_) => StatusCode::SERVICE_UNAVAILABLE,
         Outcome::NotBegun => StatusCode::SERVICE_UNAVAILABLE,
         Outcome::Unknown(_) | Outcome::Lost => StatusCode::GATEWAY_TIMEOUT,
     }
@@ -82,7 +96,7 @@ fn status_of_denied(why: Denied) -> StatusCode
 {
     match why {
         Denied::Host => StatusCode::MISDIRECTED_REQUEST,
-        Denied::Method => StatusCode::METHOD_NOT_ALLOWED,
+        Denied::Method | Denied::NoRead => StatusCode::METHOD_NOT_ALLOWED,
         Denied::NoToken => StatusCode::UNAUTHORIZED,
         Denied::Page | Denied::OtherToken => StatusCode::FORBIDDEN,
     }

@@ -3,7 +3,9 @@ ghost use Rattle.json.specs.Print.{print};
 ghost use Rattle.als_http.specs.Texts.{error_tokens};
 ghost use Rattle.als_asking.specs.Telling.{one_tokens, item_tokens, each_tokens, why_denied, HasText};
 
+use crate::decision_text::decision_text;
 use crate::denied::Denied;
+use crate::doubt_text::doubts_text;
 use crate::members::{number, string};
 use crate::outcome::Outcome;
 use crate::outcome_text::outcome_members;
@@ -19,6 +21,12 @@ pub(crate) fn told_text(alloc: Global, told: &Told) -> Result<Vec<u8>, AllocErro
     match told {
         Told::One(outcome) => one_text(alloc, outcome),
         Told::Each(outcomes) => each_text(alloc, outcomes.as_slice()),
+        Told::Decision {
+            trans,
+            verdict,
+            outcome,
+        } => decision_text(alloc, *trans, *verdict, outcome),
+        Told::InDoubt(doubts) => doubts_text(alloc, doubts.as_slice()),
         Told::Unread(why) => {
             let why = format!(in alloc; "{why}")?;
             error_text(alloc, why.as_str())
@@ -121,6 +129,7 @@ fn why_denied(why: Denied) -> &'static str
     match why {
         Denied::Host => "this node has no such host: localhost, 127.0.0.1, [::1]",
         Denied::Method => "transactions are committed by POST",
+        Denied::NoRead => "transactions in doubt are read by GET",
         Denied::Page => "a page of a browser may not commit",
         Denied::NoToken => "a commit brings the token: Authorization: Bearer TOKEN",
         Denied::OtherToken => "this is not the token",

@@ -1,8 +1,8 @@
 -- How far followers are behind, worked by hand, and of which node nothing is reported of them.
 use Rattle.std.specs.Prelude.{◌≡◌, ◌++◌, Bool, false, [], if◌then◌else◌}
-use Rattle.std.proofs.Common.{refl, ap}
+use Rattle.std.proofs.Common.{refl, ap, ◌∙◌}
 use Rattle.als_http.specs.Health.{takes_commits}
-use Rattle.als_http.specs.Followers.{behind, seconds_behind, number_tokens, work_tokens, followers_tokens, primary_tokens}
+use Rattle.als_http.specs.Followers.{behind, seconds_behind, number_tokens, work_tokens, counts_tokens, followers_tokens, any_followers_tokens, primary_tokens}
 use Rattle.als_http.specs.declared.follower.Follower.{Follower}
 use Rattle.als_http.specs.declared.report.Report.{Report}
 use Rattle.std.specs.Prelude.{codes}
@@ -22,8 +22,11 @@ level_row f = refl
 ahead_row : (f : Follower) → behind 100 (record f { acknowledged = record { 0 = 160 } }) ≡ 0
 ahead_row f = refl
 
--- the status of a node that takes no commits has the members that every node's has, and no more
-a_standby_has_none : (r : Report) → takes_commits r.state ≡ false → primary_tokens r ≡ []
-unfolding primary_tokens
-a_standby_has_none r h =
-    ap (λ (b : Bool). if b then work_tokens r.work ++ (number_tokens (codes "sync") r.sync ++ followers_tokens r.acknowledged.0 r.followers.items) else []) h
+-- the status of a node that takes no commits and that nobody follows has the members that every node's has, and no more
+a_standby_has_none : (r : Report) → takes_commits r.state ≡ false → r.followers.items ≡ [] → primary_tokens r ≡ []
+unfolding primary_tokens any_followers_tokens
+a_standby_has_none r h none =
+    ap (λ (b : Bool). if b
+    then work_tokens r.work
+    ++ (counts_tokens r ++ followers_tokens r.acknowledged.0 r.followers.items) else any_followers_tokens r.acknowledged.0 r.followers.items) h
+    ∙ ap (any_followers_tokens r.acknowledged.0) none

@@ -2,7 +2,7 @@
 use Rattle.std.specs.Prelude.{◌≡◌, Some, true, false}
 use Rattle.std.proofs.Common.{refl}
 use Rattle.als_http.specs.declared.state.State.TheVariants.{Waiting, Refusing, Primary, Stopped, Committing, Unconfirmed}
-use Rattle.als_http.specs.Health.{is_sent_to, is_at_work, is_prompt, takes_commits}
+use Rattle.als_http.specs.Health.{is_sent_to, is_at_work, is_prompt, takes_commits, has_few}
 
 stopped_is_not : is_sent_to Stopped ≡ false
 stopped_is_not = refl
@@ -36,3 +36,10 @@ ten_is_prompt = refl
 
 eleven_is_not : is_prompt (Some 11) ≡ false
 eleven_is_not = refl
+
+-- with 199 transactions in doubt a primary may be healthy, with 200 it is not
+many_are_few : has_few 199 ≡ true
+many_are_few = refl
+
+too_many_are_not : has_few 200 ≡ false
+too_many_are_not = refl

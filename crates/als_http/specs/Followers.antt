@@ -1,5 +1,5 @@
 -- What a primary reports of those that follow it, and of what it committed.
-use Rattle.std.specs.Prelude.{ℕ, ◌-◌, ◌==◌, List, [], ◌∷◌, ◌++◌, flat_map, codes, decimal, if◌then◌else◌}
+use Rattle.std.specs.Prelude.{ℕ, ◌-◌, ◌==◌, List, [], ◌∷◌, ◌++◌, length, flat_map, codes, decimal, if◌then◌else◌}
 use Rattle.std.specs.Net.Text.{ip_text}
 use Rattle.json.specs.Token.{Token, begin_object, end_object, begin_array, end_array, key, string, number, boolean}
 use Rattle.als_http.specs.Health.{takes_commits}
@@ -48,9 +48,18 @@ abbrev pub followers_tokens : ℕ → List Follower → List Token
 followers_tokens acknowledged fs =
     (key (codes "followers") ∷ begin_array ∷ []) ++ (flat_map (follower_tokens acknowledged) fs ++ (end_array ∷ []))
 
--- what a node that takes commits reports beside what every node does; nothing of any other node
+-- the same, where there is any
+unfoldable pub any_followers_tokens : ℕ → List Follower → List Token
+any_followers_tokens acknowledged fs = if length fs == 0 then [] else followers_tokens acknowledged fs
+
+-- how many transactions are in doubt, and how many followers a commit waits for
+unfoldable pub counts_tokens : Report → List Token
+counts_tokens r = number_tokens (codes "in_doubt") r.in_doubt ++ number_tokens (codes "sync") r.sync
+
+-- what a node that takes commits reports beside what every node does; of any other node those that follow it
 unfoldable pub primary_tokens : Report → List Token
 primary_tokens r =
     if takes_commits r.state
-    then work_tokens r.work ++ (number_tokens (codes "sync") r.sync ++ followers_tokens r.acknowledged.0 r.followers.items)
-    else []
+    then work_tokens r.work
+    ++ (counts_tokens r ++ followers_tokens r.acknowledged.0 r.followers.items)
+    else any_followers_tokens r.acknowledged.0 r.followers.items

@@ -36,9 +36,14 @@ abbrev pub is_prompt : Option ℕ → Bool
 is_prompt None = true
 is_prompt (Some seconds) = nat_le seconds 10
 
--- a primary sends to it or it commits for clients, each frame is acknowledged in time, and readers see a list of commits
+-- fewer than 200 transactions are in doubt, of the 256 that there may be
+abbrev pub has_few : ℕ → Bool
+has_few in_doubt = nat_le in_doubt 199
+
+-- A primary sends to it or it commits for clients, each frame is acknowledged in time, readers see a list of commits, and few transactions
+-- are in doubt.
 abbrev pub is_healthy : Report → Option ℕ → Bool
-is_healthy r commits = is_at_work r.state && is_prompt r.waiting && is_some commits
+is_healthy r commits = has_few r.in_doubt && (is_at_work r.state && is_prompt r.waiting && is_some commits)
 
 -- so many bytes are left below a capacity
 abbrev pub room_below : Option ℕ → ℕ → Option ℕ

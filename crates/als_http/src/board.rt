@@ -34,6 +34,8 @@ pub struct Board {
     epoch: AtomicU64,
     /// What it committed for clients.
     work: WorkCells,
+    /// So many transactions are in doubt.
+    in_doubt: AtomicU64,
     /// So many followers have to acknowledge a commit before it is answered.
     sync: AtomicU64,
     followers: FollowerCells,
@@ -55,6 +57,7 @@ impl Board {
             fault: AtomicU64::new(0),
             epoch: AtomicU64::new(0),
             work: WorkCells::new(),
+            in_doubt: AtomicU64::new(0),
             sync: AtomicU64::new(0),
             followers: FollowerCells::new(),
         }
@@ -130,6 +133,11 @@ impl Board {
         self.work.note_group(transactions, force);
     }
 
+    /// So many transactions are in doubt.
+    pub fn set_in_doubt(&self, count: u64) {
+        self.in_doubt.store(count, Ordering::SeqCst);
+    }
+
     /// So many followers have to acknowledge a commit before it is answered.
     pub fn set_sync(&self, count: u64) {
         self.sync.store(count, Ordering::SeqCst);
@@ -193,6 +201,7 @@ impl<C: Clock> Standing for Watch<C> {
             last_fault: known(&board.fault),
             epoch: board.epoch.load(Ordering::SeqCst).checked_sub(1),
             work: board.work.work(),
+            in_doubt: board.in_doubt.load(Ordering::SeqCst),
             sync: board.sync.load(Ordering::SeqCst),
             followers: followers_now(board, &self.clock),
         }

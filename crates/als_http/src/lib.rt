@@ -93,7 +93,7 @@ pub use numbers::number;
 pub use query::{Query, Wrong};
 pub use reading::{published, read};
 pub use reply::Reply;
-pub use report::{MOST_FOLLOWERS, PATIENCE, Report};
+pub use report::{MOST_FOLLOWERS, MOST_IN_DOUBT, PATIENCE, Report};
 pub use servers::Servers;
 pub use serving::serve_until_closed;
 pub use standing::Standing;

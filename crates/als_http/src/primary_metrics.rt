@@ -7,12 +7,24 @@ use std::alloc::AllocError;
 /// The microseconds of a second.
 const SECOND: u64 = 1_000_000;
 
-/// What a node that takes commits reports beside, in Prometheus's text format.
+/// What a node that takes commits reports beside, in Prometheus's text format; of any other node those
+/// that follow it, where there is any.
 pub(crate) fn write_primary(text: &mut String, report: &Report) -> Result<(), AllocError> {
     if !report.state.takes_commits() {
-        return Ok(());
+        if report.followers.is_empty() {
+            return Ok(());
+        }
+        return write_followers(text, report);
     }
     write_work(text, &report.work)?;
+    let in_doubt = report.in_doubt;
+    head(
+        text,
+        "als_in_doubt",
+        "Transactions that are prepared and not decided.",
+        "gauge",
+    )?;
+    write!(text, "als_in_doubt {in_doubt}\n")?;
     let sync = report.sync;
     head(
         text,
@@ -21,6 +33,11 @@ pub(crate) fn write_primary(text: &mut String, report: &Report) -> Result<(), Al
         "gauge",
     )?;
     write!(text, "als_sync_followers {sync}\n")?;
+    write_followers(text, report)
+}
+
+/// What each follower has.
+fn write_followers(text: &mut String, report: &Report) -> Result<(), AllocError> {
     write_figure(text, report, Figure::Connected)?;
     write_figure(text, report, Figure::Acknowledged)?;
     write_figure(text, report, Figure::Behind)?;

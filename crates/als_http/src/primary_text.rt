@@ -2,6 +2,7 @@ ghost use Rattle.std.specs.Prelude.{◌≡◌, IfOk, OnOk, ◌++◌, ◌∷◌, 
 ghost use Rattle.std.specs.Net.Text.{ip_text};
 ghost use Rattle.json.specs.Token.{begin_array, key};
 ghost use Rattle.als_http.specs.Followers.{primary_tokens, work_tokens, followers_tokens};
+ghost use Rattle.als_http.specs.Followers.{any_followers_tokens, counts_tokens};
 ghost use Rattle.als_http.specs.Followers.{follower_tokens, place_tokens, lag_tokens, session_tokens};
 
 use crate::follower::Follower;
@@ -13,7 +14,8 @@ use json::Writer;
 use std::alloc::{AllocError, Global};
 use std::net::IpAddr;
 
-/// What a node that takes commits reports beside what every node does.
+/// What a node that takes commits reports beside what every node does; of any other node those that
+/// follow it.
 #[tactic(auto, unfolding(crate::specs::Followers::primary_tokens))]
 pub(crate) fn write_primary(
     alloc: Global,
@@ -26,14 +28,51 @@ pub(crate) fn write_primary(
 {
     if report.state.takes_commits() {
         write_work(text, &report.work)?;
-        number(text, "sync", report.sync)?;
+        write_counts(text, report)?;
         write_followers(
             alloc,
             text,
             report.acknowledged,
             report.followers.as_slice(),
         )?;
+    } else {
+        write_any_followers(
+            alloc,
+            text,
+            report.acknowledged,
+            report.followers.as_slice(),
+        )?;
     }
+    Ok(())
+}
+
+/// How many transactions are in doubt, and how many followers a commit waits for.
+#[tactic(auto, unfolding(crate::specs::Followers::counts_tokens))]
+fn write_counts(text: &mut Writer, report: &Report) -> Result<(), AllocError>
+    ensures tokens { OnOk result (text.new.tokens ≡ text.old.tokens ++ counts_tokens report.now) }
+    ensures before { OnOk result (text.new.before ≡ text.old.before) }
+{
+    number(text, "in_doubt", report.in_doubt)?;
+    number(text, "sync", report.sync)?;
+    Ok(())
+}
+
+/// Those that follow, where there is any.
+#[tactic(auto, unfolding(crate::specs::Followers::any_followers_tokens))]
+fn write_any_followers(
+    alloc: Global,
+    text: &mut Writer,
+    acknowledged: Lsn,
+    followers: &[Follower],
+) -> Result<(), AllocError>
+    ensures tokens { OnOk result
+        (text.new.tokens ≡ text.old.tokens ++ any_followers_tokens acknowledged.0 followers.now) }
+    ensures before { OnOk result (text.new.before ≡ text.old.before) }
+{
+    if followers.len() == 0 {
+        return Ok(());
+    }
+    write_followers(alloc, text, acknowledged, followers)?;
     Ok(())
 }
 

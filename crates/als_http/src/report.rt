@@ -10,6 +10,10 @@ use arrayvec::ArrayVec;
 /// So many seconds a frame may wait for its acknowledgement. Past them the standby is not healthy.
 pub const PATIENCE: u64 = 10;
 
+/// So many transactions may be in doubt before a primary is not healthy: it takes 256, and then no other
+/// one.
+pub const MOST_IN_DOUBT: u64 = 199;
+
 /// So many followers a report has at most.
 pub const MOST_FOLLOWERS: usize = 8;
 
@@ -39,6 +43,8 @@ pub struct Report {
     pub epoch: Option<u64>,
     /// What it committed for clients.
     pub work: Work,
+    /// So many transactions are in doubt.
+    pub in_doubt: u64,
     /// So many followers have to acknowledge a commit before it is answered.
     pub sync: u64,
     /// Those that follow it.
@@ -47,10 +53,14 @@ pub struct Report {
 
 impl Report {
     /// Whether a primary sends to it or it commits for clients, no frame waits for its acknowledgement
-    /// for longer than `PATIENCE`, and readers see a list of commits.
+    /// for longer than `PATIENCE`, readers see a list of commits, and no more than `MOST_IN_DOUBT`
+    /// transactions are in doubt.
     pub fn is_healthy(&self, commits: Option<u64>) -> bool
         ensures { result ≡ is_healthy self.now commits }
     {
+        if self.in_doubt > MOST_IN_DOUBT {
+            return false;
+        }
         self.state.is_at_work() && is_prompt(self.waiting) && commits.is_some()
     }
 

@@ -1,3 +1,4 @@
+pub mod Doubts
 pub mod Fates
 pub mod Guards
 pub mod Others

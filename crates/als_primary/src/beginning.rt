@@ -1,5 +1,6 @@
 ghost use Rattle.std.specs.Prelude.{◌≤◌};
 
+use crate::doubts::Doubts;
 use crate::services::Common;
 use crate::serving::Serving;
 use als_asking::Guard;
@@ -9,7 +10,7 @@ use als_http::{Board, Hosts, Servers, State, config_with};
 use als_lead::Answer;
 use als_operate::Fault;
 use als_seats::{Leader, seats};
-use als_writer::Transaction;
+use als_writer::Work;
 use std::alloc::{AllocError, Global};
 use std::fs::File;
 use std::net::TcpListener;
@@ -31,7 +32,8 @@ const BLOCK: u64 = 512;
 /// The threads that answer, and what ties them to the leader.
 pub(crate) struct Begun {
     pub board: Arc<Board, Global>,
-    pub leader: Leader<Transaction, Answer>,
+    pub doubts: Arc<Doubts, Global>,
+    pub leader: Leader<Work, Answer>,
     pub servers: Servers,
 }
 
@@ -50,11 +52,13 @@ pub(crate) fn begin<
 ) -> Result<Begun, Fault> {
     let alloc = rt.alloc();
     let board = board_of(alloc, engine, capacity)?;
+    let doubts = doubts_of(rt, alloc, engine, &board)?;
     let (leader, askers) = seats(alloc, seats_of(serving.connections))?;
     let common = Common {
         rt,
         alloc,
         board: &board,
+        doubts: &doubts,
         guard: &guard,
         hosts: Hosts::at(listener),
         patience: Duration::from_secs(serving.commit_timeout),
@@ -64,6 +68,7 @@ pub(crate) fn begin<
     let servers = Servers::start_any(rt, alloc, listener, services, config_with(BODY))?;
     Ok(Begun {
         board,
+        doubts,
         leader,
         servers,
     })
@@ -75,6 +80,18 @@ fn seats_of(connections: u64) -> u32
     ensures { result ≤ 66 }
 {
     connections.min(CONNECTIONS) as u32 + 2
+}
+
+/// What is in doubt at the start. The board receives how many.
+fn doubts_of<R: Wait, E: Events>(
+    rt: &R,
+    alloc: Global,
+    engine: &E,
+    board: &Board,
+) -> Result<Arc<Doubts, Global>, AllocError> {
+    let doubts = Arc::new(alloc, Doubts::new(alloc))?;
+    doubts.look(rt, engine, board);
+    Ok(doubts)
 }
 
 /// A board of an engine that is a primary's.

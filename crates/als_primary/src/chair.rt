@@ -1,20 +1,22 @@
 ghost use Rattle.std.specs.Prelude.{◌≡◌};
 ghost use Rattle.als_primary.specs.Fates.{fate_of};
 
-use als_asking::{Commits, Outcome as Fate};
+use crate::doubts::Doubts;
+use als_asking::{Commits, Doubt, Outcome as Fate};
 use als_lead::Answer;
 use als_seats::{Asker, Outcome};
-use als_writer::Transaction;
+use als_writer::Work;
 use std::alloc::Global;
-use std::sync::Wait;
+use std::sync::{Arc, Wait};
 use std::time::{Clock, Duration};
 
 /// A thread's way to the leader.
 pub(crate) struct Chair<R> {
     rt: R,
     alloc: Global,
-    asker: Asker<Transaction, Answer>,
-    /// How long a transaction may wait to begin.
+    asker: Asker<Work, Answer>,
+    doubts: Arc<Doubts, Global>,
+    /// How long a piece of work may wait to begin.
     patience: Duration,
 }
 
@@ -24,10 +26,12 @@ impl<R: Drop> Drop for Chair<R> {
             rt,
             alloc: _,
             asker,
+            doubts,
             patience: _,
         } = self;
         drop(rt);
         drop(asker);
+        drop(doubts);
     }
 }
 
@@ -36,13 +40,15 @@ impl<R: Wait + Clock> Chair<R> {
     pub fn new(
         rt: R,
         alloc: Global,
-        asker: Asker<Transaction, Answer>,
+        asker: Asker<Work, Answer>,
+        doubts: Arc<Doubts, Global>,
         patience: Duration,
     ) -> Chair<R> {
         Chair {
             rt,
             alloc,
             asker,
+            doubts,
             patience,
         }
     }
@@ -54,7 +60,9 @@ impl<R: Wait + Clock> Commits for Chair<R> {
     // None has two outcomes.
     ghost commits = { λ old asked outcomes new. length outcomes ≤ length asked };
 
-    fn commit(&mut self, asked: Vec<Transaction>) -> Vec<Fate> {
+    ghost doubts = { λ chair found. Unit {0} };
+
+    fn commit(&mut self, asked: Vec<Work>) -> Vec<Fate> {
         let count = asked.len();
         // Before anything is asked: there has to be room for what becomes of it.
         let Ok(mut fates) = Vec::with_capacity(self.alloc, count) else {
@@ -70,17 +78,24 @@ impl<R: Wait + Clock> Commits for Chair<R> {
         }
         fates
     }
+
+    fn in_doubt(&self) -> Option<Vec<Doubt>> {
+        self.doubts.copy(&self.rt)
+    }
 }
 
-/// What becomes of a transaction, as it is answered over HTTP.
+/// What becomes of a piece of work, as it is answered over HTTP.
 fn fate_of(outcome: Outcome<Answer>) -> Fate
     ensures { result ≡ fate_of outcome }
 {
     match outcome {
         Outcome::Answered(Answer::Committed(written)) => Fate::Committed(written),
+        Outcome::Answered(Answer::Prepared(written)) => Fate::Prepared(written),
+        Outcome::Answered(Answer::Decided(written)) => Fate::Decided(written),
         Outcome::Answered(Answer::Refused(refusal)) => Fate::Refused(refusal),
+        Outcome::Answered(Answer::NotDecided(why)) => Fate::NotDecided(why),
         Outcome::Answered(Answer::Unknown(written)) => Fate::Unknown(written),
-        // Why nothing of it is committed is not told.
+        // Why nothing of it is done is not told.
         Outcome::Answered(Answer::Withheld) | Outcome::NotBegun => Fate::NotBegun,
         Outcome::Lost => Fate::Lost,
     }

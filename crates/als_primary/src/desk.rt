@@ -2,12 +2,14 @@ ghost use Rattle.std.specs.Prelude.{◌≡◌, []};
 ghost use Rattle.als_lead.specs.Account.{taken_of, told_of};
 ghost use Rattle.als_seats.specs.Places.{number_of};
 
+use crate::doubts::Doubts;
 use crate::group::Group;
+use als_engine::Decision;
 use als_http::Board;
 use als_lead::{Account, Answer, Asked, Clients, Waited};
 use als_operate::Fault;
 use als_seats::{Ask, Leader, Place, Waited as Met};
-use als_writer::Transaction;
+use als_writer::Work;
 use std::alloc::Global;
 use std::sync::{Arc, Wait};
 use std::time::{Clock, Duration};
@@ -19,7 +21,8 @@ const IDLE: u64 = 100;
 pub(crate) struct Desk<'a, R> {
     rt: &'a R,
     board: Arc<Board, Global>,
-    leader: Leader<Transaction, Answer>,
+    doubts: Arc<Doubts, Global>,
+    leader: Leader<Work, Answer>,
     account: Account,
     group: Group,
 }
@@ -29,22 +32,26 @@ impl<R> Drop for Desk<'_, R> {
         let Desk {
             rt: _,
             board,
+            doubts,
             leader,
             account,
             group: _,
         } = self;
         drop(board);
+        drop(doubts);
         drop(leader);
         drop(account);
     }
 }
 
 impl<'a, R: Wait + Clock> Desk<'a, R> {
-    /// Nobody was answered yet. The board receives what each group came to.
+    /// Nobody was answered yet. The board receives what each group came to, and `doubts` that some may
+    /// come or go by it.
     pub fn new(
         rt: &'a R,
         board: Arc<Board, Global>,
-        leader: Leader<Transaction, Answer>,
+        doubts: Arc<Doubts, Global>,
+        leader: Leader<Work, Answer>,
     ) -> Desk<'a, R>
         ensures taken { taken_of result.account ≡ [] }
         ensures told { told_of result.account ≡ [] }
@@ -52,6 +59,7 @@ impl<'a, R: Wait + Clock> Desk<'a, R> {
         Desk {
             rt,
             board,
+            doubts,
             leader,
             account: Account::Nothing,
             group: Group::NONE,
@@ -64,11 +72,13 @@ impl<'a, R: Wait + Clock> Desk<'a, R> {
         let Desk {
             rt,
             board,
+            doubts,
             leader,
             account,
             group: _,
         } = self;
         drop(board);
+        drop(doubts);
         leader.end(rt);
         drop(account);
     }
@@ -96,6 +106,9 @@ impl<R: Wait + Clock> Clients for Desk<'_, R> {
             Some(ask) => {
                 let asked = asked_of(ask);
                 self.account.take(&asked);
+                if !matches!(&asked.work, Work::Commit(_)) {
+                    self.doubts.note();
+                }
                 Ok(Some(asked))
             }
             None => Ok(None),
@@ -105,7 +118,7 @@ impl<R: Wait + Clock> Clients for Desk<'_, R> {
     fn tell(&mut self, asked: Asked, answer: Answer) -> Result<(), Fault> {
         self.account.tell(&asked, again(&answer));
         self.group
-            .tell(now_of(self.rt), matches!(answer, Answer::Committed(_)));
+            .tell(now_of(self.rt), is_committed(&asked.work, &answer));
         // Each transaction that was taken came from a place.
         if let Some(place) = Place::of(asked.seat) {
             self.leader.tell(self.rt, place, answer);
@@ -130,14 +143,29 @@ fn now_of<C: Clock>(clock: &C) -> Duration {
     }
 }
 
+/// Whether a transaction is committed by what was answered.
+fn is_committed(work: &Work, answer: &Answer) -> bool {
+    match answer {
+        Answer::Committed(_) => true,
+        Answer::Decided(_) => matches!(
+            work,
+            Work::Decide {
+                verdict: Decision::Commit,
+                ..
+            }
+        ),
+        _ => false,
+    }
+}
+
 /// A question as the leader takes it: its seat is the number of its place.
-fn asked_of(ask: Ask<Transaction>) -> Asked
+fn asked_of(ask: Ask<Work>) -> Asked
     ensures seat { result.seat ≡ number_of ask.place }
-    ensures transaction { result.transaction ≡ ask.question }
+    ensures work { result.work ≡ ask.question }
 {
     Asked {
         seat: ask.place.number(),
-        transaction: ask.question,
+        work: ask.question,
     }
 }
 

@@ -1,8 +1,8 @@
 //! The server of a primary: its clients are the threads that answer over HTTP, and one thread leads.
 //!
 //! ```text
-//! HTTP threads --Transaction--> seats --> leader: write, force once, publish, answer all of a group
-//!              <----Answer----- seats <--/        then upkeep: redo, flush, checkpoint
+//! HTTP threads --Work--> seats --> leader: write, force once, publish, answer all of a group
+//!              <-Answer- seats <--/        then upkeep: redo, flush, checkpoint
 //!              --reader--> view of what is published
 //! ```
 //!
@@ -25,6 +25,8 @@ mod refusal;
 mod desk;
 // What a group came to.
 mod group;
+// What is in doubt.
+mod doubts;
 // A thread's way to the leader.
 mod chair;
 // What each thread answers by.

@@ -177,10 +177,12 @@ fn stand<
 ) -> Result<(), Fault> {
     let Begun {
         board,
+        doubts,
         leader,
         servers,
     } = begun;
     let shown = Arc::try_clone(&board)?;
+    let noted = Arc::try_clone(&doubts)?;
     let status = engine.status();
     board.set_sync(u64::from(serving.sync));
     let others = Others::new(rt, rt.alloc(), serving.sync, status.acknowledged)?;
@@ -188,6 +190,7 @@ fn stand<
     let mut watching = Watching {
         upkeep: PrimaryUpkeep::new(rt, CHECKPOINT_BYTES, status.end),
         board: &*board,
+        doubts: &*doubts,
         clock: rt,
         lines: &mut *lines,
         capacity,
@@ -198,7 +201,7 @@ fn stand<
         followers: followers.as_ref(),
         short: 0,
     };
-    let mut desk = Desk::new(rt, shown, leader);
+    let mut desk = Desk::new(rt, shown, noted, leader);
     let led = lead(rt.alloc(), engine, &mut desk, &mut watching, GROUP);
     drop(watching);
     board.set_state(State::Stopped);

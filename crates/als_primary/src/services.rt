@@ -2,12 +2,13 @@ ghost use Rattle.std.specs.Prelude.{◌≡◌, IfOk};
 ghost use Rattle.als_primary.specs.Guards.{token_of};
 
 use crate::chair::Chair;
+use crate::doubts::Doubts;
 use als_asking::{Asking, Guard, Lent};
 use als_engine::Reader;
 use als_http::{Answering, Board, Hosts, Watch};
 use als_lead::Answer;
 use als_seats::Asker;
-use als_writer::Transaction;
+use als_writer::Work;
 use std::alloc::{AllocError, Global};
 use std::sync::{Arc, Mutex, Wait};
 use std::time::{Clock, Duration};
@@ -23,9 +24,10 @@ pub(crate) struct Common<'a, R> {
     pub rt: &'a R,
     pub alloc: Global,
     pub board: &'a Arc<Board, Global>,
+    pub doubts: &'a Arc<Doubts, Global>,
     pub guard: &'a Guard,
     pub hosts: Hosts,
-    /// How long a transaction may wait to begin.
+    /// How long a piece of work may wait to begin.
     pub patience: Duration,
 }
 
@@ -35,6 +37,7 @@ impl<R> Drop for Common<'_, R> {
             rt: _,
             alloc: _,
             board: _,
+            doubts: _,
             guard: _,
             hosts: _,
             patience: _,
@@ -46,7 +49,7 @@ impl<R: Wait + Clock + Clone + Drop> Common<'_, R> {
     /// A service for each asker, with its clock. They share the readers, a few each one.
     pub fn services(
         &self,
-        askers: Vec<Asker<Transaction, Answer>>,
+        askers: Vec<Asker<Work, Answer>>,
         readers: Vec<Reader>,
     ) -> Result<Vec<(Service<R>, R)>, AllocError> {
         let shared = self.share(readers)?;
@@ -77,10 +80,11 @@ impl<R: Wait + Clock + Clone + Drop> Common<'_, R> {
     /// The service of an asker.
     fn service(
         &self,
-        asker: Asker<Transaction, Answer>,
+        asker: Asker<Work, Answer>,
         reads: Arc<Mutex<Reads<R>>, Global>,
     ) -> Result<Service<R>, AllocError> {
-        let chair = Chair::new(self.rt.clone()?, self.alloc, asker, self.patience);
+        let doubts = Arc::try_clone(self.doubts)?;
+        let chair = Chair::new(self.rt.clone()?, self.alloc, asker, doubts, self.patience);
         let lent = Lent::new(self.rt.clone()?, reads);
         let guard = copy_of(self.alloc, self.guard)?;
         Ok(Asking::new(self.alloc, guard, self.hosts, chair, lent))

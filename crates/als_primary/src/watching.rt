@@ -4,6 +4,7 @@ ghost use Rattle.als_primary.specs.Others.{IsConfirmed, IsMissed};
 
 use crate::announcing::Announces;
 use crate::delay::Delay;
+use crate::doubts::Doubts;
 use crate::others::Others;
 use als_engine::{Events, Fault, Status};
 use als_followers::{Followers, NodeSource};
@@ -34,6 +35,7 @@ const SHORT: u32 = 100;
 pub(crate) struct Watching<'a, R: Wait + Drop, A> {
     pub upkeep: PrimaryUpkeep<'a, R>,
     pub board: &'a Board,
+    pub doubts: &'a Doubts,
     pub clock: &'a R,
     pub lines: A,
     /// The bytes that its log takes at most. None: not known.
@@ -173,9 +175,11 @@ impl<R: Wait + Clock + Drop, A: Announces> Upkeep for Watching<'_, R, A> {
     // The quorum answered that too few have.
     ghost missed = { λ watching n. IsMissed watching.others.count watching.others.answers n };
 
-    // Where memory is short, readers see the rest before the next group.
+    // Where memory is short, readers see the rest before the next group. Who is answered finds in doubt what
+    // is.
     fn publish<E: Events>(&mut self, engine: &mut E) -> Result<(), Fault> {
         let published = self.upkeep.publish(engine);
+        self.doubts.look(self.clock, &*engine, self.board);
         if waits_out(&mut self.short, &published) {
             return Ok(());
         }
@@ -187,6 +191,7 @@ impl<R: Wait + Clock + Drop, A: Announces> Upkeep for Watching<'_, R, A> {
         if kept.is_err() && !waits_out(&mut self.short, &kept) {
             return kept;
         }
+        self.doubts.look(self.clock, &*engine, self.board);
         let status = engine.status();
         self.others.show(status.acknowledged);
         note(

@@ -1,6 +1,7 @@
-use als_asking::{Asking, Commits, Guard, Outcome};
+use als_asking::{Asking, Commits, Doubt, Guard, Outcome};
 use als_http::{Hosts, config_with};
-use als_writer::Transaction;
+use als_record::{Lsn, TransId};
+use als_writer::Work;
 use bytes::Bytes;
 use http::{Request, StatusCode};
 use http_server::{Connection, Response, Service, serve};
@@ -10,7 +11,7 @@ use std::hash::RandomState;
 /// The bytes of a body, at most.
 const BODY: usize = 65_536;
 
-/// Returns this outcome for each transaction.
+/// Returns this outcome for each piece of work. Transactions 7 and 9 are in doubt.
 pub struct Acting {
     pub alloc: Global,
     pub outcome: Outcome,
@@ -28,11 +29,26 @@ impl Drop for Acting {
 impl Commits for Acting {
     ghost commits = { λ old asked outcomes new. Unit {0} };
 
-    fn commit(&mut self, asked: Vec<Transaction>) -> Vec<Outcome> {
+    ghost doubts = { λ acting found. Unit {0} };
+
+    fn commit(&mut self, asked: Vec<Work>) -> Vec<Outcome> {
         let mut outcomes = Vec::new(self.alloc);
         // Where there is no memory for them, they are lost.
         let _ = outcomes.resize(asked.len(), self.outcome);
         outcomes
+    }
+
+    fn in_doubt(&self) -> Option<Vec<Doubt>> {
+        let mut found = Vec::new(self.alloc);
+        for (trans, lsn) in [(7, 52), (9, 180)] {
+            found
+                .push(Doubt {
+                    trans: TransId(trans),
+                    lsn: Lsn(lsn),
+                })
+                .ok()?;
+        }
+        Some(found)
     }
 }
 

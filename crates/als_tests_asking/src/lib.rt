@@ -7,6 +7,9 @@ mod acting;
 // Outcomes, and what they are answered.
 #[cfg(test)]
 mod outcomes;
+// Transactions that are prepared, and decisions.
+#[cfg(test)]
+mod decisions;
 // Requests that commit nothing.
 #[cfg(test)]
 mod refusals;

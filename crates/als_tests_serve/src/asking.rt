@@ -41,9 +41,18 @@ impl Standing for Fixed {
                 groups: 4,
                 force_microseconds: 1_500_007,
             },
+            in_doubt: 3,
             sync: 1,
-            followers: followers(),
+            followers: followers_of(self.0),
         }
+    }
+}
+
+/// Those of a node that takes commits; nobody follows another one.
+fn followers_of(state: State) -> ArrayVec<Follower, MOST_FOLLOWERS> {
+    match state {
+        State::Committing | State::Unconfirmed => followers(),
+        _ => ArrayVec::new(),
     }
 }
 

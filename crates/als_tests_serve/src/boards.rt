@@ -51,6 +51,7 @@ fn a_board_tells_what_was_last_seen(rt: HostRuntime) -> Result<(), Fail> {
         last_fault: Some(41),
         epoch: Some(2),
         work: Work::NOTHING,
+        in_doubt: 0,
         sync: 0,
         followers: ArrayVec::new(),
     };
@@ -110,13 +111,14 @@ fn a_board_has_the_work_of_a_primary(rt: HostRuntime) -> Result<(), Fail> {
     board.note_group(3, Duration::from_micros(1_250));
     board.note_group(1, Duration::from_millis(2));
     board.set_sync(2);
+    board.set_in_doubt(5);
     let wanted = Work {
         transactions: 4,
         groups: 2,
         force_microseconds: 3_250,
     };
     let found = watch.report();
-    assert!(rt; found.work == wanted && found.sync == 2);
+    assert!(rt; found.work == wanted && found.sync == 2 && found.in_doubt == 5);
     Ok(())
 }
 

@@ -1,0 +1,9 @@
+use als_record::{Lsn, TransId};
+
+/// A transaction in doubt: it is prepared, and no decision came.
+#[derive(Clone, Copy, Debug, PartialEq, Eq)]
+pub struct Doubt {
+    pub trans: TransId,
+    /// The LSN of its last record.
+    pub lsn: Lsn,
+}
