@@ -77,7 +77,7 @@ pub fn follow_sessions<
             events: back,
             ended,
             is_hang_up,
-        } = follow_next(rt, alloc, held, pace, primaries, board);
+        } = follow_next(rt, alloc, held, pace, primaries, board, outages);
         held = back;
         note(board, ended);
         if let Some(fault) = final_fault(ended) {

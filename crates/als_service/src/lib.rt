@@ -28,6 +28,8 @@ mod notices;
 mod ending;
 // Which sessions there were, for clauses alone.
 mod met;
+// What a primary is asked about the held log.
+mod comparing;
 // The connections to a primary, one after another.
 mod primaries;
 // The next session.
@@ -38,6 +40,8 @@ mod keeping;
 mod seats;
 // What a standby is asked for.
 mod service;
+// Who follows it, for its board.
+mod onlookers;
 // The sessions of its own followers.
 mod shipping;
 // The standby of a folder.

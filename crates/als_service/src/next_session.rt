@@ -7,6 +7,7 @@ ghost use Rattle.als_service.specs.Sessions.{VouchesLast, EndsOne};
 use crate::answered::Answered;
 use crate::heard::Heard;
 use crate::keeping::Pace;
+use crate::outages::Outages;
 use crate::primaries::Primaries;
 use als_engine::{Events, State as EngineState};
 use als_follow::{Followed, follow_beside};
@@ -40,7 +41,16 @@ pub(crate) fn follow_next<
     R: Runtime + Clock,
     S: Read + Write + Drop,
     L: Primaries<S>,
->(rt: &R, alloc: Global, events: E, pace: Pace, primaries: &mut L, board: &Board) -> Turn<E>
+    N: Outages,
+>(
+    rt: &R,
+    alloc: Global,
+    events: E,
+    pace: Pace,
+    primaries: &mut L,
+    board: &Board,
+    outages: &mut N,
+) -> Turn<E>
     ensures reached { E.alone → Reaches (E.machine events) (E.machine result.events) }
     ensures follows { E.alone → ReachesFollowing (E.machine events) (E.machine result.events) }
     ensures book { E.book result.events ≡ E.book events }
@@ -56,6 +66,7 @@ pub(crate) fn follow_next<
     let begun = moment(rt);
     match primaries.next() {
         Ok((reader, writer)) => {
+            tell_uncompared(primaries, outages);
             let Followed {
                 engine,
                 reader,
@@ -84,6 +95,16 @@ pub(crate) fn follow_next<
             ended: Some(Err(fault)),
             is_hang_up: is_hang_up(Some(Err(fault)), begun, moment(rt)),
         },
+    }
+}
+
+/// Says, once, that the primary did not answer what log it has.
+pub(crate) fn tell_uncompared<S: Read + Write, L: Primaries<S>, N: Outages>(
+    primaries: &L,
+    outages: &mut N,
+) {
+    if primaries.was_unanswered() {
+        outages.uncompared();
     }
 }
 

@@ -13,6 +13,9 @@ pub trait Outages {
     /// So many connections in a row were ended at once, before anything came over them.
     fn hang_ups(&mut self, count: u32);
 
+    /// The primary was asked whether its log is the held one, and did not answer. It is followed all the same.
+    fn uncompared(&mut self);
+
     /// The log ends there, and nine tenths of the bytes of its device are used, or more.
     fn nearly_full(&mut self, end: Lsn, capacity: u64);
 }

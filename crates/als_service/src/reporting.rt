@@ -47,6 +47,7 @@ impl<R: Wait> Observer for BoardReporter<'_, R> {
     }
 
     fn after_adopt(&self, history: History) {
+        self.board.set_epoch(u64::from(history.epoch()));
         if let Some(cascade) = self.cascade {
             cascade.adopted(self.rt, history);
         }

@@ -1,9 +1,10 @@
 use crate::cascade::Cascade;
+use crate::onlookers::Onlookers;
 use crate::service::Service;
 use als_cascade::StandbySource;
 use als_engine::Fault as EngineFault;
 use als_followers::{Allowed, Block, Followers, Quorum, Terms};
-use als_http::listen;
+use als_http::{Board, listen};
 use als_operate::{Fault, silence};
 use als_quorum::SEATS;
 use als_sending::WINDOW_LIMIT;
@@ -13,8 +14,9 @@ use std::net::{Net, TcpListener, TcpStream};
 use std::path::PathBuf;
 use std::rt::Files;
 use std::sync::{Arc, Wait};
-use std::thread::Threads;
+use std::thread::{JoinHandle, Threads};
 use std::time::Clock;
+use std::{io, thread};
 
 /// Where followers connect, and who may.
 #[derive(Drop)]
@@ -75,31 +77,70 @@ fn new_quorum(alloc: Global) -> Result<Arc<Quorum, Global>, AllocError> {
     Ok(Arc::new(alloc, Quorum::new(alloc, SEATS)?)?)
 }
 
+/// The sessions of a standby's own followers, and the thread that writes on its board who follows.
+pub(crate) struct Cascading<R> {
+    followers: Followers<StandbySource<R>>,
+    onlookers: JoinHandle<()>,
+}
+
 /// Starts the sessions of a standby's own followers.
 pub(crate) fn ship<R: AllocGlobal + Threads + Wait + Clock + Clone + Send + Sync + Drop + 'static>(
     rt: &R,
     shipping: Shipping,
     file: File,
     cascade: &Cascade,
+    board: &Arc<Board, Global>,
     timeout: u64,
     window: u32,
-) -> Result<Followers<StandbySource<R>>, Fault> {
+) -> Result<Cascading<R>, Fault> {
     let Shipping { listener, allowed } = shipping;
     let alloc = rt.alloc();
     let source = StandbySource::new(rt.clone()?, file, cascade.tail()?, cascade.era()?, timeout);
     let terms = Terms::new(window, silence(timeout));
-    let tail = cascade.tail()?;
     let quorum = new_quorum(alloc)?;
+    let onlookers = Onlookers {
+        rt: rt.clone()?,
+        board: Arc::try_clone(board)?,
+        tail: cascade.tail()?,
+        quorum: Arc::try_clone(&quorum)?,
+    };
+    let tail = cascade.tail()?;
     let followers = Followers::start(rt, alloc, listener, source, tail, quorum, allowed, terms)?;
-    Ok(followers)
+    match watch(rt, onlookers) {
+        Ok(onlookers) => Ok(Cascading {
+            followers,
+            onlookers,
+        }),
+        Err(e) => {
+            followers.close(rt);
+            Err(Fault::from(e))
+        }
+    }
+}
+
+/// Starts the thread that writes who follows.
+fn watch<R: Threads + Wait + Clock + Send + Drop + 'static>(
+    rt: &R,
+    onlookers: Onlookers<R>,
+) -> io::Result<JoinHandle<()>> {
+    let mut onlookers = onlookers;
+    match thread::spawn(rt, move || onlookers.run()) {
+        Ok(handle) => Ok(handle),
+        Err(_) => Err(io::ErrorKind::Other.into()),
+    }
 }
 
 /// Ends the sessions, if there are any.
-pub(crate) fn end_sessions<R: Threads + Wait + Drop>(
-    rt: &R,
-    followers: Option<Followers<StandbySource<R>>>,
-) {
-    if let Some(followers) = followers {
+pub(crate) fn end_sessions<R: Threads + Wait + Drop>(rt: &R, cascading: Option<Cascading<R>>) {
+    if let Some(
+        Cascading {
+            followers,
+            onlookers,
+        },
+    ) = cascading
+    {
+        // Their tail closes: nobody looks on any more.
         followers.close(rt);
+        onlookers.join(rt);
     }
 }

@@ -2,20 +2,19 @@ use crate::answered::Answered;
 use crate::cascade::Cascade;
 use crate::heard::Heard;
 use crate::keeping::{Kept, Pace, follow_sessions};
+use crate::next_session::tell_uncompared;
 use crate::outages::Outages;
 use crate::primaries::{Dialled, Primaries};
 use crate::reporting::{BoardReporter, Reported};
 use crate::seats::{new_board, serve_reads};
 use crate::service::Service;
-use crate::shipping::{Shipping, end_sessions, log_file, ship, shipping_of};
-use als_cascade::StandbySource;
+use crate::shipping::{Cascading, Shipping, end_sessions, log_file, ship, shipping_of};
 use als_disk::FileDisk;
 use als_drive::{Progress, recover_telling};
 use als_engine::{Engine, Events, Reader};
 use als_folder::Folder;
 use als_follow::{Followed, follow_beside};
-use als_followers::Followers;
-use als_http::{Board, Servers, State, listen};
+use als_http::{Board, Servers, State, Watch, listen};
 use als_operate::{Fault, Following, Held, conclude, follow, hold};
 use als_share::{Counts, Observed, Runtime};
 use std::alloc::Global;
@@ -125,11 +124,13 @@ fn stand<
         board.set_capacity(bytes);
     }
     let unkept = if is_new { Some(&folder) } else { None };
-    let mut primaries = Dialled::new(rt, following, unkept, greeted);
-    let (cascade, followers) = cascade_of(
+    let watch = Watch::new(Arc::try_clone(&board)?, rt.clone()?);
+    let mut primaries = Dialled::new(rt, following, unkept, greeted, watch);
+    let (cascade, cascading) = cascade_of(
         rt,
         shipping,
         &engine,
+        &board,
         following,
         service.window,
         is_new,
@@ -153,7 +154,7 @@ fn stand<
         progress,
     );
     board.set_state(State::Stopped);
-    end_sessions(rt, followers);
+    end_sessions(rt, cascading);
     close(rt, servers);
     conclude(&folder, &engine, ended, output)
 }
@@ -166,10 +167,11 @@ fn cascade_of<
     rt: &R,
     shipping: Option<Shipping>,
     engine: &Engine<FileDisk>,
+    board: &Arc<Board, Global>,
     following: Following<'_>,
     window: u32,
     is_new: bool,
-) -> Result<(Option<Cascade>, Option<Followers<StandbySource<R>>>), Fault> {
+) -> Result<(Option<Cascade>, Option<Cascading<R>>), Fault> {
     let Some(shipping) = shipping else {
         return Ok((None, None));
     };
@@ -180,8 +182,9 @@ fn cascade_of<
         cascade.adopted(rt, engine.history());
     }
     let file = log_file(rt, following.dir, is_new)?;
-    let followers = ship(rt, shipping, file, &cascade, following.timeout, window)?;
-    Ok((Some(cascade), Some(followers)))
+    let timeout = following.timeout;
+    let cascading = ship(rt, shipping, file, &cascade, board, timeout, window)?;
+    Ok((Some(cascade), Some(cascading)))
 }
 
 /// A board, and, where somebody may come to ask, the threads that answer by it.
@@ -254,7 +257,7 @@ fn drive<
             ended: Err(ended),
         }
     } else {
-        let Kept { events, ended } = follow_once(rt, events, pace, primaries, board);
+        let Kept { events, ended } = follow_once(rt, events, pace, primaries, board, progress);
         Kept {
             events: events.end(),
             ended,
@@ -269,7 +272,15 @@ fn follow_once<
     R: AllocGlobal + Runtime + Clock,
     S: Read + Write + Drop,
     L: Primaries<S>,
->(rt: &R, events: E, pace: Pace, primaries: &mut L, board: &Board) -> Kept<E, Result<(), Fault>> {
+    N: Outages,
+>(
+    rt: &R,
+    events: E,
+    pace: Pace,
+    primaries: &mut L,
+    board: &Board,
+    outages: &mut N,
+) -> Kept<E, Result<(), Fault>> {
     let alloc = rt.alloc();
     let (reader, writer) = match primaries.next() {
         Ok(streams) => streams,
@@ -280,6 +291,7 @@ fn follow_once<
             };
         }
     };
+    tell_uncompared(primaries, outages);
     let heard = Heard::new(reader, board, rt);
     let answered = Answered::new(writer, board);
     let Followed {

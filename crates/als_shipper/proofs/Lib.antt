@@ -1,2 +1,4 @@
 mod Limits
 pub mod Visiting
+pub mod Gets
+pub mod Ending

@@ -1,18 +1,7 @@
+use crate::question::{FRONT, LONGEST, RESUME, TAKEOVERS};
 use std::io::ErrorKind;
 use std::net::OpenStream;
 use std::time::Duration;
-
-/// What a Resume frame begins with.
-const RESUME: u8 = 81;
-
-/// Bytes of a Resume frame, up to those that say how many takeovers follow.
-const FRONT: usize = 29;
-
-/// So many takeovers a history has at most.
-const TAKEOVERS: u32 = 32;
-
-/// Bytes of a Resume frame, at most.
-const LONGEST: usize = 285;
 
 /// Somebody who came and is to ask for a log. Its stream does not block.
 #[derive(Drop)]

@@ -3,18 +3,20 @@ ghost use Rattle.als_wire.specs.Reading.{IsHeader};
 ghost use Rattle.als_ship.specs.declared.fault.Fault.TheVariants as fault;
 ghost use Rattle.als_sending.specs.Accounts.{reads_of};
 
+use crate::naming::Naming;
+use crate::stop::Stop;
 use crate::strayed::Strayed;
 use als_epochs::History;
 use als_folder::LOG_LIMIT;
 use als_record::LogHeader;
 use als_sending::{Account, Growing, Grown};
 use als_ship::Fault;
-use std::fs::{File, Metadata, OpenFile};
+use std::fs::{File, OpenFile};
 use std::io::ErrorKind;
-use std::os::unix::fs::{FileExt, MetadataExt};
+use std::os::unix::fs::FileExt;
 use std::rt::Files;
 use std::time::{Clock, Duration};
-use std::{fs, io, thread};
+use std::{io, thread};
 
 /// Milliseconds after which a file at whose end a session waits is looked at again.
 const NAP: u64 = 50;
@@ -38,9 +40,10 @@ pub(crate) fn beat_for(timeout: u64) -> u64 {
 
 /// A log file that may grow, of a node before which there was no takeover. Only its header is looked
 /// at.
-pub(crate) struct GrowingLog<'a, R> {
-    rt: &'a R,
-    path: &'a str,
+pub(crate) struct GrowingLog<'a, C, N> {
+    clock: &'a C,
+    /// Whether its path still names it.
+    naming: N,
     file: File,
     header: LogHeader,
     /// How long it was at least.
@@ -49,6 +52,8 @@ pub(crate) struct GrowingLog<'a, R> {
     shown: u64,
     /// How many naps a session waits at its end before it gives a sign. None: it does not wait.
     beat: Option<u64>,
+    /// Whether nobody waits any more.
+    stop: &'a Stop,
     /// Why it is no longer the file that it was, if it is not.
     strayed: Option<Strayed>,
     is_told: bool,
@@ -57,52 +62,103 @@ pub(crate) struct GrowingLog<'a, R> {
     ghost range: { IsHeader header },
 }
 
-impl<R> Drop for GrowingLog<'_, R> {
+impl<C, N: Drop> Drop for GrowingLog<'_, C, N> {
     fn drop(self) {
         let GrowingLog {
-            rt: _,
-            path: _,
+            clock: _,
+            naming,
             file,
             header: _,
             len: _,
             shown: _,
             beat: _,
+            stop: _,
             strayed: _,
             is_told: _,
             account: _,
+        } = self;
+        drop(naming);
+        drop(file);
+    }
+}
+
+/// A log file that was opened, the header with which it begins, and how long it is.
+pub(crate) struct Opened {
+    pub file: File,
+    pub header: LogHeader,
+    pub len: u64,
+    ghost range: { IsHeader header },
+}
+
+impl Drop for Opened {
+    fn drop(self) {
+        let Opened {
+            file,
+            header: _,
+            len: _,
         } = self;
         drop(file);
     }
 }
 
-impl<'a, R: Files<File = File>> GrowingLog<'a, R> {
-    /// The log of a file, at whose end a session waits for so many naps before it gives a sign; without
-    /// any it ends there. BadHeader: it begins with none. Stream: it can't be read.
-    pub fn open(rt: &'a R, path: &'a str, beat: Option<u64>) -> Result<GrowingLog<'a, R>, Fault> {
-        let file = File::open(rt, path)?;
-        let mut front = [0; 16];
-        let len = file.metadata()?.len();
-        if len < 16 {
-            return Err(Fault::BadHeader);
-        }
-        file.read_exact_at(&mut front, 0)?;
-        match LogHeader::decode(&front) {
-            Ok(Some(header)) => Ok(GrowingLog {
-                rt,
-                path,
-                file,
-                header,
-                len,
-                shown: 0,
-                beat,
-                strayed: None,
-                is_told: false,
-                account: Account::Nothing,
-            }),
-            Ok(None) | Err(_) => Err(Fault::BadHeader),
+impl Opened {
+    /// The file, its header and its length.
+    pub fn parts(self) -> (File, LogHeader, u64)
+        ensures header { IsHeader result.1 }
+    {
+        let Opened { file, header, len } = self;
+        (file, header, len)
+    }
+}
+
+/// Opens a log file. BadHeader: it begins with no header. Stream: it can't be read.
+pub(crate) fn open_log<R: Files<File = File>>(rt: &R, path: &str) -> Result<Opened, Fault> {
+    let file = File::open(rt, path)?;
+    let mut front = [0; 16];
+    let len = file.metadata()?.len();
+    if len < 16 {
+        return Err(Fault::BadHeader);
+    }
+    file.read_exact_at(&mut front, 0)?;
+    match LogHeader::decode(&front) {
+        Ok(Some(header)) => Ok(Opened { file, header, len }),
+        Ok(None) | Err(_) => Err(Fault::BadHeader),
+    }
+}
+
+impl<'a, C, N> GrowingLog<'a, C, N> {
+    /// The log of a file that was opened, at whose end a session waits for so many naps before it gives a
+    /// sign; without any it ends there.
+    pub fn new(
+        clock: &'a C,
+        naming: N,
+        opened: Opened,
+        beat: Option<u64>,
+        stop: &'a Stop,
+    ) -> GrowingLog<'a, C, N> {
+        let (file, header, len) = opened.parts();
+        GrowingLog {
+            clock,
+            naming,
+            file,
+            header,
+            len,
+            shown: 0,
+            beat,
+            stop,
+            strayed: None,
+            is_told: false,
+            account: Account::Nothing,
         }
     }
 
+    /// How long it was at least.
+    pub fn len(&self) -> u64 {
+        self.len
+    }
+}
+
+impl<C, N: Naming> GrowingLog<'_, C, N> {
     /// Why it is no longer the file that it was, where that was not told yet.
     pub fn told_once(&mut self) -> Option<Strayed>
         ensures { self.new.account ≡ self.old.account }
@@ -151,14 +207,7 @@ impl<'a, R: Files<File = File>> GrowingLog<'a, R> {
         let Ok(held) = self.file.metadata() else {
             return Err(Strayed::Unreadable);
         };
-        match fs::metadata(self.rt, self.path) {
-            Ok(named) => {
-                if !is_same(&held, &named) {
-                    return Err(Strayed::Replaced);
-                }
-            }
-            Err(e) => return Err(of_path(&e)),
-        }
+        self.naming.check(&held)?;
         let len = held.len();
         if len < self.len {
             return Err(Strayed::Shrank);
@@ -167,7 +216,7 @@ impl<'a, R: Files<File = File>> GrowingLog<'a, R> {
     }
 }
 
-impl<R: Files<File = File> + Clock> Growing for GrowingLog<'_, R> {
+impl<C: Clock, N: Naming> Growing for GrowingLog<'_, C, N> {
     ghost reads = { λ log. reads_of log.account };
 
     ghost seals = { λ _. [] };
@@ -202,7 +251,10 @@ impl<R: Files<File = File> + Clock> Growing for GrowingLog<'_, R> {
             if self.served()? > at {
                 return Ok(Grown::Past);
             }
-            thread::sleep(self.rt, Duration::from_millis(NAP));
+            if self.stop.is_set() {
+                return Ok(Grown::Ends);
+            }
+            thread::sleep(self.clock, Duration::from_millis(NAP));
         }
         Ok(Grown::Beat)
     }
@@ -218,19 +270,6 @@ impl<R: Files<File = File> + Clock> Growing for GrowingLog<'_, R> {
                 Err(Fault::Stream)
             }
         }
-    }
-}
-
-/// Whether both are of one file.
-fn is_same(held: &Metadata, named: &Metadata) -> bool {
-    held.dev() == named.dev() && held.ino() == named.ino()
-}
-
-/// Why a path does not name the file that it named.
-fn of_path(e: &io::Error) -> Strayed {
-    match e.kind() {
-        ErrorKind::NotFound => Strayed::Replaced,
-        _ => Strayed::Unreadable,
     }
 }
 

@@ -1,232 +1,286 @@
-ghost use Rattle.std.specs.Prelude.{◌≤◌};
+ghost use Rattle.std.specs.Prelude.{◌≡◌, ◌≤◌, ◌<◌, ◌⊎◌, ℕ, OnOk, IfErr, Err, false};
+ghost use Rattle.std.specs.Io.KnownBytes.{Appends};
+ghost use Rattle.als_engine.specs.declared.fault.Fault.TheVariants.{BadConfig};
+ghost use Rattle.als_operate.specs.declared.fault.Fault.TheVariants.{Refused};
+ghost use Rattle.als_shipper.specs.Faults.{IsOfShipping};
+ghost use Rattle.als_shipper.specs.Lines.{sent_line};
 
 use crate::callers::Callers;
-use crate::growing_log::{GrowingLog, beat_for};
+use crate::crowd::{Shared, serve_crowd};
+use crate::growing_log::{GrowingLog, beat_for, open_log};
+use crate::growing_session::serve_growing;
+use crate::hold::Hold;
+use crate::log_file::{LogFile, NamedFile};
 use crate::meeting::Meetings;
-use crate::node_command::{NodeShipping, source_of};
-use crate::sent::Sent;
-use crate::shipping::{Shipping, asks_nothing, serve};
+use crate::naming::{ByPath, Naming};
+use crate::node_command::NodeShipping;
+use crate::node_folder::{FolderOpener, NodeFolder};
+use crate::shipping::Shipping;
+use crate::stop::Stop;
 use crate::strayed::Strayed;
-use crate::visitors::Visitors;
 use als_engine::Fault as EngineFault;
-use als_folder::Folder;
-use als_operate::{Fault, named, silence};
-use als_sending::{WINDOW_LIMIT, send_log};
-use als_ship::{Fault as SessionFault, Shipper};
-use std::fs::File;
-use std::io::{Read, Write};
-use std::net::{Net, TcpListener};
+use als_followers::Terms;
+use als_operate::{Fault, silence};
+use als_sending::WINDOW_LIMIT;
+use als_ship::Fault as SessionFault;
+use std::alloc::{AllocError, Global};
+use std::fs::{File, OpenFile};
+use std::io::Write;
+use std::net::{IpAddr, Net, TcpListener, TcpStream};
 use std::rt::Files;
-use std::sync::Wait;
-use std::time::{Clock, Duration};
-use std::{io, thread};
-
-/// Seconds until a shipper that is kept waits for the next follower, where it could not.
-const REST: u64 = 1;
+use std::sync::{Arc, Wait};
+use std::thread::Threads;
+use std::time::Clock;
 
 /// How a shipper goes on.
 #[derive(Clone, Copy, Debug)]
 pub struct Lasting {
-    /// It serves one follower after another.
+    /// It serves up to eight followers at once, for ever.
     pub keep: bool,
     /// A session waits at the end of the file for it to grow.
     pub grows: bool,
-    /// How many frames may be without an answer: 1 to 64.
+    /// How many frames of a session may be without an answer: 1 to 64.
     pub window: u32,
 }
 
 /// How many frames may be without an answer where nothing else is asked for.
 pub const WINDOW: u32 = 16;
 
-/// Receives the sessions of a shipper that goes on.
+/// Receives the sessions of a shipper that goes on, one call at a time.
 pub trait Sessions: Meetings {
-    /// A session ended early. The next follower is waited for.
+    /// A session ended early. The shipper goes on.
     fn ended(&mut self, fault: SessionFault);
 
     /// The file of the log is no longer the one that it was.
     fn strayed(&mut self, why: Strayed);
 
-    /// The folder of the node gave no log to a follower that asked. The next one is waited for.
+    /// The folder of the node gave no log to a follower that asked. The shipper goes on.
     fn closed(&mut self, fault: Fault);
+
+    /// A follower at this address was hung up on: eight are served.
+    fn crowded(&mut self, peer: IpAddr);
 }
 
 /// Serves the log text of a file to those who come to the address and ask for it, in pieces as the file
-/// has them then. After each session that came to the end it prints `sent=N`. What ends a session
-/// early ends the shipper, unless it is kept. A file that strayed ends it all the same: what it holds then
-/// is no log that goes on.
+/// has them then. After each session that came to the end it prints `sent=N`.
 ///
-/// Session: as `ship` says, and Stream where the file strayed. Stream: the file, the address or the output
-/// failed. Refused BadConfig: the window is not 1 to 64; no file was touched.
-pub fn ship_on<R: AllocGlobal + Files<File = File> + Net + Clock, M: Sessions, O: Write>(
+/// It serves the first who asks, and what ends that session ends the shipper. Or it is kept: then up to
+/// eight are served at once, each in a thread of its own, and a session that ends early ends alone. What is
+/// printed of sessions is printed a line at a time, in the order in which they ended. A file that strayed
+/// ends the shipper all the same: what it holds then is no log that goes on.
+///
+/// Session: as `ship` says, and Stream where the file strayed. Stream: the file, the address, a thread or
+/// the output failed. Memory: allocation failed. Refused BadConfig: the window is not 1 to 64; no file was
+/// touched.
+pub fn ship_on<
+    R: AllocGlobal
+        + Files<File = File>
+        + Net<Listener = TcpListener, Stream = TcpStream>
+        + Threads
+        + Wait
+        + Sync
+        + Clock
+        + Clone
+        + Send
+        + Drop
+        + 'static,
+    M: Sessions,
+    O: Write,
+>(
     rt: &R,
     shipping: Shipping<'_>,
     lasting: Lasting,
     meetings: &mut M,
     output: &mut O,
-) -> Result<(), Fault> {
+) -> Result<(), Fault>
+    // A window out of its range is refused.
+    ensures refused { (lasting.window ≡ 0) ⊎ (64 < lasting.window)
+        → result ≡ Err (Refused BadConfig) }
+    // Nothing else is refused so.
+    ensures fails { IfErr result (λ f. f ≡ Refused BadConfig
+        → (lasting.window ≡ 0) ⊎ (64 < lasting.window)) }
+    // One line is printed of the one session of a shipper that is not kept.
+    ensures told { OnOk result ((n : ℕ) × Appends (O.contents output.old) (O.contents output.new)
+        (sent_line n)) }
+    // One that is kept goes on until it fails.
+    ensures kept { OnOk result (lasting.keep ≡ false) }
+{
     if lasting.window == 0 || lasting.window > WINDOW_LIMIT {
         return Err(Fault::Refused(EngineFault::BadConfig));
     }
-    let beat = if lasting.grows {
+    if lasting.keep {
+        keep_shipping(rt, shipping, lasting, meetings, output)
+    } else {
+        ship_once(rt, shipping, lasting, meetings, output)
+    }
+}
+
+/// For how long a session waits at the end of its file before it gives a sign. None: it does not wait.
+fn beat_of(shipping: Shipping<'_>, lasting: Lasting) -> Option<u64> {
+    if lasting.grows {
         Some(beat_for(shipping.timeout))
     } else {
         None
+    }
+}
+
+/// Serves the first who asks.
+#[tactic(auto, using(crate::proofs::Visiting::told_line))]
+fn ship_once<R: AllocGlobal + Files<File = File> + Net + Clock, M: Sessions, O: Write>(
+    rt: &R,
+    shipping: Shipping<'_>,
+    lasting: Lasting,
+    meetings: &mut M,
+    output: &mut O,
+) -> Result<(), Fault>
+    requires some { 1 ≤ lasting.window }
+    requires few { lasting.window ≤ 64 }
+    ensures told { OnOk result ((n : ℕ) × Appends (O.contents output.old) (O.contents output.new)
+        (sent_line n)) }
+    ensures fails { IfErr result IsOfShipping }
+{
+    let stop = Stop::new();
+    let opened = open_log(rt, shipping.log)?;
+    let beat = beat_of(shipping, lasting);
+    let path = ByPath {
+        rt,
+        path: shipping.log,
     };
-    let mut log = GrowingLog::open(rt, shipping.log, beat)?;
+    let mut log = GrowingLog::new(rt, path, opened, beat, &stop);
     let listener = TcpListener::bind(rt, shipping.listen)?;
     let mut callers = Callers::new(rt.alloc(), &listener, rt, silence(shipping.timeout));
     for _ in 0..u64::MAX {
-        let met = meet(
-            rt,
+        let alloc = rt.alloc();
+        let met = serve_growing(
+            alloc,
             &mut log,
-            lasting.keep,
             lasting.window,
             &mut callers,
             meetings,
             output,
-        )?;
-        if met && !lasting.keep {
+        );
+        check_file(&mut log, meetings)?;
+        if met? {
             return Ok(());
         }
     }
     Err(Fault::Stream)
 }
 
-/// Serves the next who comes. It answers whether that one asked for the log.
-fn meet<
-    R: AllocGlobal + Files<File = File> + Clock,
-    T: Read + Write + Drop,
-    V: Visitors<T>,
-    M: Sessions,
-    O: Write,
->(
-    rt: &R,
-    log: &mut GrowingLog<'_, R>,
-    keep: bool,
-    window: u32,
-    visitors: &mut V,
+/// Tells whether the file strayed. Session Stream: it holds no log any more that goes on.
+fn check_file<C, N: Naming, M: Sessions>(
+    log: &mut GrowingLog<'_, C, N>,
     meetings: &mut M,
-    output: &mut O,
-) -> Result<bool, Fault>
-    requires some { 1 ≤ window }
-    requires few { window ≤ 64 }
+) -> Result<(), Fault>
+    ensures { IfErr result IsOfShipping }
 {
-    let (mut reader, mut writer) = match visitors.next() {
-        Ok(streams) => streams,
-        Err(e) if keep => {
-            rest(rt, e, meetings);
-            return Ok(false);
-        }
-        Err(e) => return Err(Fault::from(e)),
-    };
-    let mut sent = Sent::new();
-    let alloc = rt.alloc();
-    let served = send_log(alloc, log, &mut sent, window, &mut reader, &mut writer);
-    visitors.part(reader, writer);
     if let Some(why) = log.told_once() {
         meetings.strayed(why);
         if !why.is_served() {
             return Err(Fault::Session(SessionFault::Stream));
         }
     }
-    match served {
-        Ok(bytes) => {
-            meetings.acknowledged(sent.acknowledged);
-            writeln!(output, "sent={bytes}")?;
-            output.flush()?;
-            Ok(true)
-        }
-        Err(fault) if !sent.begun && asks_nothing(fault) => {
-            meetings.passed_over(fault);
-            Ok(false)
-        }
-        Err(fault) => {
-            meetings.acknowledged(sent.acknowledged);
-            if keep {
-                meetings.ended(fault);
-                Ok(true)
-            } else {
-                Err(Fault::Session(fault))
-            }
-        }
-    }
-}
-
-/// Nobody could be waited for: says so, and rests.
-fn rest<C: Clock, M: Sessions>(clock: &C, e: io::Error, meetings: &mut M) {
-    meetings.ended(SessionFault::from(e));
-    thread::sleep(clock, Duration::from_secs(REST));
-}
-
-/// Serves the log of a folder's node to one follower after another, each time as far as it is acknowledged
-/// then. The folder is held for as long as a session goes on, and is free between them. After each session
-/// that came to the end it prints `sent=N`.
-///
-/// Stream: the address or the output failed.
-pub fn ship_node_on<
-    R: AllocGlobal + Files<File = File> + Net + Wait + Clock,
-    M: Sessions,
-    O: Write,
->(rt: &R, shipping: NodeShipping<'_>, meetings: &mut M, output: &mut O) -> Result<(), Fault> {
-    let listener = TcpListener::bind(rt, shipping.listen)?;
-    let mut callers = Callers::new(rt.alloc(), &listener, rt, silence(shipping.timeout));
-    for _ in 0..u64::MAX {
-        meet_node(rt, shipping.dir, &mut callers, meetings, output)?;
-    }
-    Err(Fault::Stream)
-}
-
-/// Serves the log of the folder's node to the next who comes. What ends that session is reported alone.
-///
-/// Stream: the output failed.
-fn meet_node<
-    R: AllocGlobal + Files<File = File> + Wait + Clock,
-    T: Read + Write + Drop,
-    V: Visitors<T>,
-    M: Sessions,
-    O: Write,
->(rt: &R, dir: &str, visitors: &mut V, meetings: &mut M, output: &mut O) -> Result<(), Fault> {
-    let (mut reader, mut writer) = match visitors.next() {
-        Ok(streams) => streams,
-        Err(e) => {
-            rest(rt, e, meetings);
-            return Ok(());
-        }
-    };
-    let mut shipper = Shipper::new();
-    let served = serve_held(rt, dir, &mut shipper, &mut reader, &mut writer, output);
-    visitors.part(reader, writer);
-    match served {
-        Ok(()) => {
-            meetings.acknowledged(shipper.acknowledged());
-            output.flush()?;
-        }
-        Err(Fault::Session(fault)) if !shipper.has_begun() && asks_nothing(fault) => {
-            meetings.passed_over(fault);
-        }
-        Err(Fault::Session(fault)) => {
-            meetings.acknowledged(shipper.acknowledged());
-            meetings.ended(fault);
-        }
-        Err(Fault::Stream) => return Err(Fault::Stream),
-        Err(fault) => meetings.closed(fault),
-    }
     Ok(())
 }
 
-/// Holds the folder, serves its node's log over two streams, and lets the folder go.
-fn serve_held<R: AllocGlobal + Files<File = File> + Wait, T: Read, U: Write, O: Write>(
+/// Serves up to eight at once, until the file strayed or the output failed.
+fn keep_shipping<
+    R: AllocGlobal
+        + Files<File = File>
+        + Net<Listener = TcpListener, Stream = TcpStream>
+        + Threads
+        + Wait
+        + Sync
+        + Clock
+        + Clone
+        + Send
+        + Drop
+        + 'static,
+    M: Sessions,
+    O: Write,
+>(
     rt: &R,
-    dir: &str,
-    shipper: &mut Shipper,
-    reader: &mut T,
-    writer: &mut U,
+    shipping: Shipping<'_>,
+    lasting: Lasting,
+    meetings: &mut M,
     output: &mut O,
-) -> Result<(), Fault> {
-    let folder = Folder::hold(rt, dir)?;
-    let mut source = match source_of(rt, &folder) {
-        Ok(source) => source,
-        Err(fault) => return Err(named(&folder, fault)),
+) -> Result<(), Fault>
+    ensures fails { IfErr result IsOfShipping }
+    ensures never { OnOk result ⊥ }
+{
+    let alloc = rt.alloc();
+    let shared = Shared::new(alloc)?;
+    let stop = Arc::try_clone(&shared.stop)?;
+    let outbox = Arc::try_clone(&shared.outbox)?;
+    let beat = beat_of(shipping, lasting);
+    let opened = open_log(rt, shipping.log)?;
+    let mut named = NamedFile {
+        file: opened.file.try_clone()?,
+        path: ByPath {
+            rt,
+            path: shipping.log,
+        },
     };
-    serve(rt.alloc(), shipper, &mut source, reader, writer, output)
+    let log = LogFile::new(rt.clone()?, opened, beat, stop, outbox);
+    let listener = TcpListener::bind(rt, shipping.listen)?;
+    let terms = Terms::new(lasting.window, silence(shipping.timeout));
+    Err(serve_crowd(
+        rt, listener, log, &mut named, shared, terms, meetings, output,
+    ))
+}
+
+/// Serves the log of a folder's node to those who come to the address and ask for it, up to eight at once,
+/// each in a thread of its own. The folder is held from the question of the first of them until none goes on,
+/// and is free between. So its log ends where it was acknowledged then. After each session that came to the
+/// end it prints `sent=N`, as `ship_on` does. What ends a session ends that one alone, and so does a folder
+/// that another program has.
+///
+/// Stream: the address, a thread or the output failed. Memory: allocation failed.
+pub fn ship_node_on<
+    R: AllocGlobal
+        + Files<File = File>
+        + Net<Listener = TcpListener, Stream = TcpStream>
+        + Threads
+        + Wait
+        + Sync
+        + Clock
+        + Clone
+        + Send
+        + Drop
+        + 'static,
+    M: Sessions,
+    O: Write,
+>(rt: &R, shipping: NodeShipping<'_>, meetings: &mut M, output: &mut O) -> Result<(), Fault>
+    ensures fails { IfErr result IsOfShipping }
+    // It goes on until it fails.
+    ensures never { OnOk result ⊥ }
+{
+    let alloc = rt.alloc();
+    let shared = Shared::new(alloc)?;
+    let outbox = Arc::try_clone(&shared.outbox)?;
+    let hold = new_hold(alloc)?;
+    let mut opener = FolderOpener {
+        rt,
+        dir: shipping.dir,
+        timeout: shipping.timeout,
+        hold: Arc::try_clone(&hold)?,
+    };
+    let node = NodeFolder::new(rt.clone()?, hold, outbox);
+    let listener = TcpListener::bind(rt, shipping.listen)?;
+    let terms = Terms::new(WINDOW, silence(shipping.timeout));
+    Err(serve_crowd(
+        rt,
+        listener,
+        node,
+        &mut opener,
+        shared,
+        terms,
+        meetings,
+        output,
+    ))
+}
+
+/// A folder that nobody holds.
+fn new_hold<R: Drop>(alloc: Global) -> Result<Arc<Hold<R>, Global>, AllocError> {
+    Ok(Arc::new(alloc, Hold::new())?)
 }

@@ -1,4 +1,4 @@
-ghost use Rattle.std.specs.Prelude.{Some};
+ghost use Rattle.std.specs.Prelude.{◌≡◌, [], Some, false};
 ghost use Rattle.als_sending.specs.Accounts.{heard_of, begun_of};
 
 use als_record::Lsn;
@@ -12,11 +12,15 @@ pub(crate) struct Sent {
     /// The LSN that it acknowledged last.
     pub acknowledged: Option<Lsn>,
     account: Heard,
+    ghost unbegun: { begun ≡ false → begun_of account ≡ [] },
 }
 
 impl Sent {
     /// Nothing yet.
-    pub fn new() -> Sent {
+    pub fn new() -> Sent
+        ensures heard { heard_of result.account ≡ [] }
+        ensures begun { begun_of result.account ≡ [] }
+    {
         Sent {
             begun: false,
             acknowledged: None,

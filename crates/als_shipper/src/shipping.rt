@@ -217,7 +217,7 @@ pub fn serve<S: Source, R: Read, W: Write, O: Write>(
 }
 
 /// Prints how many log bytes a session sent.
-fn tell_sent<O: Write>(sent: u64, output: &mut O) -> Result<(), Fault>
+pub(crate) fn tell_sent<O: Write>(sent: u64, output: &mut O) -> Result<(), Fault>
     ensures line { OnOk result (Appends (O.contents output.old) (O.contents output.new)
         (sent_line sent)) }
     ensures fails { IfErr result IsOfReader }

@@ -137,5 +137,8 @@ impl Outages for Told {
     }
 
     #[inline(never)]
+    fn uncompared(&mut self) {}
+
+    #[inline(never)]
     fn nearly_full(&mut self, _end: Lsn, _capacity: u64) {}
 }

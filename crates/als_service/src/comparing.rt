@@ -1,0 +1,118 @@
+use crate::shipping::log_file;
+use als_compare::{Summary, Verdict, ask};
+use als_comparing::HeldLog;
+use als_http::{Standing, Watch};
+use als_operate::{Fault, Following, dial};
+use als_record::FIRST_LSN;
+use als_ship::Fault as SessionFault;
+use std::fs::File;
+use std::net::{Net, OpenStream};
+use std::rt::Files;
+use std::time::Clock;
+
+/// Whether a primary answered what log it has.
+#[derive(Clone, Copy, Debug, PartialEq, Eq)]
+enum Silence {
+    /// Each one did that was asked.
+    Never,
+    /// The last one did not, as the first.
+    First,
+    /// One before did not.
+    Before,
+}
+
+/// A standby's own log, of which its primary is asked whether it has the same.
+pub(crate) struct Comparing<R: Clock> {
+    /// What is held, and under which epoch.
+    watch: Watch<R>,
+    /// The log's file, once it was read.
+    own: Option<HeldLog<File>>,
+    silence: Silence,
+}
+
+impl<R: Clock + Drop> Drop for Comparing<R> {
+    fn drop(self) {
+        let Comparing {
+            watch,
+            own,
+            silence: _,
+        } = self;
+        drop(watch);
+        drop(own);
+    }
+}
+
+impl<R: Clock> Comparing<R> {
+    /// The log whose figures are seen there.
+    pub fn new(watch: Watch<R>) -> Comparing<R> {
+        Comparing {
+            watch,
+            own: None,
+            silence: Silence::Never,
+        }
+    }
+
+    /// Whether the primary was asked in vain, for the first time.
+    pub fn was_unanswered(&self) -> bool {
+        self.silence == Silence::First
+    }
+
+    /// The primary has answered, or not.
+    fn note(&mut self, is_answered: bool) {
+        self.silence = match self.silence {
+            Silence::Never if is_answered => Silence::Never,
+            Silence::Never => Silence::First,
+            Silence::First | Silence::Before => Silence::Before,
+        };
+    }
+}
+
+impl<C: Clock> Comparing<C> {
+    /// Asks the primary, over a connection of its own, whether its log is the one that is acknowledged here.
+    /// Where nothing is, it is not asked. One that does not answer is followed all the same.
+    ///
+    /// OtherLog: it has another one. Stream: there was no connection, or the own log can't be read. Memory:
+    /// there was none to read it.
+    pub fn compare<R: AllocGlobal + Files<File = File> + Net>(
+        &mut self,
+        rt: &R,
+        following: Following<'_>,
+    ) -> Result<(), Fault> {
+        let Some(question) = self.question(rt, following)? else {
+            return Ok(());
+        };
+        let mut writer = dial(rt, following)?;
+        let mut reader = writer.try_clone()?;
+        match ask(&question, &mut reader, &mut writer) {
+            Ok(Verdict::Other) => return Err(Fault::OtherLog),
+            Ok(Verdict::Same | Verdict::Shorter | Verdict::Parted) => self.note(true),
+            Err(_) => self.note(false),
+        }
+        Ok(())
+    }
+
+    /// What the primary is asked. None: no record is acknowledged.
+    fn question<R: AllocGlobal + Files<File = File>>(
+        &mut self,
+        rt: &R,
+        following: Following<'_>,
+    ) -> Result<Option<Summary>, Fault> {
+        let report = self.watch.report();
+        let end = report.acknowledged.0;
+        let (Some(epoch), true) = (report.epoch, end > FIRST_LSN.0) else {
+            return Ok(None);
+        };
+        let epoch = u32::try_from(epoch).unwrap_or(u32::MAX);
+        let mut own = match self.own.take() {
+            Some(own) => own,
+            None => HeldLog::new(log_file(rt, following.dir, false)?),
+        };
+        let question = own.summary(rt.alloc(), epoch, end);
+        self.own = Some(own);
+        match question {
+            Ok(question) => Ok(Some(question)),
+            Err(SessionFault::Memory) => Err(Fault::Memory),
+            Err(_) => Err(Fault::Stream),
+        }
+    }
+}
