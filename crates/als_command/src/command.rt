@@ -120,20 +120,32 @@ pub enum Command<'a> {
         at: Option<u64>,
         explain: bool,
     },
+    /// A new generation of the log of a file or of a node.
+    Begin {
+        path: &'a str,
+        explain: bool,
+    },
+    /// A folder's node, taken back to an LSN of its own log.
+    Rewind {
+        dir: &'a str,
+        lsn: u64,
+        explain: bool,
+    },
     /// A longer log device for a folder's node.
     Grow {
         dir: &'a str,
         log_blocks: u64,
         explain: bool,
     },
-    /// Whether a log file or a standby is sound.
+    /// Whether a log file or a standby is sound, and the checksum of its log.
     Verify {
         path: &'a str,
         explain: bool,
     },
-    /// What a standby's folder holds.
+    /// What a standby's folder holds; or, up to an LSN, how a log stands there.
     Status {
         dir: &'a str,
+        at: Option<u64>,
         explain: bool,
     },
     /// What the committed transactions left at a key of a node's folder, or, up to an LSN, of a log.

@@ -15,7 +15,7 @@ pub(crate) struct Line {
 }
 
 /// The command lines that the program knows, in the order of its help.
-pub(crate) const LINES: [Line; 16] = [
+pub(crate) const LINES: [Line; 18] = [
     Line {
         name: "make",
         about: texts::MAKE_ABOUT,
@@ -53,7 +53,7 @@ pub(crate) const LINES: [Line; 16] = [
             TIMEOUT,
             Word::Flag {
                 name: "keep",
-                help: "Serve one follower after another",
+                help: "Serve up to eight followers at once",
             },
             Word::Flag {
                 name: "follow",
@@ -307,6 +307,36 @@ pub(crate) const LINES: [Line; 16] = [
         choice: &[],
     },
     Line {
+        name: "begin",
+        about: texts::BEGIN_ABOUT,
+        help: texts::BEGIN_HELP,
+        words: &[
+            Word::Text {
+                name: "from",
+                value: "PATH",
+                help: "A log file, or the folder of a node",
+            },
+            EXPLAIN,
+        ],
+        choice: &[],
+    },
+    Line {
+        name: "rewind",
+        about: texts::REWIND_ABOUT,
+        help: texts::REWIND_HELP,
+        words: &[
+            DIR,
+            Word::Long {
+                name: "to",
+                value: "LSN",
+                help: "Where the log is to end: at the end of one of its records",
+                is_wanted: true,
+            },
+            EXPLAIN,
+        ],
+        choice: &[],
+    },
+    Line {
         name: "grow",
         about: texts::GROW_ABOUT,
         help: texts::GROW_HELP,
@@ -333,7 +363,7 @@ pub(crate) const LINES: [Line; 16] = [
         name: "status",
         about: texts::STATUS_ABOUT,
         help: texts::STATUS_HELP,
-        words: &[FOLDER, EXPLAIN],
+        words: &[FOLDER, AT, EXPLAIN],
         choice: &[],
     },
     Line {
@@ -410,7 +440,7 @@ const PATH_OR_FOLDER: Word = Word::Place {
 const FOLDER: Word = Word::Place {
     name: "folder",
     value: "DIR",
-    help: "The folder of a standby",
+    help: "The folder of a standby; with --at a log file too",
 };
 
 const KEY_PAGE: Word = Word::PagePlace {

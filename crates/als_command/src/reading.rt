@@ -109,6 +109,8 @@ fn asked<'a>(name: &str, matches: &ArgMatches<'a>) -> Option<Command<'a>> {
         "dump" => dump(matches),
         "cut" => cut(matches),
         "show" => show(matches),
+        "begin" => begin(matches),
+        "rewind" => rewind(matches),
         "grow" => grow(matches),
         "verify" => verify(matches),
         "status" => status(matches),
@@ -251,6 +253,21 @@ fn show<'a>(matches: &ArgMatches<'a>) -> Option<Command<'a>> {
     })
 }
 
+fn begin<'a>(matches: &ArgMatches<'a>) -> Option<Command<'a>> {
+    Some(Command::Begin {
+        path: matches.get_str("from")?,
+        explain: matches.get_flag("explain"),
+    })
+}
+
+fn rewind<'a>(matches: &ArgMatches<'a>) -> Option<Command<'a>> {
+    Some(Command::Rewind {
+        dir: matches.get_str("dir")?,
+        lsn: matches.get_one("to")?,
+        explain: matches.get_flag("explain"),
+    })
+}
+
 fn grow<'a>(matches: &ArgMatches<'a>) -> Option<Command<'a>> {
     Some(Command::Grow {
         dir: matches.get_str("dir")?,
@@ -269,6 +286,7 @@ fn verify<'a>(matches: &ArgMatches<'a>) -> Option<Command<'a>> {
 fn status<'a>(matches: &ArgMatches<'a>) -> Option<Command<'a>> {
     Some(Command::Status {
         dir: matches.get_str("folder")?,
+        at: matches.get_one("at"),
         explain: matches.get_flag("explain"),
     })
 }

@@ -88,7 +88,7 @@ asks for no log within 5 s is passed over, and holds up nobody meanwhile.
 Writes standard output: `sent=B`, the log bytes that it sent. With --explain, or on a
 terminal, standard error says what was passed over, and up to where the follower has
 acknowledged the log: no crash of it loses what is below.
-With --keep it serves one follower after another, for ever, a line for each session that came
+With --keep it serves up to eight followers at once, for ever, a line for each session that came
 to the end; what ends a session early is said on standard error. With --follow a session waits
 at the end of FILE for it to grow; 44 where it shrank. With either FILE is read piece by piece,
 and W frames are sent ahead of their acknowledgements.
@@ -97,8 +97,8 @@ read, standard error says so, and it ends with 44, with --keep too. One that is 
 largest log is served up to there.
 With --dir in place of --log it serves the log of the node in the folder DIR, as far as no crash
 can lose it, and tells the node's history: the takeovers before it. It holds DIR meanwhile. With
---keep it serves one follower after another, and holds DIR while it serves one alone. --follow is
-of FILE alone.
+--keep it serves up to eight followers at once, and holds DIR while it serves any. --follow is of
+FILE alone.
 
 Example:
   printf 'pages 4\\nu 1 0 0 - aa\\ncommit 1\\nend 1\\n' | als make > primary.log
@@ -201,8 +201,12 @@ Reads standard input: a transaction a line, in JSON:
 on one line. A key is page P, slot S (0 to 14); a value is up to 31 bytes in hexadecimal, null is
 none. All comparisons of `if` hold and all of `set` is written, or nothing is; `if` may be left
 out. `unchanged_since` asks that no commit above LSN L wrote the key.
+With \"prepare\":true beside, the transaction is prepared: it holds its keys, and survives crashes and
+takeovers, until a line {\"decide\":{\"trans\":T,\"commit\":true}} commits it, or one with false rolls it back.
 Writes standard output: for each line, in order, once it is durable,
   lsn=L trans=T           it committed; L is its commit record, T its number
+  prepared trans=T lsn=L  it is in doubt; L is its prepare record
+  committed trans=T lsn=L, rolled back trans=T lsn=L, not in doubt trans=T  of a decision
   not as asked [P,S]=VALUE  the first comparison that fails, and what the key has (`-` none,
                           `.` the empty value)
   refused N Name          nothing was written; the next line may be
@@ -241,6 +245,9 @@ Redoes what was not redone, undoes what a crash left in mid-transaction, and ans
     200 {\"trans\":T,\"lsn\":L}: it is durable. 409: a comparison does not hold, or another
     transaction holds a key. 400, 413: no transaction. 503: nothing was written, ask again.
     504: it may be written or not. 507: the log has no room.
+  POST /prepare           the same, but it is in doubt, and holds its keys, until it is decided
+  POST /decide            {\"trans\":T,\"commit\":true} commits T, false rolls it back; 404: not in doubt
+  GET /in-doubt           [{\"trans\":T,\"lsn\":L}]: the transactions in doubt
   GET /keys/P/S, /status, /metrics and /health, as `als standby --serve` does.
 It writes what waits as a group, forces the log once, and then answers all of the group. It ends
 only where a file fails; a kill at any time loses nothing that was answered 200: run it again.
@@ -344,8 +351,9 @@ pub const VERIFY_HELP: &str =
 Of a log each record has to be one, and has to follow those in front of it. Of a folder the
 control block, the checkpoint and the pages are read too, as a restart does, and each page is
 compared with what the log makes of it: `als rebuild-pages` mends one that differs (33).
-Writes standard output: `sound records=R end=E`, or `unsound lsn=L N Name`: where the first
-record that is not sound begins, and why. What is wrong in no record has lsn=0.
+Writes standard output: `sound records=R end=E sha256=X`, or `unsound lsn=L N Name`: where the
+first record that is not sound begins, and why. What is wrong in no record has lsn=0. X is the
+SHA-256 of the log text: two nodes of the same end and X hold the same log.
 
 Example:
   als verify primary.log
@@ -365,13 +373,20 @@ After takeovers a line `epoch N seals S ..`; of a primary's folder a line `role 
 Then a line for each unended transaction, in rising TransID:
   trans T STATE last=L undo=U      (STATE active, prepared, committed or rollback)
 The whole log and the checkpoint are read as a restart reads them, in a copy in memory.
+With --at it reads the log alone, which DIR may be a file of, up to the last record that ends at or
+below LSN, and writes a line
+  pages=N end=E greatest=G commits=C last=L transactions=T doubts=D
+with E, where that record ends; G, the greatest TransID; C, the commits, and L, the LSN of the last
+one; T, the unended transactions, and D, those of them that are in doubt. Then a line for each.
 
 Example:
   als status standby
+  als status standby --at 4096
 
 Exit statuses: 0 done, 2 a fault of the command line, 3 `als: refused N Name`:
   30  DIR or a file of it failed, it has no database, or a standby runs there: ask that one
-  33, 34, 1 to 16 a file of it is damaged: `als verify` tells where";
+  33, 34, 1 to 16 a file of it is damaged: `als verify` tells where
+  37  with --at: LSN is within the header or past the end of the log";
 
 pub const CUT_ABOUT: &str = "Writes the log of a file or of a node up to an LSN";
 
@@ -408,6 +423,64 @@ Example:
 
 Exit statuses: 0 done, 2 a fault of the command line, 3 `als: refused N Name`, as `als cut` has
 them.";
+
+pub const BEGIN_ABOUT: &str = "Writes a new generation of a log that is nearly full";
+
+pub const BEGIN_HELP: &str =
+    "A log takes 2 GiB at most, and what is written to it stays. Before it is full, begin a new one:
+stop the primary, write the new generation to a file, ship that to empty folders, and take one of
+them over. The others are its standbys.
+Reads PATH and changes nothing: a log file as `als ship` serves it, or the folder of a node
+that does not run, of which the log is read as far as it is acknowledged.
+Writes the new log text to standard output: its header, and for each page with a value one
+transaction, which sets all values of that page. Readers see of it what they see of PATH. LSNs and
+transactions count anew, so LSNs that clients keep mean nothing there.
+What has not committed is left out. A transaction in doubt is refused: decide it first, with
+`als resolve` or in the primary.
+
+Example:
+  als begin --from a > new.log
+  als ship --log new.log --listen 127.0.0.1:7070 &
+  mkdir b
+  als standby --dir b --from 127.0.0.1:7070 --pages 4
+  als takeover --dir b
+
+Exit statuses: 0 done, 2 a fault of the command line, 3 `als: refused N Name`; then the output is
+of no use:
+  13  this transaction is in doubt; nothing was written
+  30  PATH is a folder that failed, has no database, or is in use
+  34, 1 to 16 a file of it is damaged: `als verify` tells where
+  43  the file ends within a record
+  44  the file can't be read, or standard output failed";
+
+pub const REWIND_ABOUT: &str = "Takes a node back to an LSN of its own log";
+
+pub const REWIND_HELP: &str =
+    "For a node that `als standby` refused with 42: its log goes past the takeover of the node that
+it is to follow, as that of a primary does which came back. Behind `als rewind` it follows that
+node: its pages are laid out anew from its own log, and nothing comes over the network.
+Needs DIR, the folder of a node that does not run, for itself alone. LSN is the seal that 42 names,
+or any lower end of a record.
+First copies what the log has behind LSN into a file beside DIR, DIR.past-LSN-to-END.log, and syncs
+it: the commits in it were never on the other node. `als cut DIR --at LSN`, and then this file, are
+the log as it was. Then lays the pages out anew, takes the file `role` away, and writes a new
+control block: the node follows, its log ends at LSN, and takeovers sealed at LSN or above are none
+of its own.
+Writes standard output: `end=E ack=A past=B`: where the log ends, up to where no crash can lose it,
+and how many bytes were kept.
+Killed at any time it leaves a node: run it again, with the same LSN.
+
+Example:
+  als rewind --dir a --to 4096
+  als standby --dir a --from 127.0.0.1:7070 --pages 4
+
+Exit statuses: 0 done, 2 a fault of the command line, 3 `als: refused N Name`:
+  29  the log up to LSN has no room for what a takeover would append: `als grow` first
+  30  DIR or a file of it failed, its disk has no room, it has no database, or it is in use
+  34, 1 to 16 log.blk or control.blk is damaged below LSN; nothing was written
+  37  LSN is within the header or past the end, or no record ends there: standard error has the
+      nearest end below it. Nothing was written
+  44  the file beside DIR can't be written, or is there with something else; the node is as it was";
 
 pub const GROW_ABOUT: &str = "Gives a node's log device more blocks";
 

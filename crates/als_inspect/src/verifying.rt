@@ -4,13 +4,17 @@ use crate::page_checking::check_folder;
 use crate::restarting::restarted;
 use crate::telling::told;
 use crate::unsound::Unsound;
+use als_comparing::HeldLog;
 use als_drive::{listing, recover};
 use als_fault::FaultKind;
 use als_folder::Folder;
 use als_scan::read_all;
+use als_ship::Fault as SessionFault;
+use std::alloc::Global;
 use std::fs;
 use std::fs::File;
 use std::io::Write;
+use std::path::PathBuf;
 use std::rt::Files;
 use std::sync::Wait;
 
@@ -21,11 +25,13 @@ struct Found {
     records: u64,
     /// Where it ends.
     end: u64,
+    /// The SHA-256 of its text.
+    digest: [u8; 32],
 }
 
 /// Tells whether a log file, or the folder of a standby, is sound. It prints `sound records=R
-/// end=E`, or `unsound lsn=L N Name`: where what is refused begins, 0 where it is no record, and
-/// why.
+/// end=E sha256=X`, or `unsound lsn=L N Name`: where what is refused begins, 0 where it is no record,
+/// and why. X is the SHA-256 of the log text up to E, in hexadecimal.
 ///
 /// What is unsound is answered too. Stream: the file or the output failed. Folder: the folder or a
 /// file of it failed, or another program has it. Memory: there was none for a copy of it.
@@ -36,7 +42,13 @@ pub fn verify<R: AllocGlobal + Files<File = File> + Wait, O: Write>(
 ) -> Result<(), Fault> {
     match judge(rt, path) {
         Ok(found) => {
-            writeln!(output, "sound records={} end={}", found.records, found.end)?;
+            let Found {
+                records,
+                end,
+                digest,
+            } = found;
+            let digits = hex::encode(rt.alloc(), digest.as_slice())?;
+            writeln!(output, "sound records={records} end={end} sha256={digits}")?;
             Ok(())
         }
         Err(unsound) => {
@@ -62,13 +74,55 @@ fn judge<R: AllocGlobal + Files<File = File> + Wait>(rt: &R, path: &str) -> Resu
     if is_folder(rt, path)? {
         judge_folder(rt, path)
     } else {
-        judge_text(text_of_file(rt, path)?, true)
+        judge_file(rt, path)
     }
 }
 
 /// Whether a folder stands at the path.
 fn is_folder<R: Files<File = File>>(rt: &R, path: &str) -> Result<bool, Fault> {
     Ok(fs::metadata(rt, path)?.is_dir())
+}
+
+/// Reads a log file.
+fn judge_file<R: AllocGlobal + Files<File = File>>(rt: &R, path: &str) -> Result<Found, Unsound> {
+    let (records, end) = judge_text(text_of_file(rt, path)?, true)?;
+    let digest = digest_of_file(rt, path, end)?;
+    Ok(Found {
+        records,
+        end,
+        digest,
+    })
+}
+
+/// The SHA-256 of a log file up to there.
+fn digest_of_file<R: AllocGlobal + Files<File = File>>(
+    rt: &R,
+    path: &str,
+    end: u64,
+) -> Result<[u8; 32], Fault> {
+    digest_of(rt.alloc(), File::open(rt, path)?, end)
+}
+
+/// The SHA-256 of a folder's log up to there.
+fn digest_of_folder<R: AllocGlobal + Files<File = File>>(
+    rt: &R,
+    path: &str,
+    end: u64,
+) -> Result<[u8; 32], Fault> {
+    let alloc = rt.alloc();
+    let folder = PathBuf::from_str(alloc, path)?;
+    let path = folder.join(alloc, "log.blk")?;
+    digest_of(alloc, File::open(rt, path.as_path())?, end)
+}
+
+/// The SHA-256 of a file's first bytes, which it has.
+fn digest_of(alloc: Global, file: File, end: u64) -> Result<[u8; 32], Fault> {
+    let mut log = HeldLog::new(file);
+    match log.summary(alloc, 0, end) {
+        Ok(summary) => Ok(summary.digest),
+        Err(SessionFault::Memory) => Err(Fault::Memory),
+        Err(_) => Err(Fault::Stream),
+    }
 }
 
 /// Reads the log of a folder's standby, opens a copy of it as a restart does, with each of its
@@ -78,10 +132,15 @@ fn judge_folder<R: AllocGlobal + Files<File = File> + Wait>(
     path: &str,
 ) -> Result<Found, Unsound> {
     let folder = hold(rt, path)?;
-    let found = judge_text(text_of_folder(rt, &folder)?, false)?;
+    let (records, end) = judge_text(text_of_folder(rt, &folder)?, false)?;
+    let digest = digest_of_folder(rt, path, end)?;
     restart(rt, &folder)?;
     check_folder(rt, &folder)?;
-    Ok(found)
+    Ok(Found {
+        records,
+        end,
+        digest,
+    })
 }
 
 /// The folder, for programs that read alone.
@@ -89,13 +148,13 @@ fn hold<R: AllocGlobal + Files<File = File>>(rt: &R, path: &str) -> Result<Folde
     Ok(Folder::hold_to_read(rt, path)?)
 }
 
-/// Reads all records of a text.
-fn judge_text(text: LogText, is_file: bool) -> Result<Found, Unsound> {
+/// Reads all records of a text, and answers how many there are and where they end.
+fn judge_text(text: LogText, is_file: bool) -> Result<(u64, u64), Unsound> {
     let mut text = text;
     let read = read_all(&mut text.records);
     let end = text.records.end().0;
     match read {
-        Ok(records) => Ok(Found { records, end }),
+        Ok(records) => Ok((records, end)),
         Err(fault) => Err(Unsound {
             lsn: end,
             fault: told(fault, is_file),

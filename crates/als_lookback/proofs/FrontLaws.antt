@@ -21,6 +21,8 @@ use Rattle.als_lookback.specs.Judged.{Judged}
 use Rattle.als_lookback.specs.Readings.{Reading, Reads, HasStopped}
 use Rattle.als_lookback.specs.Seen.{Seen, IsSeenOf, LooksBack}
 use Rattle.als_lookback.specs.Refusals.{RefusesLook, RefusesNext, IsOfTaker, HasNoHeader}
+use Rattle.als_lookback.specs.declared.standing.Standing.{Standing}
+use Rattle.als_lookback.specs.Standing.{IsStandingOf, LooksOver}
 
 no_bytes : (xs : List ℕ) → length xs ≡ 0 → xs ≡ []
 no_bytes [] e = refl
@@ -178,11 +180,14 @@ cut_done text until start new before mid after taken end none same grown valid w
 
 -- ---- what was seen
 
-pub looked : (text : Option (List ℕ)) (until : Until) (start new : Reading) (before seen : Seen) → start.log ≡ [] → new.pages ≡ start.pages → IsSeenOf before start.pages []
-    → ((pages : ℕ) → IsSeenOf before pages start.log → IsSeenOf seen pages new.log) → IsValidLog new.pages new.log → EndsWithin until new.log → HasStopped until new → Reads text new → LooksBack text until seen
-looked text until start new before seen none same first more valid within stopped reads = record {
+-- and what is left open where it has stopped
+pub looked_over : (text : Option (List ℕ)) (until : Until) (start new : Reading) (before seen : Seen) (standing : Standing) → start.log ≡ [] → new.pages ≡ start.pages → IsSeenOf before start.pages []
+    → ((pages : ℕ) → IsSeenOf before pages start.log → IsSeenOf seen pages new.log) → IsValidLog new.pages new.log → EndsWithin until new.log → HasStopped until new → Reads text new
+    → IsStandingOf standing new.log → LooksOver text until seen standing
+looked_over text until start new before seen standing none same first more valid within stopped reads stands = record {
   pages = new.pages;
   front = new.log;
   is_front = front_is text new valid reads until within stopped;
   seen_is = subst (λ n. IsSeenOf seen n new.log) (sym same) (more start.pages (subst (IsSeenOf before start.pages) (sym none) first));
+  standing_is = stands;
 }

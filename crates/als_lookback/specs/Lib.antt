@@ -5,3 +5,4 @@ pub mod Judged
 pub mod Readings
 pub mod Refusals
 pub mod Seen
+pub mod Standing

@@ -2,12 +2,12 @@ use crate::cutting::cut_log;
 use crate::fault::Fault;
 use crate::finding::find_commit;
 use crate::listing::list_commits;
-use crate::looking::look_back;
+use crate::looking::{look_back, look_over};
 use crate::seen::Seen;
 use crate::source::{check_reaches, open};
 use crate::until::Until;
-use als_record::{Key, Lsn, SLOT_COUNT, TransId};
-use als_text::ShownImage;
+use als_record::{Key, Lsn, SLOT_COUNT, TransId, TransactionRow, TransactionState};
+use als_text::{ShownImage, ShownRow};
 use std::fs::File;
 use std::io::Write;
 use std::rt::Files;
@@ -97,6 +97,47 @@ fn list_page<O: Write>(seen: &Seen, page: u32, output: &mut O) -> Result<bool, F
         }
     }
     Ok(is_listed)
+}
+
+/// Prints how the log of a file or a folder stands at the last record that a look takes: a line
+/// `pages=N end=E greatest=G commits=C last=L transactions=T doubts=D`, and then each transaction that
+/// has not ended, as `als status` does.
+///
+/// As `get`.
+pub fn status<R: AllocGlobal + Files<File = File>, O: Write>(
+    rt: &R,
+    path: &str,
+    until: Until,
+    output: &mut O,
+) -> Result<(), Fault> {
+    let source = open(rt, path)?;
+    check_reaches(&source, until)?;
+    let (reader, folder) = source.into_parts();
+    let (seen, standing) = look_over(rt.alloc(), reader, until)?;
+    drop(folder);
+    let (end, greatest) = (standing.end.0, standing.greatest.0);
+    let (pages, commits, last) = (seen.pages(), seen.commits(), seen.last().0);
+    let count = standing.rows.len();
+    let doubts = doubts_in(standing.rows.as_slice());
+    writeln!(
+        output,
+        "pages={pages} end={end} greatest={greatest} commits={commits} last={last} transactions={count} doubts={doubts}"
+    )?;
+    for row in standing.rows.iter() {
+        writeln!(output, "{}", ShownRow(row))?;
+    }
+    Ok(())
+}
+
+/// How many of these transactions are in doubt.
+fn doubts_in(rows: &[TransactionRow]) -> usize {
+    let mut count = 0;
+    for row in rows.iter() {
+        if row.state == TransactionState::Prepared && count < rows.len() {
+            count += 1;
+        }
+    }
+    count
 }
 
 /// Prints a line for each commit of the log of a file or a folder: its LSN, its transaction, and the

@@ -12,8 +12,10 @@ ghost use Rattle.als_lookback.specs.declared.fault.Fault.TheVariants.{Memory as 
 ghost use Rattle.als_lookback.specs.Fronts.{EndsWithin, EndsBelow, is_within};
 ghost use Rattle.als_lookback.specs.Judged.{Judged, begun, position_of, reading_of, Takes, Stops};
 ghost use Rattle.als_lookback.specs.Refusals.{IsCauseAt, RefusesIn};
+ghost use Rattle.als_lookback.specs.Standing.{IsStandingOf};
 
 use crate::fault::Fault;
+use crate::standing::{Standing, copied};
 use crate::taking::TakeRecord;
 use crate::until::Until;
 use als_log::History;
@@ -124,6 +126,19 @@ impl Judge {
         ensures { result.0 ≡ end_of self.now.log }
     {
         self.receiver.next_lsn()
+    }
+
+    /// Where the log ends, and what it leaves open there.
+    pub(crate) fn standing(&self, alloc: Global) -> Result<Standing, AllocError>
+        ensures { IfOk result (λ s. IsStandingOf s self.now.log) }
+    {
+        let rows = copied(alloc, self.validator.rows())?;
+        Ok(Standing {
+            end: self.end(),
+            reserve: self.validator.reserve_bytes(),
+            greatest: self.validator.greatest(),
+            rows,
+        })
     }
 
     /// Whether fewer bytes have come than the longest record has. If not, the next record wants no

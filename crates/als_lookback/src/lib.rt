@@ -36,6 +36,8 @@ mod cutting;
 mod images;
 // What the commits of a log left.
 mod seen;
+// What a log leaves open.
+mod standing;
 // What the commits up to an LSN left.
 mod looking;
 // Where a transaction committed.
@@ -49,11 +51,13 @@ mod commands;
 // A longer log device.
 mod growing;
 
-pub use commands::{commit_of, commits, cut, get, show};
+pub use commands::{commit_of, commits, cut, get, show, status};
 pub use cutting::cut_log;
 pub use fault::Fault;
 pub use finding::find_commit;
 pub use growing::{BLOCKS_LIMIT, grow};
-pub use looking::look_back;
+pub use looking::{look_back, look_over};
 pub use seen::Seen;
+pub use source::{Source, log_path, open};
+pub use standing::Standing;
 pub use until::Until;

@@ -4,11 +4,13 @@ ghost use Rattle.als_lookback.specs.Fronts.{EndsWithin};
 ghost use Rattle.als_lookback.specs.Readings.{Reads, HasStopped};
 ghost use Rattle.als_lookback.specs.Refusals.{RefusesLook};
 ghost use Rattle.als_lookback.specs.Seen.{LooksBack, IsSeenOf};
+ghost use Rattle.als_lookback.specs.Standing.{LooksOver};
 
 use crate::cutting::check_begins;
 use crate::fault::Fault;
 use crate::reading::Reading;
 use crate::seen::Seen;
+use crate::standing::Standing;
 use crate::until::Until;
 use std::alloc::Global;
 use std::io::Read;
@@ -21,11 +23,28 @@ pub fn look_back<R: Read + Drop>(alloc: Global, reader: R, until: Until) -> Resu
     ensures sees { IfOk result (LooksBack (R.remaining reader) until) }
     ensures fails { IfErr result (RefusesLook (R.remaining reader) until) }
 {
+    let (seen, standing) = look_over(alloc, reader, until)?;
+    drop(standing);
+    Ok(seen)
+}
+
+/// The same, and what that front of the log leaves open where it ends.
+///
+/// As `look_back`.
+pub fn look_over<R: Read + Drop>(
+    alloc: Global,
+    reader: R,
+    until: Until,
+) -> Result<(Seen, Standing), Fault>
+    ensures sees { IfOk result (λ past. LooksOver (R.remaining reader) until past.0 past.1) }
+    ensures fails { IfErr result (RefusesLook (R.remaining reader) until) }
+{
     check_begins(until)?;
     let mut reading = Reading::new(alloc, reader)?;
     let mut seen = Seen::new(alloc, reading.pages())?;
     look_on(&mut reading, until, &mut seen)?;
-    Ok(seen)
+    let standing = reading.standing()?;
+    Ok((seen, standing))
 }
 
 /// Takes the commits of the records that a look takes.

@@ -10,14 +10,16 @@ ghost use Rattle.als_lookback.specs.declared.fault.Fault.TheVariants.{BadHeader 
 ghost use Rattle.als_lookback.specs.Fronts.{EndsWithin, EndsBelow, is_reached};
 ghost use Rattle.als_lookback.specs.Readings.{Reads, HasStopped, IsReady, judged_in};
 ghost use Rattle.als_lookback.specs.Refusals.{RefusesNext, HasNoHeader, IsOfTaker};
+ghost use Rattle.als_lookback.specs.Standing.{IsStandingOf};
 
 use crate::fault::Fault;
 use crate::judge::Judge;
+use crate::standing::Standing;
 use crate::taking::TakeRecord;
 use crate::until::Until;
 use als_folder::LOG_LIMIT;
 use als_record::{LogHeader, Lsn};
-use std::alloc::Global;
+use std::alloc::{AllocError, Global};
 use std::io::{ErrorKind, Read};
 use std::marker::Model;
 
@@ -176,6 +178,13 @@ impl<R: Read> Reading<R> {
         ensures valid { IsValidLog self.now.pages self.now.log }
     {
         self.judge.end()
+    }
+
+    /// Where the log of the records taken ends, and what it leaves open there.
+    pub(crate) fn standing(&self) -> Result<Standing, AllocError>
+        ensures { IfOk result (λ s. IsStandingOf s self.now.log) }
+    {
+        self.judge.standing(self.alloc)
     }
 
     /// Reads one piece. Stream: the reader failed, or it has more than the largest log.

@@ -16,7 +16,7 @@ use std::path::PathBuf;
 use std::rt::Files;
 
 /// A log that stands in a file or in a folder: from its first byte on, as far as it is one.
-pub(crate) struct Source {
+pub struct Source {
     reader: Take<File>,
     /// How many bytes that are.
     pub(crate) end: u64,
@@ -39,7 +39,7 @@ impl Drop for Source {
 
 impl Source {
     /// What is read of it, and the folder, to be held meanwhile.
-    pub(crate) fn into_parts(self) -> (Take<File>, Option<Folder>) {
+    pub fn into_parts(self) -> (Take<File>, Option<Folder>) {
         let Source {
             reader,
             end: _,
@@ -54,10 +54,7 @@ impl Source {
 /// BadHeader: the folder's log begins with none. BadControl: nothing says how far it is acknowledged.
 /// Folder: the folder or a file of it failed, or another program has it. Stream: the file failed, or
 /// is longer than the largest log. Memory: there was none for a name.
-pub(crate) fn open<R: AllocGlobal + Files<File = File>>(
-    rt: &R,
-    path: &str,
-) -> Result<Source, Fault> {
+pub fn open<R: AllocGlobal + Files<File = File>>(rt: &R, path: &str) -> Result<Source, Fault> {
     if fs::metadata(rt, path)?.is_dir() {
         return open_folder(rt, path);
     }
@@ -100,7 +97,7 @@ fn open_folder<R: AllocGlobal + Files<File = File>>(rt: &R, path: &str) -> Resul
 }
 
 /// Where the log of a folder is.
-pub(crate) fn log_path<R: AllocGlobal>(rt: &R, dir: &str) -> Result<PathBuf, AllocError> {
+pub fn log_path<R: AllocGlobal>(rt: &R, dir: &str) -> Result<PathBuf, AllocError> {
     PathBuf::from_str(rt.alloc(), dir)?.join(rt.alloc(), Part::Log.file_name())
 }
 

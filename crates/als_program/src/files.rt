@@ -14,10 +14,14 @@ use als_fault::FaultKind;
 use als_folder::Trouble;
 use als_follow::standby as standby_with_workers;
 use als_inspect::{Wanted, check_pages, dump, get, status, verify};
-use als_lookback::{Until, commit_of, commits, cut, get as get_at, grow, show};
+use als_lookback::{
+    Until, commit_of, commits, cut, get as get_at, grow, show, status as status_at,
+};
 use als_operate::{Following, TakenOver, Verdict, forget, resolve, standby, takeover};
 use als_rebuild::rebuild_pages;
 use als_record::{Key, Lsn, TransId};
+use als_renew::{Fault as RenewFault, begin};
+use als_rewind::{Fault as RewindFault, rewind};
 use als_service::{Service, standby as serve_standby};
 use als_shipper::{Lasting, NodeShipping, Shipping, ship, ship_node, ship_node_on, ship_on};
 use std::alloc::{AllocError, Global};
@@ -127,27 +131,39 @@ fn attempt<
         Command::Takeover { .. } | Command::RebuildPages { .. } | Command::Resolve { .. } => {
             lead(rt, seen, command, output, errors)
         }
+        Command::Begin { .. } | Command::Rewind { .. } => {
+            renew(rt, seen, command, output, errors)
+        }
         Command::Dump { .. }
         | Command::Verify { .. }
-        | Command::Status { .. }
+        | Command::Status { at: None, .. }
         | Command::Get { at: None, .. } => inspect(rt, command, output),
         Command::Commits { .. }
         | Command::CutAt { .. }
         | Command::CutBefore { .. }
         | Command::Show { .. }
+        | Command::Status { .. }
         | Command::Get { .. }
         | Command::Grow { .. } => look(rt, command, output),
     }
 }
 
 /// `als ship`, of a log file or of a node's log.
-fn serve_log<R: AllocGlobal + Files<File = File> + Net + Wait + Clock, O: Write, E: Write>(
-    rt: &R,
-    seen: bool,
-    command: Command,
-    output: &mut O,
-    errors: &mut E,
-) -> Result<(), Refusal> {
+fn serve_log<
+    R: AllocGlobal
+        + Files<File = File>
+        + Net<Listener = TcpListener, Stream = TcpStream>
+        + Threads
+        + Wait
+        + Sync
+        + Clock
+        + Clone
+        + Send
+        + Drop
+        + 'static,
+    O: Write,
+    E: Write,
+>(rt: &R, seen: bool, command: Command, output: &mut O, errors: &mut E) -> Result<(), Refusal> {
     match command {
         Command::Ship {
             log,
@@ -316,6 +332,64 @@ fn lead<R: AllocGlobal + Files<File = File> + Wait, O: Write, E: Write>(
     }
 }
 
+/// `als begin` and `als rewind`.
+fn renew<R: AllocGlobal + Files<File = File> + Wait, O: Write, E: Write>(
+    rt: &R,
+    seen: bool,
+    command: Command,
+    output: &mut O,
+    errors: &mut E,
+) -> Result<(), Refusal> {
+    match command {
+        Command::Begin { path, .. } => {
+            if let Err(fault) = begin(rt, path, output) {
+                tell_doubt(path, fault, errors);
+                return Err(Refusal::from(fault));
+            }
+        }
+        Command::Rewind { dir, lsn, .. } => {
+            let mut lines = RedoLines::new(&mut *errors, seen, false);
+            let outcome = rewind(rt, dir, Lsn(lsn), &mut lines, output);
+            drop(lines);
+            if let Err(fault) = outcome {
+                tell_boundary(lsn, fault, errors);
+                return Err(Refusal::from(fault));
+            }
+        }
+        _ => {}
+    }
+    Ok(())
+}
+
+/// Says which transaction is in doubt, where a log can't be begun because of it.
+fn tell_doubt<E: Write>(path: &str, fault: RenewFault, errors: &mut E) {
+    if let RenewFault::InDoubt { trans } = fault {
+        // Where it can't be said, `als status` can.
+        let _ = writeln!(
+            errors,
+            "als: transaction {} of {path} is in doubt: it was prepared and not decided; decide it, then begin again",
+            trans.0
+        );
+    }
+}
+
+/// Says where a record ends, where none ends at the LSN that was asked for.
+fn tell_boundary<E: Write>(lsn: u64, fault: RewindFault, errors: &mut E) {
+    // Where it can't be said, `als dump` has the LSNs.
+    let _ = match fault {
+        RewindFault::NoBoundary { below } => writeln!(
+            errors,
+            "als: no record ends at {lsn}; the last one below it ends at {}",
+            below.0
+        ),
+        RewindFault::Kept => writeln!(
+            errors,
+            "als: the file beside the folder that is to keep what lies behind {lsn} is there, and has something else: move it away"
+        ),
+        _ => Ok(()),
+    };
+}
+
 /// The commands that read a log or a folder and change nothing.
 fn inspect<R: AllocGlobal + Files<File = File> + Wait, O: Write>(
     rt: &R,
@@ -359,6 +433,7 @@ fn look<R: AllocGlobal + Files<File = File>, O: Write>(
             let _ = cut(rt, path, Until::At(lsn), output)?;
         }
         Command::Show { path, at, .. } => show(rt, path, until(at), output)?,
+        Command::Status { dir, at, .. } => status_at(rt, dir, until(at), output)?,
         Command::Get {
             dir,
             page,
@@ -531,7 +606,9 @@ fn told_of(command: Command<'_>, seen: bool) -> Option<&str> {
         Command::Resolve { dir, explain, .. } => (dir, explain),
         Command::Dump { path, explain, .. } => (path, explain),
         Command::Verify { path, explain } => (path, explain),
-        Command::Status { dir, explain } => (dir, explain),
+        Command::Status { dir, explain, .. } => (dir, explain),
+        Command::Begin { path, explain } => (path, explain),
+        Command::Rewind { dir, explain, .. } => (dir, explain),
         Command::Commits { path, explain } => (path, explain),
         Command::CutAt { path, explain, .. } => (path, explain),
         Command::CutBefore { path, explain, .. } => (path, explain),

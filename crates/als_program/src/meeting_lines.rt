@@ -3,6 +3,7 @@ use als_record::Lsn;
 use als_ship::Fault;
 use als_shipper::{Meetings, Sessions, Strayed};
 use std::io::Write;
+use std::net::IpAddr;
 
 /// Says whom a shipper passed over, and how far its follower got.
 #[derive(Drop)]
@@ -58,5 +59,9 @@ impl<W: Write> Sessions for MeetingLines<W> {
             self.errors,
             "als: a follower came, and the folder gave no log: {fault}"
         );
+    }
+
+    fn crowded(&mut self, peer: IpAddr) {
+        let _ = writeln!(self.errors, "als: {peer} was hung up on: 8 standbys follow");
     }
 }

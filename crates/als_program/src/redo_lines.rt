@@ -157,6 +157,13 @@ impl<W: Write> Outages for RedoLines<W> {
         );
     }
 
+    fn uncompared(&mut self) {
+        let _ = writeln!(
+            self.errors,
+            "als: the primary does not compare logs: another log with records of the same lengths would be followed"
+        );
+    }
+
     fn hang_ups(&mut self, count: u32) {
         let _ = writeln!(
             self.errors,

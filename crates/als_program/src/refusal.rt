@@ -3,6 +3,8 @@ use als_folder::Trouble;
 use als_inspect::Fault as InspectFault;
 use als_lookback::Fault as LookFault;
 use als_operate::Fault as OperateFault;
+use als_renew::Fault as RenewFault;
+use als_rewind::Fault as RewindFault;
 use std::alloc::AllocError;
 
 /// Why a command on files is refused.
@@ -43,6 +45,24 @@ impl From<AllocError> for Refusal {
 
 impl From<LookFault> for Refusal {
     fn from(fault: LookFault) -> Refusal {
+        Refusal {
+            kind: fault.kind(),
+            trouble: fault.trouble(),
+        }
+    }
+}
+
+impl From<RenewFault> for Refusal {
+    fn from(fault: RenewFault) -> Refusal {
+        Refusal {
+            kind: fault.kind(),
+            trouble: fault.trouble(),
+        }
+    }
+}
+
+impl From<RewindFault> for Refusal {
+    fn from(fault: RewindFault) -> Refusal {
         Refusal {
             kind: fault.kind(),
             trouble: fault.trouble(),

@@ -17,6 +17,10 @@ pub const TEXT: [u8; 108] = [
     0, 0, 0, 0, 0, 80, 0, 0, 0, 0, 0, 0, 0, 52, 0, 0, 0, 1,
 ];
 
+/// What `als verify` prints of that log.
+pub const SOUND: &str =
+    "sound records=3 end=108 sha256=511e7b7b06ae9a18af1071bf37cd082a067daa3f90aa2042025e4657f70a0a3d\n";
+
 /// Whether the program ends well, tells nothing and prints this.
 pub fn prints<
     R: AllocGlobal
@@ -222,7 +226,7 @@ fn takes_over<
     let verify = ["als", "verify", "followed"];
     let dump = ["als", "dump", "followed", "--trans", "1", "--from", "52"];
     let takeover = ["als", "takeover", "--dir", "followed"];
-    prints(rt, &verify, "sound records=3 end=108\n")
+    prints(rt, &verify, SOUND)
         && prints(
             rt,
             &dump,

@@ -1,6 +1,6 @@
 // Pages that are not what their log makes of them, and that are laid out anew.
 use crate::folder::Folder;
-use crate::following::{TEXT, prints, refuses};
+use crate::following::{SOUND, TEXT, prints, refuses};
 use std::alloc::Global;
 use std::fs;
 use std::fs::File;
@@ -72,7 +72,7 @@ fn is_rebuilt<
         + 'static,
 >(rt: &R) -> bool {
     prints(rt, &REBUILD, "end=108 ack=108\n")
-        && prints(rt, &VERIFY, "sound records=3 end=108\n")
+        && prints(rt, &VERIFY, SOUND)
         && prints(rt, &GET, "aa commits=1 lsn=52\n")
 }
 
@@ -110,8 +110,7 @@ fn pages_are_made_anew(rt: HostRuntime) {
     rebuilt(&rt);
     // A page that is as the log has it.
     assert!(rt; lays_out(&rt, 170).is_some() || lays_out(&rt, 170).is_some());
-    let sound = "sound records=3 end=108\n";
-    assert!(rt; prints(&rt, &VERIFY, sound) || prints(&rt, &VERIFY, sound));
+    assert!(rt; prints(&rt, &VERIFY, SOUND) || prints(&rt, &VERIFY, SOUND));
     // Without a control block nothing is written.
     assert!(rt; fs::remove_file(&rt, FILES[1]).is_ok());
     let missing = "als: refused 30 Device\n";

@@ -1,0 +1,8 @@
+mod Before
+mod Behind
+mod Doubts
+mod Fitting
+mod Generations
+mod PageWrites
+mod Spelt
+mod Written

@@ -1,0 +1,5 @@
+pub mod FaultNames
+pub mod Pages
+pub mod Placing
+pub mod Refusals
+pub mod Renewed
