@@ -39,19 +39,24 @@ class Etcd:
             return None
         return {base64.b64decode(it["key"]).decode(): (json.loads(base64.b64decode(it["value"])), it["mod_revision"]) for it in said.get("kvs", [])}
 
-    def put(self, key, value, lease=None):
-        return self.ask("kv/put", {"key": coded(key), "value": coded(json.dumps(value)), **({"lease": lease} if lease else {})}) is not None
+    def revoke(self, lease):
+        """Ends a lease, and each key that has it."""
+        self.ask("lease/revoke", {"ID": lease})
 
-    def remove(self, key):
-        return self.ask("kv/deleterange", {"key": coded(key)}) is not None
+    def replace(self, key, value, lease, revision):
+        """Puts the key where it has that revision still; "0": where it is not there. So no late request of an earlier turn undoes a later one."""
+        return self.succeeds([{"key": coded(key), "target": "MOD", "result": "EQUAL", "mod_revision": revision}], [(key, value, lease)])
 
-    def claim(self, value, lease, held):
-        """Puts the leader where there is none, and each of these keys has its revision still."""
+    def claim(self, value, lease, stopped, mine):
+        """Puts the leader where there is none, and each of these keys has its revision still: those nodes are stopped."""
         wanted = [{"key": coded("als/leader"), "target": "CREATE", "result": "EQUAL", "create_revision": "0"}]
-        wanted += [{"key": coded(it), "target": "MOD", "result": "EQUAL", "mod_revision": revision} for it, (_, revision) in held.items()]
-        puts = [{"key": coded("als/leader"), "value": coded(json.dumps(value)), "lease": lease}, {"key": coded("als/began"), "value": coded("true")}]
-        said = self.ask("kv/txn", {"compare": wanted, "success": [{"request_put": it} for it in puts]}) or {}
-        return said.get("succeeded", False)
+        wanted += [{"key": coded(it), "target": "MOD", "result": "EQUAL", "mod_revision": revision} for it, (_, revision) in stopped.items()]
+        return self.succeeds(wanted, [("als/leader", value, lease), ("als/began", True, None), (mine, {"runs": value["name"]}, lease)])
+
+    def succeeds(self, wanted, puts):
+        """Whether all of this was put. False also where the answer was lost: it may have been put."""
+        puts = [{"key": coded(key), "value": coded(json.dumps(value)), **({"lease": lease} if lease else {})} for key, value, lease in puts]
+        return (self.ask("kv/txn", {"compare": wanted, "success": [{"request_put": it} for it in puts]}) or {}).get("succeeded", False)
 
 
 def coded(text):
