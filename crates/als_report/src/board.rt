@@ -118,6 +118,11 @@ impl Board {
         self.capacity.store(bytes, Ordering::SeqCst);
     }
 
+    /// Where the log ends, as it was last seen.
+    pub fn end(&self) -> Lsn {
+        Lsn(self.end.load(Ordering::SeqCst))
+    }
+
     /// The bytes of the log's device. None: not known yet.
     pub fn capacity(&self) -> Option<u64> {
         known(&self.capacity)
