@@ -1,7 +1,7 @@
 use als_record::Lsn;
 use std::net::{IpAddr, Ipv4Addr};
 
-/// A follower of a primary, as a board is told of it. Its times are seconds of the clock by which the
+/// A follower of a primary, as it is stored on a board. Its times are seconds of the clock by which the
 /// board is read.
 #[derive(Clone, Copy)]
 pub struct FollowerRow {
@@ -11,7 +11,7 @@ pub struct FollowerRow {
     pub acknowledged: Lsn,
     /// The second in which it connected.
     pub connected: u64,
-    /// The second in which it last acknowledged; in which it connected, where it has not yet.
+    /// The second in which it last acknowledged, or connected if it never did.
     pub answered: u64,
     /// Whether what it acknowledges counts for a commit.
     pub counts: bool,
