@@ -1,10 +1,10 @@
-ghost use Rattle.std.specs.Prelude.{◌≡◌, ◌≤◌, ℕ, true, false};
+ghost use Rattle.std.specs.Prelude.{◌≡◌, ℕ, true, false};
 ghost use Rattle.als_primary.specs.Others.{IsConfirmed, IsMissed};
 
 use crate::answers::{Answers, Wanted};
-use als_quorum::{Quorum, Row, SEATS, Tail};
+use als_quorum::{Quorum, SEATS, Tail};
 use als_record::Lsn;
-use als_report::{Board, FollowerRow};
+use als_report::Board;
 use std::alloc::{AllocError, Global};
 use std::sync::{Arc, Wait};
 use std::time::{Clock, Duration};
@@ -89,41 +89,8 @@ impl<'a, R: Wait + Clock> Others<'a, R> {
         is_enough
     }
 
-    /// Writes who follows.
+    /// Writes the followers onto the board.
     pub fn note(&self, board: &Board) {
-        let mut rows = [FollowerRow::default(); SEATS as usize];
-        let count = fill(&self.quorum.rows(self.rt), &mut rows);
-        board.set_followers(&rows[..count]);
-    }
-}
-
-/// Fills the front with the rows that there are. Answers how many.
-fn fill(found: &[Option<Row>; SEATS as usize], rows: &mut [FollowerRow; SEATS as usize]) -> usize
-    ensures { result ≤ 8 }
-{
-    let mut count = 0;
-    for row in found {
-        if let Some(row) = row {
-            if count < rows.len() {
-                rows[count] = row_of(row);
-                count += 1;
-            }
-        }
-    }
-    count
-}
-
-/// A row as the board has it.
-fn row_of(row: &Row) -> FollowerRow {
-    let connected = row.connected.as_secs();
-    FollowerRow {
-        peer: row.peer,
-        acknowledged: row.acknowledged,
-        connected,
-        answered: match row.heard {
-            Some(heard) => heard.as_secs(),
-            None => connected,
-        },
-        counts: row.counts,
+        board.set_seats(&self.quorum.rows(self.rt));
     }
 }

@@ -1,3 +1,5 @@
+ghost use Rattle.std.specs.Prelude.{◌≤◌};
+
 use crate::follower::Follower;
 use crate::follower_cells::FollowerCells;
 use crate::follower_row::FollowerRow;
@@ -5,6 +7,7 @@ use crate::report::{MOST_FOLLOWERS, Report};
 use crate::reports::Reports;
 use crate::state::State;
 use crate::work_cells::WorkCells;
+use als_quorum::Row;
 use als_record::Lsn;
 use arrayvec::ArrayVec;
 use std::alloc::Global;
@@ -153,6 +156,29 @@ impl Board {
     pub fn set_followers(&self, rows: &[FollowerRow]) {
         self.followers.store(rows);
     }
+
+    /// Sets the followers to those of a quorum, by seat. One thread at a time may call this.
+    pub fn set_seats(&self, seats: &[Option<Row>; MOST_FOLLOWERS]) {
+        let mut rows = [FollowerRow::default(); MOST_FOLLOWERS];
+        let count = fill(seats, &mut rows);
+        self.set_followers(&rows[..count]);
+    }
+}
+
+/// Copies the rows of taken seats to the front, in the order of seats. Returns how many.
+fn fill(seats: &[Option<Row>; MOST_FOLLOWERS], rows: &mut [FollowerRow; MOST_FOLLOWERS]) -> usize
+    ensures { result ≤ 8 }
+{
+    let mut count = 0;
+    for row in seats {
+        if let Some(row) = row {
+            if count < rows.len() {
+                rows[count] = FollowerRow::of(row);
+                count += 1;
+            }
+        }
+    }
+    count
 }
 
 /// Seconds since the second in a cell, which has it plus 1. None: the cell has 0, or the clock cannot be

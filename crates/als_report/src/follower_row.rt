@@ -1,3 +1,6 @@
+ghost use Rattle.std.specs.Prelude.{◌≡◌};
+
+use als_quorum::Row;
 use als_record::Lsn;
 use std::net::{IpAddr, Ipv4Addr};
 
@@ -26,6 +29,27 @@ impl Default for FollowerRow {
             connected: 0,
             answered: 0,
             counts: false,
+        }
+    }
+}
+
+impl FollowerRow {
+    /// The row of a follower of a quorum.
+    pub fn of(row: &Row) -> FollowerRow
+        ensures peer { result.peer ≡ row.now.peer }
+        ensures acknowledged { result.acknowledged ≡ row.now.acknowledged }
+        ensures counts { result.counts ≡ row.now.counts }
+    {
+        let connected = row.connected.as_secs();
+        FollowerRow {
+            peer: row.peer,
+            acknowledged: row.acknowledged,
+            connected,
+            answered: match row.heard {
+                Some(heard) => heard.as_secs(),
+                None => connected,
+            },
+            counts: row.counts,
         }
     }
 }
