@@ -9,12 +9,12 @@ use std::alloc::{AllocError, Global};
 use std::sync::{Arc, Wait};
 use std::time::{Clock, Duration};
 
-/// What a leader and the sessions of its followers share, and what the quorum answered.
+/// What the leader and the sessions of its followers share, and the quorum's answers.
 pub(crate) struct Others<'a, R> {
     rt: &'a R,
     tail: Arc<Tail, Global>,
     quorum: Arc<Quorum, Global>,
-    /// So many have to acknowledge a commit.
+    /// How many followers have to acknowledge a commit.
     count: u32,
     answers: Answers,
 }
@@ -35,7 +35,7 @@ impl<R> Drop for Others<'_, R> {
 }
 
 impl<'a, R: Wait + Clock> Others<'a, R> {
-    /// So many have to acknowledge a commit. The log is durable up to there.
+    /// `count` followers have to acknowledge a commit. The log is durable up to `end`.
     pub fn new(
         rt: &'a R,
         alloc: Global,
@@ -61,20 +61,20 @@ impl<'a, R: Wait + Clock> Others<'a, R> {
         Arc::try_clone(&self.quorum)
     }
 
-    /// So many have to acknowledge a commit.
+    /// How many followers have to acknowledge a commit.
     pub fn count(&self) -> u32
         ensures { result ≡ self.now.count }
     {
         self.count
     }
 
-    /// The log is durable up to there: followers may have it.
+    /// The log is durable up to there, so sessions may send it.
     pub fn show(&self, end: Lsn) {
         self.tail.raise(self.rt, end);
     }
 
-    /// Waits until enough followers have acknowledged the log up to there, for so long at most. Whether they
-    /// have.
+    /// Waits, at most this long, until enough followers have acknowledged the log up to there. Returns
+    /// whether they have.
     pub fn ask(&mut self, end: Lsn, at_most: Duration) -> bool
         ensures confirms { result ≡ true → IsConfirmed self.old.count self.new.answers end.0 }
         ensures fails { result ≡ false → IsMissed self.old.count self.new.answers end.0 }

@@ -1,5 +1,5 @@
 use crate::follower::Follower;
-use crate::metrics_text::head;
+use crate::metrics::head;
 use crate::report::Report;
 use crate::work::Work;
 use std::alloc::AllocError;
