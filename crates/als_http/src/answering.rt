@@ -5,10 +5,9 @@ ghost use Rattle.als_http.specs.Replies.{Replies, GoesOn, Answers};
 use crate::filling::show;
 use crate::hosts::Hosts;
 use crate::query::Query;
-use crate::reading::{published, read};
 use crate::reply::Reply;
-use crate::standing::Standing;
 use crate::telling::query_of;
+use als_report::{Reports, published, read};
 use als_view::Reader;
 use bytes::Bytes;
 use http::Request;
@@ -17,7 +16,7 @@ use std::alloc::{AllocError, Global};
 
 /// What answers the requests of one thread: a reader of its own, and who knows how the standby
 /// stands. It waits for nobody.
-pub struct Answering<S: Standing> {
+pub struct Answering<S: Reports> {
     alloc: Global,
     reader: Reader,
     standing: S,
@@ -25,7 +24,7 @@ pub struct Answering<S: Standing> {
 }
 
 // Written out: a derived drop is proved wherever a value is dropped, this one only here.
-impl<S: Standing + Drop> Drop for Answering<S> {
+impl<S: Reports + Drop> Drop for Answering<S> {
     fn drop(self) {
         let Answering {
             alloc: _,
@@ -38,7 +37,7 @@ impl<S: Standing + Drop> Drop for Answering<S> {
     }
 }
 
-impl<S: Standing> Answering<S> {
+impl<S: Reports> Answering<S> {
     /// It answers by this reader, whatever host a request names.
     pub fn new(alloc: Global, reader: Reader, standing: S) -> Answering<S>
         ensures reader { result.reader ≡ reader }
@@ -60,7 +59,7 @@ impl<S: Standing> Answering<S> {
     }
 
     /// What a query is answered.
-    #[tactic(auto, using(crate::proofs::AnswerLaws::goes_on_self))]
+    #[tactic(auto, using(crate::proofs::ReplyLaws::goes_on_self))]
     pub fn reply(&mut self, query: Query) -> Reply
         ensures reply { Replies (S.tells self.old.standing) query result self.old.reader
             self.new.reader }
@@ -100,7 +99,7 @@ impl<S: Standing> Answering<S> {
     }
 }
 
-impl<S: Standing> Service for Answering<S> {
+impl<S: Reports> Service for Answering<S> {
     ghost use Rattle.http.specs.Request.{head_of};
     ghost use Rattle.als_http.specs.Telling.{query_of};
 

@@ -3,12 +3,11 @@ ghost use Rattle.http_server.specs.Response.{IsBlank, fields_of};
 ghost use Rattle.als_http.specs.Replies.{status_of, fields_for, own_fields, type_of, HasText};
 ghost use Rattle.als_http.specs.Replies.{Shows, fields_of_wrong};
 
-use crate::metrics_text::metrics_text;
 use crate::page_fields::{add_page_fields, console_type};
 use crate::query::Wrong;
 use crate::reply::Reply;
-use crate::report_text::{health_text, status_text, unread_text, wrong_text};
-use crate::value_text::value_text;
+use crate::wrong_text::wrong_text;
+use als_report::{health_text, metrics_text, status_text, unread_text, value_text};
 use bytes::Bytes;
 use http::{HeaderName, HeaderValue, StatusCode};
 use http_server::Response;
@@ -29,7 +28,7 @@ pub(crate) fn show(alloc: Global, reply: &Reply, response: &mut Response)
 }
 
 /// Fills a response by a reply. After an error some of it may be there.
-#[tactic(auto, using(crate::proofs::TextLaws::text_same))]
+#[tactic(auto, using(crate::proofs::ReplyLaws::text_same))]
 fn fill(alloc: Global, reply: &Reply, response: &mut Response) -> Result<(), AllocError>
     requires { IsBlank response.old }
     ensures status { OnOk result (response.new.status ≡ status_of reply.now) }

@@ -1,4 +1,4 @@
-use crate::gate::Gate;
+use crate::connections::Connections;
 use crate::limits::{CROWDED, LIFE, REQUEST, RESPONSE, SILENCE};
 use crate::turn::Turn;
 use std::io;
@@ -10,7 +10,7 @@ use std::time::{Clock, Duration};
 pub(crate) struct Peer<'a, S, C: Clock> {
     stream: S,
     clock: &'a C,
-    gate: &'a Gate,
+    connections: &'a Connections,
     turn: &'a Turn,
     /// When it connected, by the clock.
     begun: Duration,
@@ -21,14 +21,14 @@ impl<'a, S, C: Clock> Peer<'a, S, C> {
     pub fn new(
         stream: S,
         clock: &'a C,
-        gate: &'a Gate,
+        connections: &'a Connections,
         turn: &'a Turn,
         begun: Duration,
     ) -> Peer<'a, S, C> {
         Peer {
             stream,
             clock,
-            gate,
+            connections,
             turn,
             begun,
         }
@@ -39,12 +39,12 @@ impl<'a, S, C: Clock> Peer<'a, S, C> {
         let Ok(now) = self.clock.monotonic() else {
             return true;
         };
-        let patience = if self.gate.is_crowded() {
+        let patience = if self.connections.is_crowded() {
             CROWDED
         } else {
             SILENCE
         };
-        self.gate.is_closed()
+        self.connections.is_closed()
             || now.saturating_sub(since) >= Duration::from_millis(patience)
             || self.turn.asking(now) >= REQUEST
             || now.saturating_sub(self.begun) >= Duration::from_millis(LIFE)

@@ -1,9 +1,8 @@
 ghost use Rattle.std.specs.Prelude.{◌≡◌};
 
 use crate::query::Wrong;
-use crate::report::Report;
-use crate::unread::Unread;
 use als_console::Text;
+use als_report::{Report, Unread};
 use als_view::Answer;
 use http::StatusCode;
 

@@ -1,4 +1,4 @@
-use crate::gate::Gate;
+use crate::connections::Connections;
 use crate::guest::{Guest, Heard};
 use crate::limits::{GUESTS, NAP, REQUEST, request_len};
 use crate::terms::Terms;
@@ -10,24 +10,31 @@ use std::net::{OpenListener, OpenStream};
 use std::time::{Clock, Duration};
 use std::{io, thread};
 
-/// Answers those who come while each other thread has a connection, until the gate closes. It waits for
-/// none of them: whoever sends no whole request in time is dropped. Each connection is closed after its
-/// answer.
+/// Answers those who come while each other thread has a connection, until the threads are to end. It waits
+/// for none of them: whoever sends no whole request in time is dropped. Each connection is closed after
+/// its answer.
 pub(crate) fn answer_guests<
     L: OpenListener<Stream = T>,
     T: Read + Write + OpenStream + Drop,
     V: Service,
     C: Clock,
->(alloc: Global, listener: &L, service: &mut V, terms: Terms, clock: &C, gate: &Gate) {
+>(
+    alloc: Global,
+    listener: &L,
+    service: &mut V,
+    terms: Terms,
+    clock: &C,
+    connections: &Connections,
+) {
     let mut guests = Vec::new(alloc);
     for _ in 0..u64::MAX {
-        if gate.is_closed() {
+        if connections.is_closed() {
             break;
         }
         let Ok(now) = clock.monotonic() else {
             break;
         };
-        let has_come = gate.is_crowded() && admit(alloc, listener, &mut guests, terms, now);
+        let has_come = connections.is_crowded() && admit(alloc, listener, &mut guests, terms, now);
         guests = attend(alloc, guests, service, terms, now);
         if !has_come {
             thread::sleep(clock, Duration::from_millis(NAP));

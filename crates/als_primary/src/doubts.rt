@@ -4,8 +4,8 @@ ghost use Rattle.als_primary.specs.Doubts.{is_doubt, doubt_of, doubts_of};
 
 use als_asking::Doubt;
 use als_engine::Events;
-use als_http::Board;
 use als_record::{TransactionRow, TransactionState};
+use als_report::Board;
 use std::alloc::{AllocError, Global};
 use std::sync::atomic::{AtomicBool, Ordering};
 use std::sync::{Mutex, Wait};

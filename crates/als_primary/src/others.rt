@@ -2,9 +2,9 @@ ghost use Rattle.std.specs.Prelude.{◌≡◌, ◌≤◌, ℕ, true, false};
 ghost use Rattle.als_primary.specs.Others.{IsConfirmed, IsMissed};
 
 use crate::answers::{Answers, Wanted};
-use als_http::{Board, FollowerRow};
 use als_quorum::{Quorum, Row, SEATS, Tail};
 use als_record::Lsn;
+use als_report::{Board, FollowerRow};
 use std::alloc::{AllocError, Global};
 use std::sync::{Arc, Wait};
 use std::time::{Clock, Duration};

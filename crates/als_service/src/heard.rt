@@ -2,7 +2,7 @@ ghost use Rattle.std.specs.Prelude.{◌≡◌};
 
 use crate::notices::Notices;
 use crate::outages::Outages;
-use als_http::Board;
+use als_report::Board;
 use std::io;
 use std::io::Read;
 use std::time::Clock;

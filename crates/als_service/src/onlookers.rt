@@ -1,8 +1,8 @@
 ghost use Rattle.std.specs.Prelude.{◌≤◌};
 
 use als_followers::{Quorum, Row, Tail};
-use als_http::{Board, FollowerRow};
 use als_quorum::SEATS;
+use als_report::{Board, FollowerRow};
 use std::alloc::Global;
 use std::sync::{Arc, Wait};
 use std::time::{Clock, Duration};
