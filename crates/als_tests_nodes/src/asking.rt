@@ -7,79 +7,47 @@ use als_writer::{Set, Transaction, Work};
 use std::alloc::{AllocError, Global};
 
 /// The pages of the database.
-pub const PAGES: u64 = 4;
-
-/// The key that a transaction writes: another one each time, up to 60.
-pub fn key_of(number: u8) -> Key {
-    Key {
-        page: u32::from(number % 4),
-        slot: number / 4 % 15,
-    }
-}
+pub const PAGES: u8 = 4;
 
 /// Transactions, one a group: the one with a number writes that byte, to a key of its own.
+#[derive(Drop)]
 pub struct Numbered {
     pub alloc: Global,
     /// The number of the next one.
     pub next: u8,
     /// That of the last one, and 1.
     pub end: u8,
-    /// The numbers of those that were answered as committed.
-    committed: Vec<u8>,
-    /// So many were answered otherwise.
-    pub others: u32,
+    /// So many were answered as committed.
+    pub committed: u8,
     /// Nothing was asked since the leader waited last.
     pub is_waited: bool,
     pub account: Account,
 }
 
-impl Drop for Numbered {
-    fn drop(self) {
-        let Numbered {
-            alloc: _,
-            next: _,
-            end: _,
-            committed,
-            others: _,
-            is_waited: _,
-            account,
-        } = self;
-        drop(committed);
-        drop(account);
-    }
-}
-
 impl Numbered {
-    /// Those with numbers from 0 on, up to this one.
+    /// Those with numbers from 0 on. Nobody has asked for any of them.
     pub fn new(alloc: Global) -> Numbered {
         Numbered {
             alloc,
             next: 0,
             end: 0,
-            committed: Vec::new(alloc),
-            others: 0,
+            committed: 0,
             is_waited: false,
             account: Account::Nothing,
         }
     }
+}
 
-    /// The numbers of those that were answered as committed.
-    pub fn committed(self) -> Vec<u8> {
-        let Numbered {
-            alloc: _,
-            next: _,
-            end: _,
-            committed,
-            others: _,
-            is_waited: _,
-            account: _,
-        } = self;
-        committed
+/// The key that a transaction writes: another one each time, up to 60.
+fn key_of(number: u8) -> Key {
+    Key {
+        page: u32::from(number % PAGES),
+        slot: number / PAGES % 15,
     }
 }
 
-/// The transaction with a number.
-fn transaction(alloc: Global, number: u8) -> Result<Transaction, AllocError> {
+/// What the one with a number asks for.
+fn work_of(alloc: Global, number: u8) -> Result<Work, AllocError> {
     let image = KeptImage::of(&ImageView {
         bytes: Some(&[number]),
     });
@@ -88,10 +56,10 @@ fn transaction(alloc: Global, number: u8) -> Result<Transaction, AllocError> {
         key: key_of(number),
         image,
     })?;
-    Ok(Transaction {
+    Ok(Work::Commit(Transaction {
         asks: Vec::new(alloc),
         sets,
-    })
+    }))
 }
 
 impl Clients for Numbered {
@@ -112,10 +80,9 @@ impl Clients for Numbered {
         if !self.is_waited || self.next >= self.end {
             return Ok(None);
         }
-        let work = Work::Commit(transaction(self.alloc, self.next)?);
         let asked = Asked {
             seat: u64::from(self.next),
-            work,
+            work: work_of(self.alloc, self.next)?,
         };
         self.is_waited = false;
         self.next = self.next.saturating_add(1);
@@ -124,15 +91,8 @@ impl Clients for Numbered {
     }
 
     fn tell(&mut self, asked: Asked, answer: Answer) -> Result<(), Fault> {
-        match answer {
-            Answer::Committed(_) => {
-                let number = (asked.seat % 256) as u8;
-                match self.committed.push(number) {
-                    Ok(()) => {}
-                    Err(_) => return Err(Fault::Memory),
-                }
-            }
-            _ => self.others = self.others.saturating_add(1),
+        if matches!(answer, Answer::Committed(_)) {
+            self.committed = self.committed.saturating_add(1);
         }
         self.account.tell(&asked, answer);
         Ok(())

@@ -1,114 +1,101 @@
-use crate::asking::{Numbered, key_of};
-use crate::primary::{Shipping, start, wait_for_followers};
-use crate::standby::{follow, take_over};
-use als_share::Runtime;
+use crate::primary::leads;
+use crate::standby::{follows, take_over};
 use std::alloc::Global;
 use std::fs::File;
+use std::io::Write;
 use std::net::{Net, OpenListener, TcpListener, TcpStream};
-use std::random::RandomSource;
 use std::rt::Files;
 use std::sync::Wait;
 use std::test::Fail;
-use std::thread::Threads;
-use std::time::Clock;
 use std::{fs, thread};
 
-/// So many transactions are committed beside both standbys.
-const BOTH: u8 = 20;
-
-/// So many are in all.
-const ALL: u8 = 40;
-
-/// The seconds for which the primary may be silent: the first standby then ends, and the second one stays.
-const SHORT: u64 = 2;
+/// The seconds for which its primary may be silent: the first standby ends then, and the second one stays.
+const SHORT: u64 = 4;
 
 const LONG: u64 = 20;
 
-/// Commits beside both standbys, and then, once the first one has gone, beside the second one. The numbers of
-/// the transactions that were answered as committed. None: something failed.
-fn lead_both<R: AllocGlobal + Threads + Wait + Clock + Drop>(
+/// The folders of one try.
+#[derive(Clone, Copy)]
+struct Folders {
+    primary: &'static str,
+    first: &'static str,
+    second: &'static str,
+}
+
+const TRIES: [Folders; 2] = [
+    Folders {
+        primary: "one",
+        first: "two",
+        second: "three",
+    },
+    Folders {
+        primary: "four",
+        first: "five",
+        second: "six",
+    },
+];
+
+/// Makes the folders, and listens. None: something failed.
+fn begin<R: AllocGlobal + Files<File = File> + Net<Listener = TcpListener, Stream = TcpStream>>(
     rt: &R,
-    shipping: Shipping<R>,
-) -> Option<Vec<u8>> {
-    let mut shipping = shipping;
-    let mut numbered = Numbered::new(rt.alloc());
-    let two = wait_for_followers(rt, &shipping.quorum, 2);
-    let first = shipping.commit(rt, &mut numbered, BOTH).is_ok();
-    let one = wait_for_followers(rt, &shipping.quorum, 1);
-    let then = shipping.commit(rt, &mut numbered, ALL).is_ok();
-    shipping.end(rt);
-    if two && first && one && then {
-        Some(numbered.committed())
-    } else {
-        None
-    }
+    folders: Folders,
+) -> Option<TcpListener> {
+    fs::create_dir(rt, folders.primary).ok()?;
+    fs::create_dir(rt, folders.first).ok()?;
+    fs::create_dir(rt, folders.second).ok()?;
+    TcpListener::bind(rt, "127.0.0.1:0").ok()
 }
 
-/// Whether what a takeover printed has each of these transactions.
-fn has_all(alloc: Global, printed: &[u8], numbers: &[u8]) -> Option<bool> {
-    let printed = str::from_utf8(printed).ok()?;
-    for number in numbers {
-        let key = key_of(*number);
-        let line = format!(in alloc; "\n{}/{} {number:02x}\n", key.page, key.slot).ok()?;
-        if !printed.contains(line.as_str()) {
-            return Some(false);
-        }
-    }
-    Some(true)
-}
-
-/// The three folders of a trial.
-type Folders = [&'static str; 3];
-
-/// A primary and two standbys: how many commits were answered, and whether a takeover of the standby that
-/// stayed finds each of them. None: something failed.
-fn takes_over<
-    R: AllocGlobal
-        + Files<File = File>
-        + Net<Listener = TcpListener, Stream = TcpStream>
-        + Runtime
-        + Clock
-        + RandomSource
-        + Clone
-        + Send
-        + Drop
-        + 'static,
->(rt: &R, dirs: Folders) -> Option<(usize, bool)> {
-    let alloc = rt.alloc();
-    for dir in dirs {
-        fs::create_dir(rt, dir).ok()?;
-    }
-    let listener = TcpListener::bind(rt, "127.0.0.1:0").ok()?;
+/// Where a listener is reached.
+fn address_of(alloc: Global, listener: &TcpListener) -> Option<String> {
     let port = listener.local_addr().ok()?.port();
-    let from = format!(in alloc; "127.0.0.1:{port}").ok()?;
-    let from = from.as_str();
-    let shipping = start(rt, dirs[0], listener)?;
-    let ((parted, stayed), committed) = thread::join(
-        rt,
-        move || {
-            thread::join(
-                rt,
-                move || follow(rt, dirs[1], from, SHORT),
-                move || follow(rt, dirs[2], from, LONG),
-            )
-        },
-        move || lead_both(rt, shipping),
-    );
-    let committed = committed?;
-    if parted || !stayed {
-        return None;
+    format!(in alloc; "127.0.0.1:{port}").ok()
+}
+
+/// The database of all transactions, as a takeover prints it: ten keys a page.
+fn database(alloc: Global) -> Option<Vec<u8>> {
+    let mut rows = Vec::new(alloc);
+    for place in 0_u8..40 {
+        let (page, slot) = (place / 10, place % 10);
+        let number = slot * 4 + page;
+        writeln!(rows, "{page}/{slot} {number:02x}").ok()?;
     }
-    let printed = take_over(rt, dirs[2])?;
-    let found = has_all(alloc, printed.as_slice(), committed.as_slice())?;
-    Some((committed.len(), found))
+    Some(rows)
+}
+
+/// Whether a takeover of a folder finds just the database of all transactions. None: it failed.
+fn has_all<R: AllocGlobal + Files<File = File> + Wait>(rt: &R, dir: &str) -> Option<bool> {
+    let printed = take_over(rt, dir)?;
+    let rows = database(rt.alloc())?;
+    Some(printed.as_slice().ends_with(rows.as_slice()))
 }
 
 #[test]
 fn an_answered_commit_is_found_by_a_takeover(rt: HostRuntime) -> Result<(), Fail> {
-    let wanted = Some((40, true));
-    let found = takes_over(&rt, ["one", "two", "three"]);
+    let mut found = None;
     // Where the machine was slow, once more.
-    let found = found.or_else(|| takes_over(&rt, ["four", "five", "six"]));
-    assert!(rt; found == wanted);
+    for folders in TRIES {
+        if found.is_none() {
+            let rt = &rt;
+            let listener = begin(rt, folders).ok_or("a listener")?;
+            let from = address_of(rt.alloc(), &listener).ok_or("its address")?;
+            let from = from.as_str();
+            let ((parted, stayed), committed) = thread::join(
+                rt,
+                move || {
+                    thread::join(
+                        rt,
+                        move || follows(rt, folders.first, from, SHORT),
+                        move || follows(rt, folders.second, from, LONG),
+                    )
+                },
+                move || leads(rt, folders.primary, listener),
+            );
+            if committed == Some(40) && !parted && stayed {
+                found = has_all(rt, folders.second);
+            }
+        }
+    }
+    assert!(rt; found == Some(true));
     Ok(())
 }

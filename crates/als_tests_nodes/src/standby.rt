@@ -37,7 +37,7 @@ impl Forgets for Untold {
 
 /// Follows one session as the standby of a folder. Its primary may be silent for so many seconds. Whether the
 /// session came to its end.
-pub fn follow<
+pub fn follows<
     R: AllocGlobal
         + Files<File = File>
         + Net<Listener = TcpListener, Stream = TcpStream>

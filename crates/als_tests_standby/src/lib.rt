@@ -14,9 +14,6 @@ mod folders;
 // als_inspect.
 #[cfg(test)]
 mod inspect;
-// als_shipper, over a log that grows.
-#[cfg(test)]
-mod growing;
 // als_operate and als_shipper.
 #[cfg(test)]
 mod operate;

@@ -1,7 +1,7 @@
 ghost use Rattle.std.specs.Prelude.{[]};
 ghost use Rattle.als_sending.specs.Accounts.{reads_of};
 
-use crate::common::{SENT, TEXT, TOLD, listen};
+use crate::made::{SENT, TEXT, TOLD, listen};
 use als_epochs::History;
 use als_operate::Fault;
 use als_record::LogHeader;
@@ -130,24 +130,26 @@ fn is_sent(answer: &io::Result<Vec<u8>>) -> bool {
     }
 }
 
-/// What three who come are answered, and what is printed.
-fn serve_three<R: Net<Listener = TcpListener, Stream = TcpStream> + Clock + AllocGlobal>(
+/// What a shipper answers of one who came.
+type Served = Result<bool, Fault>;
+
+/// What a shipper answers of three who come, one after another, and what is printed.
+fn serve_three<R: Net<Listener = TcpListener, Stream = TcpStream> + Clock>(
     rt: &R,
+    alloc: Global,
     listener: &TcpListener,
     printed: &mut Vec<u8>,
-) -> [Result<bool, Fault>; 3] {
-    let alloc = rt.alloc();
+) -> (Served, Served, Served) {
     let mut text = Text {
         until: TEXT.len() as u64,
         shown: 0,
         account: Account::Nothing,
     };
     let mut callers = Callers::new(alloc, listener, rt, Some(Duration::from_secs(20)));
-    let mut answers = [Ok(false); 3];
-    for answer in answers.iter_mut() {
-        *answer = serve_growing(alloc, &mut text, 16, &mut callers, &mut Untold, printed);
-    }
-    answers
+    let first = serve_growing(alloc, &mut text, 16, &mut callers, &mut Untold, printed);
+    let second = serve_growing(alloc, &mut text, 16, &mut callers, &mut Untold, printed);
+    let third = serve_growing(alloc, &mut text, 16, &mut callers, &mut Untold, printed);
+    (first, second, third)
 }
 
 #[test]
@@ -158,11 +160,11 @@ fn a_log_that_grows_is_served(rt: HostRuntime) -> Result<(), Fail> {
     let (rt, listener, output) = (&rt, &listener, &mut printed);
     let (served, followed) = thread::join(
         rt,
-        move || serve_three(rt, listener, output),
+        move || serve_three(rt, alloc, listener, output),
         move || ask_all(rt, alloc, addr),
     );
     let other = Fault::Session(SessionFault::BadHeader);
-    assert!(rt; served == [Ok(false), Err(other), Ok(true)]);
+    assert!(rt; served == (Ok(false), Err(other), Ok(true)));
     assert!(rt; followed == (0, 0, true));
     assert!(rt; printed.as_slice() == b"sent=92\n".as_slice());
     Ok(())
