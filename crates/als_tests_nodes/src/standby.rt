@@ -1,34 +1,19 @@
 use als_drive::Progress;
-use als_operate::{Fault, Following, Forgets, TakenOver, takeover};
+use als_follow::standby;
+use als_operate::{Following, Forgets, TakenOver, takeover};
 use als_record::Lsn;
-use als_service::{Outages, Service, standby};
 use als_share::Runtime;
-use std::alloc::Global;
 use std::fs::File;
-use std::net::{Net, TcpListener, TcpStream};
-use std::random::RandomSource;
+use std::net::Net;
 use std::rt::Files;
 use std::sync::Wait;
-use std::time::Clock;
 
 /// Nobody is told.
 #[derive(Clone, Copy)]
-pub struct Untold;
+struct Untold;
 
 impl Progress for Untold {
     fn waits(&mut self, _changes: u64) {}
-}
-
-impl Outages for Untold {
-    fn outage(&mut self, _fault: Option<Fault>, _millis: u64) {}
-
-    fn refusal(&mut self, _fault: Fault, _millis: u64) {}
-
-    fn hang_ups(&mut self, _count: u32) {}
-
-    fn uncompared(&mut self) {}
-
-    fn nearly_full(&mut self, _end: Lsn, _capacity: u64) {}
 }
 
 impl Forgets for Untold {
@@ -37,18 +22,12 @@ impl Forgets for Untold {
 
 /// Follows one session as the standby of a folder. Its primary may be silent for so many seconds. Whether the
 /// session came to its end.
-pub fn follows<
-    R: AllocGlobal
-        + Files<File = File>
-        + Net<Listener = TcpListener, Stream = TcpStream>
-        + Runtime
-        + Clock
-        + RandomSource
-        + Clone
-        + Send
-        + Drop
-        + 'static,
->(rt: &R, dir: &str, from: &str, timeout: u64) -> bool {
+pub fn follows<R: AllocGlobal + Files<File = File> + Net + Runtime>(
+    rt: &R,
+    dir: &str,
+    from: &str,
+    timeout: u64,
+) -> bool {
     let following = Following {
         dir,
         from,
@@ -57,17 +36,9 @@ pub fn follows<
         checkpoint_mb: 0,
         timeout,
     };
-    let service = Service {
-        workers: 1,
-        serve: None,
-        readers: 1,
-        keep: false,
-        listen: None,
-        window: 16,
-        followers: &[],
-    };
     let mut printed = Vec::new(rt.alloc());
-    standby(rt, following, service, &mut Untold, &mut printed).is_ok()
+    let ended = standby(rt, following, 1, &mut Untold, &mut printed);
+    ended.is_ok()
 }
 
 /// Takes a folder over. What it prints: where the log ends, and each record of the database. None: something
