@@ -14,8 +14,7 @@ use http::Request;
 use http_server::{Response, Service};
 use std::alloc::{AllocError, Global};
 
-/// What answers the requests of one thread: a reader of its own, and who knows how the standby
-/// stands. It waits for nobody.
+/// Answers the requests of one thread, by a reader and a reporter of its own. It never waits.
 pub struct Answering<S: Reports> {
     alloc: Global,
     reader: Reader,
@@ -38,7 +37,7 @@ impl<S: Reports + Drop> Drop for Answering<S> {
 }
 
 impl<S: Reports> Answering<S> {
-    /// It answers by this reader, whatever host a request names.
+    /// Answers by this reader and reporter, whatever host a request names.
     pub fn new(alloc: Global, reader: Reader, standing: S) -> Answering<S>
         ensures reader { result.reader ≡ reader }
         ensures hosts { result.hosts ≡ Hosts.Any }
@@ -51,14 +50,14 @@ impl<S: Reports> Answering<S> {
         }
     }
 
-    /// From now on it answers requests that name these hosts alone.
+    /// From now on only requests that name these hosts are answered.
     pub fn answer_for(&mut self, hosts: Hosts)
         ensures { self.new ≡ record self.old { hosts = hosts } }
     {
         self.hosts = hosts;
     }
 
-    /// What a query is answered.
+    /// The reply to a query.
     #[tactic(auto, using(crate::proofs::ReplyLaws::goes_on_self))]
     pub fn reply(&mut self, query: Query) -> Reply
         ensures reply { Replies (S.tells self.old.standing) query result self.old.reader

@@ -4,7 +4,7 @@ use std::net::{IpAddr, SocketAddr};
 use std::sync::atomic::{AtomicBool, AtomicU64, Ordering};
 use std::time::Duration;
 
-/// The connections that the threads have, and whether the threads go on.
+/// The connections that the threads have, and whether the threads go on. All of them share it.
 #[derive(Drop)]
 pub struct Connections {
     closed: AtomicBool,
@@ -12,7 +12,7 @@ pub struct Connections {
     peers: Vec<AtomicU64>,
 }
 
-/// The number of a peer, which is never 0: one of each address, and of each network of IPv6.
+/// The number of a peer, never 0: one for each IPv4 address, and one for each /64 network of IPv6.
 pub(crate) fn peer_of(addr: &SocketAddr) -> u64 {
     match addr.ip() {
         IpAddr::V4(ip) => u64::from(u32::from_be_bytes(ip.octets())) | 1 << 63,
@@ -24,7 +24,7 @@ pub(crate) fn peer_of(addr: &SocketAddr) -> u64 {
 }
 
 impl Connections {
-    /// No connection, of this many threads that wait for their peers.
+    /// No connections, of this many threads that wait for their peers.
     pub fn new(alloc: Global, threads: usize) -> Result<Connections, AllocError> {
         let mut peers = Vec::with_capacity(alloc, threads)?;
         for _ in 0..threads {
@@ -36,16 +36,18 @@ impl Connections {
         })
     }
 
-    /// The threads end: those with a connection once its peer is silent for a moment.
+    /// Ends the threads: one with a connection ends once its peer is silent for a moment.
     pub fn close(&self) {
         self.closed.store(true, Ordering::SeqCst);
     }
 
+    /// Whether the threads are to end.
     pub fn is_closed(&self) -> bool {
         self.closed.load(Ordering::SeqCst)
     }
 
-    /// A thread takes a connection of a peer. None: the peer would have one of each thread.
+    /// A thread takes a connection of this peer. None: no place is free, or this peer would have a
+    /// connection of every thread.
     pub(crate) fn enter(&self, peer: u64) -> Option<usize> {
         let threads = self.peers.len();
         for place in 0..threads {
@@ -64,7 +66,7 @@ impl Connections {
         None
     }
 
-    /// A thread has let go of its connection.
+    /// A thread has closed its connection.
     pub(crate) fn leave(&self, place: usize) {
         if place < self.peers.len() {
             self.peers[place].store(0, Ordering::SeqCst);
@@ -76,14 +78,14 @@ impl Connections {
         self.count(0) == 0
     }
 
-    /// For how long a thread without a connection sleeps. All of them together look for the next one as
-    /// often as eight of them would.
+    /// How long a thread without a connection sleeps before it looks for the next one. All of them
+    /// together look as often as eight would.
     pub(crate) fn nap(&self) -> Duration {
         let eighths = self.count(0).saturating_add(7) / 8;
         Duration::from_millis(NAP.saturating_mul(eighths.max(1)))
     }
 
-    /// How many connections this peer has. 0: how many there could still be.
+    /// How many connections this peer has. Of peer 0: how many places are free.
     fn count(&self, peer: u64) -> u64 {
         let mut count: u64 = 0;
         for cell in self.peers.iter() {

@@ -1,31 +1,40 @@
-//! The threads that serve over HTTP what a node reports and what its readers see, each with a reader of its
-//! own.
+//! The threads that serve over HTTP what a node reports and what its readers see.
 //!
 //! ```text
-//!     Reports ---Report---+
-//!                         +--> Answering --Reply--> Servers --bytes--> peer
-//!     Reader ---Answer----+
+//!     peer --connects--> accept --place free--> its thread: serve, one request after another --> closed
+//!                          |no place             request --query_of--> Query --reply--> Reply --show--> response
+//!                          '--> guest of the thread that accepted, or of the spare one: one answer --> closed
 //! ```
+//!
+//! 1. A thread has a reader and a reporter of its own, so no request waits for the engine or for another
+//!    thread.
+//! 2. A thread waits for its own peer only, and for a limited time: silence, a request, a response and a
+//!    connection each have a limit. So slow peers end by themselves.
+//! 3. The spare thread waits for nobody. While every other thread has a connection, it answers one request
+//!    of whoever connects: so slow peers, however many, shut nobody out.
+//! 4. One peer has at most one connection less than there are waiting threads, if there are several.
+//! 5. What a request is (`query_of`), what it is answered (`Reply`) and the response (`show`) make no system
+//!    call, and are proved exactly. Times and sockets are tested.
 #![tactic(auto)]
 
-// Who answers.
+// What answers requests.
 mod answering;
 // What a path asks for.
 mod asked;
 mod asking;
-// A response is filled by a reply.
+// Fills a response by a reply.
 mod filling;
 // Which hosts a request may name.
 mod hosts;
 // Decimal numbers in a request.
 mod numbers;
-// The fields of the page's texts.
+// The header fields of the page's texts.
 mod page_fields;
 // What a request asks for.
 mod query;
-// What a request is answered.
+// The reply to a query.
 mod reply;
-// Which request it is.
+// The query of a request.
 mod telling;
 // What is wrong with a request, as JSON.
 mod wrong_text;
@@ -35,7 +44,7 @@ mod connections;
 mod guest;
 // Times and sizes.
 mod limits;
-// Where they listen.
+// Where the threads listen.
 mod listening;
 // A stream whose peer has limited time.
 mod peer;
@@ -43,11 +52,11 @@ mod peer;
 mod servers;
 // What a thread does.
 mod serving;
-// What all connections have in common.
+// What all connections of a listener have in common.
 mod terms;
-// What the thread does that waits for nobody.
+// What the spare thread does.
 mod spare;
-// For how long a peer asks, and is answered.
+// How long a peer has been asking, and being answered.
 mod turn;
 
 pub use answering::Answering;

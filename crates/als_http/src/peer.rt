@@ -5,7 +5,7 @@ use std::io;
 use std::io::{ErrorKind, Read, Write};
 use std::time::{Clock, Duration};
 
-/// A stream whose peer has limited time. Its reads wait for a tick each.
+/// A stream whose peer has limited time. Each read of the stream waits for a tick.
 #[derive(Drop)]
 pub(crate) struct Peer<'a, S, C: Clock> {
     stream: S,
@@ -17,7 +17,7 @@ pub(crate) struct Peer<'a, S, C: Clock> {
 }
 
 impl<'a, S, C: Clock> Peer<'a, S, C> {
-    /// The peer has just connected.
+    /// The stream of a peer that has just connected.
     pub fn new(
         stream: S,
         clock: &'a C,
@@ -34,7 +34,7 @@ impl<'a, S, C: Clock> Peer<'a, S, C> {
         }
     }
 
-    /// Whether its time is over, where it has been silent since then.
+    /// Whether the time of the peer is over, if it has been silent since then.
     fn is_over(&self, since: Duration) -> bool {
         let Ok(now) = self.clock.monotonic() else {
             return true;
@@ -51,7 +51,7 @@ impl<'a, S, C: Clock> Peer<'a, S, C> {
     }
 }
 
-/// Whether a read or a write has only waited for its time.
+/// Whether a read or a write only timed out.
 pub(crate) fn is_late(e: &io::Error) -> bool {
     matches!(
         e.kind(),
@@ -60,7 +60,7 @@ pub(crate) fn is_late(e: &io::Error) -> bool {
 }
 
 impl<S: Read, C: Clock> Read for Peer<'_, S, C> {
-    /// A peer whose time is over has nothing more to say.
+    /// Reads from the peer. 0 bytes once its time is over: it is treated as if it had hung up.
     fn read(&mut self, into: &mut [u8]) -> io::Result<usize> {
         let since = self.clock.monotonic()?;
         self.turn.listen();

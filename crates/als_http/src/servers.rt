@@ -36,9 +36,9 @@ impl Drop for Servers {
 
 impl Servers {
     /// Starts a thread for each of these, up to eight, which answer reads until `close`. Each has a clock
-    /// of its own. Over the loopback they answer its own hosts alone.
+    /// of its own. On the loopback only requests that name one of its hosts are answered.
     ///
-    /// An error: as `start_any` says.
+    /// An error: as for `start_any`.
     pub fn start<
         R: Threads + RandomSource,
         S: Reports + Send + Drop + 'static,
@@ -61,11 +61,11 @@ impl Servers {
         Servers::start_any(rt, alloc, listener, own, config())
     }
 
-    /// Starts a thread for each of these services, up to 258, which serve the listener until `close`, by
-    /// these limits of a connection. Each has a clock of its own. Where there are two and more, the last
-    /// one is spare: it waits for nobody, and answers while each other one has a connection.
+    /// Starts a thread for each of these services, up to 258, which serve the listener until `close`, with
+    /// these limits of a connection. Each has a clock of its own. If there are two or more, the last one
+    /// is spare: it waits for nobody, and serves while each other one has a connection.
     ///
-    /// An error: allocation failed, or the system refused a thread. Then none goes on.
+    /// An error: allocation failed, or the system refused a thread. Then no thread goes on.
     pub fn start_any<
         R: Threads + RandomSource,
         V: Service + Send + Drop + 'static,

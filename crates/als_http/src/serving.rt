@@ -12,8 +12,8 @@ use std::time::{Clock, Duration};
 use std::{io, thread};
 
 /// Serves one connection after another, until the threads are to end. The listener does not block. A peer
-/// that has a connection of each other thread is a guest: it is waited for no longer than what is
-/// there of it is read. While there is a guest, so is whoever comes.
+/// that already has a connection of every other thread becomes a guest: what it has sent is read, and it
+/// is never waited for. While there is a guest, so is everybody who connects.
 pub fn serve_until_closed<
     L: OpenListener<Stream = T>,
     T: Read + Write + OpenStream + Drop,
@@ -38,7 +38,7 @@ pub fn serve_until_closed<
         match listener.accept() {
             Ok((stream, addr)) => match seat_of(connections, &addr, guests.is_empty()) {
                 Some(place) => {
-                    // What ends a connection is its own affair.
+                    // An error ends this connection only.
                     let _ = serve_one(alloc, stream, service, terms, clock, connections);
                     connections.leave(place);
                 }
@@ -51,7 +51,7 @@ pub fn serve_until_closed<
     }
 }
 
-/// The place of a connection that may be waited for. None: it is a guest's.
+/// The place of a connection that this thread may wait for. None: it is a guest.
 fn seat_of(connections: &Connections, addr: &SocketAddr, is_free: bool) -> Option<usize> {
     if !is_free {
         return None;
@@ -81,8 +81,8 @@ fn serve_one<T: Read + Write + OpenStream + Drop, V: Service, C: Clock>(
     linger(&mut rest)
 }
 
-/// Says that no more is sent, and reads what the peer still sends. Where a connection is closed with
-/// bytes unread, the system may take back the last response.
+/// Shuts down writing, and reads what the peer still sends. If a connection is closed with unread bytes,
+/// the system may take back the last response.
 fn linger<T: Read + OpenStream>(stream: &mut T) -> io::Result<()> {
     stream.shutdown(Shutdown::Write)?;
     let mut bytes = [0; 1024];

@@ -7,13 +7,14 @@ use crate::query::Wrong;
 use als_report::error_text;
 use std::alloc::{AllocError, Global};
 
-/// What is wrong with a request, as JSON.
+/// Why a request is refused, as JSON.
 pub(crate) fn wrong_text(alloc: Global, why: Wrong) -> Result<Vec<u8>, AllocError>
     ensures { IfOk result (λ text. text.items ≡ print (error_tokens (why_wrong why))) }
 {
     error_text(alloc, why_wrong(why))
 }
 
+/// Why a request is refused, in words.
 fn why_wrong(why: Wrong) -> &'static str
     ensures { result.now ≡ why_wrong why }
 {

@@ -1,3 +1,5 @@
+ghost use Rattle.std.specs.Prelude.{◌≤◌};
+
 use crate::follower::Follower;
 use crate::follower_cells::FollowerCells;
 use crate::follower_row::FollowerRow;
@@ -5,6 +7,7 @@ use crate::report::{MOST_FOLLOWERS, Report};
 use crate::reports::Reports;
 use crate::state::State;
 use crate::work_cells::WorkCells;
+use als_quorum::Row;
 use als_record::Lsn;
 use arrayvec::ArrayVec;
 use std::alloc::Global;
@@ -12,8 +15,8 @@ use std::sync::Arc;
 use std::sync::atomic::{AtomicU64, Ordering};
 use std::time::{Clock, Duration};
 
-/// What a session last saw of its standby, in cells. The session writes them as it goes on, and the
-/// threads that answer read them: nobody waits, and no turn of the engine's lock is taken.
+/// What a session last saw of its node, in atomic cells. The session writes them as it goes on, and
+/// threads that report read them: nobody waits, and the engine's lock is never taken.
 #[derive(Drop)]
 pub struct Board {
     state: AtomicU64,
@@ -21,28 +24,28 @@ pub struct Board {
     acknowledged: AtomicU64,
     pending: AtomicU64,
     leases: AtomicU64,
-    /// The second in which the last acknowledged frame came, and 1. 0: none has.
+    /// The second in which the last acknowledged frame came, plus 1. 0: none came.
     frame: AtomicU64,
-    /// The second in which a frame came that waits for its acknowledgement, and 1. 0: none waits.
+    /// The second in which the frame came that waits for its acknowledgement, plus 1. 0: none waits.
     waits: AtomicU64,
-    /// Bytes that the log takes at most. 0: not known yet.
+    /// Bytes of the log's device. 0: not known yet.
     capacity: AtomicU64,
     failures: AtomicU64,
-    /// The number of the last fault that ended a session. 0: there was none.
+    /// The number of the last fault that ended a session. 0: none did.
     fault: AtomicU64,
-    /// The epoch of its history, and 1. 0: not known yet.
+    /// The epoch of its history, plus 1. 0: not known yet.
     epoch: AtomicU64,
     /// What it committed for clients.
     work: WorkCells,
-    /// So many transactions are in doubt.
+    /// How many transactions are in doubt.
     in_doubt: AtomicU64,
-    /// So many followers have to acknowledge a commit before it is answered.
+    /// How many followers have to acknowledge a commit before it is answered.
     sync: AtomicU64,
     followers: FollowerCells,
 }
 
 impl Board {
-    /// Nothing was seen yet: the standby recovers.
+    /// A board on which nothing was seen yet: the node recovers.
     pub fn new() -> Board {
         Board {
             state: AtomicU64::new(State::Recovering.number()),
@@ -63,7 +66,7 @@ impl Board {
         }
     }
 
-    /// What the standby does now. No frame waits where no primary sends.
+    /// Sets what the node does now. In a state in which no primary sends, no frame waits.
     pub fn set_state(&self, state: State) {
         if !state.is_sent_to() {
             self.waits.store(0, Ordering::SeqCst);
@@ -71,21 +74,21 @@ impl Board {
         self.state.store(state.number(), Ordering::SeqCst);
     }
 
-    /// Where its log ends, and up to where that is acknowledged.
+    /// Sets where the log ends, and up to where it is acknowledged.
     pub fn set_log(&self, end: Lsn, acknowledged: Lsn) {
-        // The end first, and `report` reads it last: so nobody reads an end below what is acknowledged.
+        // The end is stored first and loaded last, so no report has an end below `acknowledged`.
         self.end.store(end.0, Ordering::SeqCst);
         self.acknowledged.store(acknowledged.0, Ordering::SeqCst);
     }
 
-    /// How many changes wait for redo, and how many leases are out.
+    /// Sets how many changes wait for redo, and how many leases are out.
     pub fn set_redo(&self, pending: u64, leases: u64) {
         self.pending.store(pending, Ordering::SeqCst);
         self.leases.store(leases, Ordering::SeqCst);
     }
 
-    /// Something of a frame came. It waits for its acknowledgement from then on. A clock that cannot
-    /// be read leaves the board as it was.
+    /// Bytes of a frame came: from now on a frame waits for its acknowledgement. If the clock cannot be
+    /// read, the board stays as it was.
     pub fn note_frame<C: Clock>(&self, clock: &C) {
         if self.waits.load(Ordering::SeqCst) == 0 {
             if let Some(now) = second(clock) {
@@ -94,8 +97,8 @@ impl Board {
         }
     }
 
-    /// The frame that came was acknowledged: a primary sends. What a refused session sent is never
-    /// acknowledged, so it counts as nothing.
+    /// The waiting frame was acknowledged, so a primary sends. A refused session is never acknowledged,
+    /// so what it sent does not count.
     pub fn note_answer(&self) {
         let came = self.waits.swap(0, Ordering::SeqCst);
         if came > 0 {
@@ -107,13 +110,13 @@ impl Board {
         }
     }
 
-    /// A fault of this number has ended a session.
+    /// A fault with this number ended a session.
     pub fn note_failure(&self, number: u64) {
         self.failures.fetch_add(1, Ordering::SeqCst);
         self.fault.store(number, Ordering::SeqCst);
     }
 
-    /// The log takes at most so many bytes.
+    /// Sets the bytes of the log's device.
     pub fn set_capacity(&self, bytes: u64) {
         self.capacity.store(bytes, Ordering::SeqCst);
     }
@@ -128,41 +131,64 @@ impl Board {
         known(&self.capacity)
     }
 
-    /// The history of its log is of this epoch.
+    /// Sets the epoch of the log's history.
     pub fn set_epoch(&self, epoch: u64) {
         self.epoch.store(epoch.saturating_add(1), Ordering::SeqCst);
     }
 
-    /// A group of so many transactions was committed, and its force took so long.
+    /// A group of transactions was committed by one force, which took this long.
     pub fn note_group(&self, transactions: u64, force: Duration) {
         self.work.note_group(transactions, force);
     }
 
-    /// So many transactions are in doubt.
+    /// Sets how many transactions are in doubt.
     pub fn set_in_doubt(&self, count: u64) {
         self.in_doubt.store(count, Ordering::SeqCst);
     }
 
-    /// So many followers have to acknowledge a commit before it is answered.
+    /// Sets how many followers have to acknowledge a commit before it is answered.
     pub fn set_sync(&self, count: u64) {
         self.sync.store(count, Ordering::SeqCst);
     }
 
-    /// Those that follow, in this order; of more than eight the first eight. One thread at a time calls
-    /// this.
+    /// Sets the followers, in this order; of more than eight the first eight. One thread at a time may
+    /// call this.
     pub fn set_followers(&self, rows: &[FollowerRow]) {
         self.followers.store(rows);
     }
+
+    /// Sets the followers to those of a quorum, by seat. One thread at a time may call this.
+    pub fn set_seats(&self, seats: &[Option<Row>; MOST_FOLLOWERS]) {
+        let mut rows = [FollowerRow::default(); MOST_FOLLOWERS];
+        let count = fill(seats, &mut rows);
+        self.set_followers(&rows[..count]);
+    }
 }
 
-/// Seconds since a second of the clock that a cell holds, and 1. None: the cell holds none, or the clock
-/// cannot be read.
+/// Copies the rows of taken seats to the front, in the order of seats. Returns how many.
+fn fill(seats: &[Option<Row>; MOST_FOLLOWERS], rows: &mut [FollowerRow; MOST_FOLLOWERS]) -> usize
+    ensures { result ≤ 8 }
+{
+    let mut count = 0;
+    for row in seats {
+        if let Some(row) = row {
+            if count < rows.len() {
+                rows[count] = FollowerRow::of(row);
+                count += 1;
+            }
+        }
+    }
+    count
+}
+
+/// Seconds since the second in a cell, which has it plus 1. None: the cell has 0, or the clock cannot be
+/// read.
 fn since<C: Clock>(cell: &AtomicU64, clock: &C) -> Option<u64> {
     let then = cell.load(Ordering::SeqCst).checked_sub(1)?;
     Some(second(clock)?.saturating_sub(then))
 }
 
-/// The number that a cell holds. None: it is 0.
+/// The number in a cell. None: it is 0.
 fn known(cell: &AtomicU64) -> Option<u64> {
     match cell.load(Ordering::SeqCst) {
         0 => None,
@@ -170,12 +196,12 @@ fn known(cell: &AtomicU64) -> Option<u64> {
     }
 }
 
-/// The second of a clock, from its own start.
+/// The current second of a clock, counted from its own start.
 fn second<C: Clock>(clock: &C) -> Option<u64> {
     Some(clock.monotonic().ok()?.as_secs())
 }
 
-/// A board, and the clock that measures the age of its last frame.
+/// A board with the clock by which the age of its last frame is measured.
 #[derive(Drop)]
 pub struct Watch<C: Clock> {
     board: Arc<Board, Global>,
@@ -183,7 +209,7 @@ pub struct Watch<C: Clock> {
 }
 
 impl<C: Clock> Watch<C> {
-    /// Reads the board by this clock, which is the one of `note_frame`.
+    /// The board by this clock, which has to be the one of `note_frame`.
     pub fn new(board: Arc<Board, Global>, clock: C) -> Watch<C> {
         Watch { board, clock }
     }
@@ -213,7 +239,7 @@ impl<C: Clock> Reports for Watch<C> {
     }
 }
 
-/// The followers of a board, with the times of a clock. Nobody, where it can't be read.
+/// The followers on a board, with ages by a clock. Empty if the clock cannot be read.
 fn followers_now<C: Clock>(board: &Board, clock: &C) -> ArrayVec<Follower, MOST_FOLLOWERS> {
     let mut followers = ArrayVec::new();
     let Some(now) = second(clock) else {

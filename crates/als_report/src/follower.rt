@@ -11,7 +11,7 @@ pub struct Follower {
     pub peer: IpAddr,
     /// The greatest LSN that it acknowledged.
     pub acknowledged: Lsn,
-    /// Seconds since it last acknowledged one; since it connected, where it has not yet.
+    /// Seconds since it last acknowledged, or since it connected if it never did.
     pub silence: u64,
     /// Seconds since it connected.
     pub age: u64,
@@ -33,14 +33,14 @@ impl Default for Follower {
 }
 
 impl Follower {
-    /// So many bytes it lacks of a log that is acknowledged up to there.
+    /// The bytes that it lacks of a log that is acknowledged up to there.
     pub fn behind(&self, acknowledged: Lsn) -> u64
         ensures { result ≡ behind acknowledged.0 self.now }
     {
         acknowledged.0.saturating_sub(self.acknowledged.0)
     }
 
-    /// For so many seconds it has lacked some of it, at most: 0 where it lacks nothing, else the seconds
+    /// An upper bound of the seconds for which it has been behind: 0 if it lacks nothing, else the seconds
     /// since it last acknowledged.
     pub fn seconds_behind(&self, acknowledged: Lsn) -> u64
         ensures { result ≡ seconds_behind acknowledged.0 self.now }

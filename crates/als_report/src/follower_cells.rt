@@ -5,15 +5,15 @@ use arrayvec::ArrayVec;
 use std::net::{IpAddr, Ipv6Addr};
 use std::sync::atomic::{AtomicU64, Ordering};
 
-/// How often rows are read until no row changed beside that.
+/// How often rows are read again while they change.
 const TRIES: u32 = 8;
 
-/// The rows of a primary's followers, in two copies of cells. Whoever writes them, one thread at a time,
-/// fills the copy that nobody reads, and then turns readers to it. So a reader waits for nobody; it reads
-/// again where a whole change came beside it.
+/// The rows of a primary's followers, in two copies of cells. The writer, one thread at a time, fills the
+/// copy that nobody reads and then directs readers to it. So a reader waits for nobody; it reads again if
+/// the rows changed meanwhile.
 #[derive(Drop)]
 pub(crate) struct FollowerCells {
-    /// How often rows were written. Even: the first copy is read.
+    /// How often the rows were written. Even: readers read the first copy.
     written: AtomicU64,
     first: Copy,
     second: Copy,
@@ -26,7 +26,7 @@ struct Copy {
     rows: [RowCells; MOST_FOLLOWERS],
 }
 
-/// One row. The address is one of IPv6, to which one of IPv4 is mapped.
+/// One row. An IPv4 address is stored as an IPv4-mapped one.
 #[derive(Drop)]
 struct RowCells {
     high: AtomicU64,
@@ -47,14 +47,14 @@ impl FollowerCells {
         }
     }
 
-    /// These follow; of more than eight the first eight.
+    /// Stores the rows; of more than eight the first eight.
     pub fn store(&self, rows: &[FollowerRow]) {
         let next = self.written.load(Ordering::SeqCst).wrapping_add(1);
         self.copy(next).store(rows);
         self.written.store(next, Ordering::SeqCst);
     }
 
-    /// Those that follow.
+    /// Loads the rows.
     pub fn load(&self) -> ArrayVec<FollowerRow, MOST_FOLLOWERS> {
         let mut rows = ArrayVec::new();
         for _ in 0..TRIES {
@@ -67,7 +67,7 @@ impl FollowerCells {
         rows
     }
 
-    /// The copy that is read when rows were written so often.
+    /// The copy that is read after this many writes.
     fn copy(&self, written: u64) -> &Copy {
         if written % 2 == 0 {
             &self.first
@@ -154,7 +154,7 @@ impl RowCells {
     }
 }
 
-/// The bits of an address as one of IPv6.
+/// The bits of an address as an IPv6 address.
 fn bits_of(peer: IpAddr) -> u128 {
     match peer {
         IpAddr::V4(ip) => ip.to_ipv6_mapped().to_bits(),

@@ -33,24 +33,24 @@ mod unread;
 // Members of a JSON object.
 mod members;
 // Texts in JSON: of errors, of what a primary reports beside, of a report, of a key's value.
-mod error_text;
+mod errors;
 mod primary_text;
 mod report_text;
-mod value_text;
+mod values;
 // A report as metrics, and what a primary reports beside.
-mod metrics_text;
+mod metrics;
 mod primary_metrics;
 
 pub use board::{Board, Watch};
-pub use error_text::{error_text, unread_text};
+pub use errors::{error_text, unread_text};
 pub use follower::Follower;
 pub use follower_row::FollowerRow;
-pub use metrics_text::{VERSION, metrics_text};
+pub use metrics::{VERSION, metrics_text};
 pub use reading::{published, read};
 pub use report::{MOST_FOLLOWERS, MOST_IN_DOUBT, PATIENCE, Report};
 pub use report_text::{health_text, status_text};
 pub use reports::Reports;
 pub use state::State;
 pub use unread::Unread;
-pub use value_text::value_text;
+pub use values::value_text;
 pub use work::Work;

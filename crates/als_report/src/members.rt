@@ -5,7 +5,7 @@ ghost use Rattle.als_report.specs.Texts.{member_tokens};
 use json::Writer;
 use std::alloc::AllocError;
 
-/// A member of a JSON object: a number, or null.
+/// Writes a member of a JSON object: a number, or null for None.
 pub(crate) fn member(text: &mut Writer, name: &str, value: Option<u64>) -> Result<(), AllocError>
     ensures tokens { OnOk result
         (text.new.tokens ≡ text.old.tokens ++ member_tokens name.now value) }
@@ -19,7 +19,7 @@ pub(crate) fn member(text: &mut Writer, name: &str, value: Option<u64>) -> Resul
     Ok(())
 }
 
-/// A member that is a number.
+/// Writes a member that is a number.
 pub(crate) fn number(text: &mut Writer, name: &str, value: u64) -> Result<(), AllocError>
     ensures tokens { OnOk result
         (text.new.tokens ≡ text.old.tokens ++ number_tokens name.now value) }

@@ -1,5 +1,5 @@
 use crate::follower::Follower;
-use crate::metrics_text::head;
+use crate::metrics::head;
 use crate::report::Report;
 use crate::work::Work;
 use std::alloc::AllocError;
@@ -7,8 +7,7 @@ use std::alloc::AllocError;
 /// The microseconds of a second.
 const SECOND: u64 = 1_000_000;
 
-/// What a node that takes commits reports beside, in Prometheus's text format; of any other node those
-/// that follow it, where there is any.
+/// Writes what only a node that takes commits reports; of any other node its followers, if it has any.
 pub(crate) fn write_primary(text: &mut String, report: &Report) -> Result<(), AllocError> {
     if !report.state.takes_commits() {
         if report.followers.is_empty() {
@@ -36,7 +35,7 @@ pub(crate) fn write_primary(text: &mut String, report: &Report) -> Result<(), Al
     write_followers(text, report)
 }
 
-/// What each follower has.
+/// Writes the four figures of each follower.
 fn write_followers(text: &mut String, report: &Report) -> Result<(), AllocError> {
     write_figure(text, report, Figure::Connected)?;
     write_figure(text, report, Figure::Acknowledged)?;
@@ -44,7 +43,7 @@ fn write_followers(text: &mut String, report: &Report) -> Result<(), AllocError>
     write_figure(text, report, Figure::SecondsBehind)
 }
 
-/// What it committed.
+/// Writes what it committed.
 fn write_work(text: &mut String, work: &Work) -> Result<(), AllocError> {
     counter(
         text,
@@ -69,13 +68,13 @@ fn write_work(text: &mut String, work: &Work) -> Result<(), AllocError> {
     write!(text, "als_force_seconds_total {seconds}.{micros:06}\n")
 }
 
-/// A number that only grows.
+/// Writes a counter: a number that only grows.
 fn counter(text: &mut String, name: &str, help: &str, value: u64) -> Result<(), AllocError> {
     head(text, name, help, "counter")?;
     write!(text, "{name} {value}\n")
 }
 
-/// What of a follower a metric is.
+/// A figure of a follower.
 #[derive(Clone, Copy)]
 enum Figure {
     Connected,
@@ -115,7 +114,7 @@ impl Figure {
     }
 }
 
-/// A line of each follower. Two of one address have different seats.
+/// Writes a figure of each follower. Two followers with one address have different seats.
 fn write_figure(text: &mut String, report: &Report, figure: Figure) -> Result<(), AllocError> {
     let name = figure.name();
     head(text, name, figure.help(), "gauge")?;

@@ -14,8 +14,7 @@ use json::Writer;
 use std::alloc::{AllocError, Global};
 use std::net::IpAddr;
 
-/// What a node that takes commits reports beside what every node does; of any other node those that
-/// follow it.
+/// Writes what only a node that takes commits reports; of any other node its followers, if it has any.
 #[tactic(auto, unfolding(crate::specs::Followers::primary_tokens))]
 pub(crate) fn write_primary(
     alloc: Global,
@@ -46,7 +45,7 @@ pub(crate) fn write_primary(
     Ok(())
 }
 
-/// How many transactions are in doubt, and how many followers a commit waits for.
+/// Writes how many transactions are in doubt, and how many followers a commit waits for.
 #[tactic(auto, unfolding(crate::specs::Followers::counts_tokens))]
 fn write_counts(text: &mut Writer, report: &Report) -> Result<(), AllocError>
     ensures tokens { OnOk result (text.new.tokens ≡ text.old.tokens ++ counts_tokens report.now) }
@@ -57,7 +56,7 @@ fn write_counts(text: &mut Writer, report: &Report) -> Result<(), AllocError>
     Ok(())
 }
 
-/// Those that follow, where there is any.
+/// Writes the followers, if there are any.
 #[tactic(auto, unfolding(crate::specs::Followers::any_followers_tokens))]
 fn write_any_followers(
     alloc: Global,
@@ -76,7 +75,7 @@ fn write_any_followers(
     Ok(())
 }
 
-/// What it committed.
+/// Writes what it committed.
 fn write_work(text: &mut Writer, work: &Work) -> Result<(), AllocError>
     ensures tokens { OnOk result (text.new.tokens ≡ text.old.tokens ++ work_tokens work.now) }
     ensures before { OnOk result (text.new.before ≡ text.old.before) }
@@ -87,7 +86,7 @@ fn write_work(text: &mut Writer, work: &Work) -> Result<(), AllocError>
     Ok(())
 }
 
-/// Those that follow a log which is acknowledged up to there.
+/// Writes the followers of a log that is acknowledged up to there.
 fn write_followers(
     alloc: Global,
     text: &mut Writer,
@@ -104,7 +103,7 @@ fn write_followers(
     Ok(())
 }
 
-/// The name of their array, and its bracket.
+/// Writes the name of their array, and its opening bracket.
 fn begin_followers(text: &mut Writer) -> Result<(), AllocError>
     ensures tokens { OnOk result
         (text.new.tokens ≡ text.old.tokens ++ key (codes "followers") ∷ begin_array ∷ []) }
@@ -115,7 +114,7 @@ fn begin_followers(text: &mut Writer) -> Result<(), AllocError>
     Ok(())
 }
 
-/// An object for each of them.
+/// Writes an object for each follower.
 fn write_rows(
     alloc: Global,
     text: &mut Writer,
@@ -132,7 +131,7 @@ fn write_rows(
     Ok(())
 }
 
-/// The object of a follower.
+/// Writes the object of a follower.
 fn write_follower(
     alloc: Global,
     text: &mut Writer,
@@ -151,7 +150,7 @@ fn write_follower(
     Ok(())
 }
 
-/// Where it connected from, and what it acknowledged.
+/// Writes where a follower connected from, and what it acknowledged.
 fn write_place(alloc: Global, text: &mut Writer, follower: &Follower) -> Result<(), AllocError>
     ensures tokens { OnOk result (text.new.tokens ≡ text.old.tokens ++ place_tokens follower.now) }
     ensures before { OnOk result (text.new.before ≡ text.old.before) }
@@ -164,14 +163,14 @@ fn write_place(alloc: Global, text: &mut Writer, follower: &Follower) -> Result<
     Ok(())
 }
 
-/// An address, as it is written.
+/// The text of an address.
 fn address_text(alloc: Global, peer: &IpAddr) -> Result<String, AllocError>
     ensures { IfOk result (λ text. text.bytes.items ≡ ip_text peer.now) }
 {
     format!(in alloc; "{peer}")
 }
 
-/// How far it is behind.
+/// Writes how far a follower is behind.
 fn write_lag(text: &mut Writer, acknowledged: Lsn, follower: &Follower) -> Result<(), AllocError>
     ensures tokens { OnOk result
         (text.new.tokens ≡ text.old.tokens ++ lag_tokens acknowledged.0 follower.now) }
@@ -186,7 +185,7 @@ fn write_lag(text: &mut Writer, acknowledged: Lsn, follower: &Follower) -> Resul
     Ok(())
 }
 
-/// For how long it is connected, and whether it counts.
+/// Writes for how long a follower is connected, and whether it counts.
 fn write_session(text: &mut Writer, follower: &Follower) -> Result<(), AllocError>
     ensures tokens { OnOk result (text.new.tokens ≡ text.old.tokens ++ session_tokens follower.now) }
     ensures before { OnOk result (text.new.before ≡ text.old.before) }

@@ -7,13 +7,12 @@ use crate::unread::Unread;
 use als_record::{Key, Lsn};
 use als_view::{Answer, Fault, Reader};
 
-/// The value of a key by what is published, in an answer whose LSN is not below one that was asked
-/// for. It waits for nobody.
+/// Reads the published value of a key, in an answer whose LSN is at least `at_least`. It never waits.
 #[tactic(auto, using(crate::proofs::AnswerLaws::answer_last))]
 pub fn read(reader: &mut Reader, key: Key, at_least: Lsn) -> Result<Answer, Unread>
     ensures same { IsSameReader reader.old reader.new }
     ensures later { Begins (known_to reader.old) (known_to reader.new) }
-    // Whoever names the LSN of an earlier answer gets one that is not older.
+    // A client that names the LSN of an earlier answer never gets an older one.
     ensures answer { IfOk result (IsRead (pages_of reader.old) key (known_to reader.new) at_least) }
     ensures refusal { IfErr result (IsUnread (known_to reader.old) (known_to reader.new) at_least) }
 {
@@ -30,7 +29,7 @@ pub fn read(reader: &mut Reader, key: Key, at_least: Lsn) -> Result<Answer, Unre
     }
 }
 
-/// How many commits are published. None: there is no list of them.
+/// How many commits are published. None: no list of commits is published.
 #[tactic(auto, using(crate::proofs::AnswerLaws::answer_count))]
 pub fn published(reader: &mut Reader) -> Option<u64>
     ensures same { IsSameReader reader.old reader.new }

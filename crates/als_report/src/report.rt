@@ -7,17 +7,16 @@ use crate::work::Work;
 use als_record::Lsn;
 use arrayvec::ArrayVec;
 
-/// So many seconds a frame may wait for its acknowledgement. Past them the standby is not healthy.
+/// Seconds for which a frame may wait for its acknowledgement before the node is not healthy.
 pub const PATIENCE: u64 = 10;
 
-/// So many transactions may be in doubt before a primary is not healthy: it takes 256, and then no other
-/// one.
+/// The most transactions that may be in doubt in a healthy primary. At 256 it takes no more.
 pub const MOST_IN_DOUBT: u64 = 199;
 
-/// So many followers a report has at most.
+/// The most followers that a report has.
 pub const MOST_FOLLOWERS: usize = 8;
 
-/// What a standby tells of itself.
+/// What a node reports of itself.
 #[derive(PartialEq, Drop)]
 pub struct Report {
     pub state: State,
@@ -29,32 +28,32 @@ pub struct Report {
     pub pending: u64,
     /// Leases that are out.
     pub leases: u64,
-    /// Seconds since the last frame came that was acknowledged. None: none was.
+    /// Seconds since the last acknowledged frame came. None: no frame was acknowledged.
     pub silence: Option<u64>,
-    /// Seconds for which a frame waits for its acknowledgement. None: none waits.
+    /// Seconds for which a frame has waited for its acknowledgement. None: none waits.
     pub waiting: Option<u64>,
-    /// Bytes that the log takes at most. None: that is not known yet.
+    /// Bytes of the log's device. None: not known yet.
     pub capacity: Option<u64>,
-    /// How many sessions a fault has ended.
+    /// How many sessions were ended by a fault.
     pub failures: u64,
-    /// The number of the last such fault. None: there was none.
+    /// The number of the last such fault. None: no session was.
     pub last_fault: Option<u64>,
-    /// The epoch of its history. None: that is not known yet.
+    /// The epoch of its history. None: not known yet.
     pub epoch: Option<u64>,
     /// What it committed for clients.
     pub work: Work,
-    /// So many transactions are in doubt.
+    /// How many transactions are in doubt.
     pub in_doubt: u64,
-    /// So many followers have to acknowledge a commit before it is answered.
+    /// How many followers have to acknowledge a commit before it is answered.
     pub sync: u64,
-    /// Those that follow it.
+    /// Its followers.
     pub followers: ArrayVec<Follower, MOST_FOLLOWERS>,
 }
 
 impl Report {
-    /// Whether a primary sends to it or it commits for clients, no frame waits for its acknowledgement
-    /// for longer than `PATIENCE`, readers see a list of commits, and no more than `MOST_IN_DOUBT`
-    /// transactions are in doubt.
+    /// Whether the node is healthy: a primary sends to it or it commits for clients, no frame has waited
+    /// for longer than `PATIENCE`, readers see a list of commits, and at most `MOST_IN_DOUBT` transactions
+    /// are in doubt.
     pub fn is_healthy(&self, commits: Option<u64>) -> bool
         ensures { result ≡ is_healthy self.now commits }
     {
@@ -64,7 +63,7 @@ impl Report {
         self.state.is_at_work() && is_prompt(self.waiting) && commits.is_some()
     }
 
-    /// So many bytes more the log takes. None: that is not known yet.
+    /// The bytes that the log can still take. None: not known yet.
     pub fn room(&self) -> Option<u64>
         ensures { result ≡ room_of self.now }
     {
@@ -75,7 +74,7 @@ impl Report {
     }
 }
 
-/// Whether a frame that waits for so many seconds is none that waits for too long.
+/// Whether no frame has waited for too long.
 fn is_prompt(waiting: Option<u64>) -> bool
     ensures { result ≡ is_prompt waiting }
 {

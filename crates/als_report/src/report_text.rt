@@ -9,7 +9,7 @@ use crate::report::Report;
 use json::Writer;
 use std::alloc::{AllocError, Global};
 
-/// How a standby stands, as JSON.
+/// The status of a node as JSON: its report, and how many commits are published.
 #[tactic(auto, using(crate::proofs::TextLaws::printed))]
 pub fn status_text(
     alloc: Global,
@@ -23,7 +23,7 @@ pub fn status_text(
     Ok(text.into_inner())
 }
 
-/// The object of how a standby stands.
+/// Writes the object of a status.
 fn write_status(
     alloc: Global,
     text: &mut Writer,
@@ -43,7 +43,7 @@ fn write_status(
     Ok(())
 }
 
-/// The state, and how far the log goes.
+/// Writes the state, and how far the log goes.
 fn write_log(text: &mut Writer, report: &Report) -> Result<(), AllocError>
     ensures tokens { OnOk result (text.new.tokens ≡ text.old.tokens ++ log_tokens report.now) }
     ensures before { OnOk result (text.new.before ≡ text.old.before) }
@@ -55,7 +55,7 @@ fn write_log(text: &mut Writer, report: &Report) -> Result<(), AllocError>
     Ok(())
 }
 
-/// What waits, what is published, and how old the last frame is.
+/// Writes what waits, what is published, and how old the last frame is.
 fn write_redo(text: &mut Writer, report: &Report, commits: Option<u64>) -> Result<(), AllocError>
     ensures tokens { OnOk result
         (text.new.tokens ≡ text.old.tokens ++ redo_tokens report.now commits) }
@@ -68,7 +68,7 @@ fn write_redo(text: &mut Writer, report: &Report, commits: Option<u64>) -> Resul
     Ok(())
 }
 
-/// How much log there can be, and how much of it is left.
+/// Writes the size of the log's device, and how much of it is left.
 fn write_room(text: &mut Writer, report: &Report) -> Result<(), AllocError>
     ensures tokens { OnOk result (text.new.tokens ≡ text.old.tokens ++ room_tokens report.now) }
     ensures before { OnOk result (text.new.before ≡ text.old.before) }
@@ -78,7 +78,7 @@ fn write_room(text: &mut Writer, report: &Report) -> Result<(), AllocError>
     Ok(())
 }
 
-/// Whether a standby is healthy, as JSON.
+/// Whether a node is healthy, as JSON.
 #[tactic(auto, using(crate::proofs::TextLaws::printed))]
 pub fn health_text(alloc: Global, healthy: bool) -> Result<Vec<u8>, AllocError>
     ensures { IfOk result (λ text. text.items ≡ print (health_tokens healthy)) }

@@ -2,12 +2,12 @@ ghost use Rattle.als_report.specs.declared.report.Report.{Report};
 
 use crate::report::Report;
 
-/// Who knows how a standby stands. It is asked by every thread that answers, so it waits for nobody.
+/// What reports on a node. Every thread that serves requests calls it, so it never waits.
 pub trait Reports {
-    /// What it may tell.
+    /// The reports that it may return.
     ghost tells: { Self → Report → Type 0 } = { λ _ _. Unit {0} };
 
-    /// What the standby last told of itself.
+    /// The current report.
     fn report(&self) -> Report
         ensures { tells self.now result };
 }

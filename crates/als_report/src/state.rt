@@ -2,31 +2,31 @@ ghost use Rattle.std.specs.Prelude.{◌≡◌};
 ghost use Rattle.als_report.specs.States.{number_of_state, state_of_number, name_of_state, role_of_state};
 ghost use Rattle.als_report.specs.Health.{is_sent_to, is_at_work, takes_commits};
 
-/// What a standby is doing.
+/// What a node is doing.
 #[derive(Clone, Copy, Debug, PartialEq, Eq)]
 pub enum State {
-    /// It makes ready what its folder holds.
+    /// It redoes the log that its folder has.
     Recovering,
     /// No primary sends to it.
     Waiting,
-    /// It takes the primary's log.
+    /// It receives the primary's log.
     Following,
-    /// A record was refused, and so is all that comes behind it.
+    /// A record was refused, and so is everything after it.
     Refusing,
-    /// The log was sealed: what was not committed is undone.
+    /// The log was sealed: what is not committed is being undone.
     Sealed,
-    /// The takeover is done.
+    /// The takeover has finished.
     Primary,
     /// It commits for clients.
     Committing,
-    /// It commits for clients, and waits until enough followers have acknowledged a commit.
+    /// It commits for clients, and a commit waits until enough followers have acknowledged it.
     Unconfirmed,
-    /// A device failed, or the standby ends.
+    /// A device failed, or the node is ending.
     Stopped,
 }
 
 impl State {
-    /// Its number, as a cell keeps it.
+    /// The number of the state, as a cell stores it.
     pub(crate) fn number(self) -> u64
         ensures { result ≡ number_of_state self }
     {
@@ -43,7 +43,7 @@ impl State {
         }
     }
 
-    /// The state of a number. Past the last one it is Stopped.
+    /// The state with a number. Stopped if no state has it.
     pub(crate) fn of(number: u64) -> State
         ensures { result ≡ state_of_number number }
     {
@@ -67,21 +67,21 @@ impl State {
         matches!(self, State::Following)
     }
 
-    /// Whether it does what it is there for: a primary sends to it, or it commits for clients.
+    /// Whether the node does its work: a primary sends to it, or it commits for clients.
     pub fn is_at_work(self) -> bool
         ensures { result ≡ is_at_work self }
     {
         self.is_sent_to() || matches!(self, State::Committing)
     }
 
-    /// Whether it takes transactions of clients, be their commits confirmed now or not.
+    /// Whether it takes transactions of clients, confirmed or not.
     pub fn takes_commits(self) -> bool
         ensures { result ≡ takes_commits self }
     {
         matches!(self, State::Committing | State::Unconfirmed)
     }
 
-    /// The role of its node.
+    /// The role of a node in this state.
     pub fn role(self) -> &'static str
         ensures { result.now ≡ role_of_state self }
     {
@@ -95,7 +95,7 @@ impl State {
         }
     }
 
-    /// Its name, as answers have it.
+    /// The name of the state, as texts have it.
     pub fn name(self) -> &'static str
         ensures { result.now ≡ name_of_state self }
     {

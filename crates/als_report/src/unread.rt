@@ -1,12 +1,12 @@
 use als_record::Lsn;
 
-/// Why a key is not read.
+/// Why a key was not read.
 #[derive(Clone, Copy, Debug, PartialEq, Eq)]
 pub enum Unread {
-    /// There is no list of published commits yet.
+    /// No list of commits is published yet.
     Warming,
     /// The view has ended.
     Stopped,
-    /// The last published commit, at this LSN, is below the one that was asked for.
+    /// The last published commit has this LSN, which is below the one asked for.
     Older(Lsn),
 }

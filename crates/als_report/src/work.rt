@@ -1,9 +1,9 @@
-/// What a primary committed since it began.
+/// What a primary has committed since it started.
 #[derive(Clone, Copy, PartialEq)]
 pub struct Work {
     /// Transactions that are committed.
     pub transactions: u64,
-    /// Groups, of which each was acknowledged by one force.
+    /// Groups of transactions, each acknowledged by one force.
     pub groups: u64,
     /// Microseconds that these forces took.
     pub force_microseconds: u64,

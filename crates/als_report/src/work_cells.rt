@@ -2,7 +2,7 @@ use crate::work::Work;
 use std::sync::atomic::{AtomicU64, Ordering};
 use std::time::Duration;
 
-/// What a primary committed, in cells.
+/// What a primary has committed, in atomic cells.
 #[derive(Drop)]
 pub(crate) struct WorkCells {
     transactions: AtomicU64,
@@ -20,7 +20,7 @@ impl WorkCells {
         }
     }
 
-    /// One more group, of so many transactions, whose force took so long.
+    /// Adds a group of transactions whose force took this long.
     pub fn note_group(&self, transactions: u64, force: Duration) {
         let micros = u64::try_from(force.as_micros()).unwrap_or(u64::MAX);
         self.transactions.fetch_add(transactions, Ordering::SeqCst);
@@ -28,7 +28,7 @@ impl WorkCells {
         self.force_microseconds.fetch_add(micros, Ordering::SeqCst);
     }
 
-    /// What was committed. The numbers are read one by one.
+    /// What was committed. The numbers are loaded one by one.
     pub fn work(&self) -> Work {
         Work {
             transactions: self.transactions.load(Ordering::SeqCst),

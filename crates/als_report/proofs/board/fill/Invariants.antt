@@ -1,5 +1,5 @@
 use Rattle.std.proofs.Common.{◌≤◌}
-use Rattle.als_primary.proofs.others.fill.Given as goal
+use Rattle.als_report.proofs.board.fill.Given as goal
 
 -- no more rows than there is room for
 abbrev pub invariant-loop-row : goal.invariant-loop-row

@@ -5,7 +5,7 @@ use std::alloc::{AllocError, Global};
 /// The version of the program.
 pub const VERSION: &str = "0.2";
 
-/// The lines of a metric that say what it is.
+/// Writes the HELP and TYPE lines of a metric.
 pub(crate) fn head(
     text: &mut String,
     name: &str,
@@ -23,13 +23,13 @@ pub(crate) fn head(
     text.push_str("\n")
 }
 
-/// The number of a metric, behind what it is: lines of Prometheus's text format.
+/// Writes a gauge: its HELP and TYPE lines and its value.
 fn metric(text: &mut String, name: &str, help: &str, value: u64) -> Result<(), AllocError> {
     head(text, name, help, "gauge")?;
     write!(text, "{name} {value}\n")
 }
 
-/// The same, where the number is known.
+/// Writes a gauge, or nothing if the value is not known.
 fn known(text: &mut String, name: &str, help: &str, value: Option<u64>) -> Result<(), AllocError> {
     match value {
         Some(value) => metric(text, name, help, value),
@@ -37,7 +37,8 @@ fn known(text: &mut String, name: &str, help: &str, value: Option<u64>) -> Resul
     }
 }
 
-/// The same, in Prometheus's text format. A number that is not known has no line.
+/// A report and the number of published commits in Prometheus's text format. A number that is not known
+/// has no line.
 pub fn metrics_text(
     alloc: Global,
     report: &Report,
@@ -52,7 +53,7 @@ pub fn metrics_text(
     Ok(text.into_bytes())
 }
 
-/// The state, and which program it is, in which role and epoch.
+/// Writes the state, and the version, role and epoch.
 fn write_info(text: &mut String, report: &Report) -> Result<(), AllocError> {
     let state = report.state.name();
     head(text, "als_state", "What the standby does.", "gauge")?;
@@ -71,7 +72,7 @@ fn write_info(text: &mut String, report: &Report) -> Result<(), AllocError> {
     text.push_str("} 1\n")
 }
 
-/// How far the log goes.
+/// Writes how long the log is, and how much room it has.
 fn write_log(text: &mut String, report: &Report) -> Result<(), AllocError> {
     metric(
         text,
@@ -99,7 +100,7 @@ fn write_log(text: &mut String, report: &Report) -> Result<(), AllocError> {
     )
 }
 
-/// What waits, and what is published.
+/// Writes what waits for redo, and what is published.
 fn write_redo(text: &mut String, report: &Report, commits: Option<u64>) -> Result<(), AllocError> {
     metric(
         text,
@@ -117,7 +118,7 @@ fn write_redo(text: &mut String, report: &Report, commits: Option<u64>) -> Resul
     known(text, "als_commits", "Published commits.", commits)
 }
 
-/// How its sessions go.
+/// Writes how its sessions go.
 fn write_session(text: &mut String, report: &Report) -> Result<(), AllocError> {
     known(
         text,

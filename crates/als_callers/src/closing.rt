@@ -1,15 +1,15 @@
 use std::sync::atomic::{AtomicBool, Ordering};
 
-/// Whether anybody may come.
+/// Whether nobody may come any more. Threads share it.
 #[derive(Drop)]
-pub struct Gate {
+pub struct Closing {
     is_closed: AtomicBool,
 }
 
-impl Gate {
-    /// An open gate.
-    pub fn new() -> Gate {
-        Gate {
+impl Closing {
+    /// Whoever connects may come.
+    pub fn new() -> Closing {
+        Closing {
             is_closed: AtomicBool::new(false),
         }
     }
@@ -19,6 +19,7 @@ impl Gate {
         self.is_closed.store(true, Ordering::SeqCst);
     }
 
+    /// Whether it was closed.
     pub fn is_closed(&self) -> bool {
         self.is_closed.load(Ordering::SeqCst)
     }

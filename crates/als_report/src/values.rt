@@ -9,8 +9,8 @@ use als_view::Answer;
 use json::Writer;
 use std::alloc::{AllocError, Global};
 
-/// A key's value as JSON: the value in lower case hexadecimal, or null; the number of commits; and
-/// the LSN of the last one.
+/// An answer as JSON: the value in lower case hexadecimal, or null; the number of published commits; the
+/// LSN of the last one.
 #[tactic(auto, using(crate::proofs::TextLaws::printed))]
 pub fn value_text(alloc: Global, answer: &Answer) -> Result<Vec<u8>, AllocError>
     ensures { IfOk result (λ text. text.items ≡ print (value_tokens answer.now)) }
@@ -20,7 +20,7 @@ pub fn value_text(alloc: Global, answer: &Answer) -> Result<Vec<u8>, AllocError>
     Ok(text.into_inner())
 }
 
-/// The object of a key's value.
+/// Writes the object of an answer.
 fn write_value(alloc: Global, text: &mut Writer, answer: &Answer) -> Result<(), AllocError>
     ensures tokens { OnOk result (text.new.tokens ≡ text.old.tokens ++ value_tokens answer.now) }
     ensures before { OnOk result (text.new.before ≡ text.old.before) }
@@ -33,7 +33,7 @@ fn write_value(alloc: Global, text: &mut Writer, answer: &Answer) -> Result<(), 
     Ok(())
 }
 
-/// An image in lower case hexadecimal, or null.
+/// Writes an image in lower case hexadecimal, or null.
 fn image(alloc: Global, text: &mut Writer, image: &Image) -> Result<(), AllocError>
     ensures tokens { OnOk result
         (text.new.tokens ≡ text.old.tokens ++ key (codes "value") ∷ image_token image.now ∷ []) }

@@ -2,7 +2,7 @@ use Rattle.std.specs.Prelude.{[], ◌∷◌, codes, Some}
 use Rattle.json.specs.Token.{begin_object, end_object, key}
 use Rattle.als_report.specs.Texts.{member_tokens, image_token}
 use Rattle.als_report.proofs.TextLaws.{five}
-use Rattle.als_report.proofs.value_text.write_value.Goals as goal
+use Rattle.als_report.proofs.values.write_value.Goals as goal
 
 pub returns-clause-tokens : goal.returns-clause-tokens
 returns-clause-tokens c =

@@ -6,13 +6,14 @@ use crate::unread::Unread;
 use json::Writer;
 use std::alloc::{AllocError, Global};
 
-/// Why there is no answer, as JSON: the fault's number and name, or what is older.
+/// Why a key was not read, as JSON.
 pub fn unread_text(alloc: Global, why: Unread) -> Result<Vec<u8>, AllocError>
     ensures { IfOk result (λ text. text.items ≡ print (error_tokens (why_unread why))) }
 {
     error_text(alloc, why_unread(why))
 }
 
+/// Why a key was not read: the fault's number and name, or that the commit is not published yet.
 fn why_unread(why: Unread) -> &'static str
     ensures { result.now ≡ why_unread why }
 {
@@ -23,7 +24,7 @@ fn why_unread(why: Unread) -> &'static str
     }
 }
 
-/// An object with a text of what is wrong.
+/// A JSON object that says what is wrong.
 #[tactic(auto, using(crate::proofs::TextLaws::printed))]
 pub fn error_text(alloc: Global, why: &str) -> Result<Vec<u8>, AllocError>
     ensures { IfOk result (λ text. text.items ≡ print (error_tokens why.now)) }
@@ -33,6 +34,7 @@ pub fn error_text(alloc: Global, why: &str) -> Result<Vec<u8>, AllocError>
     Ok(text.into_inner())
 }
 
+/// Writes the object of an error.
 fn write_error(text: &mut Writer, why: &str) -> Result<(), AllocError>
     ensures tokens { OnOk result (text.new.tokens ≡ text.old.tokens ++ error_tokens why.now) }
     ensures before { OnOk result (text.new.before ≡ text.old.before) }

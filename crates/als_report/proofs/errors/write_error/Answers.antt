@@ -1,7 +1,7 @@
 use Rattle.std.specs.Prelude.{[], ◌∷◌, codes}
 use Rattle.json.specs.Token.{begin_object, end_object, key, string}
 use Rattle.als_report.proofs.TextLaws.{four}
-use Rattle.als_report.proofs.error_text.write_error.Goals as goal
+use Rattle.als_report.proofs.errors.write_error.Goals as goal
 
 pub returns-clause-tokens : goal.returns-clause-tokens
 returns-clause-tokens c =
