@@ -5,17 +5,12 @@ ghost use Rattle.als_operate.specs.declared.fault.Fault.TheVariants.{Refused};
 ghost use Rattle.als_shipper.specs.Faults.{IsOfShipping};
 ghost use Rattle.als_shipper.specs.Lines.{sent_line};
 
-use crate::callers::Callers;
 use crate::crowd::{Shared, serve_crowd};
 use crate::growing_log::{GrowingLog, beat_for, open_log};
-use crate::growing_session::serve_growing;
 use crate::hold::Hold;
 use crate::log_file::{LogFile, NamedFile};
-use crate::meeting::Meetings;
 use crate::naming::{ByPath, Naming};
-use crate::node_command::NodeShipping;
 use crate::node_folder::{FolderOpener, NodeFolder};
-use crate::shipping::Shipping;
 use crate::stop::Stop;
 use crate::strayed::Strayed;
 use als_engine::Fault as EngineFault;
@@ -23,6 +18,7 @@ use als_followers::Terms;
 use als_operate::{Fault, silence};
 use als_sending::WINDOW_LIMIT;
 use als_ship::Fault as SessionFault;
+use als_shipper::{Callers, Meetings, NodeShipping, Shipping, serve_growing};
 use std::alloc::{AllocError, Global};
 use std::fs::{File, OpenFile};
 use std::io::Write;
@@ -125,7 +121,7 @@ fn beat_of(shipping: Shipping<'_>, lasting: Lasting) -> Option<u64> {
 }
 
 /// Serves the first who asks.
-#[tactic(auto, using(crate::proofs::Visiting::told_line))]
+#[tactic(auto, using(crate::proofs::Lines::told_line))]
 fn ship_once<R: AllocGlobal + Files<File = File> + Net + Clock, M: Sessions, O: Write>(
     rt: &R,
     shipping: Shipping<'_>,

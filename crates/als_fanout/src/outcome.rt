@@ -1,8 +1,8 @@
-use crate::shipping::asks_nothing;
 use crate::strayed::Strayed;
 use als_operate::Fault;
 use als_record::Lsn;
 use als_ship::Fault as SessionFault;
+use als_shipper::asks_nothing;
 
 /// What a thread has to say of a session.
 #[derive(Clone, Copy)]

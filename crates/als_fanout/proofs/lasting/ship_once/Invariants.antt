@@ -1,5 +1,5 @@
 use Rattle.std.proofs.Common.{◌≡◌}
-use Rattle.als_shipper.proofs.lasting.ship_once.Given as goal
+use Rattle.als_fanout.proofs.lasting.ship_once.Given as goal
 
 -- of those who were passed over nothing is printed
 abbrev pub invariant-loop : goal.invariant-loop

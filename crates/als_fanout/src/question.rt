@@ -1,19 +1,8 @@
 ghost use Rattle.std.specs.Prelude.{◌≤◌};
 
+use als_shipper::{FRONT, LONGEST, RESUME, TAKEOVERS};
 use std::io;
 use std::io::Read;
-
-/// What a Resume frame begins with.
-pub(crate) const RESUME: u8 = 81;
-
-/// Bytes of a Resume frame, up to those that say how many takeovers follow.
-pub(crate) const FRONT: usize = 29;
-
-/// So many takeovers a history has at most.
-pub(crate) const TAKEOVERS: u32 = 32;
-
-/// Bytes of a Resume frame, at most.
-pub(crate) const LONGEST: usize = 285;
 
 /// A follower's question, which is read before the log is opened that it asks for.
 #[derive(Drop)]

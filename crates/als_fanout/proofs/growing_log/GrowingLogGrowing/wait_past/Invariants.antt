@@ -1,5 +1,5 @@
 use Rattle.std.proofs.Common.{◌≡◌}
-use Rattle.als_shipper.proofs.growing_log.GrowingLogGrowing.wait_past.Given as goal
+use Rattle.als_fanout.proofs.growing_log.GrowingLogGrowing.wait_past.Given as goal
 
 abbrev pub invariant-loop : goal.invariant-loop
 invariant-loop g l = record {
