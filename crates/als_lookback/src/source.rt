@@ -38,6 +38,14 @@ impl Drop for Source {
 }
 
 impl Source {
+    /// How many bytes of it a look reads, up to where it is looked at.
+    pub fn reach(&self, until: Until) -> u64 {
+        match until {
+            Until::At(lsn) => lsn.0.min(self.end),
+            Until::End => self.end,
+        }
+    }
+
     /// What is read of it, and the folder, to be held meanwhile.
     pub fn into_parts(self) -> (Take<File>, Option<Folder>) {
         let Source {
