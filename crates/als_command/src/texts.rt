@@ -133,8 +133,8 @@ can lose it.
 To follow on, run it again: it goes on where it was left, also after a crash.
 With --keep it does so itself: after the end of the log, 43 or 44 it connects again, after a
 pause of at most 5 s, and after any other refusal, of which standard error tells, after a pause
-of 5 s to 60 s; only 21, 29, 30, 31, 33, 34, 42 and 48 end it. With --explain, or on a terminal,
-standard error says once a minute at most that nothing comes.
+of 5 s to 60 s; only 21, 29, 30, 31, 33, 34, 42, 48 and 50 end it. With --explain, or on a
+terminal, standard error says once a minute at most that nothing comes.
 With --serve it answers over HTTP: GET /keys/P/S, /status, /metrics and /health. Nothing is
 encrypted, and nobody is asked who he is.
 With --keep, --serve or --listen one thread redoes at least: --workers 0 is 1.
@@ -164,7 +164,10 @@ Exit statuses: 0 done, 2 a fault of the command line, 3 `als: refused N Name`:
   44  nobody serves at ADDR, the network or standard output failed, or the primary was
       silent for longer than SECONDS: run it again
   42  the log in DIR goes past the takeover of the node that serves: the two parted there
-  48  the takeovers of that node do not go on from those of DIR; see --forget-unreached";
+  48  the takeovers of that node do not go on from those of DIR; see --forget-unreached
+  50  that node has another log: what DIR holds is not a front of it, nor it of that. Nothing in
+      DIR has changed: keep DIR, find which log is right (`als verify`, sha256=, of both), and
+      follow that one with an empty folder";
 
 pub const TAKEOVER_ABOUT: &str = "Makes a primary of the standby of a folder";
 

@@ -174,7 +174,7 @@ fn seen_in<R: AllocGlobal + Files<File = File>, A: Advance>(
 }
 
 /// A source to be read up to there, that tells how far it was read; and its folder.
-fn watched<A: Advance>(
+fn watched<A: Advance + Drop>(
     source: Source,
     until: Until,
     advance: A,
