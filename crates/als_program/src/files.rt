@@ -15,7 +15,7 @@ use als_folder::Trouble;
 use als_follow::standby as standby_with_workers;
 use als_inspect::{Wanted, check_pages, dump, get, status, verify_telling};
 use als_lookback::{
-    Until, commit_of, commits, cut, get as get_at, grow, show, status as status_at,
+    Fault as LookFault, Until, commit_of, commits, cut, get as get_at, grow, show, status as status_at,
 };
 use als_operate::{Following, TakenOver, Verdict, forget, resolve, standby, takeover};
 use als_progress::Advance;
@@ -387,6 +387,10 @@ fn tell_doubt<E: Write>(path: &str, fault: RenewFault, errors: &mut E) {
 
 /// Says where a record ends, where none ends at the LSN that was asked for.
 fn tell_boundary<E: Write>(lsn: u64, fault: RewindFault, errors: &mut E) {
+    if let RewindFault::Look(fault) = fault {
+        tell_look(fault, errors);
+        return;
+    }
     // Where it can't be said, `als dump` has the LSNs.
     let _ = match fault {
         RewindFault::NoBoundary { below } => writeln!(
@@ -432,7 +436,8 @@ fn inspect<R: AllocGlobal + Files<File = File> + Wait + Clock, O: Write, E: Writ
     Ok(())
 }
 
-/// The commands that look back in a log, and that which makes its device longer.
+/// The commands that look back in a log, and that which makes its device longer. Where one is refused it
+/// is said why, as far as the number does not.
 fn look<R: AllocGlobal + Files<File = File> + Clock, O: Write, E: Write>(
     rt: &R,
     seen: bool,
@@ -440,35 +445,66 @@ fn look<R: AllocGlobal + Files<File = File> + Clock, O: Write, E: Write>(
     output: &mut O,
     errors: &mut E,
 ) -> Result<(), Refusal> {
-    let mut lines = RedoLines::new(errors, rt, seen, false);
+    let mut lines = RedoLines::new(&mut *errors, rt, seen, false);
+    let outcome = look_in(rt, command, &mut lines, output);
+    drop(lines);
+    match outcome {
+        Ok(()) => Ok(()),
+        Err(fault) => {
+            tell_look(fault, errors);
+            Err(Refusal::from(fault))
+        }
+    }
+}
+
+/// The same, with nothing said of a refusal.
+fn look_in<R: AllocGlobal + Files<File = File>, A: Advance, O: Write>(
+    rt: &R,
+    command: Command,
+    advance: &mut A,
+    output: &mut O,
+) -> Result<(), LookFault> {
     match command {
-        Command::Commits { path, .. } => commits(rt, path, &mut lines, &mut *output)?,
+        Command::Commits { path, .. } => commits(rt, path, advance, &mut *output)?,
         Command::CutAt { path, lsn, .. } => {
-            let _ = cut(rt, path, Until::At(Lsn(lsn)), &mut lines, output)?;
+            let _ = cut(rt, path, Until::At(Lsn(lsn)), advance, output)?;
         }
         Command::CutBefore { path, trans, .. } => {
-            let lsn = commit_of(rt, path, TransId(trans), &mut lines)?;
-            let _ = cut(rt, path, Until::At(lsn), &mut lines, output)?;
+            let lsn = commit_of(rt, path, TransId(trans), advance)?;
+            let _ = cut(rt, path, Until::At(lsn), advance, output)?;
         }
-        Command::Show { path, at, .. } => show(rt, path, until(at), &mut lines, output)?,
-        Command::Status { dir, at, .. } => status_at(rt, dir, until(at), &mut lines, output)?,
+        Command::Show { path, at, .. } => show(rt, path, until(at), advance, output)?,
+        Command::Status { dir, at, .. } => status_at(rt, dir, until(at), advance, output)?,
         Command::Get {
             dir,
             page,
             slot,
             at,
             ..
-        } => get_at(rt, dir, Key { page, slot }, until(at), &mut lines, output)?,
+        } => get_at(rt, dir, Key { page, slot }, until(at), advance, output)?,
         Command::Grow {
             dir,
             log_blocks,
             ..
         } => {
-            let _ = grow(rt, dir, log_blocks, &mut lines)?;
+            let _ = grow(rt, dir, log_blocks, advance)?;
         }
         _ => {}
     }
     Ok(())
+}
+
+/// Says why a look back is refused, where its number has several causes.
+fn tell_look<E: Write>(fault: LookFault, errors: &mut E) {
+    // Where it can't be said, the page of help has the causes.
+    let _ = match fault {
+        LookFault::InHeader => writeln!(errors, "als: an LSN below 16 is within the log's header"),
+        LookFault::PastEnd { end } => writeln!(errors, "als: the log ends at {}", end.0),
+        LookFault::NoCommit => writeln!(errors, "als: the log has no commit of this transaction"),
+        LookFault::NotLonger { blocks } => writeln!(errors, "als: the log has {blocks} blocks"),
+        LookFault::TooLong => writeln!(errors, "als: a log has 4194304 blocks at most"),
+        _ => Ok(()),
+    };
 }
 
 /// Up to where a log is looked at: to its end, where no LSN is given.
