@@ -11,7 +11,7 @@ percent_of done whole = min 100 (done * 100 / max 1 whole)
 unfoldable pub rate_of : ℕ → ℕ → ℕ
 rate_of bytes millis = min (2 ^ 64 - 1) (bytes * 1000 / max 1 millis)
 
--- the line that is due at a time: a second after the last one, or after the work began
+-- the line that is due at a time: a second after the last one, or after the first work began
 abbrev pub IsDue : Option Stretch → ℕ → ℕ → ℕ → Line → Type 0
 IsDue stretch done whole now line = (s : Stretch) × (stretch ≡ Some s) × (1000 ≤ now - s.said)
   × (line.percent ≡ percent_of done whole) × (line.rate ≡ rate_of (done - s.from) (now - s.begun))

@@ -3,7 +3,7 @@ ghost use Rattle.als_progress.specs.Lines.{percent_of, rate_of, IsDue, WasSaid};
 
 use crate::work::Work;
 
-/// A line is said of a work that goes on for so many milliseconds, and then after as many again.
+/// A line is said once work has gone on for so many milliseconds, and then after as many again.
 const BETWEEN: u64 = 1_000;
 
 /// What a line says of a work.
@@ -23,7 +23,8 @@ pub struct Stretch {
     from: u64,
     /// When that was, in milliseconds.
     begun: u64,
-    /// When a line was said of it last, or it was begun.
+    /// When a line was said last, of it or of a work before it; before the first line, when the first
+    /// work was begun.
     said: u64,
 }
 
@@ -57,6 +58,16 @@ impl Meter {
         Meter { stretch: None }
     }
 
+    /// A work begins, where a line was said last, or none was, at this time.
+    fn begin(&mut self, work: Work, from: u64, begun: u64, said: u64) {
+        self.stretch = Some(Stretch {
+            work,
+            from,
+            begun,
+            said,
+        });
+    }
+
     /// Takes how much of a work is done at a time, in milliseconds, and answers the line that is due.
     pub fn takes(&mut self, work: Work, done: u64, whole: u64, now: u64) -> Option<Line>
         ensures due { IfSome result (IsDue self.old.stretch done whole now) }
@@ -77,13 +88,12 @@ impl Meter {
                     rate: rate(done - stretch.from, now.saturating_sub(stretch.begun)),
                 })
             }
-            Some(_) | None => {
-                self.stretch = Some(Stretch {
-                    work,
-                    from: done,
-                    begun: now,
-                    said: now,
-                });
+            Some(before) => {
+                self.begin(work, done, now, before.said);
+                None
+            }
+            None => {
+                self.begin(work, done, now, now);
                 None
             }
         }
