@@ -20,6 +20,8 @@ mod laws;
 mod looking;
 // How a view begins.
 mod opening;
+// A commit of the published list.
+mod past_commit;
 // The publisher.
 mod publisher;
 // A reader.
