@@ -1,4 +1,4 @@
-ghost use Rattle.std.specs.Prelude.{◌≡◌, IfSome};
+ghost use Rattle.std.specs.Prelude.{◌≡◌, None, IfSome};
 ghost use Rattle.als_progress.specs.Lines.{percent_of, rate_of, IsDue, WasSaid};
 
 use crate::work::Work;
@@ -54,7 +54,9 @@ pub fn rate(done: u64, millis: u64) -> u64
 
 impl Meter {
     /// Nothing is done yet.
-    pub fn new() -> Meter {
+    pub fn new() -> Meter
+        ensures { result.stretch ≡ None }
+    {
         Meter { stretch: None }
     }
 
