@@ -14,7 +14,7 @@ rate_of bytes millis = min (2 ^ 64 - 1) (bytes * 1000 / max 1 millis)
 -- the line that is due at a time: a second after the last one, or after the first work began
 abbrev pub IsDue : Option Stretch → ℕ → ℕ → ℕ → Line → Type 0
 IsDue stretch done whole now line = (s : Stretch) × (stretch ≡ Some s) × (1000 ≤ now - s.said)
-  × (line.percent ≡ percent_of done whole) × (line.rate ≡ rate_of (done - s.from) (now - s.begun))
+    × (line.percent ≡ percent_of done whole) × (line.rate ≡ rate_of (done - s.from) (now - s.begun))
 
 -- it was said at a time
 abbrev pub WasSaid : Option Stretch → ℕ → Type 0
