@@ -12,7 +12,7 @@ use Rattle.als_engine.specs.declared.fault.Fault.{Fault}
 use Rattle.als_engine.specs.Faults.{kind_of}
 use Rattle.als_record.specs.Spelling.{Image}
 use Rattle.als_record.specs.declared.key.Key.{Key}
-use Rattle.als_http.specs.Texts.{image_token, error_tokens}
+use Rattle.als_report.specs.Texts.{image_token, error_tokens}
 use Rattle.als_store.specs.declared.decision.Decision.{Decision as Verdict}
 use Rattle.als_store.specs.declared.decision.Decision.TheVariants.{Commit, Rollback}
 use Rattle.als_record.specs.declared.trans_id.TransId.{TransId}

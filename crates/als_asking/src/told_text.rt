@@ -1,6 +1,6 @@
 ghost use Rattle.std.specs.Prelude.{◌≡◌, IfOk, OnOk, ◌++◌, flat_map};
 ghost use Rattle.json.specs.Print.{print};
-ghost use Rattle.als_http.specs.Texts.{error_tokens};
+ghost use Rattle.als_report.specs.Texts.{error_tokens};
 ghost use Rattle.als_asking.specs.Telling.{one_tokens, item_tokens, each_tokens, why_denied, HasText};
 
 use crate::decision_text::decision_text;

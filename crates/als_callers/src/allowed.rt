@@ -7,7 +7,7 @@ use crate::block::Block;
 use std::alloc::{AllocError, Global};
 use std::net::IpAddr;
 
-/// Whose addresses may come, and count. Where no block is named, everybody's.
+/// The addresses that may come, and that count. If no block is named, all of them.
 pub struct Allowed {
     blocks: Vec<Block>,
 }
@@ -20,7 +20,7 @@ impl Drop for Allowed {
 }
 
 impl Allowed {
-    /// Everybody, until a block is named.
+    /// All addresses, until a block is named.
     pub fn new(alloc: Global) -> Allowed
         ensures { result.blocks.items ≡ [] }
     {
@@ -29,7 +29,7 @@ impl Allowed {
         }
     }
 
-    /// Names one block more.
+    /// Adds a block.
     pub fn add(&mut self, block: Block) -> Result<(), AllocError>
         ensures more { OnOk result (self.new.blocks.items ≡ self.old.blocks.items ++ block ∷ []) }
         ensures same { OnErr result (self.new.blocks.items ≡ self.old.blocks.items) }
@@ -38,7 +38,7 @@ impl Allowed {
         Ok(())
     }
 
-    /// Whether an address may come: no block is named, or one has it.
+    /// Whether an address may come: no block is named, or one contains it.
     pub fn admits(&self, peer: IpAddr) -> bool
         ensures yes { result ≡ true → (self.now.blocks.items ≡ [])
             ⊎ ((block : AnyBlock) × Contains self.now.blocks.items block × Has block peer) }
@@ -50,7 +50,7 @@ impl Allowed {
     }
 }
 
-/// Whether a block has an address.
+/// Whether one of the blocks contains an address.
 fn has_any(blocks: &[Block], peer: IpAddr) -> bool
     ensures yes { result ≡ true → (block : AnyBlock) × Contains blocks.now block × Has block peer }
     ensures no { result ≡ false → All (λ block. Lacks block peer) blocks.now }

@@ -1,23 +1,23 @@
-use crate::gate::Gate;
+use crate::closing::Closing;
 use std::alloc::Global;
 use std::io::ErrorKind;
 use std::net::{IpAddr, OpenListener, OpenStream};
 use std::time::{Clock, Duration};
 use std::{io, thread};
 
-/// Bytes of a question, at least: so many have to be there before a thread reads it.
+/// Bytes of a question, at least. A thread reads it once these are there.
 const FRONT: usize = 29;
 
-/// Milliseconds that a question may take to be there.
+/// Milliseconds within which a question has to arrive.
 const QUESTION: u64 = 5_000;
 
-/// Milliseconds after which the listener and those who are to ask are looked at again.
+/// Milliseconds between two looks at the listener and at those who are to ask.
 const LOOK: u64 = 20;
 
-/// So many may be about to ask. Where more come, the first of them goes.
+/// The most callers that may be about to ask. Where more come, the first one is hung up on.
 const ASKERS: usize = 64;
 
-/// Somebody who came, by what way, and when by the clock.
+/// A caller: its stream, its address, and when it connected by the clock.
 #[derive(Drop)]
 pub struct Came<S> {
     pub stream: S,
@@ -26,7 +26,7 @@ pub struct Came<S> {
 }
 
 impl<S: OpenStream> Came<S> {
-    /// Whether its question is there, or it went away. Nothing is read of it.
+    /// Whether its question is there, or it hung up. Nothing of it is read.
     fn is_heard(&self) -> bool {
         let mut bytes = [0; FRONT];
         match self.stream.peek(&mut bytes) {
@@ -35,13 +35,13 @@ impl<S: OpenStream> Came<S> {
         }
     }
 
-    /// Whether it had time enough to ask.
+    /// Whether its time to ask is over.
     fn is_over(&self, now: Duration) -> bool {
         now.saturating_sub(self.at) >= Duration::from_millis(QUESTION)
     }
 }
 
-/// Whether nothing is there yet.
+/// Whether an error says that nothing is there yet.
 fn is_late(kind: ErrorKind) -> bool {
     matches!(
         kind,
@@ -49,12 +49,12 @@ fn is_late(kind: ErrorKind) -> bool {
     )
 }
 
-/// Those who connected to a listener, and are to ask. The listener does not block.
+/// The callers of a listener that have not asked yet. The listener does not block.
 pub struct Asking<'a, L: OpenListener<Stream = S>, S, C> {
     listener: &'a L,
     clock: &'a C,
-    gate: &'a Gate,
-    /// The first who came stands in front.
+    closing: &'a Closing,
+    /// In the order in which they connected.
     waiting: Vec<Came<S>>,
 }
 
@@ -63,7 +63,7 @@ impl<L: OpenListener<Stream = S>, S: Drop, C> Drop for Asking<'_, L, S, C> {
         let Asking {
             listener: _,
             clock: _,
-            gate: _,
+            closing: _,
             waiting,
         } = self;
         drop(waiting);
@@ -71,25 +71,25 @@ impl<L: OpenListener<Stream = S>, S: Drop, C> Drop for Asking<'_, L, S, C> {
 }
 
 impl<'a, L: OpenListener<Stream = S>, S: OpenStream + Drop, C: Clock> Asking<'a, L, S, C> {
-    /// Nobody has come yet.
+    /// Nobody has connected yet.
     pub fn new(
         alloc: Global,
         listener: &'a L,
         clock: &'a C,
-        gate: &'a Gate,
+        closing: &'a Closing,
     ) -> Asking<'a, L, S, C> {
         Asking {
             listener,
             clock,
-            gate,
+            closing,
             waiting: Vec::new(alloc),
         }
     }
 
-    /// The next whose question is there. None: the gate is closed.
+    /// Waits for the next caller whose question is there. None: nobody may come any more.
     pub fn next(&mut self) -> io::Result<Option<Came<S>>> {
         for _ in 0..u64::MAX {
-            if self.gate.is_closed() {
+            if self.closing.is_closed() {
                 break;
             }
             let has_come = self.admit()?;
@@ -104,7 +104,7 @@ impl<'a, L: OpenListener<Stream = S>, S: OpenStream + Drop, C: Clock> Asking<'a,
         Ok(None)
     }
 
-    /// Takes in the next who connects, where one does. Answers whether one did.
+    /// Accepts the next caller, if there is one. Returns whether there was.
     fn admit(&mut self) -> io::Result<bool> {
         let (stream, addr) = match self.listener.accept() {
             Ok(accepted) => accepted,
@@ -117,13 +117,13 @@ impl<'a, L: OpenListener<Stream = S>, S: OpenStream + Drop, C: Clock> Asking<'a,
                 peer: addr.ip(),
                 at: self.clock.monotonic()?,
             };
-            // Where there is no memory, it is hung up on.
+            // Without memory for it, it is hung up on.
             let _ = self.waiting.push(came);
         }
         Ok(true)
     }
 
-    /// The first whose question is there.
+    /// Takes out the first caller whose question is there.
     fn take_heard(&mut self) -> Option<Came<S>> {
         let at = self.waiting.iter().position(|came| came.is_heard())?;
         if at >= self.waiting.len() {
@@ -132,7 +132,7 @@ impl<'a, L: OpenListener<Stream = S>, S: OpenStream + Drop, C: Clock> Asking<'a,
         Some(self.waiting.remove(at))
     }
 
-    /// Hangs up on those who had time enough to ask, and on the first where too many are there.
+    /// Hangs up on those whose time is over, and on the first one where too many are there.
     fn drop_late(&mut self, now: Duration) {
         self.waiting.retain(|came| !came.is_over(now));
         if self.waiting.len() > ASKERS {

@@ -9,18 +9,17 @@ use std::net::{IpAddr, Ipv4Addr, Ipv6Addr};
 #[derive(Clone, Copy)]
 pub struct Block {
     addr: IpAddr,
-    /// How many bits: at most those of the address.
+    /// How many bits, at most the width of the address.
     bits: u8,
     ghost fits: { bits ≤ width_of addr },
 }
 
 impl Block {
-    /// The block that a text names: `ADDR` or `ADDR/BITS`. None: it names none, or the address is an
-    /// IPv4-mapped one.
+    /// Parses `ADDR` or `ADDR/BITS`. None: the text names no block, or the address is an IPv4-mapped one.
     pub fn parse(text: &str) -> Option<Block>
         ensures found { IfSome result (λ block. Spells text.now block.addr block.bits
             × IsCanonical block.addr block.addr) }
-        // There is none then.
+        // None only where there is no such block.
         ensures none { IfNone result ((addr : AnyIpAddr) (bits : ℕ) → Spells text.now addr bits
             → bits ≤ width_of addr → IsCanonical addr addr → ⊥) }
     {
@@ -30,8 +29,7 @@ impl Block {
         }
     }
 
-    /// The block of an address and this number of its bits. None: it has fewer, or it is an IPv4-mapped
-    /// address.
+    /// The block of an address and this many of its bits. None: it has fewer bits, or is IPv4-mapped.
     fn of(addr: IpAddr, bits: u8) -> Option<Block>
         ensures found { IfSome result (λ block. (block.addr ≡ addr) × (block.bits ≡ bits)
             × IsCanonical addr addr) }
@@ -43,7 +41,7 @@ impl Block {
         Some(Block { addr, bits })
     }
 
-    /// Whether an address is one of them. An IPv4-mapped address is its IPv4 address.
+    /// Whether the block contains an address. An IPv4-mapped address counts as its IPv4 address.
     pub fn has(&self, peer: IpAddr) -> bool
         ensures { (own : AnyIpAddr) × IsCanonical peer own
             × (IsTrue result ↔ HaveSameFront self.now.bits self.now.addr own) }
@@ -88,7 +86,7 @@ fn is_mapped(addr: IpAddr) -> bool
     }
 }
 
-/// Whether two addresses are of one family, and have the same first bits.
+/// Whether two addresses are of one family and agree in their first bits.
 fn have_same_front(bits: u8, one: IpAddr, other: IpAddr) -> bool
     requires { bits ≤ width_of one }
     ensures { IsTrue result ↔ HaveSameFront bits one other }

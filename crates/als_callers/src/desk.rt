@@ -2,10 +2,10 @@ use std::alloc::{AllocError, Global};
 use std::collections::VecDeque;
 use std::sync::{Condvar, Mutex, Wait};
 
-/// Who waits at a desk, and how many threads are free.
+/// Who waits at a desk, and how many threads are idle.
 struct Held<T> {
     waiting: VecDeque<T>,
-    /// How many threads have nobody.
+    /// How many threads serve nobody.
     free: usize,
     is_closed: bool,
 }
@@ -22,13 +22,13 @@ impl<T: Drop> Drop for Held<T> {
 }
 
 impl<T: Drop> Held<T> {
-    /// Whether a thread goes on waiting.
+    /// Whether an idle thread has nothing to do.
     fn is_quiet(&self) -> bool {
         self.waiting.is_empty() && !self.is_closed
     }
 }
 
-/// Where threads meet those who asked. Nobody waits here but for a thread that is free.
+/// Hands callers who have asked to idle threads. Only idle threads wait here.
 pub struct Desk<T> {
     held: Mutex<Held<T>>,
     came: Condvar,
@@ -42,7 +42,7 @@ impl<T: Drop> Drop for Desk<T> {
 }
 
 impl<T: Drop> Desk<T> {
-    /// A desk where nobody is, for this number of threads.
+    /// An empty desk for this many threads, all idle.
     pub fn new(alloc: Global, threads: usize) -> Result<Desk<T>, AllocError> {
         let held = Held {
             waiting: VecDeque::with_capacity(alloc, threads)?,
@@ -55,7 +55,7 @@ impl<T: Drop> Desk<T> {
         })
     }
 
-    /// Hands somebody to a thread that is free. Where none is, the desk drops them, and answers no.
+    /// Hands a caller to an idle thread. False: no thread is idle, and the caller was dropped.
     pub fn offer<R: Wait>(&self, rt: &R, visitor: T) -> bool {
         let mut held = self.held.lock(rt);
         if held.is_closed || held.waiting.len() >= held.free {
@@ -67,7 +67,7 @@ impl<T: Drop> Desk<T> {
         is_taken
     }
 
-    /// Waits for somebody. None: nobody comes any more.
+    /// Waits for a caller. None: the desk was closed.
     pub fn take<R: Wait>(&self, rt: &R) -> Option<T> {
         let held = self.held.lock(rt);
         let mut held = self.came.wait_while(rt, held, |held| held.is_quiet());
@@ -75,13 +75,13 @@ impl<T: Drop> Desk<T> {
         held.waiting.pop_front()
     }
 
-    /// A thread has done with whom it took.
+    /// The thread has finished with its caller and is idle again.
     pub fn release<R: Wait>(&self, rt: &R) {
         let mut held = self.held.lock(rt);
         held.free = held.free.saturating_add(1);
     }
 
-    /// Nobody comes any more. Each thread that waits ends.
+    /// Closes the desk: each waiting thread gets None.
     pub fn close<R: Wait>(&self, rt: &R) {
         let mut held = self.held.lock(rt);
         held.is_closed = true;

@@ -3,8 +3,7 @@ use std::io;
 use std::io::{ErrorKind, Read, Write};
 use std::time::Clock;
 
-/// One of the two ends of a stream whose frames have limited time. Its stream waits for a moment each
-/// time.
+/// One end of a stream whose frames have limited time. Each call of the stream blocks for a moment only.
 pub struct Guest<'a, S, C> {
     stream: S,
     clock: &'a C,
@@ -23,7 +22,7 @@ impl<S: Drop, C> Drop for Guest<'_, S, C> {
 }
 
 impl<'a, S, C> Guest<'a, S, C> {
-    /// An end of a stream at this pace.
+    /// An end of a stream, timed by this pace.
     pub fn new(stream: S, clock: &'a C, pace: &'a Pace<'a>) -> Guest<'a, S, C> {
         Guest {
             stream,
@@ -33,7 +32,7 @@ impl<'a, S, C> Guest<'a, S, C> {
     }
 }
 
-/// Whether a read or a write has only waited for its moment.
+/// Whether a read or a write only timed out.
 fn is_late(e: &io::Error) -> bool {
     matches!(
         e.kind(),

@@ -1,5 +1,5 @@
-//! Those who connect to a listener to follow a log: who may come, how long each may take, and how a thread
-//! gets hold of one.
+//! Callers, who connect to a listener to follow a log: who may come, how long each may take, and how a
+//! thread takes one over.
 //!
 //! ```text
 //! connects --allowed?--> is to ask --question there--> desk --a thread that is free--> session
@@ -7,18 +7,18 @@
 //!             '---------------'--------> hung up on <----'
 //! ```
 //!
-//! 1. Nobody is waited for: whoever is slow to ask holds up no one else.
-//! 2. A frame has limited time, whatever number of pieces it comes in. A socket's own limit is of each call
-//!    by itself, so whoever sends a byte now and then would never meet it.
-//! 3. Once the gate is closed nobody comes any more, and who is there has two seconds left.
+//! 1. Nobody is waited for: a caller who is slow to ask delays no one else.
+//! 2. A frame has limited time, whatever number of pieces it comes in. A socket's own limit is for each
+//!    call, so a peer that sends a byte now and then would never exceed it.
+//! 3. Once it is closed (`Closing`) nobody comes any more, and who is there has two seconds left.
 #![tactic(auto)]
 
 // A block of addresses.
 mod block;
 // Whose addresses may come.
 mod allowed;
-// Whether anybody may come.
-mod gate;
+// Whether nobody may come any more.
+mod closing;
 // How long a frame takes.
 mod pace;
 // A stream whose frames have limited time.
@@ -31,7 +31,7 @@ mod asking;
 pub use allowed::Allowed;
 pub use asking::{Asking, Came};
 pub use block::Block;
+pub use closing::Closing;
 pub use desk::Desk;
-pub use gate::Gate;
 pub use guest::Guest;
 pub use pace::Pace;

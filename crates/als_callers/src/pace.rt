@@ -1,20 +1,20 @@
-use crate::gate::Gate;
+use crate::closing::Closing;
 use std::cell::Cell;
 use std::time::Duration;
 
-/// Bytes of an answer: once so many are read, the next one begins.
+/// Bytes of an answer. Once these are read, the next one begins.
 const ANSWER: usize = 9;
 
-/// Bytes of a piece of the log: once so many are written, the next one begins.
+/// Bytes of a piece of the log. Once these are written, the next one begins.
 const PIECE: usize = 65_536;
 
-/// Milliseconds that the question of one who came may take.
+/// Milliseconds that the question of a caller may take.
 const QUESTION: u64 = 5_000;
 
-/// Milliseconds that a session may take to end, once the gate is closed.
+/// Milliseconds within which a session has to end once nobody may come any more.
 const GRACE: u64 = 2_000;
 
-/// Which way a frame goes.
+/// The direction of the frame on its way.
 #[derive(Clone, Copy, Debug, PartialEq, Eq)]
 pub(crate) enum Way {
     /// The question is read.
@@ -25,24 +25,24 @@ pub(crate) enum Way {
     Reads,
 }
 
-/// Since when the frame on the way takes its time. Both ends of a stream share it.
+/// How long the frame on its way has taken. Both ends of a stream share it.
 pub struct Pace<'a> {
-    gate: &'a Gate,
-    /// How long a frame may take. None: as long as it likes.
+    closing: &'a Closing,
+    /// How long a frame may take. None: no limit.
     limit: Option<Duration>,
     way: Cell<Way>,
     /// When the frame began, by the clock.
     since: Cell<Duration>,
-    /// How many of its bytes went.
+    /// How many of its bytes were read or written.
     went: Cell<usize>,
-    /// When the gate was seen closed, by the clock.
+    /// When this pace first saw that nobody may come any more, by the clock.
     closed: Cell<Option<Duration>>,
 }
 
 impl Drop for Pace<'_> {
     fn drop(self) {
         let Pace {
-            gate: _,
+            closing: _,
             limit: _,
             way: _,
             since: _,
@@ -53,10 +53,10 @@ impl Drop for Pace<'_> {
 }
 
 impl<'a> Pace<'a> {
-    /// The question of one who came at this time is read.
-    pub fn new(gate: &'a Gate, limit: Option<Duration>, came: Duration) -> Pace<'a> {
+    /// The pace of a caller who connected at this time: its question is read first.
+    pub fn new(closing: &'a Closing, limit: Option<Duration>, came: Duration) -> Pace<'a> {
         Pace {
-            gate,
+            closing,
             limit,
             way: Cell::new(Way::Asks),
             since: Cell::new(came),
@@ -65,14 +65,14 @@ impl<'a> Pace<'a> {
         }
     }
 
-    /// Something is read.
+    /// A read begins.
     pub(crate) fn read(&self, now: Duration) {
         if self.way.get() == Way::Writes {
             self.begin(Way::Reads, now);
         }
     }
 
-    /// Something is written.
+    /// A write begins.
     pub(crate) fn write(&self, now: Duration) {
         if self.way.get() != Way::Writes {
             self.begin(Way::Writes, now);
@@ -86,7 +86,7 @@ impl<'a> Pace<'a> {
         self.went.set(0);
     }
 
-    /// So many bytes of it went.
+    /// This many bytes more were read or written.
     pub(crate) fn go(&self, count: usize, now: Duration) {
         let way = self.way.get();
         let whole = match way {
@@ -102,13 +102,13 @@ impl<'a> Pace<'a> {
         }
     }
 
-    /// Whether its time is over.
+    /// Whether the time of the frame, or of the session, is over.
     pub(crate) fn is_over(&self, now: Duration) -> bool {
         let took = now.saturating_sub(self.since.get());
         self.is_late(took) || self.is_leaving(now)
     }
 
-    /// Whether so long is too long.
+    /// Whether a frame that took this long is late.
     fn is_late(&self, took: Duration) -> bool {
         if self.way.get() == Way::Asks {
             return took >= Duration::from_millis(QUESTION);
@@ -119,9 +119,9 @@ impl<'a> Pace<'a> {
         }
     }
 
-    /// Whether the gate has been closed for too long.
+    /// Whether the session should have ended by now, since nobody may come any more.
     fn is_leaving(&self, now: Duration) -> bool {
-        if !self.gate.is_closed() {
+        if !self.closing.is_closed() {
             return false;
         }
         match self.closed.get() {

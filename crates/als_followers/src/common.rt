@@ -1,6 +1,6 @@
 use crate::notices::Notices;
 use crate::session::Terms;
-use als_callers::{Allowed, Came, Desk, Gate};
+use als_callers::{Allowed, Came, Closing, Desk};
 use als_quorum::{Quorum, Tail};
 use std::alloc::Global;
 use std::net::TcpStream;
@@ -14,7 +14,7 @@ pub(crate) struct Common<O> {
     pub quorum: Arc<Quorum, Global>,
     pub allowed: Allowed,
     pub terms: Terms,
-    pub gate: Gate,
+    pub closing: Closing,
     pub desk: Desk<Came<TcpStream>>,
     pub notices: Notices,
 }
@@ -27,7 +27,7 @@ impl<O: Drop> Drop for Common<O> {
             quorum,
             allowed,
             terms: _,
-            gate,
+            closing,
             desk,
             notices,
         } = self;
@@ -35,7 +35,7 @@ impl<O: Drop> Drop for Common<O> {
         drop(tail);
         drop(quorum);
         drop(allowed);
-        drop(gate);
+        drop(closing);
         drop(desk);
         drop(notices);
     }

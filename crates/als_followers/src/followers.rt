@@ -4,7 +4,7 @@ use crate::notices::Notices;
 use crate::serves::Serves;
 use crate::session::Terms;
 use crate::work::{Porter, Server, Work};
-use als_callers::{Allowed, Desk, Gate};
+use als_callers::{Allowed, Closing, Desk};
 use als_quorum::{Quorum, SEATS, Tail};
 use std::alloc::Global;
 use std::net::{OpenListener, TcpListener};
@@ -22,7 +22,7 @@ pub struct Followers<O> {
 impl<O: Drop> Drop for Followers<O> {
     fn drop(self) {
         let Followers { common, handles } = self;
-        common.gate.close();
+        common.closing.close();
         drop(handles);
         drop(common);
     }
@@ -49,7 +49,7 @@ impl<O: Serves + Send + Sync + Drop + 'static> Followers<O> {
             quorum,
             allowed,
             terms,
-            gate: Gate::new(),
+            closing: Closing::new(),
             desk: Desk::new(alloc, SEATS as usize)?,
             notices: Notices::new(alloc)?,
         };
@@ -110,11 +110,11 @@ impl<O: Drop> Followers<O> {
         self.common.notices.take(rt)
     }
 
-    /// Closes the tail and the gate, and waits for all threads. A session that has sent all ends in order;
+    /// Closes the tail, lets nobody come any more, and waits for all threads. A session that has sent all ends in order;
     /// any other one is cut off after two seconds.
     pub fn close<R: Threads + Wait>(self, rt: &R) {
         let Followers { common, handles } = self;
-        common.gate.close();
+        common.closing.close();
         common.tail.close(rt);
         common.quorum.close(rt);
         common.desk.close(rt);

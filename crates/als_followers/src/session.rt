@@ -55,7 +55,7 @@ pub(crate) fn serve<R: Wait + Clock, O: Serves, S: Read + Write + OpenStream + D
         peer,
         counts,
     );
-    let pace = Pace::new(&common.gate, common.terms.limit, at);
+    let pace = Pace::new(&common.closing, common.terms.limit, at);
     let served = send(rt, alloc, common, &mut seated, stream, &pace);
     let has_begun = seated.has_begun();
     seated.leave();

@@ -51,7 +51,7 @@ impl<R: Wait + Clock, O: Serves + Drop> Work for Server<R, O> {
     }
 }
 
-/// Takes in those who connect, until the gate is closed.
+/// Takes in those who connect, until nobody may come any more.
 pub(crate) struct Porter<R, O> {
     pub rt: R,
     pub alloc: Global,
@@ -76,7 +76,7 @@ impl<R: Drop, O: Drop> Drop for Porter<R, O> {
 impl<R: Wait + Clock, O: Drop> Work for Porter<R, O> {
     fn run(&mut self) {
         let common: &Common<O> = &self.common;
-        let mut asking = Asking::new(self.alloc, &self.listener, &self.rt, &common.gate);
+        let mut asking = Asking::new(self.alloc, &self.listener, &self.rt, &common.closing);
         for _ in self.rt.forever() {
             match asking.next() {
                 Ok(Some(came)) => welcome(&self.rt, common, came),

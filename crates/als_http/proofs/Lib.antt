@@ -1,8 +1,5 @@
 mod WorkedPaths
-mod WorkedHealth
 mod WorkedHosts
-mod WorkedFollowers
-pub mod AnswerLaws
+pub mod ReplyLaws
 pub mod NumberLaws
 pub mod AskingLaws
-pub mod TextLaws

@@ -1,10 +1,5 @@
-pub mod States
-pub mod Health
 pub mod Numbers
 pub mod Asking
 pub mod Hosts
 pub mod Telling
-pub mod Reading
-pub mod Followers
-pub mod Texts
 pub mod Replies

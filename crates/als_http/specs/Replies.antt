@@ -7,10 +7,10 @@ use Rattle.als_view.specs.Entries.{Begins}
 use Rattle.als_view.specs.Views.{known_to, pages_of, IsSameReader}
 use Rattle.als_view.specs.declared.reader.Reader.{Reader}
 use Rattle.json.specs.Print.{print}
-use Rattle.als_http.specs.Texts.{value_tokens, status_tokens, health_tokens, error_tokens, why_unread, why_wrong}
-use Rattle.als_http.specs.Health.{is_healthy}
-use Rattle.als_http.specs.declared.report.Report.{Report}
-use Rattle.als_http.specs.Reading.{IsRead, IsUnread, count_in}
+use Rattle.als_report.specs.Texts.{value_tokens, status_tokens, health_tokens, error_tokens, why_unread}
+use Rattle.als_report.specs.Health.{is_healthy}
+use Rattle.als_report.specs.declared.report.Report.{Report}
+use Rattle.als_report.specs.Reading.{IsRead, IsUnread, count_in}
 use Rattle.als_http.specs.declared.query.Query.{Query}
 use Rattle.als_http.specs.declared.query.Query.TheVariants as query
 use Rattle.als_http.specs.declared.query.Wrong.{Wrong}
@@ -39,6 +39,14 @@ fields_of_wrong Method = (codes "allow", codes "GET, HEAD") ∷ []
 fields_of_wrong Number = []
 fields_of_wrong Lsn = []
 fields_of_wrong Host = []
+
+-- what is wrong with a request, in words
+abbrev pub why_wrong : Wrong → List ℕ
+why_wrong Path = codes "no such path: /, /keys/P/S, /status, /metrics, /health"
+why_wrong Method = codes "GET and HEAD alone are answered"
+why_wrong Number = codes "a page and a slot are decimal numbers below 2^32"
+why_wrong Lsn = codes "Als-At-Least is one decimal number below 2^64"
+why_wrong Host = codes "this node has no such host: localhost, 127.0.0.1, [::1]"
 
 -- what a browser may load for the page
 abbrev pub policy_field : Header

@@ -5,19 +5,17 @@ ghost use Rattle.als_http.specs.Replies.{Replies, GoesOn, Answers};
 use crate::filling::show;
 use crate::hosts::Hosts;
 use crate::query::Query;
-use crate::reading::{published, read};
 use crate::reply::Reply;
-use crate::standing::Standing;
 use crate::telling::query_of;
+use als_report::{Reports, published, read};
 use als_view::Reader;
 use bytes::Bytes;
 use http::Request;
 use http_server::{Response, Service};
 use std::alloc::{AllocError, Global};
 
-/// What answers the requests of one thread: a reader of its own, and who knows how the standby
-/// stands. It waits for nobody.
-pub struct Answering<S: Standing> {
+/// Answers the requests of one thread, by a reader and a reporter of its own. It never waits.
+pub struct Answering<S: Reports> {
     alloc: Global,
     reader: Reader,
     standing: S,
@@ -25,7 +23,7 @@ pub struct Answering<S: Standing> {
 }
 
 // Written out: a derived drop is proved wherever a value is dropped, this one only here.
-impl<S: Standing + Drop> Drop for Answering<S> {
+impl<S: Reports + Drop> Drop for Answering<S> {
     fn drop(self) {
         let Answering {
             alloc: _,
@@ -38,8 +36,8 @@ impl<S: Standing + Drop> Drop for Answering<S> {
     }
 }
 
-impl<S: Standing> Answering<S> {
-    /// It answers by this reader, whatever host a request names.
+impl<S: Reports> Answering<S> {
+    /// Answers by this reader and reporter, whatever host a request names.
     pub fn new(alloc: Global, reader: Reader, standing: S) -> Answering<S>
         ensures reader { result.reader ≡ reader }
         ensures hosts { result.hosts ≡ Hosts.Any }
@@ -52,15 +50,15 @@ impl<S: Standing> Answering<S> {
         }
     }
 
-    /// From now on it answers requests that name these hosts alone.
+    /// From now on only requests that name these hosts are answered.
     pub fn answer_for(&mut self, hosts: Hosts)
         ensures { self.new ≡ record self.old { hosts = hosts } }
     {
         self.hosts = hosts;
     }
 
-    /// What a query is answered.
-    #[tactic(auto, using(crate::proofs::AnswerLaws::goes_on_self))]
+    /// The reply to a query.
+    #[tactic(auto, using(crate::proofs::ReplyLaws::goes_on_self))]
     pub fn reply(&mut self, query: Query) -> Reply
         ensures reply { Replies (S.tells self.old.standing) query result self.old.reader
             self.new.reader }
@@ -100,7 +98,7 @@ impl<S: Standing> Answering<S> {
     }
 }
 
-impl<S: Standing> Service for Answering<S> {
+impl<S: Reports> Service for Answering<S> {
     ghost use Rattle.http.specs.Request.{head_of};
     ghost use Rattle.als_http.specs.Telling.{query_of};
 

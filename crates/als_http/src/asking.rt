@@ -7,10 +7,10 @@ use crate::numbers::number;
 use als_console::Text;
 use als_record::Key;
 
-/// The greatest number that a path may name.
+/// The greatest page or slot that a path may name.
 const LAST: u64 = u32::MAX as u64;
 
-/// What stands before the two numbers of a key.
+/// What precedes the two numbers of a key.
 const KEYS: &[u8] = b"/keys/";
 
 /// What a path asks for.
@@ -50,7 +50,7 @@ fn page_of(path: &str) -> Asked
     Asked::Nothing
 }
 
-/// What is asked for behind `/keys/`.
+/// What the text after `/keys/` asks for.
 #[tactic(auto, using(crate::proofs::AskingLaws::slot_missing))]
 fn slot_of(text: &[u8]) -> Asked
     ensures { result ≡ slot_asked text.now }
@@ -61,7 +61,7 @@ fn slot_of(text: &[u8]) -> Asked
     }
 }
 
-/// Where the first slash stands.
+/// The position of the first slash.
 fn slash_in(text: &[u8]) -> Option<usize>
     ensures value { result ≡ position_from is_slash 0 text.now }
     ensures bound { IfSome result (λ i. i < length text.now) }
@@ -69,7 +69,7 @@ fn slash_in(text: &[u8]) -> Option<usize>
     text.iter().position(|c| *c == b'/')
 }
 
-/// The key of these numbers, which have 32 bits each.
+/// The key with these numbers, which must fit 32 bits each.
 fn key_of(page: Option<u64>, slot: Option<u64>) -> Asked
     ensures { result ≡ key_asked page slot }
 {

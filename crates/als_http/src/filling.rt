@@ -3,18 +3,17 @@ ghost use Rattle.http_server.specs.Response.{IsBlank, fields_of};
 ghost use Rattle.als_http.specs.Replies.{status_of, fields_for, own_fields, type_of, HasText};
 ghost use Rattle.als_http.specs.Replies.{Shows, fields_of_wrong};
 
-use crate::metrics_text::metrics_text;
 use crate::page_fields::{add_page_fields, console_type};
 use crate::query::Wrong;
 use crate::reply::Reply;
-use crate::report_text::{health_text, status_text, unread_text, wrong_text};
-use crate::value_text::value_text;
+use crate::wrong_text::wrong_text;
+use als_report::{health_text, metrics_text, status_text, unread_text, value_text};
 use bytes::Bytes;
 use http::{HeaderName, HeaderValue, StatusCode};
 use http_server::Response;
 use std::alloc::{AllocError, Global};
 
-/// Fills a response by a reply. Where memory is refused it is an empty 503.
+/// Fills a response by a reply. Without memory for it the response is an empty 503.
 pub(crate) fn show(alloc: Global, reply: &Reply, response: &mut Response)
     requires { IsBlank response.old }
     ensures { Shows reply.now response.new }
@@ -28,8 +27,8 @@ pub(crate) fn show(alloc: Global, reply: &Reply, response: &mut Response)
     }
 }
 
-/// Fills a response by a reply. After an error some of it may be there.
-#[tactic(auto, using(crate::proofs::TextLaws::text_same))]
+/// Fills a response by a reply. After an error it may be filled in part.
+#[tactic(auto, using(crate::proofs::ReplyLaws::text_same))]
 fn fill(alloc: Global, reply: &Reply, response: &mut Response) -> Result<(), AllocError>
     requires { IsBlank response.old }
     ensures status { OnOk result (response.new.status ≡ status_of reply.now) }
@@ -61,7 +60,7 @@ fn text_of(alloc: Global, reply: &Reply) -> Result<Vec<u8>, AllocError>
     }
 }
 
-/// What its text is.
+/// The content type of a reply.
 fn type_of(reply: &Reply) -> HeaderValue
     ensures { result.bytes ≡ type_of reply.now }
 {
@@ -72,7 +71,7 @@ fn type_of(reply: &Reply) -> HeaderValue
     }
 }
 
-/// The header fields beside those of every reply.
+/// Adds the header fields that only this reply has.
 fn add_own(alloc: Global, reply: &Reply, response: &mut Response) -> Result<(), AllocError>
     ensures fields { OnOk result
         (fields_of response.new ≡ fields_of response.old ++ own_fields reply.now) }
@@ -90,7 +89,7 @@ fn add_own(alloc: Global, reply: &Reply, response: &mut Response) -> Result<(), 
     Ok(())
 }
 
-/// The methods that are answered, where another one was asked with.
+/// Adds the allowed methods, if the request had another one.
 fn add_methods(why: Wrong, response: &mut Response) -> Result<(), AllocError>
     ensures fields { OnOk result
         (fields_of response.new ≡ fields_of response.old ++ fields_of_wrong why) }
@@ -105,14 +104,14 @@ fn add_methods(why: Wrong, response: &mut Response) -> Result<(), AllocError>
     Ok(())
 }
 
-/// The methods that are answered.
+/// The allowed methods.
 fn methods() -> HeaderValue
     ensures { result.bytes ≡ codes "GET, HEAD" }
 {
     HeaderValue::from_static("GET, HEAD")
 }
 
-/// Nobody may keep a response.
+/// No cache may keep a response.
 fn no_store() -> HeaderValue
     ensures { result.bytes ≡ codes "no-store" }
 {

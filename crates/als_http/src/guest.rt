@@ -12,11 +12,11 @@ const END: &[u8] = b"\r\n\r\n";
 /// The field that has the length of a body.
 const LENGTH: &[u8] = b"content-length:";
 
-/// A connection of the spare thread, whose stream does not block.
+/// A connection that no thread waits for: its stream does not block.
 pub(crate) struct Guest<T> {
     stream: T,
     said: Vec<u8>,
-    /// Bytes of a request, at most.
+    /// The most bytes of a request.
     limit: usize,
     /// When it connected, by the clock.
     begun: Duration,
@@ -37,18 +37,18 @@ impl<T: Drop> Drop for Guest<T> {
     }
 }
 
-/// What was heard of a guest.
+/// What a guest has sent so far.
 pub(crate) enum Heard {
-    /// A whole request, or more than one may have.
+    /// A whole request, or more bytes than a request may have.
     All,
-    /// It is not done yet.
+    /// A part of a request.
     Part,
-    /// It is gone.
+    /// It hung up.
     Gone,
 }
 
 impl<T> Guest<T> {
-    /// It has just connected. A request of its has at most this many bytes.
+    /// A guest that has just connected. Its request has at most this many bytes.
     pub fn new(alloc: Global, stream: T, limit: usize, begun: Duration) -> Guest<T> {
         Guest {
             stream,
@@ -59,19 +59,19 @@ impl<T> Guest<T> {
         }
     }
 
-    /// For how long it is there.
+    /// How long it has been connected.
     pub fn age(&self, now: Duration) -> Duration {
         now.saturating_sub(self.begun)
     }
 
-    /// What it said.
+    /// The bytes that it has sent.
     pub fn said(&self) -> &[u8] {
         self.said.as_slice()
     }
 }
 
 impl<T: Read> Guest<T> {
-    /// Reads what is there of it. Behind its answer nothing of that is kept.
+    /// Reads what it has sent meanwhile. After its response was sent, that is dropped.
     pub fn hear(&mut self) -> Heard {
         let mut bytes = [0; 1024];
         match self.stream.read(&mut bytes) {
@@ -94,8 +94,8 @@ impl<T: Read> Guest<T> {
 }
 
 impl<T: Write + OpenStream> Guest<T> {
-    /// Sends its response, and says that no more is sent. What it still sends is read for a while: else the
-    /// system could take the response back.
+    /// Sends its response and shuts down writing. It is then read for a while: closing a connection with
+    /// unread bytes could take the response back.
     pub fn tell(&mut self, response: &[u8]) -> io::Result<()> {
         self.stream.write_all(response)?;
         self.stream.flush()?;
@@ -105,7 +105,7 @@ impl<T: Write + OpenStream> Guest<T> {
     }
 }
 
-/// Whether these bytes have a request whole, or more than a request may have.
+/// Whether these bytes contain a whole request, or are more than a request may have.
 fn is_whole(said: &[u8], limit: usize) -> bool {
     if said.len() >= limit {
         return true;
@@ -119,8 +119,8 @@ fn is_whole(said: &[u8], limit: usize) -> bool {
     }
 }
 
-/// The bytes of the body that belongs to a head, by its length alone: a body in chunks is not waited
-/// for, and is refused.
+/// The length of the body after a head, by its Content-Length only: a body in chunks is not waited for and
+/// is refused.
 fn body_len(head: &[u8]) -> u64 {
     for line in head.split(|c| *c == b'\n') {
         if line.len() > LENGTH.len() {

@@ -5,18 +5,18 @@ use http::HeaderValue;
 use http_header::GetAll;
 use std::net::{IpAddr, Ipv4Addr, Ipv6Addr, OpenListener};
 
-/// Which hosts a request may name: a page of another site names its own, which its owner may lead to
-/// this machine.
+/// Which hosts a request may name. A page of another site names its own host, which its owner may point
+/// at this machine.
 #[derive(Clone, Copy, Debug, PartialEq, Eq)]
 pub enum Hosts {
-    /// Any: by which names a client reaches the node is not known.
+    /// Any: the names by which clients reach the node are not known.
     Any,
-    /// Those of the loopback.
+    /// The names of the loopback.
     Loopback,
 }
 
 impl Hosts {
-    /// Those of a node that listens there. Where it cannot be asked, any.
+    /// The hosts of a node with this listener. Any, if its address cannot be found out.
     pub fn at<L: OpenListener>(listener: &L) -> Hosts {
         match listener.local_addr() {
             Ok(addr) if is_local(addr.ip()) => Hosts::Loopback,
@@ -25,7 +25,7 @@ impl Hosts {
     }
 }
 
-/// Whether an address is one that the names of the loopback stand for.
+/// Whether an address is one that the names of the loopback mean.
 fn is_local(ip: IpAddr) -> bool {
     match ip {
         IpAddr::V4(ip) => ip == Ipv4Addr::LOCALHOST,
@@ -33,7 +33,7 @@ fn is_local(ip: IpAddr) -> bool {
     }
 }
 
-/// Whether a request with these fields of its host is for this node.
+/// Whether a request with these Host fields is for this node.
 #[tactic(auto, unfolding(crate::specs::Hosts::is_own))]
 pub fn is_own(hosts: Hosts, fields: GetAll<'_, HeaderValue>) -> bool
     ensures { result ≡ is_own hosts fields.entry }
@@ -50,7 +50,7 @@ pub fn is_own(hosts: Hosts, fields: GetAll<'_, HeaderValue>) -> bool
     }
 }
 
-/// Whether a host is of the loopback.
+/// Whether a host is a name of the loopback, with a port or without.
 #[tactic(auto, unfolding(crate::specs::Hosts::is_loopback))]
 fn is_loopback(host: &[u8]) -> bool
     ensures { result ≡ is_loopback host.now }
@@ -67,7 +67,7 @@ fn is_loopback(host: &[u8]) -> bool
     }
 }
 
-/// Whether nothing stands there, or a port behind a colon.
+/// Whether the rest of a host is empty, or a colon and a port.
 #[tactic(auto, unfolding(crate::specs::Hosts::is_port))]
 fn is_port(rest: &[u8]) -> bool
     ensures { result ≡ is_port rest.now }

@@ -3,55 +3,55 @@ ghost use Rattle.std.specs.Prelude.{◌≡◌};
 use http_server::Config;
 use http1::Limits;
 
-/// The most threads that serve the reads of a standby.
+/// The most threads that serve reads.
 pub const THREADS: usize = 8;
 
-/// The most threads that serve a listener, whatever they answer.
+/// The most threads that serve a listener, whatever their service.
 pub const MOST_THREADS: usize = 258;
 
-/// So many connections the spare thread has at most. Where more come, the first of them goes.
+/// The most connections of the spare thread. If more come, the first one is closed.
 pub(crate) const GUESTS: usize = 64;
 
-/// Bytes of a request's head, at most.
+/// The most bytes of a request's head.
 const HEAD: usize = 7 * 1024;
 
-/// Bytes of the body of a read, at most. No read has a use for one.
+/// The most bytes of the body of a read. No read uses one.
 const BODY: usize = 1024;
 
-/// Milliseconds that each of eight threads sleeps where nobody wants to connect. More of them sleep
-/// longer, so that all of them look as often as eight.
+/// Milliseconds that each of eight threads sleeps if nobody wants to connect. More threads sleep longer, so
+/// that together they look as often as eight.
 pub(crate) const NAP: u64 = 5;
 
-/// Milliseconds after which a read of a silent peer looks whether it is to end.
+/// Milliseconds after which a read of a silent peer checks whether it has to end.
 pub(crate) const TICK: u64 = 200;
 
-/// A peer that says nothing is dropped after so many milliseconds.
+/// Milliseconds after which a silent peer is dropped.
 pub(crate) const SILENCE: u64 = 10_000;
 
 /// The same, while every thread has a connection.
 pub(crate) const CROWDED: u64 = 1_000;
 
-/// A request that is not whole after so many milliseconds is not waited for longer.
+/// Milliseconds within which a request has to be whole.
 pub(crate) const REQUEST: u64 = 5_000;
 
-/// A response that is not taken after so many milliseconds is given up.
+/// Milliseconds within which a response has to be taken.
 pub(crate) const RESPONSE: u64 = 5_000;
 
-/// A connection is closed after so many milliseconds, so that nobody keeps a thread.
+/// Milliseconds after which a connection is closed, so that nobody keeps a thread.
 pub(crate) const LIFE: u64 = 60_000;
 
-/// What is read behind the last response, at most this often, so that the system does not take it
+/// The most reads after the last response of a connection. Without them the system could take the response
 /// back.
 pub(crate) const LEFTOVERS: usize = 16;
 
-/// The limits of a connection that reads: requests of 8 KB, head and body together.
+/// The limits of a connection for reads: requests of 8 KB, head and body together.
 pub fn config() -> Config
     ensures { result.max_body_len ≡ 1024 }
 {
     config_with(BODY)
 }
 
-/// The limits of a connection whose requests have bodies of at most this many bytes.
+/// The limits of a connection with request bodies of at most this many bytes.
 pub fn config_with(body: usize) -> Config
     ensures { result.max_body_len ≡ body }
 {
@@ -67,7 +67,7 @@ pub fn config_with(body: usize) -> Config
     }
 }
 
-/// The bytes of a request, head and body together, at most.
+/// The most bytes of a request, head and body together.
 pub(crate) fn request_len(config: Config) -> usize {
     config.max_body_len.saturating_add(HEAD)
 }

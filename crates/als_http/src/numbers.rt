@@ -1,8 +1,8 @@
 ghost use Rattle.std.specs.Prelude.{◌≡◌};
 ghost use Rattle.als_http.specs.Numbers.{with_digit, number_of};
 
-/// The number that the decimal digits spell. None: there is none, another byte is among them, or
-/// it takes more than 64 bits.
+/// The number that these decimal digits spell. None: there is no digit, another byte is among them, or the
+/// number does not fit 64 bits.
 #[tactic(auto, using(crate::proofs::NumberLaws::number_taken))]
 pub fn number(text: &[u8]) -> Option<u64>
     ensures { result ≡ number_of text.now }
@@ -17,7 +17,7 @@ pub fn number(text: &[u8]) -> Option<u64>
     so_far
 }
 
-/// A number with one more digit.
+/// A number with one more digit, if it was one and still fits.
 fn with_digit(so_far: Option<u64>, c: u8) -> Option<u64>
     ensures { result ≡ with_digit so_far c }
 {

@@ -8,15 +8,15 @@ use http::{HeaderName, HeaderValue};
 use http_server::Response;
 use std::alloc::AllocError;
 
-/// What a text of the page is.
+/// The content type of a text of the page.
 pub(crate) fn console_type(text: Text) -> HeaderValue
     ensures { result.bytes ≡ type_of_text text }
 {
     HeaderValue::from_static(text.content_type())
 }
 
-/// What a browser may load for the page, that it takes each text for what it is said to be, and that it
-/// tells nobody where it came from.
+/// Adds the fields of the page: what a browser may load, that it must not guess types, and that it sends
+/// no referrer.
 pub(crate) fn add_page_fields(response: &mut Response) -> Result<(), AllocError>
     ensures fields { OnOk result
         (fields_of response.new ≡ fields_of response.old ++ page_fields) }
@@ -28,7 +28,7 @@ pub(crate) fn add_page_fields(response: &mut Response) -> Result<(), AllocError>
     Ok(())
 }
 
-/// What a browser may load for the page.
+/// Adds what a browser may load for the page.
 fn add_policy(response: &mut Response) -> Result<(), AllocError>
     ensures fields { OnOk result
         (fields_of response.new ≡ fields_of response.old ++ policy_field ∷ []) }
@@ -39,7 +39,7 @@ fn add_policy(response: &mut Response) -> Result<(), AllocError>
     Ok(())
 }
 
-/// A browser takes a text for what it is said to be.
+/// Adds that a browser must not guess the type of a text.
 fn add_options(response: &mut Response) -> Result<(), AllocError>
     ensures fields { OnOk result
         (fields_of response.new ≡ fields_of response.old ++ options_field ∷ []) }
@@ -50,7 +50,7 @@ fn add_options(response: &mut Response) -> Result<(), AllocError>
     Ok(())
 }
 
-/// A browser tells nobody that it comes from the page.
+/// Adds that a browser sends no referrer.
 fn add_referrer(response: &mut Response) -> Result<(), AllocError>
     ensures fields { OnOk result
         (fields_of response.new ≡ fields_of response.old ++ referrer_field ∷ []) }
@@ -69,7 +69,7 @@ fn page_policy() -> HeaderValue
     HeaderValue::from_static(POLICY)
 }
 
-/// No page is told.
+/// No referrer.
 fn no_referrer() -> HeaderValue
     ensures { result.bytes ≡ codes "no-referrer" }
 {

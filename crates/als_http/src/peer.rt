@@ -1,57 +1,57 @@
-use crate::gate::Gate;
+use crate::connections::Connections;
 use crate::limits::{CROWDED, LIFE, REQUEST, RESPONSE, SILENCE};
 use crate::turn::Turn;
 use std::io;
 use std::io::{ErrorKind, Read, Write};
 use std::time::{Clock, Duration};
 
-/// A stream whose peer has limited time. Its reads wait for a tick each.
+/// A stream whose peer has limited time. Each read of the stream waits for a tick.
 #[derive(Drop)]
 pub(crate) struct Peer<'a, S, C: Clock> {
     stream: S,
     clock: &'a C,
-    gate: &'a Gate,
+    connections: &'a Connections,
     turn: &'a Turn,
     /// When it connected, by the clock.
     begun: Duration,
 }
 
 impl<'a, S, C: Clock> Peer<'a, S, C> {
-    /// The peer has just connected.
+    /// The stream of a peer that has just connected.
     pub fn new(
         stream: S,
         clock: &'a C,
-        gate: &'a Gate,
+        connections: &'a Connections,
         turn: &'a Turn,
         begun: Duration,
     ) -> Peer<'a, S, C> {
         Peer {
             stream,
             clock,
-            gate,
+            connections,
             turn,
             begun,
         }
     }
 
-    /// Whether its time is over, where it has been silent since then.
+    /// Whether the time of the peer is over, if it has been silent since then.
     fn is_over(&self, since: Duration) -> bool {
         let Ok(now) = self.clock.monotonic() else {
             return true;
         };
-        let patience = if self.gate.is_crowded() {
+        let patience = if self.connections.is_crowded() {
             CROWDED
         } else {
             SILENCE
         };
-        self.gate.is_closed()
+        self.connections.is_closed()
             || now.saturating_sub(since) >= Duration::from_millis(patience)
             || self.turn.asking(now) >= REQUEST
             || now.saturating_sub(self.begun) >= Duration::from_millis(LIFE)
     }
 }
 
-/// Whether a read or a write has only waited for its time.
+/// Whether a read or a write only timed out.
 pub(crate) fn is_late(e: &io::Error) -> bool {
     matches!(
         e.kind(),
@@ -60,7 +60,7 @@ pub(crate) fn is_late(e: &io::Error) -> bool {
 }
 
 impl<S: Read, C: Clock> Read for Peer<'_, S, C> {
-    /// A peer whose time is over has nothing more to say.
+    /// Reads from the peer. 0 bytes once its time is over: it is treated as if it had hung up.
     fn read(&mut self, into: &mut [u8]) -> io::Result<usize> {
         let since = self.clock.monotonic()?;
         self.turn.listen();

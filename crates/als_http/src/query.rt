@@ -4,7 +4,7 @@ use als_record::{Key, Lsn};
 /// What a request asks for.
 #[derive(Clone, Copy, Debug, PartialEq, Eq)]
 pub enum Query {
-    /// The value of a key, in an answer whose LSN is not below this one.
+    /// The value of a key, in an answer whose LSN is at least this one.
     Value(Key, Lsn),
     Status,
     Metrics,
@@ -14,17 +14,17 @@ pub enum Query {
     Refused(Wrong),
 }
 
-/// Why a request asks for nothing.
+/// Why a request is refused.
 #[derive(Clone, Copy, Debug, PartialEq, Eq)]
 pub enum Wrong {
-    /// Its path is none of ours.
+    /// The node has no such path.
     Path,
     /// Its method is neither GET nor HEAD.
     Method,
-    /// A page or a slot is no number of 32 bits.
+    /// A page or a slot is not a number of 32 bits.
     Number,
-    /// Its `Als-At-Least` is no number of 64 bits, or stands there twice.
+    /// Its `Als-At-Least` is not a number of 64 bits, or is there twice.
     Lsn,
-    /// Its `Host` is none of the node's own.
+    /// Its `Host` is not one of the node's.
     Host,
 }

@@ -1,28 +1,27 @@
 ghost use Rattle.std.specs.Prelude.{◌≡◌};
 
 use crate::query::Wrong;
-use crate::report::Report;
-use crate::unread::Unread;
 use als_console::Text;
+use als_report::{Report, Unread};
 use als_view::Answer;
 use http::StatusCode;
 
-/// What a request is answered.
+/// The reply to a query.
 #[derive(Drop)]
 pub enum Reply {
     /// A key's value.
     Value(Answer),
-    /// No answer of a key.
+    /// Why a key was not read.
     Unread(Unread),
-    /// How the standby stands, and how many commits are published, if any list of them is.
+    /// The report of the node, and how many commits are published; None: no list of them is.
     Status(Report, Option<u64>),
-    /// The same, for a collector of metrics.
+    /// The same as metrics.
     Metrics(Report, Option<u64>),
-    /// Whether it is healthy by such a report, with so many published commits.
+    /// Whether the node is healthy by this report and number of published commits.
     Health(Report, Option<u64>),
     /// A text of the page.
     Console(Text),
-    /// Nothing was asked for.
+    /// Why the request is refused.
     Refused(Wrong),
 }
 

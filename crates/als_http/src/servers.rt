@@ -1,11 +1,11 @@
 use crate::answering::Answering;
-use crate::gate::Gate;
+use crate::connections::Connections;
 use crate::hosts::Hosts;
 use crate::limits::{MOST_THREADS, THREADS, config};
 use crate::serving::serve_until_closed;
 use crate::spare::answer_guests;
-use crate::standing::Standing;
 use crate::terms::Terms;
+use als_report::Reports;
 use http_server::{Config, Service};
 use std::alloc::{AllocError, Global};
 use std::hash::RandomState;
@@ -18,27 +18,30 @@ use std::{io, thread};
 
 /// The threads that serve a listener.
 pub struct Servers {
-    gate: Arc<Gate, Global>,
+    connections: Arc<Connections, Global>,
     handles: Vec<JoinHandle<()>>,
 }
 
 impl Drop for Servers {
     fn drop(self) {
-        let Servers { gate, handles } = self;
-        gate.close();
+        let Servers {
+            connections,
+            handles,
+        } = self;
+        connections.close();
         drop(handles);
-        drop(gate);
+        drop(connections);
     }
 }
 
 impl Servers {
     /// Starts a thread for each of these, up to eight, which answer reads until `close`. Each has a clock
-    /// of its own. Over the loopback they answer its own hosts alone.
+    /// of its own. On the loopback only requests that name one of its hosts are answered.
     ///
-    /// An error: as `start_any` says.
+    /// An error: as for `start_any`.
     pub fn start<
         R: Threads + RandomSource,
-        S: Standing + Send + Drop + 'static,
+        S: Reports + Send + Drop + 'static,
         C: Clock + Send + Drop + 'static,
     >(
         rt: &R,
@@ -58,11 +61,11 @@ impl Servers {
         Servers::start_any(rt, alloc, listener, own, config())
     }
 
-    /// Starts a thread for each of these services, up to 258, which serve the listener until `close`, by
-    /// these limits of a connection. Each has a clock of its own. Where there are two and more, the last
-    /// one is spare: it waits for nobody, and answers while each other one has a connection.
+    /// Starts a thread for each of these services, up to 258, which serve the listener until `close`, with
+    /// these limits of a connection. Each has a clock of its own. If there are two or more, the last one
+    /// is spare: it waits for nobody, and serves while each other one has a connection.
     ///
-    /// An error: allocation failed, or the system refused a thread. Then none goes on.
+    /// An error: allocation failed, or the system refused a thread. Then no thread goes on.
     pub fn start_any<
         R: Threads + RandomSource,
         V: Service + Send + Drop + 'static,
@@ -81,9 +84,9 @@ impl Servers {
         };
         let count = seats.len().min(MOST_THREADS);
         let waiting = if count > 1 { count - 1 } else { count };
-        let gate = Arc::new(alloc, Gate::new(alloc, waiting)?)?;
+        let connections = Arc::new(alloc, Connections::new(alloc, waiting)?)?;
         let mut servers = Servers {
-            gate,
+            connections,
             handles: Vec::with_capacity(alloc, count)?,
         };
         for seat in seats {
@@ -106,12 +109,12 @@ impl Servers {
         is_spare: bool,
     ) -> io::Result<()> {
         let (mut service, clock) = seat;
-        let gate = Arc::try_clone(&self.gate)?;
+        let connections = Arc::try_clone(&self.connections)?;
         let handle = thread::spawn(rt, move || {
             if is_spare {
-                answer_guests(alloc, &listener, &mut service, terms, &clock, &gate)
+                answer_guests(alloc, &listener, &mut service, terms, &clock, &connections)
             } else {
-                serve_until_closed(alloc, &listener, &mut service, terms, &clock, &gate)
+                serve_until_closed(alloc, &listener, &mut service, terms, &clock, &connections)
             }
         });
         match handle {
@@ -120,14 +123,17 @@ impl Servers {
         }
     }
 
-    /// Closes the gate and waits for the threads. A connection whose peer is silent ends at once,
-    /// and one that is being answered after the answer.
+    /// Ends the threads and waits for them. A connection whose peer is silent ends at once, and one that is
+    /// being answered after the answer.
     pub fn close<R: Threads>(self, rt: &R) {
-        let Servers { gate, handles } = self;
-        gate.close();
+        let Servers {
+            connections,
+            handles,
+        } = self;
+        connections.close();
         for handle in handles {
             handle.join(rt);
         }
-        drop(gate);
+        drop(connections);
     }
 }

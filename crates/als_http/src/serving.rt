@@ -1,4 +1,4 @@
-use crate::gate::{Gate, peer_of};
+use crate::connections::{Connections, peer_of};
 use crate::limits::{LEFTOVERS, RESPONSE, TICK};
 use crate::peer::Peer;
 use crate::spare::{attend, welcome};
@@ -11,45 +11,52 @@ use std::net::{OpenListener, OpenStream, Shutdown, SocketAddr};
 use std::time::{Clock, Duration};
 use std::{io, thread};
 
-/// Serves one connection after another, until the gate closes. The listener does not block. A peer
-/// that has a connection of each other thread is a guest: it is waited for no longer than what is
-/// there of it is read. While there is a guest, so is whoever comes.
+/// Serves one connection after another, until the threads are to end. The listener does not block. A peer
+/// that already has a connection of every other thread becomes a guest: what it has sent is read, and it
+/// is never waited for. While there is a guest, so is everybody who connects.
 pub fn serve_until_closed<
     L: OpenListener<Stream = T>,
     T: Read + Write + OpenStream + Drop,
     V: Service,
     C: Clock,
->(alloc: Global, listener: &L, service: &mut V, terms: Terms, clock: &C, gate: &Gate) {
+>(
+    alloc: Global,
+    listener: &L,
+    service: &mut V,
+    terms: Terms,
+    clock: &C,
+    connections: &Connections,
+) {
     let mut guests = Vec::new(alloc);
     for _ in 0..u64::MAX {
-        if gate.is_closed() {
+        if connections.is_closed() {
             break;
         }
         let Ok(now) = clock.monotonic() else {
             break;
         };
         match listener.accept() {
-            Ok((stream, addr)) => match seat_of(gate, &addr, guests.is_empty()) {
+            Ok((stream, addr)) => match seat_of(connections, &addr, guests.is_empty()) {
                 Some(place) => {
-                    // What ends a connection is its own affair.
-                    let _ = serve_one(alloc, stream, service, terms, clock, gate);
-                    gate.leave(place);
+                    // An error ends this connection only.
+                    let _ = serve_one(alloc, stream, service, terms, clock, connections);
+                    connections.leave(place);
                 }
                 None => welcome(alloc, stream, &mut guests, terms, now),
             },
             // Nobody wants to connect, or the system refuses for now.
-            Err(_) => thread::sleep(clock, gate.nap()),
+            Err(_) => thread::sleep(clock, connections.nap()),
         }
         guests = attend(alloc, guests, service, terms, now);
     }
 }
 
-/// The place of a connection that may be waited for. None: it is a guest's.
-fn seat_of(gate: &Gate, addr: &SocketAddr, is_free: bool) -> Option<usize> {
+/// The place of a connection that this thread may wait for. None: it is a guest.
+fn seat_of(connections: &Connections, addr: &SocketAddr, is_free: bool) -> Option<usize> {
     if !is_free {
         return None;
     }
-    gate.enter(peer_of(addr))
+    connections.enter(peer_of(addr))
 }
 
 /// Serves the requests of a connection.
@@ -59,7 +66,7 @@ fn serve_one<T: Read + Write + OpenStream + Drop, V: Service, C: Clock>(
     service: &mut V,
     terms: Terms,
     clock: &C,
-    gate: &Gate,
+    connections: &Connections,
 ) -> io::Result<()> {
     stream.set_read_timeout(Some(Duration::from_millis(TICK)))?;
     stream.set_write_timeout(Some(Duration::from_millis(RESPONSE)))?;
@@ -67,15 +74,15 @@ fn serve_one<T: Read + Write + OpenStream + Drop, V: Service, C: Clock>(
     let begun = clock.monotonic()?;
     let mut rest = stream.try_clone()?;
     let turn = Turn::new();
-    let mut writer = Peer::new(stream.try_clone()?, clock, gate, &turn, begun);
-    let mut reader = Peer::new(stream, clock, gate, &turn, begun);
+    let mut writer = Peer::new(stream.try_clone()?, clock, connections, &turn, begun);
+    let mut reader = Peer::new(stream, clock, connections, &turn, begun);
     let mut connection = Connection::new(alloc, terms.keys, terms.config);
     serve(&mut connection, service, &mut reader, &mut writer)?;
     linger(&mut rest)
 }
 
-/// Says that no more is sent, and reads what the peer still sends. Where a connection is closed with
-/// bytes unread, the system may take back the last response.
+/// Shuts down writing, and reads what the peer still sends. If a connection is closed with unread bytes,
+/// the system may take back the last response.
 fn linger<T: Read + OpenStream>(stream: &mut T) -> io::Result<()> {
     stream.shutdown(Shutdown::Write)?;
     let mut bytes = [0; 1024];

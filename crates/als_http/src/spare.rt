@@ -1,4 +1,4 @@
-use crate::gate::Gate;
+use crate::connections::Connections;
 use crate::guest::{Guest, Heard};
 use crate::limits::{GUESTS, NAP, REQUEST, request_len};
 use crate::terms::Terms;
@@ -10,24 +10,31 @@ use std::net::{OpenListener, OpenStream};
 use std::time::{Clock, Duration};
 use std::{io, thread};
 
-/// Answers those who come while each other thread has a connection, until the gate closes. It waits for
-/// none of them: whoever sends no whole request in time is dropped. Each connection is closed after its
-/// answer.
+/// Answers whoever connects while each other thread has a connection, until the threads are to end. It
+/// waits for none of them: a peer without a whole request in time is dropped. Each connection is closed
+/// after its response.
 pub(crate) fn answer_guests<
     L: OpenListener<Stream = T>,
     T: Read + Write + OpenStream + Drop,
     V: Service,
     C: Clock,
->(alloc: Global, listener: &L, service: &mut V, terms: Terms, clock: &C, gate: &Gate) {
+>(
+    alloc: Global,
+    listener: &L,
+    service: &mut V,
+    terms: Terms,
+    clock: &C,
+    connections: &Connections,
+) {
     let mut guests = Vec::new(alloc);
     for _ in 0..u64::MAX {
-        if gate.is_closed() {
+        if connections.is_closed() {
             break;
         }
         let Ok(now) = clock.monotonic() else {
             break;
         };
-        let has_come = gate.is_crowded() && admit(alloc, listener, &mut guests, terms, now);
+        let has_come = connections.is_crowded() && admit(alloc, listener, &mut guests, terms, now);
         guests = attend(alloc, guests, service, terms, now);
         if !has_come {
             thread::sleep(clock, Duration::from_millis(NAP));
@@ -35,7 +42,7 @@ pub(crate) fn answer_guests<
     }
 }
 
-/// Takes the next who wants to connect. It answers whether one came.
+/// Accepts the next connection. Returns whether there was one.
 fn admit<L: OpenListener<Stream = T>, T: OpenStream + Drop>(
     alloc: Global,
     listener: &L,
@@ -50,7 +57,7 @@ fn admit<L: OpenListener<Stream = T>, T: OpenStream + Drop>(
     true
 }
 
-/// Takes a connection that is not waited for. Where too many are there, the first of them goes.
+/// Adds a guest. If there are too many, the first one is dropped.
 pub(crate) fn welcome<T: OpenStream + Drop>(
     alloc: Global,
     stream: T,
@@ -64,12 +71,13 @@ pub(crate) fn welcome<T: OpenStream + Drop>(
     if guests.len() >= GUESTS {
         drop(guests.remove(0));
     }
-    // Where there is no memory for it, it is dropped.
+    // Without memory for it, it is dropped.
     let limit = request_len(terms.config);
     let _ = guests.push(Guest::new(alloc, stream, limit, now));
 }
 
-/// Looks at each of them. Those stay who have not said all, and those who have to read their answer.
+/// Serves each guest once. Those with a part of a request stay, and those that have yet to read their
+/// response.
 pub(crate) fn attend<T: Read + Write + OpenStream + Drop, V: Service>(
     alloc: Global,
     guests: Vec<Guest<T>>,
@@ -87,7 +95,7 @@ pub(crate) fn attend<T: Read + Write + OpenStream + Drop, V: Service>(
             Heard::Gone => false,
         };
         if stays {
-            // Where there is no memory for it, it is dropped.
+            // Without memory for it, it is dropped.
             let _ = left.push(guest);
         } else {
             drop(guest);
@@ -96,7 +104,7 @@ pub(crate) fn attend<T: Read + Write + OpenStream + Drop, V: Service>(
     left
 }
 
-/// Answers what a guest has said. Its response is short enough for what the system keeps for it.
+/// Answers the request of a guest. The response is short enough for the socket's buffer.
 fn answer<T: Read + Write + OpenStream, V: Service>(
     alloc: Global,
     guest: &mut Guest<T>,

@@ -15,10 +15,10 @@ use http_header::GetAll;
 /// The header by which a client names the LSN of an earlier answer.
 pub const AT_LEAST: &str = "als-at-least";
 
-/// The header by which a client names the node that it means.
+/// The header by which a client names the node.
 const HOST: &str = "host";
 
-/// What a request asks a node for, which has these hosts.
+/// What a request asks of a node with these hosts.
 pub fn query_of(request: &Request<Bytes>, hosts: Hosts) -> Query
     ensures { result ≡ query_of hosts (head_of request.now) }
 {
@@ -28,7 +28,7 @@ pub fn query_of(request: &Request<Bytes>, hosts: Hosts) -> Query
     directed(is_own(hosts, request.headers().get_all(HOST)), query)
 }
 
-/// The LSN that a field names, 0 without one. None: it is no number, or there are two.
+/// The LSN that the field names, 0 without one. None: it is not a number, or there are two fields.
 #[tactic(auto, unfolding(crate::specs::Telling::named_lsn))]
 fn named_lsn(values: GetAll<'_, HeaderValue>) -> Option<u64>
     ensures { result ≡ named_lsn values.entry }
@@ -43,7 +43,7 @@ fn named_lsn(values: GetAll<'_, HeaderValue>) -> Option<u64>
     }
 }
 
-/// What is asked for with this LSN.
+/// What a path asks for with this LSN.
 #[tactic(auto, unfolding(crate::specs::Telling::told))]
 fn told(asked: Asked, lsn: Option<u64>) -> Query
     ensures { result ≡ told asked lsn }
@@ -64,7 +64,7 @@ fn told(asked: Asked, lsn: Option<u64>) -> Query
     }
 }
 
-/// The query, where its host is the node's own.
+/// The query, if the host is the node's; else its refusal.
 #[tactic(auto, unfolding(crate::specs::Telling::directed))]
 fn directed(is_own: bool, query: Query) -> Query
     ensures { result ≡ directed is_own query }
@@ -76,7 +76,7 @@ fn directed(is_own: bool, query: Query) -> Query
     }
 }
 
-/// The query, where it is made by a method that reads.
+/// The query, if the method reads; else its refusal.
 #[tactic(auto, unfolding(crate::specs::Telling::allowed))]
 fn allowed(method: &str, query: Query) -> Query
     ensures { result ≡ allowed method.now query }

@@ -27,7 +27,7 @@ pub(crate) fn tell_all<C: Clients>(
     let mut ended = Ok(());
     'tell: while let Some(told) = queue.pop_front() {
         let Told { asked, answer } = told;
-        let answer = settled(&asked.work, answer, forced);
+        let answer = answer_after(&asked.work, answer, forced);
         let result = clients.tell(asked, answer);
         ended = first(ended, result);
     }
@@ -35,7 +35,7 @@ pub(crate) fn tell_all<C: Clients>(
 }
 
 /// The answer after a force and its confirmation.
-fn settled(work: &Work, answer: Answer, forced: Forced) -> Answer
+fn answer_after(work: &Work, answer: Answer, forced: Forced) -> Answer
     ensures { result ≡ answer_after forced work.now answer }
 {
     match forced {

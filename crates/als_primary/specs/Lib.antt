@@ -2,3 +2,4 @@ pub mod Doubts
 pub mod Fates
 pub mod Guards
 pub mod Others
+pub mod Ranges

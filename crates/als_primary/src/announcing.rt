@@ -2,19 +2,18 @@ use als_followers::Notice;
 use als_record::Lsn;
 use std::net::SocketAddr;
 
-/// Receives what a primary says to who runs it.
+/// Receives what a primary announces to whoever runs it.
 pub trait Announces {
     /// It serves from now on.
     fn serves(&mut self, dir: &str, addr: SocketAddr, epoch: u32, end: Lsn);
 
-    /// Followers may connect there, and so many of them have to acknowledge a commit.
+    /// Followers may connect there, and `sync` of them have to acknowledge a commit.
     fn listens(&mut self, addr: SocketAddr, sync: u32);
 
     /// Its log has used nine tenths of its device.
     fn nearly_full(&mut self, end: Lsn, capacity: u64);
 
-    /// For so many seconds it has waited until this number of followers acknowledge a commit. It is told
-    /// once a minute.
+    /// It has waited this long for `sync` followers to acknowledge a commit. Announced once a minute.
     fn unconfirmed(&mut self, sync: u32, seconds: u64);
 
     /// A follower came or went, or was hung up on.

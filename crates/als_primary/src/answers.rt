@@ -4,14 +4,14 @@ ghost use Rattle.als_primary.specs.Others.{IsConfirmed, IsMissed};
 use als_record::Lsn;
 use std::snapshot::Snapshot;
 
-/// What the quorum was asked: whether so many had acknowledged the log up to there.
+/// What the quorum was asked: whether `count` followers had acknowledged the log up to there.
 #[derive(Clone, Copy)]
 pub(crate) struct Wanted {
     pub count: u32,
     pub end: Lsn,
 }
 
-/// What the quorum answered, for clauses alone: it takes no bytes.
+/// The quorum's answers so far, for clauses only: it takes no bytes.
 #[derive(Drop)]
 pub(crate) enum Answers {
     Nothing,
@@ -22,7 +22,7 @@ pub(crate) enum Answers {
 }
 
 impl Answers {
-    /// The quorum answered.
+    /// Adds an answer of the quorum.
     pub fn note(&mut self, wanted: Wanted, is_enough: bool)
         ensures enough { is_enough ≡ true → IsConfirmed wanted.count self.new wanted.end.0 }
         ensures few { is_enough ≡ false → IsMissed wanted.count self.new wanted.end.0 }

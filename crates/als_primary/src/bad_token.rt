@@ -1,7 +1,7 @@
-/// Why the file of a token is refused.
+/// Why a token's file is refused.
 #[derive(Clone, Copy, Debug, PartialEq, Eq)]
 pub enum BadToken {
-    /// It can't be opened or read.
+    /// It cannot be opened or read.
     Unreadable,
     /// Others than its owner may read or write it.
     Shared,

@@ -6,9 +6,10 @@ use crate::serving::Serving;
 use als_asking::Guard;
 use als_engine::{Events, Reader};
 use als_folder::Folder;
-use als_http::{Board, Hosts, Servers, State, config_with};
+use als_http::{Hosts, Servers, config_with};
 use als_lead::Answer;
 use als_operate::Fault;
+use als_report::{Board, State};
 use als_seats::{Leader, seats};
 use als_writer::Work;
 use std::alloc::{AllocError, Global};
@@ -20,16 +21,16 @@ use std::sync::{Arc, Wait};
 use std::thread::Threads;
 use std::time::{Clock, Duration};
 
-/// The connections that are served at a time, at most.
+/// The most connections that are served at a time.
 pub(crate) const CONNECTIONS: u64 = 64;
 
-/// The bytes of a request's body, at most.
+/// The most bytes of a request's body.
 const BODY: usize = 262_144;
 
 /// The bytes of a block.
 const BLOCK: u64 = 512;
 
-/// The threads that answer, and what ties them to the leader.
+/// The threads that serve requests, and what they share with the leader.
 pub(crate) struct Begun {
     pub board: Arc<Board, Global>,
     pub doubts: Arc<Doubts, Global>,
@@ -37,7 +38,7 @@ pub(crate) struct Begun {
     pub servers: Servers,
 }
 
-/// Starts the threads that answer, each in a seat of its own.
+/// Starts the threads that serve requests, each with a seat of its own.
 pub(crate) fn begin<
     R: AllocGlobal + Threads + Wait + Clock + RandomSource + Clone + Send + Drop + 'static,
     E: Events,
@@ -74,15 +75,15 @@ pub(crate) fn begin<
     })
 }
 
-/// The seats for so many connections of one peer. One more is that of a thread which is kept for others,
-/// and one that of the thread that waits for nobody.
+/// The seats for this many connections of one peer: one more for other peers, and one for the thread that
+/// waits for nobody.
 fn seats_of(connections: u64) -> u32
     ensures { result ≤ 66 }
 {
     connections.min(CONNECTIONS) as u32 + 2
 }
 
-/// What is in doubt at the start. The board receives how many.
+/// The transactions in doubt at the start. The board receives how many.
 fn doubts_of<R: Wait, E: Events>(
     rt: &R,
     alloc: Global,
@@ -94,7 +95,7 @@ fn doubts_of<R: Wait, E: Events>(
     Ok(doubts)
 }
 
-/// A board of an engine that is a primary's.
+/// The board of a primary with this engine.
 fn board_of<E: Events>(
     alloc: Global,
     engine: &E,
@@ -111,7 +112,7 @@ fn board_of<E: Events>(
     Ok(board)
 }
 
-/// Bytes that the log of a folder takes at most. None: its files can't be read.
+/// The bytes of a folder's log device. None: its files cannot be read.
 pub(crate) fn capacity_of<R: AllocGlobal + Files<File = File>>(
     rt: &R,
     folder: &Folder,

@@ -10,13 +10,13 @@ use std::alloc::Global;
 use std::sync::{Arc, Wait};
 use std::time::{Clock, Duration};
 
-/// A thread's way to the leader.
+/// The way of a serving thread to the leader, by a seat of its own.
 pub(crate) struct Chair<R> {
     rt: R,
     alloc: Global,
     asker: Asker<Work, Answer>,
     doubts: Arc<Doubts, Global>,
-    /// How long a piece of work may wait to begin.
+    /// How long a piece of work may wait until it is begun.
     patience: Duration,
 }
 
@@ -36,7 +36,7 @@ impl<R: Drop> Drop for Chair<R> {
 }
 
 impl<R: Wait + Clock> Chair<R> {
-    /// A way by a seat of its own.
+    /// The way by this asker's seat.
     pub fn new(
         rt: R,
         alloc: Global,
@@ -57,14 +57,14 @@ impl<R: Wait + Clock> Chair<R> {
 impl<R: Wait + Clock> Commits for Chair<R> {
     ghost use Rattle.std.specs.Prelude.{◌≤◌, length};
 
-    // None has two outcomes.
+    // No work has two outcomes.
     ghost commits = { λ old asked outcomes new. length outcomes ≤ length asked };
 
     ghost doubts = { λ chair found. Unit {0} };
 
     fn commit(&mut self, asked: Vec<Work>) -> Vec<Fate> {
         let count = asked.len();
-        // Before anything is asked: there has to be room for what becomes of it.
+        // Memory for the outcomes is taken before anything is asked.
         let Ok(mut fates) = Vec::with_capacity(self.alloc, count) else {
             return Vec::new(self.alloc);
         };
@@ -84,7 +84,7 @@ impl<R: Wait + Clock> Commits for Chair<R> {
     }
 }
 
-/// What becomes of a piece of work, as it is answered over HTTP.
+/// The outcome of a piece of work, as it is answered over HTTP.
 fn fate_of(outcome: Outcome<Answer>) -> Fate
     ensures { result ≡ fate_of outcome }
 {
@@ -95,7 +95,7 @@ fn fate_of(outcome: Outcome<Answer>) -> Fate
         Outcome::Answered(Answer::Refused(refusal)) => Fate::Refused(refusal),
         Outcome::Answered(Answer::NotDecided(why)) => Fate::NotDecided(why),
         Outcome::Answered(Answer::Unknown(written)) => Fate::Unknown(written),
-        // Why nothing of it is done is not told.
+        // A withheld refusal is answered without its reason.
         Outcome::Answered(Answer::Withheld) | Outcome::NotBegun => Fate::NotBegun,
         Outcome::Lost => Fate::Lost,
     }

@@ -1,11 +1,11 @@
 ghost use Rattle.std.specs.Prelude.{◌≡◌, ◌≤◌, ◌<◌, ◌+◌, ◌*◌, IfSome};
 
-/// Since when a primary waits for its followers, by the second.
+/// How long a primary has waited for its followers.
 #[derive(Clone, Copy, Debug, PartialEq, Eq)]
 pub(crate) struct Delay {
-    /// None: it does not wait.
+    /// The second in which it began to wait. None: it does not wait.
     since: Option<u64>,
-    /// The whole minutes that were told of.
+    /// The whole minutes that were announced.
     told: u64,
 }
 
@@ -16,12 +16,12 @@ impl Delay {
         told: 0,
     };
 
-    /// It waits in this second. For how many seconds, where that is to be told: once in each whole minute,
-    /// behind the first one.
+    /// It waits in this second. Some: it has waited this many seconds, and that is to be announced, once in
+    /// each minute after the first.
     pub fn note(&mut self, now: u64) -> Option<u64>
-        // It has waited for a minute at least, and for a whole one more than was told of.
+        // It has waited for a minute at least, and for a whole minute more than was announced.
         ensures due { IfSome result (λ s. (60 ≤ s) × (60 * self.old.told < s)) }
-        // The same minute is not told of again.
+        // The same minute is not announced again.
         ensures noted { IfSome result (λ s. s < 60 * (self.new.told + 1)) }
     {
         let since = match self.since {
@@ -40,7 +40,7 @@ impl Delay {
         Some(seconds)
     }
 
-    /// It waits no more.
+    /// It no longer waits.
     pub fn end(&mut self)
         ensures { self.new.since ≡ None }
     {

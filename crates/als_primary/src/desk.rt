@@ -5,19 +5,19 @@ ghost use Rattle.als_seats.specs.Places.{number_of};
 use crate::doubts::Doubts;
 use crate::group::Group;
 use als_engine::Decision;
-use als_http::Board;
 use als_lead::{Account, Answer, Asked, Clients, Waited};
 use als_operate::Fault;
+use als_report::Board;
 use als_seats::{Ask, Leader, Place, Waited as Met};
 use als_writer::Work;
 use std::alloc::Global;
 use std::sync::{Arc, Wait};
 use std::time::{Clock, Duration};
 
-/// Nobody asked for a while: after so many milliseconds.
+/// Milliseconds without a question after which the leader is idle.
 const IDLE: u64 = 100;
 
-/// Those who ask, as the leader meets them: each sits in a seat of his own.
+/// The clients of the leader: the askers, each with a seat of its own.
 pub(crate) struct Desk<'a, R> {
     rt: &'a R,
     board: Arc<Board, Global>,
@@ -45,8 +45,8 @@ impl<R> Drop for Desk<'_, R> {
 }
 
 impl<'a, R: Wait + Clock> Desk<'a, R> {
-    /// Nobody was answered yet. The board receives what each group came to, and `doubts` that some may
-    /// come or go by it.
+    /// Clients to which nothing was answered yet. The board receives what each group came to, and `doubts`
+    /// that some may have come or gone.
     pub fn new(
         rt: &'a R,
         board: Arc<Board, Global>,
@@ -66,8 +66,7 @@ impl<'a, R: Wait + Clock> Desk<'a, R> {
         }
     }
 
-    /// Nobody is served any more. What waits was not begun, and what was begun and has no answer is
-    /// lost.
+    /// Ends: waiting questions are not begun, and begun ones without an answer are lost.
     pub fn end(self) {
         let Desk {
             rt,
@@ -119,14 +118,14 @@ impl<R: Wait + Clock> Clients for Desk<'_, R> {
         self.account.tell(&asked, again(&answer));
         self.group
             .tell(now_of(self.rt), is_committed(&asked.work, &answer));
-        // Each transaction that was taken came from a place.
+        // Each seat that was handed out is the number of a place.
         if let Some(place) = Place::of(asked.seat) {
             self.leader.tell(self.rt, place, answer);
         }
         Ok(())
     }
 
-    // Whoever is answered is awake.
+    // `tell` has woken the askers.
     fn end_group(&mut self) -> Result<(), Fault> {
         if let Some((committed, forced)) = self.group.end() {
             self.board.note_group(committed, forced);
@@ -135,7 +134,7 @@ impl<R: Wait + Clock> Clients for Desk<'_, R> {
     }
 }
 
-/// The time of a clock. One that can't be read is at its beginning.
+/// The time by a clock, 0 if it cannot be read.
 fn now_of<C: Clock>(clock: &C) -> Duration {
     match clock.monotonic() {
         Ok(now) => now,
@@ -143,7 +142,7 @@ fn now_of<C: Clock>(clock: &C) -> Duration {
     }
 }
 
-/// Whether a transaction is committed by what was answered.
+/// Whether an answer says that the work committed a transaction.
 fn is_committed(work: &Work, answer: &Answer) -> bool {
     match answer {
         Answer::Committed(_) => true,
@@ -158,7 +157,7 @@ fn is_committed(work: &Work, answer: &Answer) -> bool {
     }
 }
 
-/// A question as the leader takes it: its seat is the number of its place.
+/// A question as work for the leader: its seat is the number of its place.
 fn asked_of(ask: Ask<Work>) -> Asked
     ensures seat { result.seat ≡ number_of ask.place }
     ensures work { result.work ≡ ask.question }
@@ -169,7 +168,7 @@ fn asked_of(ask: Ask<Work>) -> Asked
     }
 }
 
-/// The same answer.
+/// A copy of an answer.
 fn again(answer: &Answer) -> Answer
     ensures { result ≡ answer.now }
 {

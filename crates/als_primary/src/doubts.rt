@@ -4,24 +4,24 @@ ghost use Rattle.als_primary.specs.Doubts.{is_doubt, doubt_of, doubts_of};
 
 use als_asking::Doubt;
 use als_engine::Events;
-use als_http::Board;
 use als_record::{TransactionRow, TransactionState};
+use als_report::Board;
 use std::alloc::{AllocError, Global};
 use std::sync::atomic::{AtomicBool, Ordering};
 use std::sync::{Mutex, Wait};
 
-/// The transactions in doubt, as the leader last saw them. The threads that answer read them.
+/// The transactions in doubt, as the leader last saw them. The threads that serve requests read them.
 #[derive(Drop)]
 pub(crate) struct Doubts {
     alloc: Global,
-    /// In rising number. None: there was no memory for them.
+    /// By rising TransID. None: there was no memory for them.
     found: Mutex<Option<Vec<Doubt>>>,
-    /// Some may have come or gone since.
+    /// Whether some may have come or gone since.
     is_old: AtomicBool,
 }
 
 impl Doubts {
-    /// The leader has not looked yet.
+    /// Nothing was looked at yet.
     pub fn new(alloc: Global) -> Doubts {
         Doubts {
             alloc,
@@ -30,12 +30,12 @@ impl Doubts {
         }
     }
 
-    /// Some may come or go from now on.
+    /// Notes that some may come or go from now on.
     pub fn note(&self) {
         self.is_old.store(true, Ordering::SeqCst);
     }
 
-    /// Looks at what the engine holds, where something may have come or gone.
+    /// Looks them up in the engine, if some may have come or gone.
     pub fn look<R: Wait, E: Events>(&self, rt: &R, engine: &E, board: &Board) {
         if !self.is_old.swap(false, Ordering::SeqCst) {
             return;
@@ -48,7 +48,7 @@ impl Doubts {
         *self.found.lock(rt) = found;
     }
 
-    /// A copy of them. None: there is no memory for it, or there was none for them.
+    /// A copy of them. None: there is no memory for the copy, or there was none for them.
     pub fn copy<R: Wait>(&self, rt: &R) -> Option<Vec<Doubt>> {
         let found = self.found.lock(rt);
         let Some(found) = &*found else {
@@ -60,13 +60,11 @@ impl Doubts {
 
 /// The transactions in doubt of an engine. None: there is no memory for them.
 fn found_in<E: Events>(alloc: Global, engine: &E) -> Option<Vec<Doubt>> {
-    let Ok(rows) = engine.table(alloc) else {
-        return None;
-    };
+    let rows = engine.table(alloc).ok()?;
     doubts_of(alloc, rows.as_slice()).ok()
 }
 
-/// The rows in doubt of a table, in its order.
+/// The transactions in doubt of a table, in its order.
 fn doubts_of(alloc: Global, rows: &[TransactionRow]) -> Result<Vec<Doubt>, AllocError>
     ensures { IfOk result (λ found. found.items ≡ doubts_of rows.now) }
 {
@@ -91,7 +89,7 @@ fn is_doubt(row: &TransactionRow) -> bool
     }
 }
 
-/// The transaction of a row, and its last record.
+/// The TransID and the last LSN of a row.
 fn doubt_of(row: &TransactionRow) -> Doubt
     ensures { result ≡ doubt_of row.now }
 {

@@ -6,7 +6,6 @@ use als_engine::{Engine, Events, Fault as EngineFault};
 use als_folder::Folder;
 use als_followers::{Allowed, Block, Followers, NodeSource, Terms};
 use als_operate::{Fault, silence};
-use als_ship::Fault as SessionFault;
 use std::alloc::Global;
 use std::fs::{File, OpenFile};
 use std::net::{OpenListener, TcpListener};
@@ -15,14 +14,14 @@ use std::sync::Wait;
 use std::thread::Threads;
 use std::time::Clock;
 
-/// Where followers connect, and who may.
+/// The listener of followers, and who may follow.
 #[derive(Drop)]
 pub(crate) struct Shipping {
     pub listener: TcpListener,
     pub allowed: Allowed,
 }
 
-/// Who may follow. BadConfig: one of them is no address and no block.
+/// Who may follow. BadConfig: a text is neither an address nor a block.
 pub(crate) fn allowed_of(alloc: Global, texts: &[&str]) -> Result<Allowed, Fault> {
     let mut allowed = Allowed::new(alloc);
     for text in texts {
@@ -34,7 +33,7 @@ pub(crate) fn allowed_of(alloc: Global, texts: &[&str]) -> Result<Allowed, Fault
     Ok(allowed)
 }
 
-/// Starts the sessions of a folder's log. None: nobody may follow.
+/// Starts the threads that serve followers of a folder's log. None: nobody may follow.
 pub(crate) fn follow<
     R: AllocGlobal
         + Files<File = File>
@@ -62,18 +61,14 @@ pub(crate) fn follow<
     let alloc = rt.alloc();
     let addr = listener.local_addr()?;
     let file = folder.open_to_read(rt)?.log.try_clone()?;
-    let source = match NodeSource::new(
+    let source = NodeSource::new(
         rt.clone()?,
         alloc,
         file,
         others.tail()?,
         engine.history(),
         serving.timeout,
-    ) {
-        Ok(source) => source,
-        Err(SessionFault::Memory) => return Err(Fault::Memory),
-        Err(fault) => return Err(Fault::Session(fault)),
-    };
+    )?;
     let terms = Terms::new(serving.window, silence(serving.timeout));
     let tail = others.tail()?;
     let quorum = others.quorum()?;

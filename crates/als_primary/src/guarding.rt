@@ -6,7 +6,7 @@ use crate::refusal::Refusal;
 use als_asking::Guard;
 use std::net::{IpAddr, OpenListener};
 
-/// Who may commit at a listener.
+/// Who may commit over a listener.
 pub(crate) fn guard_of<L: OpenListener>(
     listener: &L,
     token: Option<Vec<u8>>,
@@ -17,8 +17,8 @@ pub(crate) fn guard_of<L: OpenListener>(
     guard_at(addr.ip(), token)
 }
 
-/// Who may commit at an address: who brings the token, or, where there is none, whoever reaches an address
-/// of this machine alone. Unguarded: another address, and no token.
+/// Who may commit over an address: clients with the token, or, without a token, all clients of a loopback
+/// address. Unguarded: another address, and no token.
 fn guard_at(ip: IpAddr, token: Option<Vec<u8>>) -> Result<Guard, Refusal>
     ensures token { IfSome token (λ bytes. result ≡ Ok (Token bytes)) }
     ensures loopback { token ≡ None

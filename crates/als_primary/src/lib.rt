@@ -1,4 +1,4 @@
-//! The server of a primary: its clients are the threads that answer over HTTP, and one thread leads.
+//! The server of a primary: the threads that serve HTTP are its clients, and one thread leads.
 //!
 //! ```text
 //! HTTP threads --Work--> seats --> leader: write, force once, publish, answer all of a group
@@ -6,30 +6,32 @@
 //!              --reader--> view of what is published
 //! ```
 //!
-//! 1. The leader owns the engine alone. It answers a transaction once its group is forced and
+//! 1. Only the leader has the engine. It answers a transaction once its group is forced, confirmed and
 //!    published.
 //! 2. Each thread has a seat of its own. The threads share the eight readers of the view.
-//! 3. Who may commit is settled before the folder is touched: whoever brings the token, or, where
-//!    there is none, whoever reaches an address of the loopback.
-//! 4. Followers read the log below what is forced, each in a session of its own. With `sync` above 0 a
-//!    group is answered, and published, once so many of different addresses have acknowledged it.
-//! 5. However the leader ends, what was not begun is answered so, what is held is put on the devices,
-//!    and each thread is joined.
+//! 3. Who may commit is decided before the folder is touched: clients with the token, or, without a
+//!    token, all clients of a loopback address.
+//! 4. Followers are sent the log below what is forced, each in a session of its own. With `sync` above 0
+//!    a group is published and answered once that many with different addresses have acknowledged it.
+//! 5. However the leader ends, what was not begun is answered so, what the engine has is put on the
+//!    devices, and each thread is joined.
 #![tactic(auto)]
 
-// What is asked for.
+// What the command asks for.
 mod serving;
-// Why it is not done.
+// Which numbers of that are in range.
+mod ranges;
+// Why it did not serve.
 mod refusal;
-// Those who ask, as the leader meets them.
+// The clients of the leader.
 mod desk;
 // What a group came to.
 mod group;
 // What is in doubt.
 mod doubts;
-// A thread's way to the leader.
+// The way of a serving thread to the leader.
 mod chair;
-// What each thread answers by.
+// The services of the threads.
 mod services;
 // The token of those who may commit.
 mod token;
@@ -37,19 +39,19 @@ mod token;
 mod bad_token;
 // Who may commit.
 mod guarding;
-// What is said to who runs it.
+// What is announced to whoever runs it.
 mod announcing;
-// The upkeep, and a board of how the primary stands.
+// The upkeep, with the board and the followers.
 mod watching;
 // What the quorum answered.
 mod answers;
-// What a leader and the sessions of its followers share.
+// What the leader and the sessions of its followers share.
 mod others;
-// Since when followers are waited for.
+// How long followers are waited for.
 mod delay;
 // The sessions of followers.
 mod following;
-// The threads that answer.
+// The threads that serve requests.
 mod beginning;
 // All of the command.
 mod running;

@@ -1,20 +1,20 @@
-ghost use Rattle.std.specs.Prelude.{◌≡◌, ◌≤◌, ℕ, true, false};
+ghost use Rattle.std.specs.Prelude.{◌≡◌, ℕ, true, false};
 ghost use Rattle.als_primary.specs.Others.{IsConfirmed, IsMissed};
 
 use crate::answers::{Answers, Wanted};
-use als_http::{Board, FollowerRow};
-use als_quorum::{Quorum, Row, SEATS, Tail};
+use als_quorum::{Quorum, SEATS, Tail};
 use als_record::Lsn;
+use als_report::Board;
 use std::alloc::{AllocError, Global};
 use std::sync::{Arc, Wait};
 use std::time::{Clock, Duration};
 
-/// What a leader and the sessions of its followers share, and what the quorum answered.
+/// What the leader and the sessions of its followers share, and the quorum's answers.
 pub(crate) struct Others<'a, R> {
     rt: &'a R,
     tail: Arc<Tail, Global>,
     quorum: Arc<Quorum, Global>,
-    /// So many have to acknowledge a commit.
+    /// How many followers have to acknowledge a commit.
     count: u32,
     answers: Answers,
 }
@@ -35,7 +35,7 @@ impl<R> Drop for Others<'_, R> {
 }
 
 impl<'a, R: Wait + Clock> Others<'a, R> {
-    /// So many have to acknowledge a commit. The log is durable up to there.
+    /// `count` followers have to acknowledge a commit. The log is durable up to `end`.
     pub fn new(
         rt: &'a R,
         alloc: Global,
@@ -61,20 +61,20 @@ impl<'a, R: Wait + Clock> Others<'a, R> {
         Arc::try_clone(&self.quorum)
     }
 
-    /// So many have to acknowledge a commit.
+    /// How many followers have to acknowledge a commit.
     pub fn count(&self) -> u32
         ensures { result ≡ self.now.count }
     {
         self.count
     }
 
-    /// The log is durable up to there: followers may have it.
+    /// The log is durable up to there, so sessions may send it.
     pub fn show(&self, end: Lsn) {
         self.tail.raise(self.rt, end);
     }
 
-    /// Waits until enough followers have acknowledged the log up to there, for so long at most. Whether they
-    /// have.
+    /// Waits, at most this long, until enough followers have acknowledged the log up to there. Returns
+    /// whether they have.
     pub fn ask(&mut self, end: Lsn, at_most: Duration) -> bool
         ensures confirms { result ≡ true → IsConfirmed self.old.count self.new.answers end.0 }
         ensures fails { result ≡ false → IsMissed self.old.count self.new.answers end.0 }
@@ -89,41 +89,8 @@ impl<'a, R: Wait + Clock> Others<'a, R> {
         is_enough
     }
 
-    /// Writes who follows.
+    /// Writes the followers onto the board.
     pub fn note(&self, board: &Board) {
-        let mut rows = [FollowerRow::default(); SEATS as usize];
-        let count = fill(&self.quorum.rows(self.rt), &mut rows);
-        board.set_followers(&rows[..count]);
-    }
-}
-
-/// Fills the front with the rows that there are. Answers how many.
-fn fill(found: &[Option<Row>; SEATS as usize], rows: &mut [FollowerRow; SEATS as usize]) -> usize
-    ensures { result ≤ 8 }
-{
-    let mut count = 0;
-    for row in found {
-        if let Some(row) = row {
-            if count < rows.len() {
-                rows[count] = row_of(row);
-                count += 1;
-            }
-        }
-    }
-    count
-}
-
-/// A row as the board has it.
-fn row_of(row: &Row) -> FollowerRow {
-    let connected = row.connected.as_secs();
-    FollowerRow {
-        peer: row.peer,
-        acknowledged: row.acknowledged,
-        connected,
-        answered: match row.heard {
-            Some(heard) => heard.as_secs(),
-            None => connected,
-        },
-        counts: row.counts,
+        board.set_seats(&self.quorum.rows(self.rt));
     }
 }

@@ -7,14 +7,14 @@ use als_operate::Fault;
 use std::alloc::AllocError;
 use std::io;
 
-/// Why a primary does not serve, or serves no more.
+/// Why a primary did not serve, or stopped.
 #[derive(Clone, Copy, Debug, PartialEq, Eq)]
 pub enum Refusal {
-    /// The address is not one of the loopback, and there is no token.
+    /// The address is not a loopback one, and there is no token.
     Unguarded,
-    /// The file of the token is refused.
+    /// The token's file is refused.
     BadToken(BadToken),
-    /// It could not begin, or something failed.
+    /// It could not start, or something failed.
     Ended(Fault),
 }
 

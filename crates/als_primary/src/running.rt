@@ -1,23 +1,29 @@
+ghost use Rattle.std.specs.Prelude.{◌≡◌, Err};
+ghost use Rattle.als_primary.specs.Ranges.{AreInRange};
+ghost use Rattle.als_primary.specs.declared.refusal.Refusal.TheVariants.{Ended};
+ghost use Rattle.als_operate.specs.declared.fault.Fault.TheVariants.{Refused};
+ghost use Rattle.als_engine.specs.declared.fault.Fault.TheVariants.{BadConfig};
+
 use crate::announcing::Announces;
-use crate::beginning::{Begun, CONNECTIONS, begin, capacity_of};
+use crate::beginning::{Begun, begin, capacity_of};
 use crate::delay::Delay;
 use crate::desk::Desk;
 use crate::following::{Shipping, allowed_of, follow};
 use crate::guarding::guard_of;
 use crate::others::Others;
+use crate::ranges::check_numbers;
 use crate::refusal::Refusal;
 use crate::serving::Serving;
 use crate::token::read_token;
 use crate::watching::{Watching, moments_of};
 use als_disk::FileDisk;
 use als_drive::Progress;
-use als_engine::{Engine, Events, Fault as EngineFault};
+use als_engine::{Engine, Events};
 use als_folder::Folder;
-use als_http::{State, listen};
+use als_http::listen;
 use als_lead::{Database, Limits, Primary, PrimaryUpkeep, lead, open};
 use als_operate::{Fault, NearlyFull, named, settle};
-use als_quorum::SEATS;
-use als_sending::WINDOW_LIMIT;
+use als_report::State;
 use std::fs::File;
 use std::net::{Net, TcpListener, TcpStream};
 use std::random::RandomSource;
@@ -26,13 +32,10 @@ use std::sync::{Arc, Wait};
 use std::thread::Threads;
 use std::time::Clock;
 
-/// The seconds that a transaction may wait to begin, at most.
-const PATIENCE: u64 = 3_600;
-
 /// The readers of the view: as many as it has.
 const READERS: u64 = 8;
 
-/// A group has so many transactions, or so many log bytes, at most.
+/// The most transactions, and the most log bytes, of a group.
 const GROUP: Limits = Limits {
     transactions: 64,
     bytes: 1_048_576,
@@ -41,13 +44,13 @@ const GROUP: Limits = Limits {
 /// The log bytes from one checkpoint to the next: 4 MiB.
 const CHECKPOINT_BYTES: u64 = 4_194_304;
 
-/// The primary of a folder, which commits and answers reads over HTTP until something fails. `lines`
-/// receives the progress of the redo before that, and what it says to who runs it.
+/// Runs the primary of a folder: it commits and answers reads over HTTP until something fails. `lines`
+/// receives the progress of the redo before that, and what it announces to whoever runs it.
 ///
-/// BadConfig: a number is out of its range, followers are to acknowledge and none may connect, a follower is
-/// no address, or the page count of a new database is missing; no file was touched. Stream: an address can't
-/// be listened at. Else as `als_lead::open` says, or the first failure of the engine. However it ends, what
-/// is held is put on the devices.
+/// BadConfig: a number is out of its range, followers have to acknowledge and none may connect, a follower
+/// is not an address, or the page count of a new database is missing; no file was touched. Stream: it cannot
+/// listen at an address. Else as for `als_lead::open`, or the first failure of the engine. However it ends,
+/// what the engine has is put on the devices.
 pub fn primary<
     R: AllocGlobal
         + Files<File = File>
@@ -62,8 +65,32 @@ pub fn primary<
         + Drop
         + 'static,
     P: Progress + Announces,
+>(rt: &R, serving: Serving<'_>, lines: &mut P) -> Result<(), Refusal>
+    // Whatever else is wrong.
+    ensures numbers { ¬ (AreInRange serving.entry) → result ≡ Err (Ended (Refused BadConfig)) }
+{
+    match check_numbers(serving) {
+        Ok(()) => serve(rt, serving, lines),
+        Err(fault) => Err(Refusal::Ended(fault)),
+    }
+}
+
+/// Decides who may commit and follow, opens the folder, and serves.
+fn serve<
+    R: AllocGlobal
+        + Files<File = File>
+        + Net<Listener = TcpListener, Stream = TcpStream>
+        + Threads
+        + Wait
+        + Sync
+        + Clock
+        + RandomSource
+        + Clone
+        + Send
+        + Drop
+        + 'static,
+    P: Progress + Announces,
 >(rt: &R, serving: Serving<'_>, lines: &mut P) -> Result<(), Refusal> {
-    check_numbers(serving)?;
     let token = token_of(rt, serving)?;
     let listener = listen(rt, rt.alloc(), serving.serve)?;
     let guard = guard_of(&listener, token)?;
@@ -97,7 +124,7 @@ pub fn primary<
     }
 }
 
-/// Where followers connect, and who may. None: nobody may follow.
+/// The listener of followers, and who may follow. None: nobody may.
 fn shipping_of<R: AllocGlobal + Net<Listener = TcpListener, Stream = TcpStream>>(
     rt: &R,
     serving: Serving<'_>,
@@ -111,7 +138,7 @@ fn shipping_of<R: AllocGlobal + Net<Listener = TcpListener, Stream = TcpStream>>
     Ok(Some(Shipping { listener, allowed }))
 }
 
-/// The token that who commits has to bring. None: nobody brings one.
+/// The token that a client has to send to commit. None: no token is wanted.
 fn token_of<R: AllocGlobal + Files<File = File>>(
     rt: &R,
     serving: Serving<'_>,
@@ -125,21 +152,6 @@ fn token_of<R: AllocGlobal + Files<File = File>>(
     }
 }
 
-/// Refuses a number that is out of its range.
-fn check_numbers(serving: Serving<'_>) -> Result<(), Fault> {
-    let is_valid = (1..=CONNECTIONS).contains(&serving.connections)
-        && (1..=PATIENCE).contains(&serving.commit_timeout)
-        && (1..=WINDOW_LIMIT).contains(&serving.window)
-        && serving.timeout <= PATIENCE
-        && serving.sync <= SEATS
-        && (serving.listen.is_some() || (serving.sync == 0 && serving.followers.is_empty()));
-    if is_valid {
-        Ok(())
-    } else {
-        Err(Fault::Refused(EngineFault::BadConfig))
-    }
-}
-
 /// The database that is asked for.
 fn database_of(serving: Serving<'_>) -> Database<'_> {
     Database {
@@ -150,16 +162,14 @@ fn database_of(serving: Serving<'_>) -> Database<'_> {
     }
 }
 
-/// Serves over a folder that is held. Then what the engine holds is put on the devices.
+/// Serves until something fails. Then what the engine has is put on the devices.
 fn stand<
     R: AllocGlobal
         + Files<File = File>
-        + Net<Listener = TcpListener, Stream = TcpStream>
         + Threads
         + Wait
         + Sync
         + Clock
-        + RandomSource
         + Clone
         + Send
         + Drop
@@ -211,13 +221,5 @@ fn stand<
     }
     servers.close(rt);
     let settled = settle(engine);
-    first(led, settled)
-}
-
-/// The first failure of two results.
-fn first(earlier: Result<(), Fault>, later: Result<(), Fault>) -> Result<(), Fault> {
-    match earlier {
-        Ok(()) => later,
-        Err(fault) => Err(fault),
-    }
+    led.and(settled)
 }

@@ -5,21 +5,23 @@ use crate::chair::Chair;
 use crate::doubts::Doubts;
 use als_asking::{Asking, Guard, Lent};
 use als_engine::Reader;
-use als_http::{Answering, Board, Hosts, Watch};
+use als_http::{Answering, Hosts};
 use als_lead::Answer;
+use als_report::{Board, Watch};
 use als_seats::Asker;
 use als_writer::Work;
 use std::alloc::{AllocError, Global};
 use std::sync::{Arc, Mutex, Wait};
 use std::time::{Clock, Duration};
 
-/// What answers reads. Threads share it.
+/// The service of reads. Threads share it.
 type Reads<R> = Answering<Watch<R>>;
 
-/// What a thread answers by.
+/// The service of a thread.
 pub(crate) type Service<R> = Asking<Chair<R>, Lent<Reads<R>, R>>;
 
 /// What the services of all threads have in common.
+#[derive(Drop)]
 pub(crate) struct Common<'a, R> {
     pub rt: &'a R,
     pub alloc: Global,
@@ -31,22 +33,8 @@ pub(crate) struct Common<'a, R> {
     pub patience: Duration,
 }
 
-impl<R> Drop for Common<'_, R> {
-    fn drop(self) {
-        let Common {
-            rt: _,
-            alloc: _,
-            board: _,
-            doubts: _,
-            guard: _,
-            hosts: _,
-            patience: _,
-        } = self;
-    }
-}
-
 impl<R: Wait + Clock + Clone + Drop> Common<'_, R> {
-    /// A service for each asker, with its clock. They share the readers, a few each one.
+    /// A service for each asker, with its clock. Several services share a reader.
     pub fn services(
         &self,
         askers: Vec<Asker<Work, Answer>>,
@@ -65,7 +53,7 @@ impl<R: Wait + Clock + Clone + Drop> Common<'_, R> {
         Ok(services)
     }
 
-    /// The readers, each to be shared.
+    /// A service of reads for each reader, to be shared.
     fn share(&self, readers: Vec<Reader>) -> Result<Vec<Arc<Mutex<Reads<R>>, Global>>, AllocError> {
         let mut shared = Vec::with_capacity(self.alloc, readers.len())?;
         for reader in readers {
@@ -91,7 +79,7 @@ impl<R: Wait + Clock + Clone + Drop> Common<'_, R> {
     }
 }
 
-/// The same guard.
+/// A copy of a guard.
 fn copy_of(alloc: Global, guard: &Guard) -> Result<Guard, AllocError>
     ensures { IfOk result (λ copy. token_of copy ≡ token_of guard.now) }
 {

@@ -7,17 +7,16 @@ use std::io::Read;
 use std::os::unix::fs::PermissionsExt;
 use std::rt::Files;
 
-/// The bytes of a token, at least.
+/// The fewest bytes of a token.
 const SHORTEST: usize = 16;
 
-/// The bytes of a token, at most.
+/// The most bytes of a token.
 const LONGEST: usize = 4_096;
 
-/// The bits of a file's mode for those who do not own it.
+/// The bits of a file's mode for everybody but its owner.
 const OTHERS: u32 = 0o077;
 
-/// The token that a file holds: its content without the last line end. Its owner alone may read or write
-/// the file.
+/// Reads the token in a file: its content without a last line end. Only its owner may read or write the file.
 pub(crate) fn read_token<R: AllocGlobal + Files<File = File>>(
     rt: &R,
     path: &str,
@@ -40,7 +39,7 @@ pub(crate) fn read_token<R: AllocGlobal + Files<File = File>>(
     Ok(token)
 }
 
-/// Refuses a file that others than its owner may read or write.
+/// Refuses a file that others than its owner may access.
 fn check_mode(file: &File) -> Result<(), BadToken> {
     let Ok(found) = file.metadata() else {
         return Err(BadToken::Unreadable);
@@ -54,7 +53,7 @@ fn check_mode(file: &File) -> Result<(), BadToken> {
     Ok(())
 }
 
-/// Reads a file to its end, or a little further than a token goes.
+/// Reads a file to its end, or a little further than a token may be long.
 fn read_all<I: Read>(file: &mut I, into: &mut Vec<u8>) -> Result<(), BadToken> {
     let mut piece = [0; 1_024];
     for _ in 0..=LONGEST {
@@ -74,7 +73,7 @@ fn read_all<I: Read>(file: &mut I, into: &mut Vec<u8>) -> Result<(), BadToken> {
     Ok(())
 }
 
-/// Takes away the line end at the end, where there is one.
+/// Removes a line end from the end.
 fn drop_line_end(token: &mut Vec<u8>) {
     if token.last() == Some(&b'\n') {
         token.pop();

@@ -8,10 +8,10 @@ use crate::doubts::Doubts;
 use crate::others::Others;
 use als_engine::{Events, Fault, Status};
 use als_followers::{Followers, NodeSource};
-use als_http::{Board, State};
 use als_lead::{PrimaryUpkeep, Upkeep};
 use als_operate::NearlyFull;
 use als_record::Lsn;
+use als_report::{Board, State};
 use std::fs::File;
 use std::sync::Wait;
 use std::time::{Clock, Duration};
@@ -19,18 +19,18 @@ use std::time::{Clock, Duration};
 /// The seconds of an hour.
 const HOUR: u64 = 3_600;
 
-/// Milliseconds that a leader waits for its followers, until it looks after what else is due.
+/// Milliseconds for which the leader waits for followers before it does what else is due.
 const MOMENT: u64 = 100;
 
-/// So many notices are told in one turn at most.
+/// The most notices that are announced in one turn.
 const NOTICES: u32 = 64;
 
-/// So often in a row redo or the readers' list may meet want of memory, before a primary ends.
+/// How often in a row redo or the readers' list may fail for want of memory before the primary ends.
 const SHORT: u32 = 100;
 
-/// The upkeep of a primary, and what its followers have acknowledged. After each of its turns a board has
-/// how the primary stands, and what is due is told: once an hour a log with little room left, once a minute
-/// that followers are waited for, and who came and went.
+/// The upkeep of a primary, with what its followers have acknowledged. After each turn the board is up to
+/// date, and what is due is announced: once an hour that the log has little room left, once a minute that
+/// followers are waited for, and who came and went.
 #[derive(Drop)]
 pub(crate) struct Watching<'a, R: Wait + Drop, A> {
     pub upkeep: PrimaryUpkeep<'a, R>,
@@ -38,21 +38,22 @@ pub(crate) struct Watching<'a, R: Wait + Drop, A> {
     pub doubts: &'a Doubts,
     pub clock: &'a R,
     pub lines: A,
-    /// The bytes that its log takes at most. None: not known.
+    /// The bytes of the log's device. None: not known.
     pub capacity: Option<u64>,
     pub full: NearlyFull,
     pub others: Others<'a, R>,
-    /// For how many moments a group waits for them at most.
+    /// The most moments for which a group waits for followers.
     pub moments: u64,
     pub delay: Delay,
     /// The sessions. None: nobody may follow.
     pub followers: Option<&'a Followers<NodeSource<R, File>>>,
-    /// How often in a row memory was short.
+    /// How often in a row memory was refused.
     pub short: u32,
 }
 
 impl<R: Wait + Clock + Drop, A: Announces> Watching<'_, R, A> {
-    /// Waits for a moment until enough followers have acknowledged the log up to there. Whether they have.
+    /// Waits a moment until enough followers have acknowledged the log up to there. Returns whether they
+    /// have.
     fn ask(&mut self, end: Lsn) -> bool
         ensures confirms { result ≡ true
             → IsConfirmed self.new.others.count self.new.others.answers end.0 }
@@ -83,7 +84,7 @@ impl<R: Wait + Clock + Drop, A: Announces> Watching<'_, R, A> {
         is_enough
     }
 
-    /// The same, for as many moments as a group may wait.
+    /// Does the same for as many moments as a group may wait.
     fn ask_long(&mut self, end: Lsn) -> bool
         ensures confirms { result ≡ true
             → IsConfirmed self.new.others.count self.new.others.answers end.0 }
@@ -104,7 +105,7 @@ impl<R: Wait + Clock + Drop, A: Announces> Watching<'_, R, A> {
     }
 }
 
-/// Writes how a primary stands, and tells of a log with little room left where that is due.
+/// Brings the board up to date, and announces that the log has little room left, if that is due.
 fn note<C: Clock, A: Announces>(
     board: &Board,
     clock: &C,
@@ -124,7 +125,7 @@ fn note<C: Clock, A: Announces>(
     }
 }
 
-/// Tells who came and who went.
+/// Announces who came and who went.
 fn tell_notices<R: Wait + Drop, A: Announces>(
     clock: &R,
     followers: Option<&Followers<NodeSource<R, File>>>,
@@ -141,12 +142,12 @@ fn tell_notices<R: Wait + Drop, A: Announces>(
     }
 }
 
-/// The moments of so many seconds.
+/// The moments in this many seconds.
 pub(crate) fn moments_of(seconds: u64) -> u64 {
     seconds.saturating_mul(1_000) / MOMENT
 }
 
-/// Tells that followers are waited for, where that is due.
+/// Announces that followers are waited for, if that is due.
 fn tell_delay<C: Clock, A: Announces>(delay: &mut Delay, clock: &C, count: u32, lines: &mut A) {
     let Ok(now) = clock.monotonic() else {
         return;
@@ -156,7 +157,7 @@ fn tell_delay<C: Clock, A: Announces>(delay: &mut Delay, clock: &C, count: u32, 
     }
 }
 
-/// Whether want of memory is waited out: so often in a row it is.
+/// Whether a refused allocation is passed over: only so often in a row.
 fn waits_out(short: &mut u32, met: &Result<(), Fault>) -> bool {
     if !matches!(met, Err(Fault::Memory)) {
         *short = 0;
@@ -169,14 +170,14 @@ fn waits_out(short: &mut u32, met: &Result<(), Fault>) -> bool {
 impl<R: Wait + Clock + Drop, A: Announces> Upkeep for Watching<'_, R, A> {
     ghost use Rattle.als_primary.specs.Others.{IsConfirmed, IsMissed};
 
-    // The quorum answered that enough have acknowledged it.
+    // The quorum answered that enough followers have acknowledged it.
     ghost confirmed = { λ watching n. IsConfirmed watching.others.count watching.others.answers n };
 
     // The quorum answered that too few have.
     ghost missed = { λ watching n. IsMissed watching.others.count watching.others.answers n };
 
-    // Where memory is short, readers see the rest before the next group. Who is answered finds in doubt what
-    // is.
+    // If memory is refused, readers see the rest before the next group. The list of transactions in doubt is
+    // up to date before a group is answered.
     fn publish<E: Events>(&mut self, engine: &mut E) -> Result<(), Fault> {
         let published = self.upkeep.publish(engine);
         self.doubts.look(self.clock, &*engine, self.board);

@@ -1,7 +1,8 @@
+use als_fanout::{Sessions, Strayed};
 use als_operate::Fault as FolderFault;
 use als_record::Lsn;
 use als_ship::Fault;
-use als_shipper::{Meetings, Sessions, Strayed};
+use als_shipper::Meetings;
 use std::io::Write;
 use std::net::IpAddr;
 

@@ -8,7 +8,7 @@ use std::net::IpAddr;
 
 /// How many different addresses that count have acknowledged this LSN.
 pub(crate) fn count_addresses(rows: &[Option<Row>], lsn: Lsn) -> usize
-    // So many rows can be chosen, and never more.
+    // That many rows can be chosen, and never more.
     ensures some { HasEnough rows.now result lsn.0 }
     ensures most { (chosen : List AnyRow) → AreVouchers rows.now lsn.0 chosen
         → length chosen ≤ result }
@@ -22,7 +22,7 @@ pub(crate) fn count_addresses(rows: &[Option<Row>], lsn: Lsn) -> usize
     count
 }
 
-/// Whether a row vouches, and none before it of its address does.
+/// Whether a row vouches, and no earlier row of its address does.
 fn is_first(rows: &[Option<Row>], at: usize, row: &Option<Row>, lsn: Lsn) -> bool
     requires { at < length rows.now }
     ensures first { result ≡ true → (own : AnyRow) × (row.now ≡ Some own) × Vouches lsn.0 own
@@ -48,7 +48,7 @@ fn is_vouched(rows: &[Option<Row>], peer: IpAddr, lsn: Lsn) -> bool
     false
 }
 
-/// Whether a row is of this address, and vouches.
+/// Whether a row has this address and vouches.
 fn is_voucher(row: &Option<Row>, peer: IpAddr, lsn: Lsn) -> bool
     ensures { IsTrue result ↔ ((own : AnyRow) × (row.now ≡ Some own) × Vouches lsn.0 own
         × (own.peer ≡ peer)) }
@@ -59,7 +59,7 @@ fn is_voucher(row: &Option<Row>, peer: IpAddr, lsn: Lsn) -> bool
     }
 }
 
-/// Whether two addresses are one.
+/// Whether two addresses are the same.
 fn is_same(one: IpAddr, other: IpAddr) -> bool
     ensures { IsTrue result ↔ (one ≡ other) }
 {

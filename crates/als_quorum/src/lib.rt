@@ -9,11 +9,12 @@
 //!
 //! 1. Each session has a seat, and each seat a row: the address, whether it counts, and the greatest LSN
 //!    that the session acknowledged. A row's LSN never falls, and neither does the tail.
-//! 2. An address counts once, whatever number of sessions it has. An IPv4-mapped IPv6 address is its IPv4
-//!    address.
-//! 3. A session that ends takes its LSN with it. The follower may come back with an older log, or another
+//! 2. An address counts once, however many sessions it has: else a follower that reconnects could count
+//!    twice. An IPv4-mapped IPv6 address counts as its IPv4 address.
+//! 3. When a session ends, its LSN is forgotten. The follower may come back with an older log, or another
 //!    machine at its address, so it has to acknowledge again.
-//! 4. Who waits is woken when a row or the tail rises and when it closes, and gives up in time.
+//! 4. Waiting threads are woken when a row or the tail rises and when it closes, and wait for a limited
+//!    time.
 #![tactic(auto)]
 
 // The follower of one seat.

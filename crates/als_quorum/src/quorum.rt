@@ -6,7 +6,7 @@ use std::net::IpAddr;
 use std::sync::{Condvar, CondvarTimeouts, Mutex, Wait};
 use std::time::{Clock, Duration};
 
-/// The roll, and whether anybody still waits for it.
+/// The roll, and whether it is closed.
 struct Held {
     roll: Roll,
     is_closed: bool,
@@ -20,7 +20,7 @@ impl Drop for Held {
 }
 
 impl Held {
-    /// Whether a leader that wants so many goes on waiting.
+    /// Whether a leader that wants `count` acknowledgements goes on waiting.
     fn is_awaited(&self, count: u32, lsn: Lsn) -> bool {
         !self.is_closed && !self.roll.has_enough(count, lsn)
     }
@@ -40,7 +40,7 @@ impl Drop for Quorum {
 }
 
 impl Quorum {
-    /// So many free seats, up to eight.
+    /// A quorum with this many free seats, at most eight.
     pub fn new(alloc: Global, seats: u32) -> Result<Quorum, AllocError> {
         let roll = Roll::new(alloc, seats)?;
         let held = Held {
@@ -53,8 +53,8 @@ impl Quorum {
         })
     }
 
-    /// Takes a free seat for the follower of a session, which has acknowledged nothing yet. None: all are
-    /// taken.
+    /// Takes a free seat for the follower of a session, which has acknowledged nothing yet. None: no seat
+    /// is free.
     pub fn join<R: Wait + Clock>(&self, rt: &R, peer: IpAddr, counts: bool) -> Option<u32> {
         let now = now_of(rt);
         self.held.lock(rt).roll.join(peer, counts, now)
@@ -72,9 +72,8 @@ impl Quorum {
         self.held.lock(rt).roll.leave(seat);
     }
 
-    /// Waits until so many followers of different addresses, each of which counts, have acknowledged the
-    /// log up to there, for so long at most. Answers whether they had in the end. Once closed it does not
-    /// wait.
+    /// Waits, at most this long, until `count` followers with different addresses, each of which counts,
+    /// have acknowledged the log up to there. Returns whether they have. Once closed it does not wait.
     pub fn wait_for<R: Wait + Clock>(
         &self,
         rt: &R,
@@ -92,7 +91,7 @@ impl Quorum {
         held.roll.has_enough(count, lsn)
     }
 
-    /// Wakes all who wait. Nobody waits any more.
+    /// Wakes all waiting threads. Nothing waits any more.
     pub fn close<R: Wait>(&self, rt: &R) {
         self.held.lock(rt).is_closed = true;
         self.changed.notify_all();
@@ -107,7 +106,7 @@ impl Quorum {
     }
 }
 
-/// Copies the rows that there is room for.
+/// Copies as many rows as fit.
 fn copy_rows(from: &[Option<Row>], into: &mut [Option<Row>; SEATS as usize]) {
     for (at, row) in from.iter().enumerate() {
         if at < into.len() {
@@ -116,7 +115,7 @@ fn copy_rows(from: &[Option<Row>], into: &mut [Option<Row>; SEATS as usize]) {
     }
 }
 
-/// The time by the clock. A clock that can't be read says 0.
+/// The time by the clock, 0 if it cannot be read.
 fn now_of<C: Clock>(clock: &C) -> Duration {
     match clock.monotonic() {
         Ok(now) => now,

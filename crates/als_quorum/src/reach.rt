@@ -5,14 +5,14 @@ use als_record::Lsn;
 /// Up to where a log may be read.
 #[derive(Clone, Copy, Debug, PartialEq, Eq)]
 pub struct Reach {
-    /// Each byte below it is durable and stays as it is.
+    /// Each byte below it is durable and never changes.
     pub end: Lsn,
-    /// Nothing comes any more.
+    /// The log ends there: nothing more comes.
     pub is_closed: bool,
 }
 
 impl Reach {
-    /// More of the log is durable. An older end changes nothing.
+    /// The reach once the log is durable up to there. An older end changes nothing.
     pub(crate) fn raised(self, end: Lsn) -> Reach
         ensures { result ≡ record self { end = record { 0 = max self.end.0 end.0 } } }
     {
@@ -22,7 +22,7 @@ impl Reach {
         }
     }
 
-    /// Whether who has read up to there waits for more.
+    /// Whether a session that has read up to there has to wait for more.
     pub(crate) fn is_awaited(self, at: u64) -> bool {
         self.end.0 <= at && !self.is_closed
     }

@@ -28,7 +28,7 @@ impl Drop for Roll {
 }
 
 impl Roll {
-    /// So many free seats, up to eight.
+    /// A roll with this many free seats, at most eight.
     pub fn new(alloc: Global, seats: u32) -> Result<Roll, AllocError>
         ensures count { IfOk result (λ roll. length roll.rows.items ≡ min seats 8) }
         ensures free { IfOk result (λ roll. (seat : ℕ) → row_of roll.rows.items seat ≡ None) }
@@ -45,8 +45,8 @@ impl Roll {
         self.rows.as_slice()
     }
 
-    /// Takes a free seat for a follower of this address, which has acknowledged nothing yet. None: all are
-    /// taken.
+    /// Takes a free seat for a follower with this address, which has acknowledged nothing yet. None: no seat
+    /// is free.
     pub fn join(&mut self, peer: IpAddr, counts: bool, now: Duration) -> Option<u32>
         ensures joins { IfSome result (λ seat. (row_of self.old.rows.items seat ≡ None)
             × ((row : AnyRow) × IsNew peer counts now row
@@ -66,7 +66,8 @@ impl Roll {
         Some(at as u32)
     }
 
-    /// The follower of a seat has acknowledged the log up to there. Its row alone rises, and never falls.
+    /// The follower of a seat has acknowledged the log up to there. Only its row changes, and its LSN never
+    /// falls.
     pub fn acknowledge(&mut self, seat: u32, lsn: Lsn, now: Duration)
         ensures { ChangesRow self.old.rows.items self.new.rows.items seat
             (option_map (raised lsn now) (row_of self.old.rows.items seat)) }
@@ -79,7 +80,8 @@ impl Roll {
         }
     }
 
-    /// Frees a seat. What its follower acknowledged is forgotten: it acknowledges again once it is back.
+    /// Frees a seat. What its follower acknowledged is forgotten: it has to acknowledge again when it is
+    /// back.
     pub fn leave(&mut self, seat: u32)
         ensures { ChangesRow self.old.rows.items self.new.rows.items seat None }
     {
@@ -89,8 +91,8 @@ impl Roll {
         }
     }
 
-    /// Whether so many followers of different addresses, each of which counts, have acknowledged the log up
-    /// to there.
+    /// Whether `count` followers with different addresses, each of which counts, have acknowledged the log
+    /// up to there.
     pub fn has_enough(&self, count: u32, lsn: Lsn) -> bool
         ensures { IsTrue result ↔ HasEnough self.now.rows.items count lsn.0 }
     {
@@ -98,7 +100,7 @@ impl Roll {
     }
 }
 
-/// The first seat without a row. None: there is none.
+/// The first free seat. None: no seat is free.
 fn first_free(rows: &[Option<Row>]) -> Option<usize>
     ensures free { IfSome result (λ at. (at < length rows.now) × (row_of rows.now at ≡ None)) }
     ensures full { IfNone result ((seat : ℕ) → seat < length rows.now

@@ -6,23 +6,23 @@ use als_record::Lsn;
 use std::net::IpAddr;
 use std::time::Duration;
 
-/// The follower of one seat, since its session began.
+/// The follower of a seat, since its session began.
 #[derive(Clone, Copy)]
 pub struct Row {
-    /// Its address. An IPv4-mapped one stands here as its IPv4 address.
+    /// Its address. An IPv4-mapped one is stored as its IPv4 address.
     pub peer: IpAddr,
     /// Whether what it acknowledges counts.
     pub counts: bool,
-    /// The greatest LSN that it acknowledged. 0: none yet.
+    /// The greatest LSN that it acknowledged. 0: none.
     pub acknowledged: Lsn,
-    /// When it came, by the clock.
+    /// When it connected, by the clock.
     pub connected: Duration,
-    /// When it acknowledged last, by the clock. None: not yet.
+    /// When it last acknowledged, by the clock. None: never.
     pub heard: Option<Duration>,
 }
 
 impl Row {
-    /// The row once its follower has acknowledged this LSN. An older one changes the time alone.
+    /// The row once its follower has acknowledged this LSN. An older LSN changes only the time.
     pub(crate) fn raised(self, lsn: Lsn, now: Duration) -> Row
         ensures { result ≡ raised lsn now self }
     {
@@ -33,7 +33,7 @@ impl Row {
         }
     }
 
-    /// Whether it counts, and has acknowledged the log up to there.
+    /// Whether it counts and has acknowledged the log up to there.
     pub fn vouches(self, lsn: Lsn) -> bool
         ensures { IsTrue result ↔ Vouches lsn.0 self }
     {

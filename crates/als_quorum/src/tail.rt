@@ -17,7 +17,7 @@ impl Drop for Tail {
 }
 
 impl Tail {
-    /// The log may be read up to there.
+    /// A tail of a log that may be read up to there.
     pub fn new(end: Lsn) -> Tail {
         let reach = Reach {
             end,
@@ -29,7 +29,7 @@ impl Tail {
         }
     }
 
-    /// The log is durable up to there. All who wait wake.
+    /// The log is durable up to there. All waiting sessions wake.
     pub fn raise<R: Wait>(&self, rt: &R, end: Lsn) {
         let mut reach = self.reach.lock(rt);
         let raised = (*reach).raised(end);
@@ -38,7 +38,7 @@ impl Tail {
         self.moved.notify_all();
     }
 
-    /// Nothing comes any more. All who wait wake.
+    /// Nothing more comes. All waiting sessions wake.
     pub fn close<R: Wait>(&self, rt: &R) {
         self.reach.lock(rt).is_closed = true;
         self.moved.notify_all();
@@ -49,8 +49,8 @@ impl Tail {
         *self.reach.lock(rt)
     }
 
-    /// Waits until the log may be read past there, or nothing comes any more, for so long at most. Answers
-    /// up to where it may be read then.
+    /// Waits, at most this long, until the log may be read past there or nothing more comes. Returns up to
+    /// where it may be read then.
     pub fn wait_past<R: Wait + Clock>(&self, rt: &R, at: u64, at_most: Duration) -> Reach {
         let reach = self.reach.lock(rt);
         if !(*reach).is_awaited(at) {

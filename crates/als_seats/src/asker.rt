@@ -5,11 +5,11 @@ use std::alloc::{AllocError, Global};
 use std::sync::{Arc, Wait};
 use std::time::{Clock, Duration};
 
-/// One who asks. It has a seat of its own, and one thread has it at a time.
+/// The asking end, with a seat of its own. One thread uses it at a time.
 pub struct Asker<T, A> {
     pub(crate) line: Arc<Line<T>, Global>,
     pub(crate) seat: Arc<Seat<A>, Global>,
-    /// Which seat it is.
+    /// The number of its seat.
     pub(crate) number: u32,
 }
 
@@ -26,8 +26,9 @@ impl<T: Drop, A: Drop> Drop for Asker<T, A> {
 }
 
 impl<T: Drop, A: Drop> Asker<T, A> {
-    /// Asks all of these, and waits for the outcome of each, in their order. What was not begun within
-    /// this time is taken back. Err: there is no memory for the outcomes, and nothing was asked.
+    /// Asks these questions and waits for their outcomes, which are returned in the same order. Questions
+    /// that are not begun within `patience` are taken back. Err: no memory for the outcomes, and nothing
+    /// was asked.
     pub fn ask<R: Wait + Clock>(
         &mut self,
         rt: &R,
@@ -52,13 +53,13 @@ impl<T: Drop, A: Drop> Asker<T, A> {
         }
     }
 
-    /// Nobody is served any more: the leader ends once it sees it.
+    /// Closes the line: nothing is put any more, and the leader ends once it sees that.
     pub fn close<R: Wait>(&self, rt: &R) {
         self.line.close(rt);
     }
 }
 
-/// The outcomes of questions of which nothing is known.
+/// An outcome `Lost` for each question, until another one is written.
 fn all_lost<A: Drop>(alloc: Global, count: usize) -> Result<Vec<Outcome<A>>, AllocError> {
     let mut outcomes = Vec::with_capacity(alloc, count)?;
     for _ in 0..count {

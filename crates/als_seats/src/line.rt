@@ -20,7 +20,7 @@ impl<T: Drop> Drop for Line<T> {
 }
 
 impl<T: Drop> Line<T> {
-    /// An open line where nothing waits.
+    /// An open, empty line.
     pub fn new(alloc: Global) -> Line<T> {
         Line {
             queue: Mutex::new(Queue::new(alloc)),
@@ -28,7 +28,7 @@ impl<T: Drop> Line<T> {
         }
     }
 
-    /// Puts the questions of a seat, and returns how many: the first ones.
+    /// Puts the questions of a seat and returns how many were put: the first ones.
     pub fn put<R: Wait>(&self, rt: &R, seat: u32, questions: Vec<T>) -> usize {
         let put = self.queue.lock(rt).put(seat, questions);
         self.put.notify_one();
@@ -40,13 +40,13 @@ impl<T: Drop> Line<T> {
         self.queue.lock(rt).next()
     }
 
-    /// Takes back what a seat asked and was not begun.
+    /// Takes back the questions of a seat that were not begun.
     pub fn take_back<R: Wait, A: Drop>(&self, rt: &R, number: u32, seat: &Seat<A>) {
         let mut queue = self.queue.lock(rt);
         seat.take_back(rt, number, &mut *queue);
     }
 
-    /// Sleeps until a question waits or the line is closed, for so long at most.
+    /// Sleeps until a question waits or the line is closed, at most this long.
     pub fn wait<R: Wait + Clock>(&self, rt: &R, at_most: Duration) -> Waited {
         let queue = self.queue.lock(rt);
         if !queue.is_quiet() {
@@ -65,7 +65,7 @@ impl<T: Drop> Line<T> {
     }
 }
 
-/// What a leader finds in a queue.
+/// What the leader finds in the queue.
 fn find<T: Drop>(queue: &Queue<T>) -> Waited {
     if !queue.is_empty() {
         Waited::Asks

@@ -5,7 +5,7 @@ use crate::seat::Seat;
 use std::alloc::{AllocError, Global};
 use std::sync::Arc;
 
-/// A leader, and so many askers, each with a seat of its own.
+/// Makes a leader and `count` askers, each with a seat of its own.
 pub fn seats<T: Drop, A: Drop>(
     alloc: Global,
     count: u32,

@@ -2,8 +2,8 @@
 #[derive(Drop)]
 pub enum Outcome<A> {
     Answered(A),
-    /// The leader did not take it, and will not.
+    /// The leader did not take it and never will.
     NotBegun,
-    /// The leader took it and ended without an answer.
+    /// The leader took it, and ended without an answer.
     Lost,
 }

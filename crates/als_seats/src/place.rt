@@ -1,10 +1,10 @@
 ghost use Rattle.std.specs.Prelude.{◌≡◌, ◌<◌, ◌^◌, Some, IfSome};
 ghost use Rattle.als_seats.specs.Places.{number_of};
 
-/// The places of a seat: the questions that an asker may put at a time.
+/// Places of a seat: the most questions that an asker may put at a time.
 pub const PLACES: usize = 600;
 
-/// Where the outcome of a question goes.
+/// The place that the outcome of a question goes to.
 #[derive(Clone, Copy, Debug, PartialEq, Eq)]
 pub struct Place {
     pub seat: u32,
@@ -15,7 +15,7 @@ pub struct Place {
 impl Place {
     ghost use Rattle.als_seats.specs.declared.place.Place.{Place as AnyPlace};
 
-    /// The number of a place. The places of a seat have numbers side by side.
+    /// The number of a place. The places of one seat have consecutive numbers.
     pub fn number(self) -> u64
         ensures { result ≡ number_of self }
     {

@@ -26,7 +26,7 @@ impl<T: Drop> Drop for Queue<T> {
 }
 
 impl<T: Drop> Queue<T> {
-    /// An open queue where nothing waits.
+    /// An open, empty queue.
     pub fn new(alloc: Global) -> Queue<T> {
         Queue {
             waiting: VecDeque::new(alloc),
@@ -53,10 +53,10 @@ impl<T: Drop> Queue<T> {
         self.waiting.is_empty()
     }
 
-    /// Puts the questions of a seat, and returns how many: the first ones. The others are dropped:
-    /// all where the queue is closed or there is no memory for them, and those that have no place.
+    /// Puts the questions of a seat and returns how many were put: the first ones. The others are
+    /// dropped: all if the queue is closed or there is no memory, and those that have no place.
     pub fn put(&mut self, seat: u32, questions: Vec<T>) -> usize
-        // They wait behind the others, in their order, each with its place.
+        // They wait after the others, in their order, each with its place.
         ensures put { self.new.waiting.items ≡ self.old.waiting.items
             ++ asks_of seat 0 (take result questions.items) }
         ensures count { result ≤ length questions.items }
@@ -78,7 +78,7 @@ impl<T: Drop> Queue<T> {
         self.waiting.pop_front()
     }
 
-    /// Takes back the questions of a seat that wait: they are not begun.
+    /// Takes back the waiting questions of a seat: their outcome is NotBegun.
     pub fn take_back<A: Drop>(&mut self, seat: u32, slots: &mut Slots<A>)
         // None of them waits any more. The others stay, in their order.
         ensures kept { self.new.waiting.items ≡ filter (is_of_other seat) self.old.waiting.items }
@@ -86,7 +86,7 @@ impl<T: Drop> Queue<T> {
     {
         for ask in self.waiting.iter() {
             if ask.place.seat == seat {
-                slots.settle(ask.place.at as usize, Outcome::NotBegun);
+                slots.set_outcome(ask.place.at as usize, Outcome::NotBegun);
             }
         }
         drop_asks(&mut self.waiting, seat);
@@ -100,8 +100,7 @@ fn drop_asks<T: Drop>(waiting: &mut VecDeque<Ask<T>>, seat: u32)
     waiting.retain(|ask| ask.place.seat != seat);
 }
 
-/// Puts the questions of a seat that have a place behind those that wait, while there is room. It returns
-/// how many.
+/// Appends the questions of a seat that have a place, while there is room. Returns how many.
 fn push_all<T: Drop>(waiting: &mut VecDeque<Ask<T>>, seat: u32, questions: Vec<T>) -> usize
     ensures put { waiting.new.items ≡ waiting.old.items
         ++ asks_of seat 0 (take result questions.items) }

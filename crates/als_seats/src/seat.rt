@@ -8,27 +8,26 @@ use std::time::{Clock, Duration};
 /// A seat: the outcomes of its asker's questions, and what the asker sleeps on.
 pub(crate) struct Seat<A> {
     slots: Mutex<Slots<A>>,
-    settled: Condvar,
+    complete: Condvar,
 }
 
 impl<A: Drop> Drop for Seat<A> {
     fn drop(self) {
-        let Seat { slots, settled: _ } = self;
+        let Seat { slots, complete: _ } = self;
         drop(slots);
     }
 }
 
 impl<A: Drop> Seat<A> {
-    /// A seat whose asker asks nothing.
+    /// A seat with no request.
     pub fn new(alloc: Global) -> Seat<A> {
         Seat {
             slots: Mutex::new(Slots::new(alloc)),
-            settled: Condvar::new(),
+            complete: Condvar::new(),
         }
     }
 
-    /// An asker begins: each of these outcomes is that of a question, and the first ones of the
-    /// questions are put.
+    /// Begins a request: one of these outcomes for each question, before the questions are put.
     pub fn begin<R: Wait>(&self, rt: &R, outcomes: Vec<Outcome<A>>) {
         self.slots.lock(rt).begin(outcomes);
     }
@@ -38,30 +37,30 @@ impl<A: Drop> Seat<A> {
         self.slots.lock(rt).refuse_from(put);
     }
 
-    /// Writes the outcome of the question at an index. The asker wakes where it was the last one.
-    pub fn settle<R: Wait>(&self, rt: &R, at: usize, outcome: Outcome<A>) {
+    /// Writes the outcome of the question at an index. If it was the last one, the asker wakes.
+    pub fn set_outcome<R: Wait>(&self, rt: &R, at: usize, outcome: Outcome<A>) {
         let mut slots = self.slots.lock(rt);
-        slots.settle(at, outcome);
+        slots.set_outcome(at, outcome);
         let waits = slots.waits();
         drop(slots);
         if !waits {
-            self.settled.notify_one();
+            self.complete.notify_one();
         }
     }
 
     /// The leader has ended.
     pub fn end<R: Wait>(&self, rt: &R) {
         self.slots.lock(rt).end();
-        self.settled.notify_one();
+        self.complete.notify_one();
     }
 
-    /// Takes back what waits in a queue of this seat's questions.
+    /// Takes back this seat's questions that wait in the queue.
     pub fn take_back<R: Wait, T: Drop>(&self, rt: &R, seat: u32, queue: &mut Queue<T>) {
         let mut slots = self.slots.lock(rt);
         queue.take_back(seat, &mut *slots);
     }
 
-    /// Waits so long for the outcomes. None: one is missing.
+    /// Waits at most `patience` for all outcomes. Err: one is missing; `none` is handed back.
     pub fn wait_for<R: Wait + Clock>(
         &self,
         rt: &R,
@@ -70,7 +69,7 @@ impl<A: Drop> Seat<A> {
     ) -> Result<Vec<Outcome<A>>, Vec<Outcome<A>>> {
         let slots = self.slots.lock(rt);
         let (mut slots, _) = self
-            .settled
+            .complete
             .wait_timeout_while(rt, slots, patience, |slots| slots.waits());
         if slots.waits() {
             return Err(none);
@@ -78,10 +77,10 @@ impl<A: Drop> Seat<A> {
         Ok(slots.take(none))
     }
 
-    /// Waits for the outcomes, however long it takes.
+    /// Waits for all outcomes, however long it takes.
     pub fn wait<R: Wait>(&self, rt: &R, none: Vec<Outcome<A>>) -> Vec<Outcome<A>> {
         let mut slots = self
-            .settled
+            .complete
             .wait_while(rt, self.slots.lock(rt), |slots| slots.waits());
         slots.take(none)
     }

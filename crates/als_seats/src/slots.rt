@@ -6,11 +6,11 @@ use std::alloc::Global;
 
 /// The outcomes of one asker's questions.
 pub(crate) struct Slots<A> {
-    /// Of each question. It is lost until something else becomes of it.
+    /// One for each question, `Lost` until another is written.
     outcomes: Vec<Outcome<A>>,
-    /// How many questions wait or are begun.
+    /// How many questions have no outcome yet.
     left: usize,
-    /// The leader has ended: nothing more becomes of any question.
+    /// The leader has ended: no outcome is written any more.
     is_over: bool,
 }
 
@@ -26,7 +26,7 @@ impl<A: Drop> Drop for Slots<A> {
 }
 
 impl<A: Drop> Slots<A> {
-    /// Nobody asks.
+    /// No request.
     pub fn new(alloc: Global) -> Slots<A> {
         Slots {
             outcomes: Vec::new(alloc),
@@ -35,7 +35,7 @@ impl<A: Drop> Slots<A> {
         }
     }
 
-    /// An asker begins: each of these outcomes is that of a question.
+    /// Begins a request with an outcome for each of its questions.
     pub fn begin(&mut self, outcomes: Vec<Outcome<A>>)
         ensures outcomes { self.new.outcomes.items ≡ outcomes.items }
         ensures left { self.new.left ≡ vec_len outcomes }
@@ -44,8 +44,8 @@ impl<A: Drop> Slots<A> {
         self.outcomes = outcomes;
     }
 
-    /// Writes the outcome of the question at an index, and no other.
-    pub fn settle(&mut self, at: usize, outcome: Outcome<A>)
+    /// Writes the outcome of the question at an index, and no other one.
+    pub fn set_outcome(&mut self, at: usize, outcome: Outcome<A>)
         ensures told { at < length self.old.outcomes.items
             → self.new.outcomes.items ≡ slice_set self.old.outcomes.items at outcome }
         ensures left { self.new.left ≡ self.old.left - 1 }
@@ -59,7 +59,7 @@ impl<A: Drop> Slots<A> {
     /// The questions from an index on were not put.
     pub fn refuse_from(&mut self, put: usize) {
         for at in put..self.outcomes.len() {
-            self.settle(at, Outcome::NotBegun);
+            self.set_outcome(at, Outcome::NotBegun);
         }
     }
 
@@ -68,12 +68,12 @@ impl<A: Drop> Slots<A> {
         self.is_over = true;
     }
 
-    /// Whether a question has no outcome, and may still have one.
+    /// Whether a question has no outcome yet and may still get one.
     pub fn waits(&self) -> bool {
         self.left > 0 && !self.is_over
     }
 
-    /// The outcomes, once the asker waits for none.
+    /// Takes the outcomes, once the asker waits for none.
     pub fn take(&mut self, none: Vec<Outcome<A>>) -> Vec<Outcome<A>>
         ensures { result.items ≡ self.old.outcomes.items }
     {

@@ -1,9 +1,9 @@
-/// Whether the leader has something to take.
+/// What the leader found when it woke.
 #[derive(Clone, Copy, Debug, PartialEq, Eq)]
 pub enum Waited {
     /// A question waits.
     Asks,
-    /// Nobody asked for a while.
+    /// Nobody asked within the time.
     Idle,
     /// Nothing waits, and nothing is put any more.
     Closed,

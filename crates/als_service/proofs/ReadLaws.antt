@@ -18,7 +18,7 @@ use Rattle.als_engine.specs.Machine.{Machine}
 use Rattle.als_engine.specs.Publishing.{published_in}
 use Rattle.als_engine.specs.Telling.{Stands}
 use Rattle.als_engine.proofs.KnownLaws.{known_reads}
-use Rattle.als_http.specs.Reading.{IsRead}
+use Rattle.als_report.specs.Reading.{IsRead}
 use Rattle.als_share.specs.Reaching.{Reaches, ReachesFrom, IsToldFrom}
 use Rattle.als_share.proofs.Reached.{reached-kept}
 

@@ -1,6 +1,6 @@
 ghost use Rattle.std.specs.Prelude.{◌≡◌};
 
-use als_http::Board;
+use als_report::Board;
 use std::io;
 use std::io::Write;
 

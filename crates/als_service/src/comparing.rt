@@ -1,9 +1,9 @@
 use crate::shipping::log_file;
 use als_compare::{Summary, Verdict, ask};
 use als_comparing::HeldLog;
-use als_http::{Standing, Watch};
 use als_operate::{Fault, Following, dial};
 use als_record::FIRST_LSN;
+use als_report::{Reports, Watch};
 use als_ship::Fault as SessionFault;
 use std::fs::File;
 use std::net::{Net, OpenStream};

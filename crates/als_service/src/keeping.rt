@@ -11,9 +11,9 @@ use crate::notices::Notices;
 use crate::outages::Outages;
 use crate::pause::Pause;
 use crate::primaries::Primaries;
-use als_http::{Board, State};
 use als_operate::Fault;
 use als_record::Lsn;
+use als_report::{Board, State};
 use als_share::{Counts, Runtime};
 use std::alloc::Global;
 use std::io::{Read, Write};
@@ -44,7 +44,7 @@ pub fn follow_sessions<
     R: Runtime + Clock,
     S: Read + Write + Drop,
     L: Primaries<S>,
-    N: Outages,
+    N: Outages + Drop,
 >(
     rt: &R,
     alloc: Global,
@@ -52,7 +52,7 @@ pub fn follow_sessions<
     pace: Pace,
     primaries: &mut L,
     board: &Board,
-    outages: &mut N,
+    outages: N,
 ) -> Kept<E, Fault>
     // All sessions together are one run of the small machine's events.
     ensures reached { E.alone → Reaches (E.machine events) (E.machine result.events) }
@@ -70,15 +70,17 @@ pub fn follow_sessions<
 {
     let mut held = events;
     let mut pause = Pause::new();
-    let mut notices = Notices::new();
+    let mut notices = Notices::new(outages);
     for _ in rt.forever() {
         let before = position(&held);
         let Turn {
             events: back,
+            notices: told,
             ended,
             is_hang_up,
-        } = follow_next(rt, alloc, held, pace, primaries, board, outages);
+        } = follow_next(rt, alloc, held, pace, primaries, board, notices);
         held = back;
+        notices = told;
         note(board, ended);
         if let Some(fault) = final_fault(ended) {
             return Kept {
@@ -89,9 +91,9 @@ pub fn follow_sessions<
         if position(&held).0 > before.0 {
             pause.begin_again();
         }
-        notices.hang_up(rt, is_hang_up, outages);
-        notices.room(rt, position(&held), board.capacity(), outages);
-        rest(rt, &mut pause, &mut notices, ended, board, outages);
+        notices.hang_up(rt, is_hang_up);
+        notices.room(rt, position(&held), board.capacity());
+        rest(rt, &mut pause, &mut notices, ended, board);
     }
     unreachable!()
 }
@@ -104,26 +106,25 @@ fn position<E: Counts>(events: &E) -> Lsn
 }
 
 /// Waits before the primary is asked again.
-fn rest<C: Clock, N: Outages>(
+fn rest<C: Clock, N: Outages + Drop>(
     clock: &C,
     pause: &mut Pause,
-    notices: &mut Notices,
+    notices: &mut Notices<N>,
     ended: Option<Result<(), Fault>>,
     board: &Board,
-    outages: &mut N,
 ) {
     let millis = match ended {
         Some(Err(fault)) if is_refusal(fault) => {
             board.set_state(State::Refusing);
             let millis = pause.next_refused();
-            notices.refusal(clock, fault, millis, outages);
+            notices.refusal(clock, fault, millis);
             millis
         }
         _ => {
             board.set_state(State::Waiting);
             let millis = pause.next();
             if millis > 0 {
-                notices.outage(clock, why(ended), millis, outages);
+                notices.outage(clock, why(ended), millis);
             }
             millis
         }

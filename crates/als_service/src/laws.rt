@@ -14,7 +14,7 @@ ghost use Rattle.als_engine.specs.Machine.{Machine};
 ghost use Rattle.als_engine.specs.Publishing.{published_in};
 ghost use Rattle.als_engine.specs.Telling.{Stands};
 ghost use Rattle.als_share.specs.Reaching.{Reaches, ReachesFrom, IsToldFrom};
-ghost use Rattle.als_http.specs.Reading.{IsRead};
+ghost use Rattle.als_report.specs.Reading.{IsRead};
 
 /// A law: a value that is replied over HTTP is that of a front of the log which ends with a commit: the
 /// published commits of the engine at a moment of the run. All of them are acknowledged, also in the

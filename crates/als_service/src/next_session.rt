@@ -7,12 +7,13 @@ ghost use Rattle.als_service.specs.Sessions.{VouchesLast, EndsOne};
 use crate::answered::Answered;
 use crate::heard::Heard;
 use crate::keeping::Pace;
+use crate::notices::Notices;
 use crate::outages::Outages;
 use crate::primaries::Primaries;
 use als_engine::{Events, State as EngineState};
 use als_follow::{Followed, follow_beside};
-use als_http::Board;
 use als_operate::Fault;
+use als_report::Board;
 use als_share::{Counts, Runtime};
 use als_ship::Fault as SessionFault;
 use std::alloc::Global;
@@ -25,8 +26,9 @@ const SOON: u64 = 1;
 
 /// What a session leaves, and how it ended. None: a thread could not be started, or allocation failed,
 /// and no frame was asked for.
-pub(crate) struct Turn<E> {
+pub(crate) struct Turn<E, N: Drop> {
     pub events: E,
+    pub notices: Notices<N>,
     pub ended: Option<Result<(), Fault>>,
     /// The connection was ended at once, before anything came over it.
     pub is_hang_up: bool,
@@ -41,7 +43,7 @@ pub(crate) fn follow_next<
     R: Runtime + Clock,
     S: Read + Write + Drop,
     L: Primaries<S>,
-    N: Outages,
+    N: Outages + Drop,
 >(
     rt: &R,
     alloc: Global,
@@ -49,8 +51,8 @@ pub(crate) fn follow_next<
     pace: Pace,
     primaries: &mut L,
     board: &Board,
-    outages: &mut N,
-) -> Turn<E>
+    notices: Notices<N>,
+) -> Turn<E, N>
     ensures reached { E.alone → Reaches (E.machine events) (E.machine result.events) }
     ensures follows { E.alone → ReachesFollowing (E.machine events) (E.machine result.events) }
     ensures book { E.book result.events ≡ E.book events }
@@ -62,11 +64,12 @@ pub(crate) fn follow_next<
     ensures ended { EndsOne result.ended (L.met primaries.old) (L.met primaries.new) }
 {
     let mut events = events;
+    let mut notices = notices;
     make_ready(rt, &mut events);
     let begun = moment(rt);
     match primaries.next() {
         Ok((reader, writer)) => {
-            tell_uncompared(primaries, outages);
+            tell_uncompared(primaries, &mut notices);
             let Followed {
                 engine,
                 reader,
@@ -78,20 +81,23 @@ pub(crate) fn follow_next<
                 events,
                 pace.workers,
                 pace.each,
-                Heard::new(reader, board, rt),
+                Heard::new(reader, board, rt, notices),
                 Answered::new(writer, board),
             );
             let is_silent = reader.is_silent();
             board.set_epoch(u64::from(engine.history().epoch()));
-            primaries.part(reader.end(), writer.end(), ended);
+            let (reader, notices) = reader.end();
+            primaries.part(reader, writer.end(), ended);
             Turn {
                 events: engine,
+                notices,
                 ended,
                 is_hang_up: is_silent && is_hang_up(ended, begun, moment(rt)),
             }
         }
         Err(fault) => Turn {
             events,
+            notices,
             ended: Some(Err(fault)),
             is_hang_up: is_hang_up(Some(Err(fault)), begun, moment(rt)),
         },
@@ -99,12 +105,12 @@ pub(crate) fn follow_next<
 }
 
 /// Says, once, that the primary did not answer what log it has.
-pub(crate) fn tell_uncompared<S: Read + Write, L: Primaries<S>, N: Outages>(
+pub(crate) fn tell_uncompared<S: Read + Write, L: Primaries<S>, N: Outages + Drop>(
     primaries: &L,
-    outages: &mut N,
+    notices: &mut Notices<N>,
 ) {
     if primaries.was_unanswered() {
-        outages.uncompared();
+        notices.uncompared();
     }
 }
 

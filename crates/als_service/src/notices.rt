@@ -12,9 +12,10 @@ const HOUR: u64 = 3_600;
 /// After so many connections in a row over which nothing came it is reported that the primary hangs up.
 const HANG_UPS: u32 = 3;
 
-/// What was reported of a primary that is waited for, and when.
+/// Who is told of a primary that is waited for, and of a log that is nearly full; and what was told, and when.
 #[derive(Drop)]
-pub(crate) struct Notices {
+pub(crate) struct Notices<N: Drop> {
+    outages: N,
     outage: Minute,
     hang_up: Minute,
     refusal: Minute,
@@ -30,10 +31,11 @@ struct Minute {
     told: Option<Duration>,
 }
 
-impl Notices {
-    /// Nothing was reported.
-    pub fn new() -> Notices {
+impl<N: Drop> Notices<N> {
+    /// They are told from now on.
+    pub fn new(outages: N) -> Notices<N> {
         Notices {
+            outages,
             outage: Minute { told: None },
             hang_up: Minute { told: None },
             refusal: Minute { told: None },
@@ -42,60 +44,49 @@ impl Notices {
             hang_ups: 0,
         }
     }
+}
 
+impl<N: Outages + Drop> Notices<N> {
     /// Reports, where it is time, that nobody sends.
-    pub fn outage<C: Clock, N: Outages>(
-        &mut self,
-        clock: &C,
-        why: Option<Fault>,
-        millis: u64,
-        outages: &mut N,
-    ) {
+    pub fn outage<C: Clock>(&mut self, clock: &C, why: Option<Fault>, millis: u64) {
         if self.outage.is_due(clock) {
-            outages.outage(why, millis);
+            self.outages.outage(why, millis);
         }
     }
 
+    /// Reports that the primary did not answer what log it has.
+    pub fn uncompared(&mut self) {
+        self.outages.uncompared();
+    }
+
     /// Reports, where it is time or this fault is another one, what is refused.
-    pub fn refusal<C: Clock, N: Outages>(
-        &mut self,
-        clock: &C,
-        fault: Fault,
-        millis: u64,
-        outages: &mut N,
-    ) {
+    pub fn refusal<C: Clock>(&mut self, clock: &C, fault: Fault, millis: u64) {
         let is_another = self.refused != Some(fault);
         if self.refusal.is_due(clock) || is_another {
             self.refused = Some(fault);
-            outages.refusal(fault, millis);
+            self.outages.refusal(fault, millis);
         }
     }
 
     /// Reports, once an hour, a log that uses nine tenths of its device.
-    pub fn room<C: Clock, N: Outages>(
-        &mut self,
-        clock: &C,
-        end: Lsn,
-        capacity: Option<u64>,
-        outages: &mut N,
-    ) {
+    pub fn room<C: Clock>(&mut self, clock: &C, end: Lsn, capacity: Option<u64>) {
         let (Some(capacity), Ok(now)) = (capacity, clock.monotonic()) else {
             return;
         };
         if self.full.is_due(end.0, capacity, now.as_secs() / HOUR) {
-            outages.nearly_full(end, capacity);
+            self.outages.nearly_full(end, capacity);
         }
     }
 
     /// Counts a connection that was ended at once, or one that was not, and reports several in a row.
-    pub fn hang_up<C: Clock, N: Outages>(&mut self, clock: &C, is_hang_up: bool, outages: &mut N) {
+    pub fn hang_up<C: Clock>(&mut self, clock: &C, is_hang_up: bool) {
         if !is_hang_up {
             self.hang_ups = 0;
             return;
         }
         self.hang_ups = self.hang_ups.saturating_add(1);
         if self.hang_ups >= HANG_UPS && self.hang_up.is_due(clock) {
-            outages.hang_ups(self.hang_ups);
+            self.outages.hang_ups(self.hang_ups);
         }
     }
 }

@@ -1,8 +1,5 @@
-ghost use Rattle.std.specs.Prelude.{◌≤◌};
-
-use als_followers::{Quorum, Row, Tail};
-use als_http::{Board, FollowerRow};
-use als_quorum::SEATS;
+use als_followers::{Quorum, Tail};
+use als_report::Board;
 use std::alloc::Global;
 use std::sync::{Arc, Wait};
 use std::time::{Clock, Duration};
@@ -37,49 +34,11 @@ impl<R: Wait + Clock> Onlookers<R> {
     /// Writes them now and then. No log reaches the offset that is waited for.
     pub fn run(&mut self) {
         for _ in self.rt.forever() {
-            note(&self.rt, &self.quorum, &self.board);
+            self.board.set_seats(&self.quorum.rows(&self.rt));
             let moment = Duration::from_millis(MOMENT);
             if self.tail.wait_past(&self.rt, u64::MAX, moment).is_closed {
                 break;
             }
         }
-    }
-}
-
-/// Writes who follows.
-fn note<R: Wait>(rt: &R, quorum: &Quorum, board: &Board) {
-    let mut rows = [FollowerRow::default(); SEATS as usize];
-    let count = fill(&quorum.rows(rt), &mut rows);
-    board.set_followers(&rows[..count]);
-}
-
-/// Fills the front with the rows that there are. Answers how many.
-fn fill(found: &[Option<Row>; SEATS as usize], rows: &mut [FollowerRow; SEATS as usize]) -> usize
-    ensures { result ≤ 8 }
-{
-    let mut count = 0;
-    for row in found {
-        if let Some(row) = row {
-            if count < rows.len() {
-                rows[count] = row_of(row);
-                count += 1;
-            }
-        }
-    }
-    count
-}
-
-/// A row as the board has it.
-fn row_of(row: &Row) -> FollowerRow {
-    let connected = row.connected.as_secs();
-    FollowerRow {
-        peer: row.peer,
-        acknowledged: row.acknowledged,
-        connected,
-        answered: match row.heard {
-            Some(heard) => heard.as_secs(),
-            None => connected,
-        },
-        counts: row.counts,
     }
 }

@@ -19,3 +19,25 @@ pub trait Outages {
     /// The log ends there, and nine tenths of the bytes of its device are used, or more.
     fn nearly_full(&mut self, end: Lsn, capacity: u64);
 }
+
+impl<N: Outages> Outages for &mut N {
+    fn outage(&mut self, fault: Option<Fault>, millis: u64) {
+        (**self).outage(fault, millis);
+    }
+
+    fn refusal(&mut self, fault: Fault, millis: u64) {
+        (**self).refusal(fault, millis);
+    }
+
+    fn hang_ups(&mut self, count: u32) {
+        (**self).hang_ups(count);
+    }
+
+    fn uncompared(&mut self) {
+        (**self).uncompared();
+    }
+
+    fn nearly_full(&mut self, end: Lsn, capacity: u64) {
+        (**self).nearly_full(end, capacity);
+    }
+}

@@ -1,7 +1,7 @@
 use crate::cascade::Cascade;
 use als_engine::{History, State as EngineState, Status};
-use als_http::{Board, State};
 use als_record::Lsn;
+use als_report::{Board, State};
 use als_share::{Observed, Observer};
 use std::sync::Wait;
 

@@ -1,6 +1,7 @@
 use als_engine::Reader;
-use als_http::{Answering, Board, Servers, Watch};
+use als_http::{Answering, Servers};
 use als_operate::Fault;
+use als_report::{Board, Watch};
 use std::alloc::{AllocError, Global};
 use std::net::TcpListener;
 use std::random::RandomSource;

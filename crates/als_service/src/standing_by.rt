@@ -3,6 +3,7 @@ use crate::cascade::Cascade;
 use crate::heard::Heard;
 use crate::keeping::{Kept, Pace, follow_sessions};
 use crate::next_session::tell_uncompared;
+use crate::notices::Notices;
 use crate::outages::Outages;
 use crate::primaries::{Dialled, Primaries};
 use crate::reporting::{BoardReporter, Reported};
@@ -14,8 +15,9 @@ use als_drive::{Progress, recover_telling};
 use als_engine::{Engine, Events, Reader};
 use als_folder::Folder;
 use als_follow::{Followed, follow_beside};
-use als_http::{Board, Servers, State, Watch, listen};
+use als_http::{Servers, listen};
 use als_operate::{Fault, Following, Held, conclude, follow, hold};
+use als_report::{Board, State, Watch};
 use als_share::{Counts, Observed, Runtime};
 use std::alloc::Global;
 use std::fs::File;
@@ -257,7 +259,8 @@ fn drive<
             ended: Err(ended),
         }
     } else {
-        let Kept { events, ended } = follow_once(rt, events, pace, primaries, board, progress);
+        let notices = Notices::new(progress);
+        let Kept { events, ended } = follow_once(rt, events, pace, primaries, board, notices);
         Kept {
             events: events.end(),
             ended,
@@ -272,16 +275,17 @@ fn follow_once<
     R: AllocGlobal + Runtime + Clock,
     S: Read + Write + Drop,
     L: Primaries<S>,
-    N: Outages,
+    N: Outages + Drop,
 >(
     rt: &R,
     events: E,
     pace: Pace,
     primaries: &mut L,
     board: &Board,
-    outages: &mut N,
+    notices: Notices<N>,
 ) -> Kept<E, Result<(), Fault>> {
     let alloc = rt.alloc();
+    let mut notices = notices;
     let (reader, writer) = match primaries.next() {
         Ok(streams) => streams,
         Err(fault) => {
@@ -291,8 +295,8 @@ fn follow_once<
             };
         }
     };
-    tell_uncompared(primaries, outages);
-    let heard = Heard::new(reader, board, rt);
+    tell_uncompared(primaries, &mut notices);
+    let heard = Heard::new(reader, board, rt, notices);
     let answered = Answered::new(writer, board);
     let Followed {
         mut engine,
@@ -304,7 +308,9 @@ fn follow_once<
         Some(ended) => ended,
         None => follow(rt, alloc, &mut engine, pace.each, &mut reader, &mut writer),
     };
-    primaries.part(reader.end(), writer.end(), Some(ended));
+    let (reader, notices) = reader.end();
+    drop(notices);
+    primaries.part(reader, writer.end(), Some(ended));
     Kept {
         events: engine,
         ended,

@@ -1,4 +1,3 @@
 mod Limits
 pub mod Visiting
 pub mod Gets
-pub mod Ending

@@ -1,4 +1,4 @@
-use crate::question::{FRONT, LONGEST, RESUME, TAKEOVERS};
+use crate::resume::{FRONT, LONGEST, RESUME, TAKEOVERS};
 use std::io::ErrorKind;
 use std::net::OpenStream;
 use std::time::Duration;

@@ -7,6 +7,7 @@ ghost use Rattle.als_ship.specs.declared.fault.Fault.{Fault as AnyFault};
 ghost use Rattle.als_ship.specs.Wire.{SendsTrue, EndsServing};
 ghost use Rattle.als_operate.specs.declared.fault.Fault.TheVariants.{Session};
 ghost use Rattle.als_operate.specs.FaultNames.{IsOfReader};
+ghost use Rattle.als_shipper.specs.Faults.{asks_for_nothing};
 ghost use Rattle.als_shipper.specs.Lines.{sent_line, Tells, TellsTo, TellsLast};
 ghost use Rattle.als_shipper.specs.Visits.{SendsTrueTo, EndsServingTo};
 ghost use Rattle.als_shipper.specs.Visits.{PassesLast, SendsLast, EndsLast};
@@ -164,8 +165,10 @@ fn has_asked_nothing(shipper: &Shipper, fault: SessionFault) -> bool
     is_none && !shipper.has_begun()
 }
 
-/// Whether this is said of one who asks for no log.
-pub(crate) fn asks_nothing(fault: SessionFault) -> bool {
+/// Whether this is how a session ends of one who asks for no log.
+pub fn asks_nothing(fault: SessionFault) -> bool
+    ensures { result ≡ asks_for_nothing fault }
+{
     matches!(
         fault,
         SessionFault::BadFrame | SessionFault::Cut | SessionFault::Stream

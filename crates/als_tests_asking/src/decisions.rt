@@ -8,8 +8,8 @@ use std::hash::RandomState;
 use std::test::*;
 
 /// A transaction of one set, to be prepared.
-const PREPARE: &str =
-    "POST /prepare HTTP/1.1\r\nHost: localhost\r\nContent-Length: 33\r\n\r\n{\"set\":[{\"key\":[1,3],\"to\":\"ab\"}]}";
+const PREPARE: &str = "POST /prepare HTTP/1.1\r\nHost: localhost\r\nContent-Length: 33\r\n\r\n\
+    {\"set\":[{\"key\":[1,3],\"to\":\"ab\"}]}";
 
 /// The decision that transaction 7 commits.
 const COMMIT: &str =

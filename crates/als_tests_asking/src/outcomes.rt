@@ -8,12 +8,12 @@ use std::hash::RandomState;
 use std::test::*;
 
 /// A transaction of one set.
-const ONE: &str =
-    "POST /commit HTTP/1.1\r\nHost: localhost\r\nContent-Length: 33\r\n\r\n{\"set\":[{\"key\":[1,3],\"to\":\"ab\"}]}";
+const ONE: &str = "POST /commit HTTP/1.1\r\nHost: localhost\r\nContent-Length: 33\r\n\r\n\
+    {\"set\":[{\"key\":[1,3],\"to\":\"ab\"}]}";
 
 /// Two of them.
-const TWO: &str =
-    "POST /commit HTTP/1.1\r\nHost: localhost\r\nContent-Length: 70\r\n\r\n[{\"set\":[{\"key\":[1,3],\"to\":\"ab\"}]}, {\"set\":[{\"key\":[1,3],\"to\":\"ab\"}]}]";
+const TWO: &str = "POST /commit HTTP/1.1\r\nHost: localhost\r\nContent-Length: 70\r\n\r\n\
+    [{\"set\":[{\"key\":[1,3],\"to\":\"ab\"}]}, {\"set\":[{\"key\":[1,3],\"to\":\"ab\"}]}]";
 
 /// What was written.
 const WRITTEN: Written = Written {
@@ -43,19 +43,25 @@ fn what_is_in_the_log_is_answered(rt: HostRuntime) -> Result<(), Fail> {
     let table = [
         (
             Outcome::Committed(WRITTEN),
-            "HTTP/1.1 200 OK\r\ncontent-type: application/json\r\ncache-control: no-store\r\nals-lsn: 52\r\ncontent-length: 20\r\n\r\n{\"trans\":1,\"lsn\":52}",
+            "HTTP/1.1 200 OK\r\ncontent-type: application/json\r\ncache-control: no-store\r\n\
+            als-lsn: 52\r\ncontent-length: 20\r\n\r\n{\"trans\":1,\"lsn\":52}",
         ),
         (
             Outcome::Unknown(WRITTEN),
-            "HTTP/1.1 504 Gateway Timeout\r\ncontent-type: application/json\r\ncache-control: no-store\r\ncontent-length: 35\r\n\r\n{\"unknown\":true,\"trans\":1,\"lsn\":52}",
+            "HTTP/1.1 504 Gateway Timeout\r\ncontent-type: application/json\r\n\
+            cache-control: no-store\r\ncontent-length: 35\r\n\r\n\
+            {\"unknown\":true,\"trans\":1,\"lsn\":52}",
         ),
         (
             Outcome::Lost,
-            "HTTP/1.1 504 Gateway Timeout\r\ncontent-type: application/json\r\ncache-control: no-store\r\ncontent-length: 16\r\n\r\n{\"unknown\":true}",
+            "HTTP/1.1 504 Gateway Timeout\r\ncontent-type: application/json\r\n\
+            cache-control: no-store\r\ncontent-length: 16\r\n\r\n{\"unknown\":true}",
         ),
         (
             Outcome::NotBegun,
-            "HTTP/1.1 503 Service Unavailable\r\ncontent-type: application/json\r\ncache-control: no-store\r\nretry-after: 1\r\ncontent-length: 34\r\n\r\n{\"refused\":null,\"name\":\"NotBegun\"}",
+            "HTTP/1.1 503 Service Unavailable\r\ncontent-type: application/json\r\n\
+            cache-control: no-store\r\nretry-after: 1\r\ncontent-length: 34\r\n\r\n\
+            {\"refused\":null,\"name\":\"NotBegun\"}",
         ),
     ];
     for (outcome, answer) in table {
@@ -74,37 +80,48 @@ fn what_was_refused_is_answered(rt: HostRuntime) -> Result<(), Fail> {
     let table = [
         (
             Refusal::NotAsAsked { key: KEY, now },
-            "HTTP/1.1 409 Conflict\r\ncontent-type: application/json\r\ncache-control: no-store\r\ncontent-length: 45\r\n\r\n{\"not_as_asked\":[{\"key\":[1,3],\"value\":\"cd\"}]}",
+            "HTTP/1.1 409 Conflict\r\ncontent-type: application/json\r\ncache-control: no-store\r\n\
+            content-length: 45\r\n\r\n{\"not_as_asked\":[{\"key\":[1,3],\"value\":\"cd\"}]}",
         ),
         (
             Refusal::NotAsAsked {
                 key: KEY,
                 now: KeptImage::absent(),
             },
-            "HTTP/1.1 409 Conflict\r\ncontent-type: application/json\r\ncache-control: no-store\r\ncontent-length: 45\r\n\r\n{\"not_as_asked\":[{\"key\":[1,3],\"value\":null}]}",
+            "HTTP/1.1 409 Conflict\r\ncontent-type: application/json\r\ncache-control: no-store\r\n\
+            content-length: 45\r\n\r\n{\"not_as_asked\":[{\"key\":[1,3],\"value\":null}]}",
         ),
         (
             Refusal::Held {
                 key: KEY,
                 by: TransId(7),
             },
-            "HTTP/1.1 409 Conflict\r\ncontent-type: application/json\r\ncache-control: no-store\r\ncontent-length: 13\r\n\r\n{\"held_by\":7}",
+            "HTTP/1.1 409 Conflict\r\ncontent-type: application/json\r\ncache-control: no-store\r\n\
+            content-length: 13\r\n\r\n{\"held_by\":7}",
         ),
         (
             Refusal::Invalid(Flaw::KeyTwice { key: KEY }),
-            "HTTP/1.1 400 Bad Request\r\ncontent-type: application/json\r\ncache-control: no-store\r\ncontent-length: 43\r\n\r\n{\"error\":\"it sets a key twice\",\"key\":[1,3]}",
+            "HTTP/1.1 400 Bad Request\r\ncontent-type: application/json\r\n\
+            cache-control: no-store\r\ncontent-length: 43\r\n\r\n\
+            {\"error\":\"it sets a key twice\",\"key\":[1,3]}",
         ),
         (
             Refusal::LogFull,
-            "HTTP/1.1 507 Insufficient Storage\r\ncontent-type: application/json\r\ncache-control: no-store\r\ncontent-length: 31\r\n\r\n{\"refused\":29,\"name\":\"LogFull\"}",
+            "HTTP/1.1 507 Insufficient Storage\r\ncontent-type: application/json\r\n\
+            cache-control: no-store\r\ncontent-length: 31\r\n\r\n\
+            {\"refused\":29,\"name\":\"LogFull\"}",
         ),
         (
             Refusal::State(Fault::Stopped),
-            "HTTP/1.1 503 Service Unavailable\r\ncontent-type: application/json\r\ncache-control: no-store\r\nretry-after: 1\r\ncontent-length: 31\r\n\r\n{\"refused\":31,\"name\":\"Stopped\"}",
+            "HTTP/1.1 503 Service Unavailable\r\ncontent-type: application/json\r\n\
+            cache-control: no-store\r\nretry-after: 1\r\ncontent-length: 31\r\n\r\n\
+            {\"refused\":31,\"name\":\"Stopped\"}",
         ),
         (
             Refusal::Untidy,
-            "HTTP/1.1 503 Service Unavailable\r\ncontent-type: application/json\r\ncache-control: no-store\r\nretry-after: 1\r\ncontent-length: 34\r\n\r\n{\"refused\":23,\"name\":\"NotDrained\"}",
+            "HTTP/1.1 503 Service Unavailable\r\ncontent-type: application/json\r\n\
+            cache-control: no-store\r\nretry-after: 1\r\ncontent-length: 34\r\n\r\n\
+            {\"refused\":23,\"name\":\"NotDrained\"}",
         ),
     ];
     for (refusal, answer) in table {
@@ -125,7 +142,9 @@ fn an_array_is_answered_by_an_array(rt: HostRuntime) -> Result<(), Fail> {
             keys,
             committed,
             TWO,
-            "HTTP/1.1 200 OK\r\ncontent-type: application/json\r\ncache-control: no-store\r\ncontent-length: 69\r\n\r\n[{\"status\":200,\"trans\":1,\"lsn\":52},{\"status\":200,\"trans\":1,\"lsn\":52}]"
+            "HTTP/1.1 200 OK\r\ncontent-type: application/json\r\ncache-control: no-store\r\n\
+            content-length: 69\r\n\r\n\
+            [{\"status\":200,\"trans\":1,\"lsn\":52},{\"status\":200,\"trans\":1,\"lsn\":52}]"
         )
     );
     let held = Outcome::Refused(Refusal::Held {
@@ -138,7 +157,9 @@ fn an_array_is_answered_by_an_array(rt: HostRuntime) -> Result<(), Fail> {
             keys,
             held,
             TWO,
-            "HTTP/1.1 200 OK\r\ncontent-type: application/json\r\ncache-control: no-store\r\ncontent-length: 55\r\n\r\n[{\"status\":409,\"held_by\":7},{\"status\":409,\"held_by\":7}]"
+            "HTTP/1.1 200 OK\r\ncontent-type: application/json\r\ncache-control: no-store\r\n\
+            content-length: 55\r\n\r\n\
+            [{\"status\":409,\"held_by\":7},{\"status\":409,\"held_by\":7}]"
         )
     );
     Ok(())

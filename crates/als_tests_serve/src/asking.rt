@@ -1,9 +1,10 @@
 ghost use Rattle.std.specs.Prelude.{◌<◌, ◌^◌};
 
 use crate::written::{Change, transaction};
-use als_http::{Answering, Follower, Hosts, MOST_FOLLOWERS, Report, Standing, State, Work, config};
+use als_http::{Answering, Hosts, config};
 use als_published_log::PublishedLog;
 use als_record::{Key, Lsn};
+use als_report::{Follower, MOST_FOLLOWERS, Report, Reports, State, Work};
 use als_view::Reader;
 use arrayvec::ArrayVec;
 use http_server::{Connection, serve};
@@ -22,7 +23,7 @@ impl Drop for Fixed {
     }
 }
 
-impl Standing for Fixed {
+impl Reports for Fixed {
     fn report(&self) -> Report {
         Report {
             state: self.0,
@@ -102,7 +103,7 @@ pub fn published<R: Wait>(
 }
 
 /// What is answered to these bytes.
-pub fn answered<S: Standing>(
+pub fn answered<S: Reports>(
     alloc: Global,
     keys: RandomState,
     answering: &mut Answering<S>,
@@ -116,7 +117,7 @@ pub fn answered<S: Standing>(
 }
 
 /// Whether these bytes are answered by those.
-pub fn gives<S: Standing>(
+pub fn gives<S: Reports>(
     alloc: Global,
     keys: RandomState,
     answering: &mut Answering<S>,
@@ -130,7 +131,7 @@ pub fn gives<S: Standing>(
 }
 
 /// Whether what is answered to these bytes begins so.
-pub fn begins<S: Standing>(
+pub fn begins<S: Reports>(
     alloc: Global,
     keys: RandomState,
     answering: &mut Answering<S>,

@@ -1,5 +1,5 @@
-use als_http::{Board, Follower, FollowerRow, Report, Standing, State, Watch, Work};
 use als_record::Lsn;
+use als_report::{Board, Follower, FollowerRow, Report, Reports, State, Watch, Work};
 use arrayvec::ArrayVec;
 use std::io;
 use std::net::{IpAddr, Ipv4Addr, Ipv6Addr};

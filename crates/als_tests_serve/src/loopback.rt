@@ -1,8 +1,9 @@
 use crate::asking::{Fixed, published};
 use crate::written::{Change, transaction};
-use als_http::{Answering, Servers, State, listen};
+use als_http::{Answering, Servers, listen};
 use als_published_log::PublishedLog;
 use als_record::Key;
+use als_report::State;
 use als_view::Reader;
 use std::alloc::Global;
 use std::io::{Read, Write};

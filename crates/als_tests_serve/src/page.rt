@@ -1,6 +1,7 @@
 use crate::asking::{Fixed, begins, gives, published};
 use als_console::Text;
-use als_http::{Answering, Hosts, State};
+use als_http::{Answering, Hosts};
+use als_report::State;
 use std::alloc::Global;
 use std::hash::RandomState;
 use std::test::*;

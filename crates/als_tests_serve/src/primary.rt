@@ -1,5 +1,6 @@
 use crate::asking::{Fixed, answered, gives, published};
-use als_http::{Answering, State};
+use als_http::Answering;
+use als_report::State;
 use std::hash::RandomState;
 use std::test::*;
 

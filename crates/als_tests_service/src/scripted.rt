@@ -101,12 +101,15 @@ impl<S: Read + Write + Drop> Primaries<S> for Scripted<S> {
     }
 }
 
-/// The last outage, the last refusal and the last hang-ups that were told.
+/// The last outage, the last refusal and the last hang-ups that were told; and how often it was told that the
+/// log is nearly full, and where it ended the last time.
 #[derive(Drop)]
 pub struct Told {
     pub last: Option<(Option<Fault>, u64)>,
     pub refusal: Option<(Fault, u64)>,
     pub hang_ups: Option<u32>,
+    pub full: Option<u64>,
+    pub fulls: u32,
 }
 
 impl Told {
@@ -116,6 +119,8 @@ impl Told {
             last: None,
             refusal: None,
             hang_ups: None,
+            full: None,
+            fulls: 0,
         }
     }
 }
@@ -140,5 +145,8 @@ impl Outages for Told {
     fn uncompared(&mut self) {}
 
     #[inline(never)]
-    fn nearly_full(&mut self, _end: Lsn, _capacity: u64) {}
+    fn nearly_full(&mut self, end: Lsn, _capacity: u64) {
+        self.full = Some(end.0);
+        self.fulls = self.fulls.saturating_add(1);
+    }
 }

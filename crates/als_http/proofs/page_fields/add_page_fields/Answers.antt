@@ -1,5 +1,5 @@
 use Rattle.als_http.specs.Replies.{policy_field, options_field, referrer_field}
-use Rattle.als_http.proofs.TextLaws.{three_fields}
+use Rattle.als_http.proofs.ReplyLaws.{three_fields}
 use Rattle.als_http.proofs.page_fields.add_page_fields.Goals as goal
 
 pub returns-clause-fields : goal.returns-clause-fields

@@ -1,6 +1,6 @@
 use Rattle.std.specs.Prelude.{codes}
 use Rattle.als_console.specs.Texts.{policy}
-use Rattle.als_http.proofs.TextLaws.{field_is}
+use Rattle.als_http.proofs.ReplyLaws.{field_is}
 use Rattle.als_http.proofs.page_fields.add_policy.Goals as goal
 
 pub returns-clause-fields : goal.returns-clause-fields

@@ -1,5 +1,5 @@
 use Rattle.std.specs.Prelude.{codes}
-use Rattle.als_http.proofs.TextLaws.{field_is}
+use Rattle.als_http.proofs.ReplyLaws.{field_is}
 use Rattle.als_http.proofs.page_fields.add_referrer.Goals as goal
 
 pub returns-clause-fields : goal.returns-clause-fields

@@ -1,9 +1,0 @@
-use Rattle.std.specs.Prelude.{[], ◌∷◌, codes}
-use Rattle.json.specs.Token.{begin_object, end_object, key, string}
-use Rattle.als_http.proofs.TextLaws.{four}
-use Rattle.als_http.proofs.report_text.write_error.Goals as goal
-
-pub returns-clause-tokens : goal.returns-clause-tokens
-returns-clause-tokens c =
-    four _ _ _ _ _ (begin_object ∷ []) (key (codes "error") ∷ []) (string c.args.why.now ∷ []) (end_object ∷ [])
-    c.in_ok-begin_object.ensures.ok c.in_ok-key.ensures.ok c.in_ok-string.ensures.ok c.in_ok-end_object.ensures.ok

@@ -1,0 +1,28 @@
+ghost use Rattle.std.specs.Prelude.{◌≡◌, IfOk};
+ghost use Rattle.json.specs.Print.{print};
+ghost use Rattle.als_report.specs.Texts.{error_tokens};
+ghost use Rattle.als_http.specs.Replies.{why_wrong};
+
+use crate::query::Wrong;
+use als_report::error_text;
+use std::alloc::{AllocError, Global};
+
+/// Why a request is refused, as JSON.
+pub(crate) fn wrong_text(alloc: Global, why: Wrong) -> Result<Vec<u8>, AllocError>
+    ensures { IfOk result (λ text. text.items ≡ print (error_tokens (why_wrong why))) }
+{
+    error_text(alloc, why_wrong(why))
+}
+
+/// Why a request is refused, in words.
+fn why_wrong(why: Wrong) -> &'static str
+    ensures { result.now ≡ why_wrong why }
+{
+    match why {
+        Wrong::Path => "no such path: /, /keys/P/S, /status, /metrics, /health",
+        Wrong::Method => "GET and HEAD alone are answered",
+        Wrong::Number => "a page and a slot are decimal numbers below 2^32",
+        Wrong::Lsn => "Als-At-Least is one decimal number below 2^64",
+        Wrong::Host => "this node has no such host: localhost, 127.0.0.1, [::1]",
+    }
+}

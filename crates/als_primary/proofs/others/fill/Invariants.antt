@@ -1,6 +1,0 @@
-use Rattle.std.proofs.Common.{◌≤◌}
-use Rattle.als_primary.proofs.others.fill.Given as goal
-
--- no more rows than there is room for
-abbrev pub invariant-loop-row : goal.invariant-loop-row
-invariant-loop-row l = l.count ≤ 8

@@ -1,0 +1,4 @@
+mod WorkedHealth
+mod WorkedFollowers
+pub mod AnswerLaws
+pub mod TextLaws

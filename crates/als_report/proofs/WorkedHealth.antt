@@ -1,0 +1,45 @@
+-- Where a standby is never healthy.
+use Rattle.std.specs.Prelude.{◌≡◌, Some, true, false}
+use Rattle.std.proofs.Common.{refl}
+use Rattle.als_report.specs.declared.state.State.TheVariants.{Waiting, Refusing, Primary, Stopped, Committing, Unconfirmed}
+use Rattle.als_report.specs.Health.{is_sent_to, is_at_work, is_prompt, takes_commits, has_few}
+
+stopped_is_not : is_sent_to Stopped ≡ false
+stopped_is_not = refl
+
+refusing_is_not : is_sent_to Refusing ≡ false
+refusing_is_not = refl
+
+waiting_is_not : is_sent_to Waiting ≡ false
+waiting_is_not = refl
+
+-- a primary that commits for clients is at work; one that was taken over and does not is not
+committing_is : is_at_work Committing ≡ true
+committing_is = refl
+
+primary_is_not : is_at_work Primary ≡ false
+primary_is_not = refl
+
+-- one whose commits wait for followers is not, and yet it takes them; a node that was taken over takes none
+unconfirmed_is_not : is_at_work Unconfirmed ≡ false
+unconfirmed_is_not = refl
+
+unconfirmed_takes : takes_commits Unconfirmed ≡ true
+unconfirmed_takes = refl
+
+primary_takes_none : takes_commits Primary ≡ false
+primary_takes_none = refl
+
+-- a frame that waits for ten seconds is in time, one that waits for eleven is not
+ten_is_prompt : is_prompt (Some 10) ≡ true
+ten_is_prompt = refl
+
+eleven_is_not : is_prompt (Some 11) ≡ false
+eleven_is_not = refl
+
+-- with 199 transactions in doubt a primary may be healthy, with 200 it is not
+many_are_few : has_few 199 ≡ true
+many_are_few = refl
+
+too_many_are_not : has_few 200 ≡ false
+too_many_are_not = refl

@@ -1,0 +1,54 @@
+-- Whether a standby is healthy, and how much log it still takes, by what it tells of itself.
+use Rattle.std.specs.Prelude.{ℕ, ◌-◌, Bool, true, false, ◌&&◌, ◌||◌, nat_le, Option, Some, None, is_some}
+use Rattle.als_report.specs.declared.report.Report.{Report}
+use Rattle.als_report.specs.declared.state.State.{State}
+use Rattle.als_report.specs.declared.state.State.TheVariants.{Recovering, Waiting, Following, Refusing, Sealed, Primary, Stopped, Committing, Unconfirmed}
+
+-- a primary sends to it
+abbrev pub is_sent_to : State → Bool
+is_sent_to Recovering = false
+is_sent_to Waiting = false
+is_sent_to Following = true
+is_sent_to Refusing = false
+is_sent_to Sealed = false
+is_sent_to Primary = false
+is_sent_to Stopped = false
+is_sent_to Committing = false
+is_sent_to Unconfirmed = false
+
+-- it commits for clients
+abbrev pub is_committing : State → Bool
+is_committing Committing = true
+is_committing s = false
+
+-- it takes transactions of clients, be their commits confirmed now or not
+abbrev pub takes_commits : State → Bool
+takes_commits Committing = true
+takes_commits Unconfirmed = true
+takes_commits s = false
+
+-- it does what it is there for
+abbrev pub is_at_work : State → Bool
+is_at_work s = is_sent_to s || is_committing s
+
+-- no frame waits for its acknowledgement for longer than ten seconds
+abbrev pub is_prompt : Option ℕ → Bool
+is_prompt None = true
+is_prompt (Some seconds) = nat_le seconds 10
+
+-- fewer than 200 transactions are in doubt, of the 256 that there may be
+abbrev pub has_few : ℕ → Bool
+has_few in_doubt = nat_le in_doubt 199
+
+-- A primary sends to it or it commits for clients, each frame is acknowledged in time, readers see a list of commits, and few transactions
+-- are in doubt.
+abbrev pub is_healthy : Report → Option ℕ → Bool
+is_healthy r commits = has_few r.in_doubt && (is_at_work r.state && is_prompt r.waiting && is_some commits)
+
+-- so many bytes are left below a capacity
+abbrev pub room_below : Option ℕ → ℕ → Option ℕ
+room_below None end = None
+room_below (Some capacity) end = Some (capacity - end)
+
+abbrev pub room_of : Report → Option ℕ
+room_of r = room_below r.capacity r.end.0

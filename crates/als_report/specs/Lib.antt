@@ -1,0 +1,5 @@
+pub mod States
+pub mod Health
+pub mod Reading
+pub mod Followers
+pub mod Texts

@@ -1,0 +1,85 @@
+ghost use Rattle.std.specs.Prelude.{◌≡◌};
+ghost use Rattle.als_report.specs.Health.{is_prompt, is_healthy, room_of};
+
+use crate::follower::Follower;
+use crate::state::State;
+use crate::work::Work;
+use als_record::Lsn;
+use arrayvec::ArrayVec;
+
+/// Seconds for which a frame may wait for its acknowledgement before the node is not healthy.
+pub const PATIENCE: u64 = 10;
+
+/// The most transactions that may be in doubt in a healthy primary. At 256 it takes no more.
+pub const MOST_IN_DOUBT: u64 = 199;
+
+/// The most followers that a report has.
+pub const MOST_FOLLOWERS: usize = 8;
+
+/// What a node reports of itself.
+#[derive(PartialEq, Drop)]
+pub struct Report {
+    pub state: State,
+    /// The offset after the last held record.
+    pub end: Lsn,
+    /// The offset below which no log byte can be lost.
+    pub acknowledged: Lsn,
+    /// Changes that wait for redo.
+    pub pending: u64,
+    /// Leases that are out.
+    pub leases: u64,
+    /// Seconds since the last acknowledged frame came. None: no frame was acknowledged.
+    pub silence: Option<u64>,
+    /// Seconds for which a frame has waited for its acknowledgement. None: none waits.
+    pub waiting: Option<u64>,
+    /// Bytes of the log's device. None: not known yet.
+    pub capacity: Option<u64>,
+    /// How many sessions were ended by a fault.
+    pub failures: u64,
+    /// The number of the last such fault. None: no session was.
+    pub last_fault: Option<u64>,
+    /// The epoch of its history. None: not known yet.
+    pub epoch: Option<u64>,
+    /// What it committed for clients.
+    pub work: Work,
+    /// How many transactions are in doubt.
+    pub in_doubt: u64,
+    /// How many followers have to acknowledge a commit before it is answered.
+    pub sync: u64,
+    /// Its followers.
+    pub followers: ArrayVec<Follower, MOST_FOLLOWERS>,
+}
+
+impl Report {
+    /// Whether the node is healthy: a primary sends to it or it commits for clients, no frame has waited
+    /// for longer than `PATIENCE`, readers see a list of commits, and at most `MOST_IN_DOUBT` transactions
+    /// are in doubt.
+    pub fn is_healthy(&self, commits: Option<u64>) -> bool
+        ensures { result ≡ is_healthy self.now commits }
+    {
+        if self.in_doubt > MOST_IN_DOUBT {
+            return false;
+        }
+        self.state.is_at_work() && is_prompt(self.waiting) && commits.is_some()
+    }
+
+    /// The bytes that the log can still take. None: not known yet.
+    pub fn room(&self) -> Option<u64>
+        ensures { result ≡ room_of self.now }
+    {
+        match self.capacity {
+            Some(capacity) => Some(capacity.saturating_sub(self.end.0)),
+            None => None,
+        }
+    }
+}
+
+/// Whether no frame has waited for too long.
+fn is_prompt(waiting: Option<u64>) -> bool
+    ensures { result ≡ is_prompt waiting }
+{
+    match waiting {
+        Some(seconds) => seconds <= PATIENCE,
+        None => true,
+    }
+}

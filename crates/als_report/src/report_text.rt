@@ -1,0 +1,100 @@
+ghost use Rattle.std.specs.Prelude.{◌≡◌, IfOk, OnOk, ◌++◌};
+ghost use Rattle.json.specs.Print.{print};
+ghost use Rattle.als_report.specs.Texts.{status_tokens, log_tokens, redo_tokens, room_tokens};
+ghost use Rattle.als_report.specs.Texts.{health_tokens};
+
+use crate::members::member;
+use crate::primary_text::write_primary;
+use crate::report::Report;
+use json::Writer;
+use std::alloc::{AllocError, Global};
+
+/// The status of a node as JSON: its report, and how many commits are published.
+#[tactic(auto, using(crate::proofs::TextLaws::printed))]
+pub fn status_text(
+    alloc: Global,
+    report: &Report,
+    commits: Option<u64>,
+) -> Result<Vec<u8>, AllocError>
+    ensures { IfOk result (λ text. text.items ≡ print (status_tokens report.now commits)) }
+{
+    let mut text = Writer::new(Vec::new(alloc));
+    write_status(alloc, &mut text, report, commits)?;
+    Ok(text.into_inner())
+}
+
+/// Writes the object of a status.
+fn write_status(
+    alloc: Global,
+    text: &mut Writer,
+    report: &Report,
+    commits: Option<u64>,
+) -> Result<(), AllocError>
+    ensures tokens { OnOk result
+        (text.new.tokens ≡ text.old.tokens ++ status_tokens report.now commits) }
+    ensures before { OnOk result (text.new.before ≡ text.old.before) }
+{
+    text.begin_object()?;
+    write_log(text, report)?;
+    write_redo(text, report, commits)?;
+    write_room(text, report)?;
+    write_primary(alloc, text, report)?;
+    text.end_object()?;
+    Ok(())
+}
+
+/// Writes the state, and how far the log goes.
+fn write_log(text: &mut Writer, report: &Report) -> Result<(), AllocError>
+    ensures tokens { OnOk result (text.new.tokens ≡ text.old.tokens ++ log_tokens report.now) }
+    ensures before { OnOk result (text.new.before ≡ text.old.before) }
+{
+    text.key("state")?;
+    text.string(report.state.name())?;
+    member(text, "end", Some(report.end.0))?;
+    member(text, "acknowledged", Some(report.acknowledged.0))?;
+    Ok(())
+}
+
+/// Writes what waits, what is published, and how old the last frame is.
+fn write_redo(text: &mut Writer, report: &Report, commits: Option<u64>) -> Result<(), AllocError>
+    ensures tokens { OnOk result
+        (text.new.tokens ≡ text.old.tokens ++ redo_tokens report.now commits) }
+    ensures before { OnOk result (text.new.before ≡ text.old.before) }
+{
+    member(text, "pending", Some(report.pending))?;
+    member(text, "leases", Some(report.leases))?;
+    member(text, "commits", commits)?;
+    member(text, "seconds_since_last_frame", report.silence)?;
+    Ok(())
+}
+
+/// Writes the size of the log's device, and how much of it is left.
+fn write_room(text: &mut Writer, report: &Report) -> Result<(), AllocError>
+    ensures tokens { OnOk result (text.new.tokens ≡ text.old.tokens ++ room_tokens report.now) }
+    ensures before { OnOk result (text.new.before ≡ text.old.before) }
+{
+    member(text, "capacity", report.capacity)?;
+    member(text, "left", report.room())?;
+    Ok(())
+}
+
+/// Whether a node is healthy, as JSON.
+#[tactic(auto, using(crate::proofs::TextLaws::printed))]
+pub fn health_text(alloc: Global, healthy: bool) -> Result<Vec<u8>, AllocError>
+    ensures { IfOk result (λ text. text.items ≡ print (health_tokens healthy)) }
+{
+    let mut text = Writer::new(Vec::new(alloc));
+    write_health(&mut text, healthy)?;
+    Ok(text.into_inner())
+}
+
+fn write_health(text: &mut Writer, healthy: bool) -> Result<(), AllocError>
+    ensures tokens { OnOk result (text.new.tokens ≡ text.old.tokens ++ health_tokens healthy) }
+    ensures before { OnOk result (text.new.before ≡ text.old.before) }
+{
+    text.begin_object()?;
+    text.key("healthy")?;
+    text.boolean(healthy)?;
+    text.end_object()?;
+    Ok(())
+}
