@@ -420,7 +420,7 @@ const WINDOW: Word = Word::Short {
 const PATH: Word = Word::Place {
     name: "path",
     value: "PATH",
-    help: "A log file, or the folder of a standby",
+    help: "A log file, or the folder of a node",
 };
 
 /// Looks at a log up to an LSN.
@@ -440,7 +440,7 @@ const PATH_OR_FOLDER: Word = Word::Place {
 const FOLDER: Word = Word::Place {
     name: "folder",
     value: "DIR",
-    help: "The folder of a standby; with --at a log file too",
+    help: "The folder of a node; with --at a log file too",
 };
 
 const KEY_PAGE: Word = Word::PagePlace {

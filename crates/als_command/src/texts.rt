@@ -133,8 +133,8 @@ can lose it.
 To follow on, run it again: it goes on where it was left, also after a crash.
 With --keep it does so itself: after the end of the log, 43 or 44 it connects again, after a
 pause of at most 5 s, and after any other refusal, of which standard error tells, after a pause
-of 5 s to 60 s; only 21, 29, 30, 31, 33, 34, 42 and 48 end it. With --explain, or on a terminal,
-standard error says once a minute at most that nothing comes.
+of 5 s to 60 s; only 21, 29, 30, 31, 33, 34, 42, 48 and 50 end it. With --explain, or on a
+terminal, standard error says once a minute at most that nothing comes.
 With --serve it answers over HTTP: GET /keys/P/S, /status, /metrics and /health. Nothing is
 encrypted, and nobody is asked who he is.
 With --keep, --serve or --listen one thread redoes at least: --workers 0 is 1.
@@ -164,7 +164,10 @@ Exit statuses: 0 done, 2 a fault of the command line, 3 `als: refused N Name`:
   44  nobody serves at ADDR, the network or standard output failed, or the primary was
       silent for longer than SECONDS: run it again
   42  the log in DIR goes past the takeover of the node that serves: the two parted there
-  48  the takeovers of that node do not go on from those of DIR; see --forget-unreached";
+  48  the takeovers of that node do not go on from those of DIR; see --forget-unreached
+  50  that node has another log: what DIR holds is not a front of it, nor it of that. Nothing in
+      DIR has changed: keep DIR, find which log is right (`als verify`, sha256=, of both), and
+      follow that one with an empty folder";
 
 pub const TAKEOVER_ABOUT: &str = "Makes a primary of the standby of a folder";
 
@@ -324,11 +327,11 @@ Exit statuses: 0 done, 2 a fault of the command line, 3 `als: refused N Name`:
   34, 1 to 16 log.blk or control.blk is damaged; nothing was written
   37  log.blk is longer than the largest log";
 
-pub const DUMP_ABOUT: &str = "Prints the records of a log file or of a standby";
+pub const DUMP_ABOUT: &str = "Prints the records of a log file or of a node";
 
 pub const DUMP_HELP: &str =
-    "Reads PATH and changes nothing: a log file as `als ship` serves it, or the folder of a
-standby that does not run, of which the log is read as far as it is acknowledged.
+    "Reads PATH and changes nothing: a log file as `als ship` serves it, or the folder of a node
+that does not run, of which the log is read as far as it is acknowledged.
 Writes standard output: a line for each record that all options admit.
   L update trans=T P/S BEFORE AFTER prev=V
   L clr trans=T P/S AFTER prev=V next=N
@@ -336,18 +339,19 @@ Writes standard output: a line for each record that all options admit.
   L begin_chkpt, L end_chkpt prev=V
 Where a record is not sound, the lines of those in front of it are written, and then it is
 refused: `als verify` tells where.
-With --commits a line for each commit in place of that: `L trans=T P/S P/S ..`, the LSN of its
-commit record, and the keys that it wrote.
+With --commits a line for each commit in place of that: `L trans=T P/S P/S ..`, the LSN at which
+its commit record begins, and the keys that it wrote. `als show PATH --at L` is what was there in
+front of that commit, and `--at L+28` what is there behind it.
 
 Example:
   als dump standby --trans 2 --from 1024
 
 Exit statuses: 0 done, 2 a fault of the command line, 3 `als: refused N Name`.";
 
-pub const VERIFY_ABOUT: &str = "Tells whether a log file or a standby is sound";
+pub const VERIFY_ABOUT: &str = "Tells whether a log file or a node is sound";
 
 pub const VERIFY_HELP: &str =
-    "Reads PATH and changes nothing: a log file, or the folder of a standby that does not run.
+    "Reads PATH and changes nothing: a log file, or the folder of a node that does not run.
 Of a log each record has to be one, and has to follow those in front of it. Of a folder the
 control block, the checkpoint and the pages are read too, as a restart does, and each page is
 compared with what the log makes of it: `als rebuild-pages` mends one that differs (33).
@@ -360,10 +364,11 @@ Example:
 
 Exit statuses: 0 sound, 2 a fault of the command line, 3 unsound, or `als: refused N Name`.";
 
-pub const STATUS_ABOUT: &str = "Prints what the folder of a standby holds";
+pub const STATUS_ABOUT: &str = "Prints what the folder of a node holds";
 
 pub const STATUS_HELP: &str =
-    "Reads DIR, the folder of a standby that does not run, and changes nothing.
+    "Reads DIR, the folder of a node that does not run, and changes nothing: of one that runs, ask
+it for /status.
 Writes standard output: a line
   phase=F pages=N end=E ack=A checkpoint=Q behind=B transactions=T capacity=C left=L
 with F Following, Sealed or Primary; E, where the held log ends; A, up to where no crash can
@@ -378,13 +383,14 @@ below LSN, and writes a line
   pages=N end=E greatest=G commits=C last=L transactions=T doubts=D
 with E, where that record ends; G, the greatest TransID; C, the commits, and L, the LSN of the last
 one; T, the unended transactions, and D, those of them that are in doubt. Then a line for each.
+A commit record that begins at L, as `als dump --commits` has it, ends at L + 28.
 
 Example:
   als status standby
   als status standby --at 4096
 
 Exit statuses: 0 done, 2 a fault of the command line, 3 `als: refused N Name`:
-  30  DIR or a file of it failed, it has no database, or a standby runs there: ask that one
+  30  DIR or a file of it failed, it has no database, or a node runs there: ask that one
   33, 34, 1 to 16 a file of it is damaged: `als verify` tells where
   37  with --at: LSN is within the header or past the end of the log";
 
@@ -397,7 +403,8 @@ Writes the log text to standard output: its header and each whole record that en
 LSN, or that stands in front of the commit record of T. So a damaged database is taken back to a
 moment: ship the text to an empty folder, and take over. Nothing is damaged by a wrong LSN: the
 text is another file.
-`als dump PATH --commits` prints the LSN, the transaction and the keys of each commit.
+`als dump PATH --commits` prints for each commit L, where its record begins, its transaction and
+its keys: the text has the commit from --at L+28 on.
 
 Example:
   als cut a --before-commit 7 > earlier.log
@@ -406,7 +413,8 @@ Example:
 Exit statuses: 0 done, 2 a fault of the command line, 3 `als: refused N Name`:
   30  PATH is a folder that failed, has no database, or is in use
   33, 34, 1 to 16 a file of it is damaged up to there: `als verify` tells where
-  37  LSN is within the header or past the end of the log, or T has no commit
+  37  LSN is within the header or past the end of the log, or T has no commit: standard error
+      says which
   43  the file ends within a record
   44  the file can't be read, or standard output failed";
 
@@ -416,7 +424,8 @@ pub const SHOW_HELP: &str =
     "Reads PATH and changes nothing: a log file as `als ship` serves it, or the folder of a node
 that does not run, of which the log is read as far as it is acknowledged.
 Writes standard output: a line `P/S VALUE` for each key that has a value, by the commits that end
-at or below LSN (without --at: all), in the order of pages and slots; `empty` where none has.
+at or below LSN (without --at: all), in the order of pages and slots; `empty` where none has. A
+commit record that begins at L, as `als dump --commits` has it, ends at L + 28.
 
 Example:
   als show a --at 4096
@@ -428,8 +437,8 @@ pub const BEGIN_ABOUT: &str = "Writes a new generation of a log that is nearly f
 
 pub const BEGIN_HELP: &str =
     "A log takes 2 GiB at most, and what is written to it stays. Before it is full, begin a new one:
-stop the primary, write the new generation to a file, ship that to empty folders, and take one of
-them over. The others are its standbys.
+stop the primary, write the new generation to a file, ship that to an empty folder, take that over,
+and let it serve. Standbys follow it with empty folders.
 Reads PATH and changes nothing: a log file as `als ship` serves it, or the folder of a node
 that does not run, of which the log is read as far as it is acknowledged.
 Writes the new log text to standard output: its header, and for each page with a value one
@@ -444,6 +453,7 @@ Example:
   mkdir b
   als standby --dir b --from 127.0.0.1:7070 --pages 4
   als takeover --dir b
+  als primary --dir b --serve 127.0.0.1:7071 --listen 127.0.0.1:7070
 
 Exit statuses: 0 done, 2 a fault of the command line, 3 `als: refused N Name`; then the output is
 of no use:
@@ -494,22 +504,23 @@ Example:
 
 Exit statuses: 0 done, 2 a fault of the command line, 3 `als: refused N Name`:
   30  DIR or a file of it failed, its disk has no room, it has no database, or it is in use
-  37  the log has more than B blocks, or B is over 4,194,304";
+  37  the log has more than B blocks (standard error says how many), or B is over 4,194,304";
 
 pub const GET_ABOUT: &str = "Prints what the committed transactions left at a key";
 
 pub const GET_HELP: &str =
-    "Reads DIR, the folder of a standby that does not run, and changes nothing: recovers the
-standby in a copy in memory, and reads slot S of page P there.
+    "Reads DIR, the folder of a node that does not run, and changes nothing: recovers the node in a
+copy in memory, and reads slot S of page P there. Of one that runs, ask it for /keys/P/S.
 Writes standard output: a line `VALUE commits=C lsn=L`: the value in lower case hexadecimal,
 `.` for the empty value, `-` where the key has none or lies outside the database; how many
 commits were counted, and the LSN of the last one.
 With --at it reads the log alone, which DIR may be a file of, and counts the commits that end at
-or below LSN.
+or below LSN. The lsn= of a commit is where its record begins: it counts from --at L+28 on.
 
 Example:
   als get standby 0 3
+  als get standby 0 3 --at 4096
 
 Exit statuses: 0 done, 2 a fault of the command line, 3 `als: refused N Name`:
-  30  DIR or a file of it failed, it has no database, or a standby runs there: ask that one
+  30  DIR or a file of it failed, it has no database, or a node runs there: ask that one
   33, 34, 1 to 16 a file of it is damaged: `als verify` tells where";

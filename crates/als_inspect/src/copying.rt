@@ -3,6 +3,7 @@ ghost use Rattle.als_disk.specs.MemDisk.{mem_blocks, mem_slot};
 ghost use Rattle.als_disk.specs.Slot.{IsSettled};
 
 use als_disk::{BlockDisk, DeviceError, MemDisk};
+use als_progress::{Advance, Work};
 use std::alloc::{AllocError, Global};
 use std::fs::File;
 use std::io;
@@ -13,8 +14,14 @@ const PIECE: u64 = 2048;
 
 /// A device in memory of so many blocks, with so many bytes of a file, and zeros behind them. A
 /// block of zeros takes no memory. It fails where the file does or is shorter, or where there is no
-/// memory.
-pub fn copy(alloc: Global, file: &File, len: u64, blocks: u64) -> io::Result<MemDisk>
+/// memory. `advance` receives how far it was read.
+pub fn copy<A: Advance>(
+    alloc: Global,
+    file: &File,
+    len: u64,
+    blocks: u64,
+    advance: &mut A,
+) -> io::Result<MemDisk>
     requires { len ≤ 512 * blocks }
     ensures count { IfOk result (λ disk. mem_blocks disk ≡ blocks) }
     ensures settled { IfOk result (λ disk. (k : ℕ) → IsSettled (mem_slot disk k)) }
@@ -29,6 +36,7 @@ pub fn copy(alloc: Global, file: &File, len: u64, blocks: u64) -> io::Result<Mem
         read_piece(file, first * 512, len, held)?;
         keep(&mut disk, first, held)?;
         first += count;
+        advance.advances(Work::Copy, first.saturating_mul(512), len);
     }
     settle(&mut disk);
     Ok(disk)

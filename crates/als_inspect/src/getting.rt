@@ -8,9 +8,10 @@ use crate::fault::Fault;
 use crate::log_text::database_of;
 use crate::restarting::restarted;
 use als_disk::MemDisk;
-use als_drive::recover;
+use als_drive::{Progress, recover_telling};
 use als_engine::Engine;
 use als_folder::Folder;
+use als_progress::Advance;
 use als_record::Key;
 use als_text::ShownImage;
 use als_view::{Answer, Reader};
@@ -21,22 +22,23 @@ use std::sync::Wait;
 
 /// Prints what the committed transactions left at a key of a folder's standby, as `read` of a script
 /// does: `VALUE commits=C lsn=L`, with `-` where the key has nothing. The standby is recovered in a
-/// copy in memory; the folder is only read.
+/// copy in memory; the folder is only read. `progress` receives how far that is.
 ///
 /// Folder: the folder or a file of it failed, or another program has it. Stream: the output failed.
 /// Memory: there was none for a copy of it. BadHeader, BadControl, Log, Standby: a restart would
 /// refuse the database, or fail on one of its pages.
-pub fn get<R: AllocGlobal + Files<File = File> + Wait, O: Write>(
+pub fn get<R: AllocGlobal + Files<File = File> + Wait, P: Progress + Advance, O: Write>(
     rt: &R,
     dir: &str,
     key: Key,
+    progress: &mut P,
     output: &mut O,
 ) -> Result<(), Fault> {
     let folder = Folder::hold_to_read(rt, dir)?;
     let files = folder.open_to_read(rt)?;
     let database = database_of(rt.alloc(), &files)?;
-    let (engine, readers) = restarted(rt, &files, database)?;
-    let answer = read(rt, engine, readers, key)?;
+    let (engine, readers) = restarted(rt, &files, database, progress)?;
+    let answer = read(rt, engine, readers, key, progress)?;
     let (commits, lsn) = (answer.commits, answer.lsn.0);
     writeln!(
         output,
@@ -47,11 +49,12 @@ pub fn get<R: AllocGlobal + Files<File = File> + Wait, O: Write>(
 }
 
 /// Recovers a standby and reads a key.
-fn read<R: Wait>(
+fn read<R: Wait, P: Progress>(
     rt: &R,
     engine: Engine<MemDisk>,
     readers: Vec<Reader>,
     key: Key,
+    progress: &mut P,
 ) -> Result<Answer, Fault>
     requires readers { AreReaders engine.book engine.machine.held.pages readers.items }
     requires some { length readers.items ≡ 1 }
@@ -60,6 +63,6 @@ fn read<R: Wait>(
         × ReadsKey m key (Ok a)) }
 {
     let (mut engine, mut readers) = (engine, readers);
-    recover(rt, &mut engine)?;
+    recover_telling(rt, &mut engine, progress)?;
     Ok(engine.read(&mut readers[0], key)?)
 }

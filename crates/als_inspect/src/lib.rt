@@ -10,6 +10,8 @@ mod copying;
 mod log_text;
 // Why a record is refused.
 mod telling;
+// All records, counted.
+mod counting;
 // The records as lines.
 mod dumping;
 // A folder's standby, opened over a copy in memory.
@@ -20,6 +22,8 @@ mod standing;
 mod getting;
 // The pages of a folder against its log.
 mod page_checking;
+// Nobody is told.
+mod quiet;
 // What is not sound.
 mod unsound;
 // Whether all is sound.
@@ -31,4 +35,4 @@ pub use fault::Fault;
 pub use getting::get;
 pub use page_checking::check_pages;
 pub use standing::status;
-pub use verifying::verify;
+pub use verifying::{verify, verify_telling};

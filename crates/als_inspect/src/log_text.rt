@@ -10,6 +10,7 @@ use als_engine::CONTROL_BLOCKS;
 use als_folder::{
     DeviceFiles, Fault as FolderFault, Folder, LOG_LIMIT, Part, Sizes, Trouble, Wrong,
 };
+use als_progress::{Advance, Unwatched};
 use als_record::LogHeader;
 use als_scan::Scan;
 use std::alloc::Global;
@@ -22,12 +23,14 @@ use std::{fs, io};
 pub struct LogText {
     /// Its records, to be read and judged one after another.
     pub records: Scan<MemDisk>,
+    /// How many bytes it has.
+    pub whole: u64,
 }
 
 // Written out: a derived drop is proved wherever a text is dropped, this one only here.
 impl Drop for LogText {
     fn drop(self) {
-        let LogText { records } = self;
+        let LogText { records, whole: _ } = self;
         drop(records);
     }
 }
@@ -40,7 +43,10 @@ fn text_in(alloc: Global, disk: MemDisk, pages: u32, end: u64) -> Result<LogText
     requires high { end ≤ 512 * mem_blocks disk }
 {
     match Scan::new(alloc, disk, pages, end) {
-        Ok(records) => Ok(LogText { records }),
+        Ok(records) => Ok(LogText {
+            records,
+            whole: end,
+        }),
         Err(unread) => {
             let fault = unread.fault;
             drop(unread);
@@ -53,9 +59,10 @@ fn text_in(alloc: Global, disk: MemDisk, pages: u32, end: u64) -> Result<LogText
 ///
 /// BadHeader: it begins with none. Stream: the file failed, or is longer than the largest log.
 /// Memory: there was none for it.
-pub fn text_of_file<R: AllocGlobal + Files<File = File>>(
+pub fn text_of_file<R: AllocGlobal + Files<File = File>, A: Advance>(
     rt: &R,
     path: &str,
+    advance: &mut A,
 ) -> Result<LogText, Fault> {
     let file = File::open(rt, path)?;
     let end = file.metadata()?.len();
@@ -66,7 +73,7 @@ pub fn text_of_file<R: AllocGlobal + Files<File = File>>(
         return Err(Fault::BadHeader);
     }
     let pages = pages_of(first_bytes(&file)?)?;
-    let disk = copy(rt.alloc(), &file, end, end.div_ceil(512))?;
+    let disk = copy(rt.alloc(), &file, end, end.div_ceil(512), advance)?;
     text_in(rt.alloc(), disk, pages, end)
 }
 
@@ -81,14 +88,15 @@ pub struct Database {
 
 /// The text of a folder's log, as far as it is acknowledged. The refusals are those of
 /// `database_of`, and Memory: there was none for the text.
-pub fn text_of_folder<R: AllocGlobal + Files<File = File>>(
+pub fn text_of_folder<R: AllocGlobal + Files<File = File>, A: Advance>(
     rt: &R,
     folder: &Folder,
+    advance: &mut A,
 ) -> Result<LogText, Fault> {
     let files = folder.open_to_read(rt)?;
     let database = database_of(rt.alloc(), &files)?;
     let end = database.state.mark.0;
-    match copy(rt.alloc(), &files.log, end, end.div_ceil(512)) {
+    match copy(rt.alloc(), &files.log, end, end.div_ceil(512), advance) {
         Ok(disk) => text_in(rt.alloc(), disk, database.pages, end),
         Err(e) => Err(Fault::Folder(of_log(e))),
     }
@@ -122,7 +130,7 @@ fn control_state(
     if found.control < CONTROL_BLOCKS {
         return Err(damaged(Part::Control));
     }
-    let mut disk = match copy(alloc, control, 512, 1) {
+    let mut disk = match copy(alloc, control, 512, 1, &mut Unwatched) {
         Ok(disk) => disk,
         Err(e) => return Err(Fault::Folder(FolderFault::of(Part::Control, e))),
     };

@@ -1,14 +1,14 @@
 use crate::copying::copy;
+use crate::counting::is_told;
 use crate::fault::Fault;
-use crate::log_text::{Database, database_of, text_of_folder};
+use crate::log_text::{Database, LogText, database_of, text_of_folder};
 use crate::telling::told;
 use als_ckpt::{Fault as ControlFault, read_said};
-use als_disk::BlockDisk;
 use als_engine::{CONTROL_BLOCKS, Fault as EngineFault};
 use als_folder::{DeviceFiles, Fault as FolderFault, Folder, LOG_LIMIT, Part};
 use als_pages_check::Checks;
+use als_progress::{Advance, Unwatched, Work};
 use als_record::{BLOCK_LEN, FIRST_LSN, LoggedPage, Lsn};
-use als_scan::Scan;
 use std::alloc::Global;
 use std::fs::File;
 use std::os::unix::fs::FileExt;
@@ -17,27 +17,33 @@ use std::rt::Files;
 /// Checks the pages of a folder's node against its log, as far as that is acknowledged: the block of
 /// each page has to be what the log makes of the page at the block's page_LSN, and may lack no change
 /// that a restart would not redo. The folder is only read. Where it has no database nothing is checked.
+/// `advance` receives how far its log was read.
 ///
 /// Standby(BadPage): the first page that is not so. Else as a restart refuses the folder. Memory:
 /// there was none for a copy of the log, or for 1,032 bytes a page.
-pub fn check_pages<R: AllocGlobal + Files<File = File>>(rt: &R, dir: &str) -> Result<(), Fault> {
+pub fn check_pages<R: AllocGlobal + Files<File = File>, A: Advance>(
+    rt: &R,
+    dir: &str,
+    advance: &mut A,
+) -> Result<(), Fault> {
     let folder = Folder::hold_to_read(rt, dir)?;
     if !folder.is_kept(rt)? {
         return Ok(());
     }
-    check_folder(rt, &folder)
+    check_folder(rt, &folder, advance)
 }
 
 /// The same of a folder that is held.
-pub(crate) fn check_folder<R: AllocGlobal + Files<File = File>>(
+pub(crate) fn check_folder<R: AllocGlobal + Files<File = File>, A: Advance>(
     rt: &R,
     folder: &Folder,
+    advance: &mut A,
 ) -> Result<(), Fault> {
     let files = folder.open_to_read(rt)?;
     let database = database_of(rt.alloc(), &files)?;
     let mut checks = checks_of(rt.alloc(), &files, database)?;
-    let mut text = text_of_folder(rt, folder)?;
-    note_all(&mut text.records, &mut checks)?;
+    let text = text_of_folder(rt, folder, advance)?;
+    note_all(text, &mut checks, advance)?;
     match checks.first_differing() {
         Some(page) => Err(Fault::Standby(EngineFault::BadPage { page })),
         None => Ok(()),
@@ -45,9 +51,13 @@ pub(crate) fn check_folder<R: AllocGlobal + Files<File = File>>(
 }
 
 /// Takes each record of a log.
-fn note_all<D: BlockDisk>(records: &mut Scan<D>, checks: &mut Checks) -> Result<(), Fault> {
-    for _ in 0..u64::MAX {
-        match records.next() {
+fn note_all<A: Advance>(text: LogText, checks: &mut Checks, advance: &mut A) -> Result<(), Fault> {
+    let mut text = text;
+    for count in 0..u64::MAX {
+        if is_told(count) {
+            advance.advances(Work::Compare, text.records.end().0, text.whole);
+        }
+        match text.records.next() {
             Ok(Some(logged)) => checks.note(&logged),
             Ok(None) => return Ok(()),
             Err(fault) => return Err(told(fault, false)),
@@ -87,7 +97,13 @@ fn rows_of(
     pages: u32,
 ) -> Result<(Lsn, Vec<LoggedPage>), Fault> {
     let mut rows = Vec::new(alloc);
-    let mut disk = match copy(alloc, &files.control, CONTROL_BLOCKS * 512, CONTROL_BLOCKS) {
+    let mut disk = match copy(
+        alloc,
+        &files.control,
+        CONTROL_BLOCKS * 512,
+        CONTROL_BLOCKS,
+        &mut Unwatched,
+    ) {
         Ok(disk) => disk,
         Err(e) => return Err(Fault::Folder(FolderFault::of(Part::Control, e))),
     };

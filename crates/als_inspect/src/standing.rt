@@ -4,6 +4,7 @@ use crate::restarting::restarted;
 use als_ckpt::Phase;
 use als_engine::{Events, History};
 use als_folder::{Folder, Role};
+use als_progress::Advance;
 use als_text::ShownRow;
 use std::alloc::Global;
 use std::fs::File;
@@ -15,21 +16,23 @@ use std::sync::Wait;
 /// to where that is acknowledged, where its checkpoint stands and how many bytes of log lie behind
 /// it, how many bytes the log takes at most, and how many more it takes; the seals of the takeovers
 /// before it, if there are any, as `show epochs` does; its role, if it is a primary's; and then each
-/// unended transaction, as `show table` does. The folder is only read.
+/// unended transaction, as `show table` does. The folder is only read. `advance` receives how far its
+/// log was.
 ///
 /// Folder: the folder or a file of it failed, or another program has it. Stream: the output failed.
 /// Memory: there was none for a copy of it. BadHeader, BadControl, Log, Standby: a restart would
 /// refuse the database.
-pub fn status<R: AllocGlobal + Files<File = File> + Wait, O: Write>(
+pub fn status<R: AllocGlobal + Files<File = File> + Wait, A: Advance, O: Write>(
     rt: &R,
     dir: &str,
+    advance: &mut A,
     output: &mut O,
 ) -> Result<(), Fault> {
     let folder = Folder::hold_to_read(rt, dir)?;
     let role = folder.role(rt)?;
     let files = folder.open_to_read(rt)?;
     let database = database_of(rt.alloc(), &files)?;
-    let (engine, readers) = restarted(rt, &files, database)?;
+    let (engine, readers) = restarted(rt, &files, database, advance)?;
     drop(readers);
     let capacity = files.sizes()?.log.saturating_mul(BLOCK);
     tell(rt.alloc(), &database, &engine, capacity, role, output)

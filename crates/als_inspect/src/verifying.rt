@@ -1,14 +1,16 @@
+use crate::counting::read_all_telling;
 use crate::fault::Fault;
 use crate::log_text::{LogText, database_of, text_of_file, text_of_folder};
 use crate::page_checking::check_folder;
+use crate::quiet::Quiet;
 use crate::restarting::restarted;
 use crate::telling::told;
 use crate::unsound::Unsound;
 use als_comparing::HeldLog;
-use als_drive::{listing, recover};
+use als_drive::{Progress, listing, recover_telling};
 use als_fault::FaultKind;
 use als_folder::Folder;
-use als_scan::read_all;
+use als_progress::{Advance, Work};
 use als_ship::Fault as SessionFault;
 use std::alloc::Global;
 use std::fs;
@@ -40,7 +42,21 @@ pub fn verify<R: AllocGlobal + Files<File = File> + Wait, O: Write>(
     path: &str,
     output: &mut O,
 ) -> Result<(), Fault> {
-    match judge(rt, path) {
+    verify_telling(rt, path, &mut Quiet, output)
+}
+
+/// The same, and tells how far it has come.
+pub fn verify_telling<
+    R: AllocGlobal + Files<File = File> + Wait,
+    P: Progress + Advance,
+    O: Write,
+>(
+    rt: &R,
+    path: &str,
+    progress: &mut P,
+    output: &mut O,
+) -> Result<(), Fault> {
+    match judge(rt, path, progress) {
         Ok(found) => {
             let Found {
                 records,
@@ -70,11 +86,15 @@ fn is_finding(fault: Fault) -> bool {
 }
 
 /// Reads and judges what stands at the path.
-fn judge<R: AllocGlobal + Files<File = File> + Wait>(rt: &R, path: &str) -> Result<Found, Unsound> {
+fn judge<R: AllocGlobal + Files<File = File> + Wait, P: Progress + Advance>(
+    rt: &R,
+    path: &str,
+    progress: &mut P,
+) -> Result<Found, Unsound> {
     if is_folder(rt, path)? {
-        judge_folder(rt, path)
+        judge_folder(rt, path, progress)
     } else {
-        judge_file(rt, path)
+        judge_file(rt, path, progress)
     }
 }
 
@@ -84,9 +104,13 @@ fn is_folder<R: Files<File = File>>(rt: &R, path: &str) -> Result<bool, Fault> {
 }
 
 /// Reads a log file.
-fn judge_file<R: AllocGlobal + Files<File = File>>(rt: &R, path: &str) -> Result<Found, Unsound> {
-    let (records, end) = judge_text(text_of_file(rt, path)?, true)?;
-    let digest = digest_of_file(rt, path, end)?;
+fn judge_file<R: AllocGlobal + Files<File = File>, A: Advance>(
+    rt: &R,
+    path: &str,
+    advance: &mut A,
+) -> Result<Found, Unsound> {
+    let (records, end) = judge_text(text_of_file(rt, path, advance)?, true, advance)?;
+    let digest = digest_of_file(rt, path, end, advance)?;
     Ok(Found {
         records,
         end,
@@ -95,29 +119,50 @@ fn judge_file<R: AllocGlobal + Files<File = File>>(rt: &R, path: &str) -> Result
 }
 
 /// The SHA-256 of a log file up to there.
-fn digest_of_file<R: AllocGlobal + Files<File = File>>(
+fn digest_of_file<R: AllocGlobal + Files<File = File>, A: Advance>(
     rt: &R,
     path: &str,
     end: u64,
+    advance: &mut A,
 ) -> Result<[u8; 32], Fault> {
-    digest_of(rt.alloc(), File::open(rt, path)?, end)
+    digest_of(rt.alloc(), File::open(rt, path)?, end, advance)
 }
 
 /// The SHA-256 of a folder's log up to there.
-fn digest_of_folder<R: AllocGlobal + Files<File = File>>(
+fn digest_of_folder<R: AllocGlobal + Files<File = File>, A: Advance>(
     rt: &R,
     path: &str,
     end: u64,
+    advance: &mut A,
 ) -> Result<[u8; 32], Fault> {
     let alloc = rt.alloc();
     let folder = PathBuf::from_str(alloc, path)?;
     let path = folder.join(alloc, "log.blk")?;
-    digest_of(alloc, File::open(rt, path.as_path())?, end)
+    digest_of(alloc, File::open(rt, path.as_path())?, end, advance)
 }
 
+/// So many bytes more are summed up at once.
+const STEP: u64 = 8_388_608;
+
 /// The SHA-256 of a file's first bytes, which it has.
-fn digest_of(alloc: Global, file: File, end: u64) -> Result<[u8; 32], Fault> {
+fn digest_of<A: Advance>(
+    alloc: Global,
+    file: File,
+    end: u64,
+    advance: &mut A,
+) -> Result<[u8; 32], Fault> {
     let mut log = HeldLog::new(file);
+    let mut at = STEP.min(end);
+    while at < end {
+        let _ = sum_to(alloc, &mut log, at)?;
+        advance.advances(Work::Digest, at, end);
+        at += STEP.min(end - at);
+    }
+    sum_to(alloc, &mut log, end)
+}
+
+/// The SHA-256 of a file's bytes below there. What was summed up before is not read again.
+fn sum_to(alloc: Global, log: &mut HeldLog<File>, end: u64) -> Result<[u8; 32], Fault> {
     match log.summary(alloc, 0, end) {
         Ok(summary) => Ok(summary.digest),
         Err(SessionFault::Memory) => Err(Fault::Memory),
@@ -127,15 +172,16 @@ fn digest_of(alloc: Global, file: File, end: u64) -> Result<[u8; 32], Fault> {
 
 /// Reads the log of a folder's standby, opens a copy of it as a restart does, with each of its
 /// pages, and checks the pages against the log.
-fn judge_folder<R: AllocGlobal + Files<File = File> + Wait>(
+fn judge_folder<R: AllocGlobal + Files<File = File> + Wait, P: Progress + Advance>(
     rt: &R,
     path: &str,
+    progress: &mut P,
 ) -> Result<Found, Unsound> {
     let folder = hold(rt, path)?;
-    let (records, end) = judge_text(text_of_folder(rt, &folder)?, false)?;
-    let digest = digest_of_folder(rt, path, end)?;
-    restart(rt, &folder)?;
-    check_folder(rt, &folder)?;
+    let (records, end) = judge_text(text_of_folder(rt, &folder, progress)?, false, progress)?;
+    let digest = digest_of_folder(rt, path, end, progress)?;
+    restart(rt, &folder, progress)?;
+    check_folder(rt, &folder, progress)?;
     Ok(Found {
         records,
         end,
@@ -149,9 +195,14 @@ fn hold<R: AllocGlobal + Files<File = File>>(rt: &R, path: &str) -> Result<Folde
 }
 
 /// Reads all records of a text, and answers how many there are and where they end.
-fn judge_text(text: LogText, is_file: bool) -> Result<(u64, u64), Unsound> {
+fn judge_text<A: Advance>(
+    text: LogText,
+    is_file: bool,
+    advance: &mut A,
+) -> Result<(u64, u64), Unsound> {
     let mut text = text;
-    let read = read_all(&mut text.records);
+    let whole = text.whole;
+    let read = read_all_telling(&mut text.records, whole, advance);
     let end = text.records.end().0;
     match read {
         Ok(records) => Ok((records, end)),
@@ -164,15 +215,16 @@ fn judge_text(text: LogText, is_file: bool) -> Result<(u64, u64), Unsound> {
 
 /// Opens a copy of a folder's devices as a restart does, redoes what it would redo, and reads each
 /// page.
-fn restart<R: AllocGlobal + Files<File = File> + Wait>(
+fn restart<R: AllocGlobal + Files<File = File> + Wait, P: Progress + Advance>(
     rt: &R,
     folder: &Folder,
+    progress: &mut P,
 ) -> Result<(), Fault> {
     let files = folder.open_to_read(rt)?;
     let database = database_of(rt.alloc(), &files)?;
-    let (mut engine, readers) = restarted(rt, &files, database)?;
+    let (mut engine, readers) = restarted(rt, &files, database, progress)?;
     drop(readers);
-    recover(rt, &mut engine)?;
+    recover_telling(rt, &mut engine, progress)?;
     listing(rt.alloc(), &mut engine)?;
     Ok(())
 }

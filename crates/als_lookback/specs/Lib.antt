@@ -6,3 +6,4 @@ pub mod Readings
 pub mod Refusals
 pub mod Seen
 pub mod Standing
+pub mod Reach

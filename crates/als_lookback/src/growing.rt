@@ -12,6 +12,7 @@ ghost use Rattle.als_lookback.specs.Growing.{answer_of};
 use crate::fault::Fault;
 use crate::source::log_path;
 use als_folder::{Fault as FolderFault, Folder, Part, Trouble, Wrong};
+use als_progress::{Advance, Work};
 use std::alloc::Global;
 use std::fs::{File, OpenOptions};
 use std::io;
@@ -26,15 +27,16 @@ const PIECE: u64 = 2048;
 
 /// Makes the log's device of a folder so many blocks long, and answers how many it had. A stop on
 /// the way leaves the node as it was; then the call is made again, and a device that is as long
-/// already is synced.
+/// already is synced. `advance` receives how many bytes it has.
 ///
 /// NotLonger: it has more. TooLong: these are more than the largest log has. Folder: the folder or a
 /// file of it failed, there is no room on its disk, there is no database, or another program has it.
 /// Memory: there was none for a name.
-pub fn grow<R: AllocGlobal + Files<File = File>>(
+pub fn grow<R: AllocGlobal + Files<File = File>, A: Advance>(
     rt: &R,
     dir: &str,
     blocks: u64,
+    advance: &mut A,
 ) -> Result<u64, Fault> {
     let folder = Folder::hold(rt, dir)?;
     if !folder.is_kept(rt)? {
@@ -55,7 +57,7 @@ pub fn grow<R: AllocGlobal + Files<File = File>>(
         Err(e) => return Err(of(Part::Log, e)),
     };
     check_size(had, blocks)?;
-    if let Err(e) = extend(rt.alloc(), &log, had, blocks) {
+    if let Err(e) = extend(rt.alloc(), &log, had, blocks, advance) {
         let _ = log.set_len(had * 512);
         return Err(of(Part::Log, e));
     }
@@ -78,7 +80,13 @@ fn check_size(had: u64, blocks: u64) -> Result<(), Fault>
 }
 
 /// Writes zeros behind the blocks that a file has, up to so many, and syncs it.
-fn extend(alloc: Global, file: &File, had: u64, blocks: u64) -> io::Result<()>
+fn extend<A: Advance>(
+    alloc: Global,
+    file: &File,
+    had: u64,
+    blocks: u64,
+    advance: &mut A,
+) -> io::Result<()>
     requires { blocks ≤ 4194304 }
 {
     let piece = vec![in alloc; [0_u8; 512]; PIECE as usize]?;
@@ -88,6 +96,7 @@ fn extend(alloc: Global, file: &File, had: u64, blocks: u64) -> io::Result<()>
         let bytes = piece[..count as usize].as_flattened();
         file.write_all_at(bytes, first * 512)?;
         first += count;
+        advance.advances(Work::Extend, first * 512, blocks * 512);
     }
     file.sync_all()
 }

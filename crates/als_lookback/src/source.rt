@@ -1,6 +1,7 @@
 ghost use Rattle.std.specs.Prelude.{◌≡◌, ◌≤◌, IfOk};
 ghost use Rattle.als_disk.specs.MemDisk.{mem_blocks, mem_slot};
 ghost use Rattle.als_disk.specs.Slot.{IsSettled};
+ghost use Rattle.als_lookback.specs.Reach.{reach_of};
 
 use crate::fault::Fault;
 use crate::until::Until;
@@ -38,6 +39,17 @@ impl Drop for Source {
 }
 
 impl Source {
+    /// How many bytes of it a look reads, up to where it is looked at.
+    #[tactic(auto, unfolding(crate::specs::Reach::reach_of))]
+    pub fn reach(&self, until: Until) -> u64
+        ensures { result ≡ reach_of until self.now.end }
+    {
+        match until {
+            Until::At(lsn) => lsn.0.min(self.end),
+            Until::End => self.end,
+        }
+    }
+
     /// What is read of it, and the folder, to be held meanwhile.
     pub fn into_parts(self) -> (Take<File>, Option<Folder>) {
         let Source {

@@ -12,10 +12,16 @@ use std::fs::File;
 use std::io::{Read, Write};
 use std::rt::Files;
 use std::sync::Wait;
+use std::time::Clock;
 
 /// `als commit`: writes a transaction for each line of the input. Its status is 2 where a line was
 /// none.
-pub fn commit_lines<R: AllocGlobal + Files<File = File> + Wait, I: Read + Drop, O: Write, E: Write>(
+pub fn commit_lines<
+    R: AllocGlobal + Files<File = File> + Wait + Clock,
+    I: Read + Drop,
+    O: Write,
+    E: Write,
+>(
     rt: &R,
     terminals: Terminals,
     command: Command<'_>,
@@ -26,7 +32,7 @@ pub fn commit_lines<R: AllocGlobal + Files<File = File> + Wait, I: Read + Drop, 
 ) -> Result<u8, Failure>
     ensures status { IfOk result IsStatus }
 {
-    let mut lines = RedoLines::new(&mut *errors, terminals.errors, false);
+    let mut lines = RedoLines::new(&mut *errors, rt, terminals.errors, false);
     let ended = commit(rt, committing, input, &mut lines, output);
     drop(lines);
     match ended {

@@ -23,6 +23,9 @@ pub enum Failure {
     /// A log text would go to a terminal.
     #[error("als: a log text is bytes, which no terminal shows: write it to a file, or ask for --hex")]
     BytesOnTerminal,
+    /// The log text of a file or of a node would go to a terminal.
+    #[error("als: a log text is bytes, which no terminal shows: write it to a file")]
+    TextOnTerminal,
     /// An allocation failed.
     #[error("als: refused {kind}", kind = FaultKind::Memory)]
     Memory,
@@ -46,7 +49,10 @@ impl Failure {
         ensures { result ≡ status_of self.now }
     {
         match self {
-            Failure::Usage(_) | Failure::BadLine(_) | Failure::BytesOnTerminal => 2,
+            Failure::Usage(_)
+            | Failure::BadLine(_)
+            | Failure::BytesOnTerminal
+            | Failure::TextOnTerminal => 2,
             Failure::Memory
             | Failure::TooLong
             | Failure::Unreadable

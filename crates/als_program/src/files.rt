@@ -14,11 +14,12 @@ use als_fanout::{Lasting, ship_node_on, ship_on};
 use als_fault::FaultKind;
 use als_folder::Trouble;
 use als_follow::standby as standby_with_workers;
-use als_inspect::{Wanted, check_pages, dump, get, status, verify};
+use als_inspect::{Wanted, check_pages, dump, get, status, verify_telling};
 use als_lookback::{
-    Until, commit_of, commits, cut, get as get_at, grow, show, status as status_at,
+    Fault as LookFault, Until, commit_of, commits, cut, get as get_at, grow, show, status as status_at,
 };
 use als_operate::{Following, TakenOver, Verdict, forget, resolve, standby, takeover};
+use als_progress::Advance;
 use als_rebuild::rebuild_pages;
 use als_record::{Key, Lsn, TransId};
 use als_renew::{Fault as RenewFault, begin};
@@ -68,7 +69,7 @@ pub fn operate<
 ) -> Result<u8, Failure>
     ensures status { IfOk result IsStatus }
 {
-    match attempt(rt, terminals.errors, command, output, errors) {
+    match attempt(rt, terminals, command, output, errors) {
         Ok(()) => Ok(0),
         Err(refusal) => refused(rt, terminals, command, refusal, output, errors),
     }
@@ -102,7 +103,7 @@ pub fn refused<R: AllocGlobal + Files<File = File>, O: Write, E: Write>(
     Ok(status)
 }
 
-/// Does what is asked for. A person who sees standard error reads there how a long redo goes on.
+/// Does what is asked for. A person who sees standard error reads there how long work goes on.
 fn attempt<
     R: AllocGlobal
         + Files<File = File>
@@ -118,7 +119,16 @@ fn attempt<
         + 'static,
     O: Write,
     E: Write,
->(rt: &R, seen: bool, command: Command, output: &mut O, errors: &mut E) -> Result<(), Refusal> {
+>(
+    rt: &R,
+    terminals: Terminals,
+    command: Command,
+    output: &mut O,
+    errors: &mut E,
+) -> Result<(), Refusal> {
+    let seen = terminals.errors;
+    // What prints many lines or a text leaves a person's terminal to them.
+    let beside = seen && !terminals.output;
     match command {
         // These are done elsewhere: they read standard input, or have faults of their own.
         Command::Make { .. }
@@ -135,17 +145,17 @@ fn attempt<
         Command::Begin { .. } | Command::Rewind { .. } => {
             renew(rt, seen, command, output, errors)
         }
-        Command::Dump { .. }
-        | Command::Verify { .. }
+        Command::Dump { .. } => inspect(rt, beside, command, output, errors),
+        Command::Verify { .. }
         | Command::Status { at: None, .. }
-        | Command::Get { at: None, .. } => inspect(rt, command, output),
-        Command::Commits { .. }
-        | Command::CutAt { .. }
-        | Command::CutBefore { .. }
-        | Command::Show { .. }
+        | Command::Get { at: None, .. } => inspect(rt, seen, command, output, errors),
+        Command::Commits { .. } | Command::CutAt { .. } | Command::CutBefore { .. } => {
+            look(rt, beside, command, output, errors)
+        }
+        Command::Show { .. }
         | Command::Status { .. }
         | Command::Get { .. }
-        | Command::Grow { .. } => look(rt, command, output),
+        | Command::Grow { .. } => look(rt, seen, command, output, errors),
     }
 }
 
@@ -264,11 +274,11 @@ fn follow<
         checkpoint_mb,
         timeout,
     };
-    let mut lines = RedoLines::new(errors, seen, explain);
+    let mut lines = RedoLines::new(errors, rt, seen, explain);
     if forget_unreached {
         forget(rt, dir, &mut lines)?
     }
-    check_sound(rt, dir)?;
+    check_sound(rt, dir, &mut lines)?;
     if keep || serve.is_some() || listen.is_some() {
         let followers = named_in(rt.alloc(), followers)?;
         let service = Service {
@@ -298,17 +308,17 @@ pub fn named_in(alloc: Global, list: Option<&str>) -> Result<Vec<&str>, AllocErr
 }
 
 /// `als takeover`, `als rebuild-pages` and `als resolve`.
-fn lead<R: AllocGlobal + Files<File = File> + Wait, O: Write, E: Write>(
+fn lead<R: AllocGlobal + Files<File = File> + Wait + Clock, O: Write, E: Write>(
     rt: &R,
     seen: bool,
     command: Command,
     output: &mut O,
     errors: &mut E,
 ) -> Result<(), Refusal> {
-    let mut lines = RedoLines::new(&mut *errors, seen, false);
+    let mut lines = RedoLines::new(&mut *errors, rt, seen, false);
     match command {
         Command::Takeover { dir, .. } => {
-            check_sound(rt, dir)?;
+            check_sound(rt, dir, &mut lines)?;
             let TakenOver { doubts, is_empty } = takeover(rt, dir, &mut lines, output)?;
             drop(lines);
             if is_empty {
@@ -334,22 +344,24 @@ fn lead<R: AllocGlobal + Files<File = File> + Wait, O: Write, E: Write>(
 }
 
 /// `als begin` and `als rewind`.
-fn renew<R: AllocGlobal + Files<File = File> + Wait, O: Write, E: Write>(
+fn renew<R: AllocGlobal + Files<File = File> + Wait + Clock, O: Write, E: Write>(
     rt: &R,
     seen: bool,
     command: Command,
     output: &mut O,
     errors: &mut E,
 ) -> Result<(), Refusal> {
+    let mut lines = RedoLines::new(&mut *errors, rt, seen, false);
     match command {
         Command::Begin { path, .. } => {
-            if let Err(fault) = begin(rt, path, output) {
+            let outcome = begin(rt, path, &mut lines, output);
+            drop(lines);
+            if let Err(fault) = outcome {
                 tell_doubt(path, fault, errors);
                 return Err(Refusal::from(fault));
             }
         }
         Command::Rewind { dir, lsn, .. } => {
-            let mut lines = RedoLines::new(&mut *errors, seen, false);
             let outcome = rewind(rt, dir, Lsn(lsn), &mut lines, output);
             drop(lines);
             if let Err(fault) = outcome {
@@ -376,6 +388,10 @@ fn tell_doubt<E: Write>(path: &str, fault: RenewFault, errors: &mut E) {
 
 /// Says where a record ends, where none ends at the LSN that was asked for.
 fn tell_boundary<E: Write>(lsn: u64, fault: RewindFault, errors: &mut E) {
+    if let RewindFault::Look(fault) = fault {
+        tell_look(fault, errors);
+        return;
+    }
     // Where it can't be said, `als dump` has the LSNs.
     let _ = match fault {
         RewindFault::NoBoundary { below } => writeln!(
@@ -392,11 +408,14 @@ fn tell_boundary<E: Write>(lsn: u64, fault: RewindFault, errors: &mut E) {
 }
 
 /// The commands that read a log or a folder and change nothing.
-fn inspect<R: AllocGlobal + Files<File = File> + Wait, O: Write>(
+fn inspect<R: AllocGlobal + Files<File = File> + Wait + Clock, O: Write, E: Write>(
     rt: &R,
+    seen: bool,
     command: Command,
     output: &mut O,
+    errors: &mut E,
 ) -> Result<(), Refusal> {
+    let mut lines = RedoLines::new(errors, rt, seen, false);
     match command {
         Command::Dump {
             path,
@@ -404,54 +423,89 @@ fn inspect<R: AllocGlobal + Files<File = File> + Wait, O: Write>(
             trans,
             page,
             ..
-        } => dump(rt, path, wanted(from, trans, page), output)?,
-        Command::Verify { path, .. } => verify(rt, path, output)?,
-        Command::Status { dir, .. } => status(rt, dir, output)?,
+        } => dump(rt, path, wanted(from, trans, page), &mut lines, output)?,
+        Command::Verify { path, .. } => verify_telling(rt, path, &mut lines, output)?,
+        Command::Status { dir, .. } => status(rt, dir, &mut lines, output)?,
         Command::Get {
             dir,
             page,
             slot,
             ..
-        } => get(rt, dir, Key { page, slot }, output)?,
+        } => get(rt, dir, Key { page, slot }, &mut lines, output)?,
         _ => {}
     }
     Ok(())
 }
 
-/// The commands that look back in a log, and that which makes its device longer.
-fn look<R: AllocGlobal + Files<File = File>, O: Write>(
+/// The commands that look back in a log, and that which makes its device longer. Where one is refused it
+/// is said why, as far as the number does not.
+fn look<R: AllocGlobal + Files<File = File> + Clock, O: Write, E: Write>(
     rt: &R,
+    seen: bool,
     command: Command,
     output: &mut O,
+    errors: &mut E,
 ) -> Result<(), Refusal> {
+    let mut lines = RedoLines::new(&mut *errors, rt, seen, false);
+    let outcome = look_in(rt, command, &mut lines, output);
+    drop(lines);
+    match outcome {
+        Ok(()) => Ok(()),
+        Err(fault) => {
+            tell_look(fault, errors);
+            Err(Refusal::from(fault))
+        }
+    }
+}
+
+/// The same, with nothing said of a refusal.
+fn look_in<R: AllocGlobal + Files<File = File>, A: Advance, O: Write>(
+    rt: &R,
+    command: Command,
+    advance: &mut A,
+    output: &mut O,
+) -> Result<(), LookFault> {
     match command {
-        Command::Commits { path, .. } => commits(rt, path, &mut *output)?,
+        Command::Commits { path, .. } => commits(rt, path, advance, &mut *output)?,
         Command::CutAt { path, lsn, .. } => {
-            let _ = cut(rt, path, Until::At(Lsn(lsn)), output)?;
+            let _ = cut(rt, path, Until::At(Lsn(lsn)), advance, output)?;
         }
         Command::CutBefore { path, trans, .. } => {
-            let lsn = commit_of(rt, path, TransId(trans))?;
-            let _ = cut(rt, path, Until::At(lsn), output)?;
+            let lsn = commit_of(rt, path, TransId(trans), advance)?;
+            let _ = cut(rt, path, Until::At(lsn), advance, output)?;
         }
-        Command::Show { path, at, .. } => show(rt, path, until(at), output)?,
-        Command::Status { dir, at, .. } => status_at(rt, dir, until(at), output)?,
+        Command::Show { path, at, .. } => show(rt, path, until(at), advance, output)?,
+        Command::Status { dir, at, .. } => status_at(rt, dir, until(at), advance, output)?,
         Command::Get {
             dir,
             page,
             slot,
             at,
             ..
-        } => get_at(rt, dir, Key { page, slot }, until(at), output)?,
+        } => get_at(rt, dir, Key { page, slot }, until(at), advance, output)?,
         Command::Grow {
             dir,
             log_blocks,
             ..
         } => {
-            let _ = grow(rt, dir, log_blocks)?;
+            let _ = grow(rt, dir, log_blocks, advance)?;
         }
         _ => {}
     }
     Ok(())
+}
+
+/// Says why a look back is refused, where its number has several causes.
+fn tell_look<E: Write>(fault: LookFault, errors: &mut E) {
+    // Where it can't be said, the page of help has the causes.
+    let _ = match fault {
+        LookFault::InHeader => writeln!(errors, "als: an LSN below 16 is within the log's header"),
+        LookFault::PastEnd { end } => writeln!(errors, "als: the log ends at {}", end.0),
+        LookFault::NoCommit => writeln!(errors, "als: the log has no commit of this transaction"),
+        LookFault::NotLonger { blocks } => writeln!(errors, "als: the log has {blocks} blocks"),
+        LookFault::TooLong => writeln!(errors, "als: a log has 4194304 blocks at most"),
+        _ => Ok(()),
+    };
 }
 
 /// Up to where a log is looked at: to its end, where no LSN is given.
@@ -503,8 +557,12 @@ fn stand_by<
 
 /// Refuses a page that is not what its log makes of it, before anything is written. What else is wrong with the
 /// folder the command itself reports, in its own order.
-fn check_sound<R: AllocGlobal + Files<File = File>>(rt: &R, dir: &str) -> Result<(), Refusal> {
-    match check_pages(rt, dir) {
+fn check_sound<R: AllocGlobal + Files<File = File>, A: Advance>(
+    rt: &R,
+    dir: &str,
+    advance: &mut A,
+) -> Result<(), Refusal> {
+    match check_pages(rt, dir, advance) {
         Ok(()) => Ok(()),
         Err(fault) => match fault.kind() {
             FaultKind::BadPage { page: _ } => Err(Refusal::from(fault)),

@@ -11,7 +11,7 @@ mod refusal;
 mod log_sizes;
 // Which file is wrong, in plain words.
 mod troubles;
-// How a long redo goes on.
+// How long work goes on.
 mod redo_lines;
 // A standby whose log parted from its primary's.
 mod partings;

@@ -14,6 +14,10 @@ pub fn tell<W: Write>(errors: &mut W, path: &str, kind: FaultKind) -> io::Result
             errors,
             "als: {path}: the node that serves has epoch {epoch}, and its takeovers do not go on from those that this one knows. Follow the node that took over last, or keep this folder and follow with an empty one"
         ),
+        FaultKind::OtherLog => writeln!(
+            errors,
+            "als: {path}: the node that serves has another log: both have bytes at one offset, and they differ. One of the two lost what it had not forced, or was restored from a copy. Nothing of this folder has changed: keep it. Find the log that is right, by sha256= of als verify of both; then follow that one with an empty folder, or take over from this one"
+        ),
         _ => Ok(()),
     }
 }

@@ -1,11 +1,13 @@
 use als_commit::BadLines;
 use als_drive::Progress;
 use als_operate::{Fault, Forgets};
+use als_progress::{Advance, Line, Meter, Work, percent, rate};
 use als_record::Lsn;
 use als_request::Mistake;
 use als_service::Outages;
 use als_writer::Flaw;
 use std::io::Write;
+use std::time::Clock;
 
 /// Nothing is said of a redo of fewer changes.
 const LONG: u64 = 100_000;
@@ -13,34 +15,69 @@ const LONG: u64 = 100_000;
 /// Into so many parts a long redo is divided.
 const PARTS: u64 = 20;
 
-/// Says how a long redo goes on, a line at its beginning and one after each part of it at most;
-/// which takeovers are forgotten; and that nobody sends.
-#[derive(Drop)]
-pub struct RedoLines<W: Write> {
+/// The bytes of a megabyte.
+const MEGABYTE: u64 = 1_000_000;
+
+/// Says how long work goes on: of a long redo a line at its beginning and one after each part of it at
+/// most, of work over bytes a line a second; which takeovers are forgotten; and that nobody sends.
+pub struct RedoLines<'a, W: Write, C> {
     errors: W,
+    clock: &'a C,
+    /// Whether a person sees them.
+    seen: bool,
     pace: Pace,
+    meter: Meter,
     /// Whether it is said that nobody sends.
     tells_outages: bool,
 }
 
-/// When a line is due.
+// Written out: a derived drop is proved wherever they are dropped, this one only here.
+impl<W: Write + Drop, C> Drop for RedoLines<'_, W, C> {
+    fn drop(self) {
+        let RedoLines {
+            errors,
+            clock: _,
+            seen: _,
+            pace: _,
+            meter: _,
+            tells_outages: _,
+        } = self;
+        drop(errors);
+    }
+}
+
+/// When a line of a redo is due.
 #[derive(Clone, Copy)]
 enum Pace {
-    /// Where the redo turns out to be a long one.
+    /// Where it turns out to be a long one.
     First,
     /// Never.
     Never,
-    /// Where no more changes wait than this.
-    Below { due: u64, part: u64 },
+    /// Where no more changes wait than these.
+    Below(Redo),
 }
 
-impl<W: Write> RedoLines<W> {
+/// A long redo.
+#[derive(Clone, Copy)]
+struct Redo {
+    /// How many changes waited at its beginning.
+    first: u64,
+    /// When that was, in milliseconds.
+    begun: u64,
+    /// Where no more changes wait, the next line is due.
+    due: u64,
+}
+
+impl<'a, W: Write, C: Clock> RedoLines<'a, W, C> {
     /// Lines for a person, if one sees them. That nobody sends is also said to who asked for it.
-    pub fn new(errors: W, seen: bool, asked: bool) -> RedoLines<W> {
+    pub fn new(errors: W, clock: &'a C, seen: bool, asked: bool) -> RedoLines<'a, W, C> {
         let pace = if seen { Pace::First } else { Pace::Never };
         RedoLines {
             errors,
+            clock,
+            seen,
             pace,
+            meter: Meter::new(),
             tells_outages: seen || asked,
         }
     }
@@ -49,39 +86,89 @@ impl<W: Write> RedoLines<W> {
     pub fn errors(&mut self) -> &mut W {
         &mut self.errors
     }
-}
 
-impl Pace {
-    /// The pace from now on, and whether a line is due, where so many changes wait.
-    fn after(self, changes: u64) -> (Pace, bool) {
-        match self {
-            Pace::First if changes >= LONG => {
-                let part = changes / PARTS;
-                let due = changes.saturating_sub(part);
-                (Pace::Below { due, part }, true)
-            }
-            Pace::Below { due, part } if changes <= due => {
-                let due = changes.saturating_sub(part);
-                (Pace::Below { due, part }, true)
-            }
-            Pace::Below { due, part } => (Pace::Below { due, part }, false),
-            Pace::First | Pace::Never => (Pace::Never, false),
+    /// The time in milliseconds, 0 where the clock fails.
+    fn millis(&self) -> u64 {
+        match self.clock.monotonic() {
+            Ok(now) => now
+                .as_secs()
+                .saturating_mul(1_000)
+                .saturating_add(u64::from(now.subsec_millis())),
+            Err(_) => 0,
         }
+    }
+
+    /// Says that a long redo begins.
+    fn begin(&mut self, changes: u64) {
+        self.pace = Pace::Below(Redo {
+            first: changes,
+            begun: self.millis(),
+            due: changes.saturating_sub(changes / PARTS),
+        });
+        // Where it can't be said, the redo goes on.
+        let _ = writeln!(self.errors, "als: redo: {changes} changes wait");
+    }
+
+    /// Says how far it is.
+    fn go_on(&mut self, redo: Redo, changes: u64) {
+        let done = redo.first.saturating_sub(changes);
+        let each = rate(done, self.millis().saturating_sub(redo.begun));
+        let part = percent(done, redo.first);
+        self.pace = Pace::Below(Redo {
+            due: changes.saturating_sub(redo.first / PARTS),
+            ..redo
+        });
+        let _ = writeln!(
+            self.errors,
+            "als: redo: {changes} changes wait, {part} % done, {each} a second"
+        );
     }
 }
 
-impl<W: Write> Progress for RedoLines<W> {
+/// What is done with bytes, in plain words.
+fn words_of(work: Work) -> &'static str {
+    match work {
+        Work::Copy => "files read into memory",
+        Work::Judge => "log read and judged",
+        Work::Digest => "digest of the log",
+        Work::Compare => "pages compared with the log",
+        Work::Keep => "log kept beside the folder",
+        Work::Extend => "log device made longer",
+    }
+}
+
+impl<W: Write, C: Clock> Progress for RedoLines<'_, W, C> {
     fn waits(&mut self, changes: u64) {
-        let (pace, is_due) = self.pace.after(changes);
-        self.pace = pace;
-        if is_due {
-            // Where it can't be said, the redo goes on.
-            let _ = writeln!(self.errors, "als: redo: {changes} changes wait");
+        match self.pace {
+            Pace::First if changes >= LONG => self.begin(changes),
+            Pace::First => self.pace = Pace::Never,
+            Pace::Below(redo) if changes <= redo.due => self.go_on(redo, changes),
+            Pace::Below(_) | Pace::Never => {}
         }
     }
 }
 
-impl<W: Write> Forgets for RedoLines<W> {
+// Where it can't be said, the work goes on.
+impl<W: Write, C: Clock> Advance for RedoLines<'_, W, C> {
+    fn advances(&mut self, work: Work, done: u64, whole: u64) {
+        if !self.seen {
+            return;
+        }
+        let now = self.millis();
+        if let Some(Line { percent, rate }) = self.meter.takes(work, done, whole, now) {
+            let _ = writeln!(
+                self.errors,
+                "als: {}: {percent} % of {} MB, {}.{} MB a second",
+                words_of(work),
+                whole.div_ceil(MEGABYTE),
+                rate / MEGABYTE,
+                rate % MEGABYTE / 100_000
+            );
+        }
+    }
+}
+
+impl<W: Write, C> Forgets for RedoLines<'_, W, C> {
     fn forgot(&mut self, seal: Lsn) {
         // Where it can't be said, `als status` shows the history.
         let _ = writeln!(
@@ -93,7 +180,7 @@ impl<W: Write> Forgets for RedoLines<W> {
 }
 
 // Where it can't be said, the status has to do.
-impl<W: Write> BadLines for RedoLines<W> {
+impl<W: Write, C> BadLines for RedoLines<'_, W, C> {
     fn unreadable(&mut self, number: u64, mistake: Mistake) {
         let _ = writeln!(self.errors, "line {number}: {mistake}");
     }
@@ -124,7 +211,7 @@ impl<W: Write> BadLines for RedoLines<W> {
 }
 
 // Where it can't be said, the standby waits all the same.
-impl<W: Write> Outages for RedoLines<W> {
+impl<W: Write, C> Outages for RedoLines<'_, W, C> {
     fn outage(&mut self, fault: Option<Fault>, millis: u64) {
         if !self.tells_outages {
             return;

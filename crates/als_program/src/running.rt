@@ -212,6 +212,11 @@ fn obey<
             };
             serve_primary(rt, terminals, command, serving, output, errors)
         }
+        Command::Begin { .. } | Command::CutAt { .. } | Command::CutBefore { .. }
+            if terminals.output =>
+        {
+            Err(Failure::TextOnTerminal)
+        }
         command => operate(rt, terminals, command, output, errors),
     }
 }

@@ -46,7 +46,7 @@ pub fn serve_primary<
 ) -> Result<u8, Failure>
     ensures status { IfOk result IsStatus }
 {
-    let mut lines = ServingLines::new(&mut *errors, terminals.errors);
+    let mut lines = ServingLines::new(&mut *errors, rt, terminals.errors);
     let ended = primary(rt, serving, &mut lines);
     drop(lines);
     match ended {

@@ -6,30 +6,31 @@ use als_record::Lsn;
 use std::alloc::{AllocError, Global};
 use std::io::Write;
 use std::net::SocketAddr;
+use std::time::Clock;
 
 /// What a primary says to who runs it.
 #[derive(Drop)]
-pub struct ServingLines<W: Write> {
-    redo: RedoLines<W>,
+pub struct ServingLines<'a, W: Write, C> {
+    redo: RedoLines<'a, W, C>,
 }
 
-impl<W: Write> ServingLines<W> {
+impl<'a, W: Write, C: Clock> ServingLines<'a, W, C> {
     /// Lines for everybody; how a long redo goes on for a person, if one sees them.
-    pub fn new(errors: W, seen: bool) -> ServingLines<W> {
+    pub fn new(errors: W, clock: &'a C, seen: bool) -> ServingLines<'a, W, C> {
         ServingLines {
-            redo: RedoLines::new(errors, seen, false),
+            redo: RedoLines::new(errors, clock, seen, false),
         }
     }
 }
 
-impl<W: Write> Progress for ServingLines<W> {
+impl<W: Write, C: Clock> Progress for ServingLines<'_, W, C> {
     fn waits(&mut self, changes: u64) {
         self.redo.waits(changes);
     }
 }
 
 // Where it can't be said, the primary serves all the same.
-impl<W: Write> Announces for ServingLines<W> {
+impl<W: Write, C: Clock> Announces for ServingLines<'_, W, C> {
     fn serves(&mut self, dir: &str, addr: SocketAddr, epoch: u32, end: Lsn) {
         let _ = writeln!(
             self.redo.errors(),

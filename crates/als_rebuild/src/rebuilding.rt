@@ -18,13 +18,17 @@ use als_drive::{Progress, recover_telling};
 use als_engine::{CONTROL_BLOCKS, Fault as EngineFault, LOG_BLOCK_LIMIT};
 use als_folder::{Fault as FolderFault, Folder, LOG_LIMIT, Part, Trouble, Wrong};
 use als_operate::{Fault, PENDING, named, reopen, settle};
+use als_progress::{Advance, Work};
 use als_record::{LogHeader, Lsn};
-use als_scan::{Fault as ScanFault, Scan, read_all};
+use als_scan::{Fault as ScanFault, Scan};
 use std::alloc::Global;
 use std::fs::File;
 use std::io::Write;
 use std::rt::Files;
 use std::sync::Wait;
+
+/// After so many records it is told how far the log was read.
+const TOLD_EACH: u64 = 1_024;
 
 /// A log that was read up to its mark.
 #[derive(Clone, Copy)]
@@ -37,13 +41,13 @@ struct Judged {
 
 /// Lays the pages of a folder's node out anew from its log, whatever they held, and then prints
 /// `end=E ack=A`. A missing pages.blk is no fault. It may be called again after a stop. `progress`
-/// receives the progress of the redo.
+/// receives how far it has come.
 ///
 /// Device: the folder or one of its files failed, it has no control block, or another program has
 /// it. Shape, Invalid, BadControl: the log or the control block is damaged, and nothing was written.
 /// Stream: the output failed. Memory: there was none for a copy of the log. Else as `Engine::open`
 /// says, or the first refusal of an event.
-pub fn rebuild_pages<R: AllocGlobal + Files<File = File> + Wait, P: Progress, O: Write>(
+pub fn rebuild_pages<R: AllocGlobal + Files<File = File> + Wait, P: Progress + Advance, O: Write>(
     rt: &R,
     dir: &str,
     progress: &mut P,
@@ -57,13 +61,13 @@ pub fn rebuild_pages<R: AllocGlobal + Files<File = File> + Wait, P: Progress, O:
 }
 
 /// The same in a folder that is held.
-fn rebuild_in<R: AllocGlobal + Files<File = File> + Wait, P: Progress, O: Write>(
+fn rebuild_in<R: AllocGlobal + Files<File = File> + Wait, P: Progress + Advance, O: Write>(
     rt: &R,
     folder: &Folder,
     progress: &mut P,
     output: &mut O,
 ) -> Result<(), Fault> {
-    let judged = judge_log(rt, folder)?;
+    let judged = judge_log(rt, folder, progress)?;
     lay_out(rt, folder, judged)?;
     let mut engine = reopen(rt, folder, PENDING)?;
     recover_telling(rt, &mut engine, progress)?;
@@ -92,9 +96,10 @@ fn lay_out<R: AllocGlobal + Files<File = File>>(
 }
 
 /// Reads the log of a folder up to the mark of its control block. Nothing is written.
-fn judge_log<R: AllocGlobal + Files<File = File>>(
+fn judge_log<R: AllocGlobal + Files<File = File>, A: Advance>(
     rt: &R,
     folder: &Folder,
+    advance: &mut A,
 ) -> Result<Judged, Fault> {
     let mut control = folder.open_control(rt)?;
     check_control(&control)?;
@@ -105,14 +110,20 @@ fn judge_log<R: AllocGlobal + Files<File = File>>(
     let log_bytes = log.blocks() * 512;
     let pages = pages_of(&mut log)?;
     match read_state(&mut control, pages, LOG_LIMIT) {
-        Ok(state) => read_log(rt.alloc(), log, pages, state.mark)?,
+        Ok(state) => read_log(rt.alloc(), log, pages, state.mark, advance)?,
         Err(fault) => return Err(of_control(fault)),
     }
     Ok(Judged { pages, log_bytes })
 }
 
 /// Reads all records of a log below a mark.
-fn read_log(alloc: Global, log: FileDisk, pages: u32, mark: Lsn) -> Result<(), Fault>
+fn read_log<A: Advance>(
+    alloc: Global,
+    log: FileDisk,
+    pages: u32,
+    mark: Lsn,
+    advance: &mut A,
+) -> Result<(), Fault>
     requires settled { (k : ℕ) → IsSettled (⟦<FileDisk<File> as BlockDisk>⟧.slot log k) }
     requires few { ⟦<FileDisk<File> as BlockDisk>⟧.block_count log ≤ 4194304 }
     requires low { 16 ≤ mark.0 }
@@ -123,10 +134,7 @@ fn read_log(alloc: Global, log: FileDisk, pages: u32, mark: Lsn) -> Result<(), F
     match Scan::new(alloc, log, pages, mark.0) {
         Ok(records) => {
             let mut records = records;
-            match read_all(&mut records) {
-                Ok(_) => Ok(()),
-                Err(fault) => Err(of_log(fault)),
-            }
+            read_on(&mut records, mark.0, advance)
         }
         Err(unread) => {
             let fault = unread.fault;
@@ -134,6 +142,25 @@ fn read_log(alloc: Global, log: FileDisk, pages: u32, mark: Lsn) -> Result<(), F
             Err(of_log(fault))
         }
     }
+}
+
+/// Reads all records, of so many bytes.
+fn read_on<D: BlockDisk, A: Advance>(
+    records: &mut Scan<D>,
+    whole: u64,
+    advance: &mut A,
+) -> Result<(), Fault> {
+    for count in 0..u64::MAX {
+        if count % TOLD_EACH == 0 {
+            advance.advances(Work::Judge, records.end().0, whole);
+        }
+        match records.next() {
+            Ok(Some(_)) => {}
+            Ok(None) => return Ok(()),
+            Err(fault) => return Err(of_log(fault)),
+        }
+    }
+    Err(Fault::Memory)
 }
 
 /// How many pages the header of a log says.

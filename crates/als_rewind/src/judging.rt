@@ -8,6 +8,7 @@ use als_engine::{CONTROL_BLOCKS, Fault as EngineFault, LOG_BLOCK_LIMIT};
 use als_folder::{Fault as FolderFault, Folder, LOG_LIMIT, Part, Trouble, Wrong};
 use als_lookback::{Fault as LookFault, Until, log_path, look_over};
 use als_operate::Fault as NodeFault;
+use als_progress::{Advance, Watched, Work};
 use als_record::{FIRST_LSN, LogHeader, Lsn};
 use std::fs::File;
 use std::io::Read;
@@ -25,16 +26,18 @@ pub(crate) struct Judged {
     pub state: ControlState,
 }
 
-/// Reads the log of a folder that is held up to an LSN. Nothing is written.
+/// Reads the log of a folder that is held up to an LSN. Nothing is written. `advance` receives how far
+/// it was read.
 ///
 /// Look: the log is not sound up to there, or the LSN is within its header or past its end.
 /// NoBoundary: no record ends there. NoRoom: the log up to there has no room for its reserve. Node:
 /// the folder or a file of it failed, or nothing says how far its log is acknowledged.
-pub(crate) fn judge<R: AllocGlobal + Files<File = File>>(
+pub(crate) fn judge<R: AllocGlobal + Files<File = File>, A: Advance>(
     rt: &R,
     folder: &Folder,
     dir: &str,
     to: Lsn,
+    advance: &mut A,
 ) -> Result<Judged, Fault>
     ensures pages { IfOk result (λ j. (1 ≤ j.pages) × (j.pages ≤ 4096)) }
     ensures within { IfOk result (λ j. (16 ≤ to.0) × (to.0 ≤ j.log_bytes)) }
@@ -53,7 +56,8 @@ pub(crate) fn judge<R: AllocGlobal + Files<File = File>>(
         return Err(short(Part::Log));
     }
     check_within(to, state.mark)?;
-    let (seen, standing) = look_over(rt.alloc(), log.take(state.mark.0), Until::At(to))?;
+    let reader = Watched::new(log.take(state.mark.0), Work::Judge, to.0, advance);
+    let (seen, standing) = look_over(rt.alloc(), reader, Until::At(to))?;
     drop(seen);
     if standing.end != to {
         return Err(Fault::NoBoundary {

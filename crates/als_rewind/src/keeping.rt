@@ -8,6 +8,7 @@
 use crate::copying::copy;
 use crate::fault::Fault;
 use als_lookback::Fault as LookFault;
+use als_progress::{Advance, Watched, Work};
 use als_record::Lsn;
 use std::fs::{self, File, OpenOptions};
 use std::io::{ErrorKind, Read, Seek, SeekFrom};
@@ -16,15 +17,16 @@ use std::path::Path;
 use std::rt::Files;
 
 /// Keeps the bytes of a log between two offsets in a file beside a folder, and makes it last. Where
-/// there are none, there is no file.
+/// there are none, there is no file. `advance` receives how many are kept.
 ///
 /// Look: the log or the file failed, or an allocation. Kept: there is such a file, with something else.
-pub(crate) fn keep_past<R: AllocGlobal + Files<File = File>>(
+pub(crate) fn keep_past<R: AllocGlobal + Files<File = File>, A: Advance>(
     rt: &R,
     dir: &str,
     log: File,
     from: Lsn,
     to: Lsn,
+    advance: &mut A,
 ) -> Result<(), Fault> {
     if from.0 >= to.0 {
         return Ok(());
@@ -32,6 +34,7 @@ pub(crate) fn keep_past<R: AllocGlobal + Files<File = File>>(
     let mut log = log;
     log.seek(SeekFrom::Start(from.0))?;
     let count = to.0 - from.0;
+    let mut log = Watched::new(log.take(count), Work::Keep, count, advance);
     let beside = beside(rt, dir)?;
     let name = format!(in rt.alloc(); "{beside}.past-{}-to-{}.log", from.0, to.0)?;
     match fs::symlink_metadata(rt, name.as_str()) {
@@ -43,7 +46,7 @@ pub(crate) fn keep_past<R: AllocGlobal + Files<File = File>>(
             check_same(&mut log, &mut kept, count)?;
             kept.sync_all()?;
         }
-        Err(e) if e.kind() == ErrorKind::NotFound => write_new(rt, name.as_str(), log, count)?,
+        Err(e) if e.kind() == ErrorKind::NotFound => write_new(rt, name.as_str(), &mut log, count)?,
         Err(e) => return Err(Fault::from(e)),
     }
     sync_parent(rt, name.as_str())
@@ -60,11 +63,12 @@ fn beside<R: AllocGlobal + Files<File = File>>(rt: &R, dir: &str) -> Result<Stri
     Ok(format!(in rt.alloc(); "{trimmed}")?)
 }
 
-/// Writes the next bytes of the log into a new file, and gives it its name.
-fn write_new<R: AllocGlobal + Files<File = File>>(
+/// Writes all that is left of a front of the log into a new file, and gives it its name. It has to be so
+/// many bytes.
+fn write_new<R: AllocGlobal + Files<File = File>, L: Read>(
     rt: &R,
     name: &str,
-    log: File,
+    log: &mut L,
     count: u64,
 ) -> Result<(), Fault> {
     let made = format!(in rt.alloc(); "{name}.new")?;
@@ -85,12 +89,12 @@ fn write_new<R: AllocGlobal + Files<File = File>>(
     Ok(())
 }
 
-/// Writes the next bytes of the log into a new file, which only its owner may read or write, and
-/// syncs it.
-fn fill_new<R: AllocGlobal + Files<File = File>>(
+/// Writes all that is left of a front of the log into a new file, which only its owner may read or
+/// write, and syncs it. It has to be so many bytes.
+fn fill_new<R: AllocGlobal + Files<File = File>, L: Read>(
     rt: &R,
     made: &str,
-    log: File,
+    log: &mut L,
     count: u64,
 ) -> Result<(), Fault> {
     let mut file = OpenOptions::new()
@@ -98,7 +102,7 @@ fn fill_new<R: AllocGlobal + Files<File = File>>(
         .create_new(true)
         .mode(0o600)
         .open(rt, made)?;
-    if copy(&mut log.take(count), &mut file)? != count {
+    if copy(log, &mut file)? != count {
         return Err(Fault::Look(LookFault::Stream));
     }
     file.sync_all()?;

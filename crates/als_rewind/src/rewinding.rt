@@ -11,6 +11,7 @@ use als_drive::{Progress, recover_telling};
 use als_engine::CONTROL_BLOCKS;
 use als_folder::{Fault as FolderFault, Folder, Part};
 use als_operate::{Fault as NodeFault, PENDING, named, reopen, settle};
+use als_progress::Advance;
 use als_record::Lsn;
 use std::fs::{self, File};
 use std::io::{self, Write};
@@ -21,15 +22,14 @@ use std::sync::Wait;
 /// Takes the node of a folder back to an LSN of its own log, so that it follows a node whose history
 /// goes on from there or later. What its log has above is kept in a file beside the folder first. It
 /// then prints `end=E ack=A past=B`: where the log ends now, up to where it is acknowledged, and how
-/// many bytes were kept. It may be called again after a stop. `progress` receives the progress of the
-/// redo.
+/// many bytes were kept. It may be called again after a stop. `progress` receives how far it has come.
 ///
 /// Look: the log is not sound up to the LSN, or that is within its header or past its end; a file
 /// beside the folder or the output failed; or an allocation failed. NoBoundary: no record ends at the
 /// LSN. NoRoom: the log up to there has no room for its reserve. Kept: the file that would keep the
 /// rest has something else. Node: the folder or a file of it failed, another program has it, or its
 /// node is refused. Nothing of the folder was written, but with Node.
-pub fn rewind<R: AllocGlobal + Files<File = File> + Wait, P: Progress, O: Write>(
+pub fn rewind<R: AllocGlobal + Files<File = File> + Wait, P: Progress + Advance, O: Write>(
     rt: &R,
     dir: &str,
     to: Lsn,
@@ -45,7 +45,7 @@ pub fn rewind<R: AllocGlobal + Files<File = File> + Wait, P: Progress, O: Write>
 }
 
 /// The same in a folder that is held.
-fn rewind_in<R: AllocGlobal + Files<File = File> + Wait, P: Progress, O: Write>(
+fn rewind_in<R: AllocGlobal + Files<File = File> + Wait, P: Progress + Advance, O: Write>(
     rt: &R,
     folder: &Folder,
     dir: &str,
@@ -53,9 +53,9 @@ fn rewind_in<R: AllocGlobal + Files<File = File> + Wait, P: Progress, O: Write>(
     progress: &mut P,
     output: &mut O,
 ) -> Result<(), Fault> {
-    let judged = judge(rt, folder, dir, to)?;
+    let judged = judge(rt, folder, dir, to, progress)?;
     let end = judged.state.mark;
-    keep_past(rt, dir, open_log(rt, dir)?, to, end)?;
+    keep_past(rt, dir, open_log(rt, dir)?, to, end, progress)?;
     lay_out_pages(rt, folder, judged)?;
     // Before its log is shorter nobody may write it as a primary any more.
     folder.remove_role(rt)?;

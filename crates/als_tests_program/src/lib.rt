@@ -97,3 +97,6 @@ mod committing;
 // Looks back in a log.
 #[cfg(test)]
 mod looking_back;
+// A primary that has another log.
+#[cfg(test)]
+mod other_log;

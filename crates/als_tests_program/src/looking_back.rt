@@ -1,5 +1,6 @@
 use crate::row::{Row, run_row};
-use std::fs;
+use als_program::{Terminals, program_on};
+use std::{fs, io};
 
 /// A new database.
 const NEW: [&str; 8] = [
@@ -26,7 +27,7 @@ lsn=273 trans=3
 );
 
 /// What looks back print, and where they are refused: their words, output, standard error and status.
-const LOOKS: [(&[&str], &str, &str, u8); 13] = [
+const LOOKS: [(&[&str], &str, &str, u8); 16] = [
     (
         &["als", "dump", "past", "--commits"],
         "52 trans=1 0/0\n181 trans=2 1/3 0/0\n273 trans=3 1/3\n",
@@ -48,6 +49,15 @@ const LOOKS: [(&[&str], &str, &str, u8); 13] = [
     ),
     (&["als", "show", "past", "--at", "208"], "0/0 aa\n", "", 0),
     (&["als", "show", "past", "--at", "16"], "empty\n", "", 0),
+    // A commit counts from the end of its record on.
+    (&["als", "show", "past", "--at", "52"], "empty\n", "", 0),
+    (&["als", "show", "past", "--at", "80"], "0/0 aa\n", "", 0),
+    (
+        &["als", "status", "past", "--at", "15"],
+        "",
+        "als: an LSN below 16 is within the log's header\nals: refused 37 BadConfig\n",
+        3,
+    ),
     (
         &["als", "get", "past", "0", "0", "--at", "150"],
         "aa commits=1 lsn=52\n",
@@ -63,13 +73,13 @@ const LOOKS: [(&[&str], &str, &str, u8); 13] = [
     (
         &["als", "show", "past", "--at", "330"],
         "",
-        "als: refused 37 BadConfig\n",
+        "als: the log ends at 329\nals: refused 37 BadConfig\n",
         3,
     ),
     (
         &["als", "cut", "past", "--before-commit", "9"],
         "",
-        "als: refused 37 BadConfig\n",
+        "als: the log has no commit of this transaction\nals: refused 37 BadConfig\n",
         3,
     ),
     (
@@ -81,7 +91,7 @@ const LOOKS: [(&[&str], &str, &str, u8); 13] = [
     (
         &["als", "grow", "--dir", "past", "--log-blocks", "2"],
         "",
-        "als: refused 37 BadConfig\n",
+        "als: the log has 3 blocks\nals: refused 37 BadConfig\n",
         3,
     ),
     (
@@ -102,4 +112,28 @@ fn a_log_is_looked_back_in(rt: HostRuntime) {
         run_row(&rt, Row::of(words, "", output).failing(errors, status));
     }
     assert!(rt; fs::remove_dir_all(&rt, "past").is_ok());
+}
+
+/// What is said where a log text would go to a terminal.
+const BYTES: &[u8] = b"als: a log text is bytes, which no terminal shows: write it to a file\n";
+
+/// The commands that write a log text write none to a terminal, whatever they would read.
+#[test]
+fn no_text_goes_to_a_terminal(rt: HostRuntime) {
+    let commands: [&[&str]; 3] = [
+        &["als", "cut", "past", "--at", "16"],
+        &["als", "cut", "past", "--before-commit", "1"],
+        &["als", "begin", "--from", "past"],
+    ];
+    let terminals = Terminals {
+        input: false,
+        output: true,
+        errors: false,
+    };
+    for words in commands {
+        let mut said = Vec::new(rt.alloc());
+        let status = program_on(&rt, terminals, words, io::empty(), io::sink(), &mut said);
+        assert!(rt; status == 2);
+        assert!(rt; said.as_slice() == BYTES);
+    }
 }
