@@ -27,6 +27,8 @@ pub struct RedoLines<'a, W: Write, C> {
     seen: bool,
     pace: Pace,
     meter: Meter,
+    /// The work over bytes that was told last, and how much of it was done.
+    last: Option<(Work, u64)>,
     /// Whether it is said that nobody sends.
     tells_outages: bool,
 }
@@ -40,6 +42,7 @@ impl<W: Write + Drop, C> Drop for RedoLines<'_, W, C> {
             seen: _,
             pace: _,
             meter: _,
+            last: _,
             tells_outages: _,
         } = self;
         drop(errors);
@@ -78,6 +81,7 @@ impl<'a, W: Write, C: Clock> RedoLines<'a, W, C> {
             seen,
             pace,
             meter: Meter::new(),
+            last: None,
             tells_outages: seen || asked,
         }
     }
@@ -96,6 +100,16 @@ impl<'a, W: Write, C: Clock> RedoLines<'a, W, C> {
                 .saturating_add(u64::from(now.subsec_millis())),
             Err(_) => 0,
         }
+    }
+
+    /// Takes how much of a work is done. One of which less is done than before is done again.
+    fn note(&mut self, work: Work, done: u64) {
+        if let Some((before, had)) = self.last {
+            if before == work && done < had {
+                self.meter = Meter::new();
+            }
+        }
+        self.last = Some((work, done));
     }
 
     /// Says that a long redo begins.
@@ -154,6 +168,7 @@ impl<W: Write, C: Clock> Advance for RedoLines<'_, W, C> {
         if !self.seen {
             return;
         }
+        self.note(work, done);
         let now = self.millis();
         if let Some(Line { percent, rate }) = self.meter.takes(work, done, whole, now) {
             let _ = writeln!(
