@@ -14,7 +14,7 @@ use http::Request;
 use http_server::{Response, Service};
 use std::alloc::{AllocError, Global};
 
-/// What answers the requests of one thread: commits, and reads.
+/// Serves the requests of one thread: changes by `commits`, everything else by `reads`.
 pub struct Asking<C: Commits, R: Service> {
     alloc: Global,
     guard: Guard,
@@ -39,7 +39,7 @@ impl<C: Commits + Drop, R: Service + Drop> Drop for Asking<C, R> {
 }
 
 impl<C: Commits, R: Service> Asking<C, R> {
-    /// Requests for changes come from whom the guard takes, and name one of these hosts.
+    /// Requests for changes have to satisfy the guard, and to name one of these hosts.
     pub fn new(alloc: Global, guard: Guard, hosts: Hosts, commits: C, reads: R) -> Asking<C, R>
         ensures guard { result.guard ≡ guard }
         ensures hosts { result.hosts ≡ hosts }

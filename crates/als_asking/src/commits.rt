@@ -7,9 +7,9 @@ use crate::doubt::Doubt;
 use crate::outcome::Outcome;
 use als_writer::Work;
 
-/// Commits, prepares and decides transactions for a client, which waits.
+/// Commits, prepares and decides transactions for a client, which waits meanwhile.
 pub trait Commits {
-    // From the first state, this work has these outcomes, and leaves the second state.
+    // From the first state, this work has these outcomes and leaves the second state.
     ghost commits: { Self → List AnyWork → List AnyOutcome → Self → Type 0 };
 
     // In this state, these transactions are in doubt.
@@ -20,7 +20,7 @@ pub trait Commits {
     fn commit(&mut self, asked: Vec<Work>) -> Vec<Outcome>
         ensures { commits self.old asked.items result.items self.new };
 
-    /// The transactions in doubt, in rising number. None: there is no memory for them.
+    /// The transactions in doubt, by rising TransID. None: there is no memory for them.
     fn in_doubt(&self) -> Option<Vec<Doubt>>
         ensures { IfSome result (λ found. doubts self.now found.items) };
 }

@@ -26,7 +26,7 @@ pub(crate) fn decision_text(
     Ok(text.into_inner())
 }
 
-/// The object of a decision.
+/// Writes the object of a decision.
 fn write_decision(
     alloc: Global,
     text: &mut Writer,
@@ -43,7 +43,7 @@ fn write_decision(
     Ok(())
 }
 
-/// The members of a decision.
+/// Writes the members of a decision.
 #[tactic(auto, unfolding(crate::specs::Telling::decision_members))]
 fn write_members(
     alloc: Global,
@@ -66,7 +66,7 @@ fn write_members(
     Ok(())
 }
 
-/// That a transaction is not in doubt.
+/// Writes that a transaction is not in doubt.
 fn undoubted_members(text: &mut Writer, trans: TransId) -> Result<(), AllocError>
     ensures tokens { OnOk result (text.new.tokens ≡ text.old.tokens ++ undoubted_tokens trans) }
     ensures before { OnOk result (text.new.before ≡ text.old.before) }

@@ -1,16 +1,16 @@
 /// Why a request may not commit.
 #[derive(Clone, Copy, Debug, PartialEq, Eq)]
 pub enum Denied {
-    /// Its `Host` is none of the node's own.
+    /// Its `Host` is not one of the node's.
     Host,
     /// It asks for a change, and its method is not POST.
     Method,
-    /// It asks for what is in doubt, and its method is neither GET nor HEAD.
+    /// It asks what is in doubt, and its method is neither GET nor HEAD.
     NoRead,
-    /// A page of a browser asks.
+    /// It comes from a page in a browser.
     Page,
-    /// It brings no token.
+    /// It has no token.
     NoToken,
-    /// It brings another token.
+    /// It has another token.
     OtherToken,
 }

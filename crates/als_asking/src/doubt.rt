@@ -1,6 +1,6 @@
 use als_record::{Lsn, TransId};
 
-/// A transaction in doubt: it is prepared, and no decision came.
+/// A transaction in doubt: prepared, and not decided.
 #[derive(Clone, Copy, Debug, PartialEq, Eq)]
 pub struct Doubt {
     pub trans: TransId,

@@ -17,7 +17,7 @@ pub(crate) fn doubts_text(alloc: Global, doubts: &[Doubt]) -> Result<Vec<u8>, Al
     Ok(text.into_inner())
 }
 
-/// The array of these transactions.
+/// Writes the array of transactions in doubt.
 fn write_doubts(text: &mut Writer, doubts: &[Doubt]) -> Result<(), AllocError>
     ensures tokens { OnOk result (text.new.tokens ≡ text.old.tokens ++ doubts_tokens doubts.now) }
     ensures before { OnOk result (text.new.before ≡ text.old.before) }
@@ -28,7 +28,7 @@ fn write_doubts(text: &mut Writer, doubts: &[Doubt]) -> Result<(), AllocError>
     Ok(())
 }
 
-/// The items of the array.
+/// Writes the items of the array.
 fn write_each(text: &mut Writer, doubts: &[Doubt]) -> Result<(), AllocError>
     ensures tokens { OnOk result (text.new.tokens ≡ text.old.tokens ++ flat_map doubt_tokens doubts.now) }
     ensures before { OnOk result (text.new.before ≡ text.old.before) }
@@ -39,7 +39,7 @@ fn write_each(text: &mut Writer, doubts: &[Doubt]) -> Result<(), AllocError>
     Ok(())
 }
 
-/// The object of a transaction in doubt.
+/// Writes the object of a transaction in doubt.
 fn write_doubt(text: &mut Writer, doubt: Doubt) -> Result<(), AllocError>
     ensures tokens { OnOk result (text.new.tokens ≡ text.old.tokens ++ doubt_tokens doubt) }
     ensures before { OnOk result (text.new.before ≡ text.old.before) }

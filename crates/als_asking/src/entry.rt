@@ -12,16 +12,16 @@ use http_header::GetAll;
 /// The path at which transactions are committed.
 const COMMIT: &str = "/commit";
 
-/// The path at which they are prepared.
+/// The path at which transactions are prepared.
 const PREPARE: &str = "/prepare";
 
-/// The path at which those in doubt are decided.
+/// The path at which transactions in doubt are decided.
 const DECIDE: &str = "/decide";
 
-/// The path at which those in doubt are listed.
+/// The path at which transactions in doubt are listed.
 const IN_DOUBT: &str = "/in-doubt";
 
-/// Which way a request goes.
+/// The way that a request goes.
 #[derive(Clone, Copy, Debug, PartialEq, Eq)]
 pub enum Entry {
     /// To the reads.
@@ -32,13 +32,13 @@ pub enum Entry {
     Prepares,
     /// A transaction in doubt is decided.
     Decides,
-    /// Those in doubt are listed.
+    /// Transactions in doubt are listed.
     InDoubt,
     /// It is denied.
     Denied(Denied),
 }
 
-/// Which way a request goes to a node that has these hosts.
+/// The way that a request to a node with these hosts goes.
 pub fn entry_of(request: &Request<Bytes>, guard: &Guard, hosts: Hosts) -> Entry
     ensures { result ≡ entry_of guard.now hosts (head_of request.now) }
 {
@@ -59,7 +59,7 @@ pub fn entry_of(request: &Request<Bytes>, guard: &Guard, hosts: Hosts) -> Entry
     Entry::Reads
 }
 
-/// Which way a request goes that asks for a change.
+/// The way of a request for a change, by its header fields.
 fn way_of(to: Entry, request: &Request<Bytes>, guard: &Guard, hosts: Hosts) -> Entry
     ensures { result ≡ way_of to guard.now hosts (head_of request.now) }
 {
@@ -70,7 +70,7 @@ fn way_of(to: Entry, request: &Request<Bytes>, guard: &Guard, hosts: Hosts) -> E
     entered(to, own, request.method().as_str(), from_page, denial)
 }
 
-/// Whether there is a field.
+/// Whether there is such a field.
 fn is_there(fields: GetAll<'_, HeaderValue>) -> bool
     ensures { result ≡ is_there fields.entry }
 {
@@ -81,7 +81,7 @@ fn is_there(fields: GetAll<'_, HeaderValue>) -> bool
     }
 }
 
-/// The way of a request that asks for a change.
+/// The way of a request for a change, by what was found out about it.
 #[tactic(auto, unfolding(crate::specs::Entering::entered))]
 fn entered(to: Entry, own: bool, method: &str, from_page: bool, denial: Option<Denied>) -> Entry
     ensures { result ≡ entered to own method.now from_page denial }

@@ -14,7 +14,7 @@ use http::{HeaderName, HeaderValue, StatusCode};
 use http_server::Response;
 use std::alloc::{AllocError, Global};
 
-/// Fills a response by what a request is answered. Where memory is refused it is empty: a 504 where
+/// Fills a response by what a request is told. Without memory for it the response is empty: a 504 if
 /// transactions may have been committed, else a 503.
 pub(crate) fn show(alloc: Global, told: &Told, response: &mut Response)
     requires { IsBlank response.old }
@@ -29,7 +29,7 @@ pub(crate) fn show(alloc: Global, told: &Told, response: &mut Response)
     }
 }
 
-/// Fills a response by what a request is answered. After an error some of it may be there.
+/// Fills a response by what a request is told. After an error it may be filled in part.
 #[tactic(auto, using(crate::proofs::TextLaws::text_same))]
 fn fill(alloc: Global, told: &Told, response: &mut Response) -> Result<(), AllocError>
     requires { IsBlank response.old }
@@ -48,7 +48,7 @@ fn fill(alloc: Global, told: &Told, response: &mut Response) -> Result<(), Alloc
     Ok(())
 }
 
-/// When to ask again, where nothing was written.
+/// Adds when to ask again, if nothing was written.
 fn add_retry(status: StatusCode, response: &mut Response) -> Result<(), AllocError>
     ensures fields { OnOk result
         (fields_of response.new ≡ fields_of response.old ++ retry_field status) }
@@ -60,7 +60,7 @@ fn add_retry(status: StatusCode, response: &mut Response) -> Result<(), AllocErr
     Ok(())
 }
 
-/// The header fields of its own.
+/// Adds the header fields that only this response has.
 fn add_own(alloc: Global, told: &Told, response: &mut Response) -> Result<(), AllocError>
     ensures fields { OnOk result
         (fields_of response.new ≡ fields_of response.old ++ own_fields told.now) }
@@ -81,7 +81,7 @@ fn add_own(alloc: Global, told: &Told, response: &mut Response) -> Result<(), Al
     Ok(())
 }
 
-/// The LSN of what is in the log.
+/// Adds the LSN of the record in the log.
 fn add_lsn(alloc: Global, written: &Written, response: &mut Response) -> Result<(), AllocError>
     ensures fields { OnOk result
         (fields_of response.new ≡ fields_of response.old ++ written_field written.now) }
@@ -92,7 +92,7 @@ fn add_lsn(alloc: Global, written: &Written, response: &mut Response) -> Result<
     Ok(())
 }
 
-/// What would be taken, where a request is denied.
+/// Adds what would be accepted in place of a denied request.
 fn add_denied(why: Denied, response: &mut Response) -> Result<(), AllocError>
     ensures fields { OnOk result
         (fields_of response.new ≡ fields_of response.old ++ denied_fields why) }
@@ -113,21 +113,21 @@ fn add_denied(why: Denied, response: &mut Response) -> Result<(), AllocError>
     Ok(())
 }
 
-/// The type of each text.
+/// The content type of each text.
 fn json() -> HeaderValue
     ensures { result.bytes ≡ codes "application/json" }
 {
     HeaderValue::from_static("application/json")
 }
 
-/// Nobody may keep a response.
+/// No cache may keep a response.
 fn no_store() -> HeaderValue
     ensures { result.bytes ≡ codes "no-store" }
 {
     HeaderValue::from_static("no-store")
 }
 
-/// A second.
+/// One second.
 fn one() -> HeaderValue
     ensures { result.bytes ≡ codes "1" }
 {
@@ -141,7 +141,7 @@ fn post() -> HeaderValue
     HeaderValue::from_static("POST")
 }
 
-/// The methods of what reads.
+/// The methods of reads.
 fn get_and_head() -> HeaderValue
     ensures { result.bytes ≡ codes "GET, HEAD" }
 {

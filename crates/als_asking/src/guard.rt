@@ -5,20 +5,20 @@ use crate::denied::Denied;
 use http::HeaderValue;
 use http_header::GetAll;
 
-/// What stands before a token.
+/// What precedes a token in its field.
 const SCHEME: &[u8] = b"Bearer ";
 
 /// Who may commit. It is neither printed nor copied.
 #[derive(Drop)]
 pub enum Guard {
-    /// Whoever reaches the listener, which is one of the loopback.
+    /// All clients of the listener, whose address is a loopback one.
     Loopback,
-    /// Whoever brings this token.
+    /// Clients that send this token.
     Token(Vec<u8>),
 }
 
 impl Guard {
-    /// Why a request with these fields of its authorization is denied. None: it is taken.
+    /// Why a request with these Authorization fields is denied. None: it is accepted.
     #[tactic(auto, unfolding(crate::specs::Entering::guarded))]
     pub fn denial(&self, fields: GetAll<'_, HeaderValue>) -> Option<Denied>
         ensures { result ≡ guarded self.now (token_in fields.entry) }
@@ -30,7 +30,7 @@ impl Guard {
     }
 }
 
-/// Why a request with this token is denied, where this other one is wanted.
+/// Why a request with the token `given` is denied if `token` is wanted. None: it is accepted.
 fn denial_of(token: &[u8], given: Option<&[u8]>) -> Option<Denied>
     ensures { result ≡ denied_by token.now (option_copied given.entry) }
 {
@@ -41,7 +41,7 @@ fn denial_of(token: &[u8], given: Option<&[u8]>) -> Option<Denied>
     }
 }
 
-/// The token of a request with these fields of its authorization. None: there is none, or two.
+/// The token in these Authorization fields. None: there is no field, or there are two.
 #[tactic(auto, unfolding(crate::specs::Entering::token_in))]
 fn token_in<'a>(fields: GetAll<'a, HeaderValue>) -> Option<&'a [u8]>
     ensures { option_copied result ≡ token_in fields.entry }
@@ -54,7 +54,7 @@ fn token_in<'a>(fields: GetAll<'a, HeaderValue>) -> Option<&'a [u8]>
     }
 }
 
-/// Whether two texts are the same. How long it takes depends on their lengths alone.
+/// Whether two texts are the same. The time that it takes depends on their lengths only.
 #[tactic(auto, using(crate::proofs::SameLaws::same_step))]
 fn is_same(one: &[u8], other: &[u8]) -> bool
     ensures { result ≡ bytes_eq one.now other.now }

@@ -4,7 +4,7 @@ use http_server::{Response, Service};
 use std::alloc::{AllocError, Global};
 use std::sync::{Arc, Mutex, Wait};
 
-/// A service that threads share: each waits until the one before it is answered.
+/// A service that threads share: each waits until the call before its own has returned.
 pub struct Lent<V: Service, R: Wait> {
     rt: R,
     shared: Arc<Mutex<V>, Global>,
@@ -19,7 +19,7 @@ impl<V: Service + Drop, R: Wait + Drop> Drop for Lent<V, R> {
 }
 
 impl<V: Service, R: Wait> Lent<V, R> {
-    /// One of those that share it.
+    /// A handle of the shared service.
     pub fn new(rt: R, shared: Arc<Mutex<V>, Global>) -> Lent<V, R> {
         Lent { rt, shared }
     }
@@ -28,7 +28,7 @@ impl<V: Service, R: Wait> Lent<V, R> {
 impl<V: Service, R: Wait> Service for Lent<V, R> {
     ghost use Rattle.std.specs.Prelude.{◌≡◌};
 
-    // Some state of the shared service answers, and itself it is as before.
+    // Some state of the shared service answers; the handle stays as it was.
     ghost answers = { λ old request response new.
         (new ≡ old) × ((before : V) × (after : V) × V.answers before request response after) };
 

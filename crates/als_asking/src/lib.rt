@@ -1,4 +1,4 @@
-//! Commits over HTTP: which request asks for them, who may ask, and what the outcome is answered.
+//! Commits over HTTP: which request asks for them, who may ask, and the response to each outcome.
 //!
 //! ```text
 //!     request --entry_of--> Reads ----> the reads' own answer
@@ -8,16 +8,16 @@
 //!                           Denied ---> response
 //! ```
 //!
-//! 1. A change is a POST to `/commit`, `/prepare` or `/decide` that names one of the node's hosts. It
-//!    comes from whom the guard takes, and from no page of a browser.
+//! 1. A change is a POST to `/commit`, `/prepare` or `/decide` that names one of the node's hosts and
+//!    satisfies the guard. It never comes from a page in a browser, which could be anybody's.
 //! 2. The body of the first two is one transaction, or an array of them, each of which is committed or
 //!    prepared on its own. The body of the third is one decision of a transaction in doubt.
-//! 3. `/in-doubt` lists what is in doubt to whoever may read.
-//! 4. 200 is answered of what is durable alone, 503 where nothing was written, 504 where a restart
-//!    may find it or not.
+//! 3. `/in-doubt` lists the transactions in doubt to whoever may read.
+//! 4. 200 means that it is durable, 503 that nothing was written, 504 that a restart may find it or
+//!    not. So a client that gets a 503 may ask again, and one that gets a 504 has to look first.
 #![tactic(auto)]
 
-// What becomes of a transaction.
+// The outcome of a transaction.
 mod outcome;
 // Whether it commits or prepares.
 mod manner;
@@ -34,19 +34,19 @@ mod reading;
 mod scan;
 mod unread;
 mod wanted;
-// What is committed, and what is answered.
+// What is committed, and what the request is told.
 mod taking;
 mod told;
 // What is decided, and what is in doubt.
 mod deciding;
-// The response of that.
+// The response to that.
 mod decision_text;
 mod doubt_text;
 mod filling;
 mod members;
 mod outcome_text;
 mod told_text;
-// What answers the requests of a thread.
+// The service of a thread.
 mod asking;
 // Reads that threads share.
 mod lent;

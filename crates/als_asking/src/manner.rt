@@ -3,7 +3,7 @@ ghost use Rattle.als_asking.specs.Taking.{work_of};
 
 use als_writer::{Transaction, Work};
 
-/// What is done with a transaction where each of its comparisons holds.
+/// What is done with a transaction whose comparisons all succeed.
 #[derive(Clone, Copy, Debug, PartialEq, Eq)]
 pub enum Manner {
     /// It commits.
@@ -13,7 +13,7 @@ pub enum Manner {
 }
 
 impl Manner {
-    /// The work that a transaction is.
+    /// The work of doing that with a transaction.
     pub fn work_of(self, transaction: Transaction) -> Work
         ensures { result ≡ work_of self transaction }
     {

@@ -7,7 +7,7 @@ use als_record::{KeptImage, Key};
 use json::Writer;
 use std::alloc::{AllocError, Global};
 
-/// A member that is a number.
+/// Writes a member that is a number.
 pub(crate) fn number(text: &mut Writer, name: &str, value: u64) -> Result<(), AllocError>
     ensures tokens { OnOk result (text.new.tokens ≡ text.old.tokens ++ number_tokens name.now value) }
     ensures before { OnOk result (text.new.before ≡ text.old.before) }
@@ -17,7 +17,7 @@ pub(crate) fn number(text: &mut Writer, name: &str, value: u64) -> Result<(), Al
     Ok(())
 }
 
-/// A member that is a text.
+/// Writes a member that is a text.
 pub(crate) fn string(text: &mut Writer, name: &str, value: &str) -> Result<(), AllocError>
     ensures tokens { OnOk result (text.new.tokens ≡ text.old.tokens ++ string_tokens name.now value.now) }
     ensures before { OnOk result (text.new.before ≡ text.old.before) }
@@ -27,7 +27,7 @@ pub(crate) fn string(text: &mut Writer, name: &str, value: &str) -> Result<(), A
     Ok(())
 }
 
-/// A member that is true or false.
+/// Writes a member that is true or false.
 pub(crate) fn truth(text: &mut Writer, name: &str, value: bool) -> Result<(), AllocError>
     ensures tokens { OnOk result (text.new.tokens ≡ text.old.tokens ++ truth_tokens name.now value) }
     ensures before { OnOk result (text.new.before ≡ text.old.before) }
@@ -37,7 +37,7 @@ pub(crate) fn truth(text: &mut Writer, name: &str, value: bool) -> Result<(), Al
     Ok(())
 }
 
-/// A member without a value.
+/// Writes a member that is null.
 pub(crate) fn nothing(text: &mut Writer, name: &str) -> Result<(), AllocError>
     ensures tokens { OnOk result (text.new.tokens ≡ text.old.tokens ++ nothing_tokens name.now) }
     ensures before { OnOk result (text.new.before ≡ text.old.before) }
@@ -47,7 +47,7 @@ pub(crate) fn nothing(text: &mut Writer, name: &str) -> Result<(), AllocError>
     Ok(())
 }
 
-/// The member that is a key: an array of its page and its slot.
+/// Writes the member of a key: an array of its page and its slot.
 pub(crate) fn key(text: &mut Writer, at: Key) -> Result<(), AllocError>
     ensures tokens { OnOk result (text.new.tokens ≡ text.old.tokens ++ key_tokens at) }
     ensures before { OnOk result (text.new.before ≡ text.old.before) }
@@ -58,7 +58,7 @@ pub(crate) fn key(text: &mut Writer, at: Key) -> Result<(), AllocError>
     Ok(())
 }
 
-/// The name of a key, and the bracket of its array.
+/// Writes the name of the member, and the opening bracket of its array.
 fn begin_key(text: &mut Writer) -> Result<(), AllocError>
     ensures tokens { OnOk result (text.new.tokens ≡ text.old.tokens ++ key (codes "key") ∷ begin_array ∷ []) }
     ensures before { OnOk result (text.new.before ≡ text.old.before) }
@@ -68,7 +68,7 @@ fn begin_key(text: &mut Writer) -> Result<(), AllocError>
     Ok(())
 }
 
-/// The page and the slot of a key.
+/// Writes the page and the slot of a key.
 fn numbers(text: &mut Writer, at: Key) -> Result<(), AllocError>
     ensures tokens { OnOk result (text.new.tokens ≡ text.old.tokens ++ number (decimal at.page) ∷ number (decimal at.slot) ∷ []) }
     ensures before { OnOk result (text.new.before ≡ text.old.before) }
@@ -78,7 +78,7 @@ fn numbers(text: &mut Writer, at: Key) -> Result<(), AllocError>
     Ok(())
 }
 
-/// The member that is the value of a key: lower case hexadecimal digits, or null.
+/// Writes the member of a value: lower case hexadecimal digits, or null.
 pub(crate) fn value(alloc: Global, text: &mut Writer, now: &KeptImage) -> Result<(), AllocError>
     ensures tokens { OnOk result (text.new.tokens ≡ text.old.tokens ++ value_tokens now.now) }
     ensures before { OnOk result (text.new.before ≡ text.old.before) }

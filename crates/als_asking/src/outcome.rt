@@ -1,6 +1,6 @@
 use als_writer::{NotDecided, Refusal, Written};
 
-/// What becomes of what a client asks for.
+/// The outcome of what a client asked for.
 #[derive(Clone, Copy)]
 pub enum Outcome {
     /// The transaction is committed and durable.
@@ -15,9 +15,9 @@ pub enum Outcome {
     NotDecided(NotDecided),
     /// It is in the log, but the force failed: a restart may find it or not.
     Unknown(Written),
-    /// Nothing of it is in the log, and nothing will be: it was not begun in time, or why it was
-    /// refused is withheld.
+    /// Nothing of it is in the log, and nothing will be: it was not begun in time, or the reason of its
+    /// refusal is withheld.
     NotBegun,
-    /// The writer took it and its answer never came: it may be done or not.
+    /// The writer took it and never answered: it may be done or not.
     Lost,
 }

@@ -14,7 +14,7 @@ use als_writer::{Flaw, NotDecided, Refusal, Written};
 use json::Writer;
 use std::alloc::{AllocError, Global};
 
-/// The members of an outcome.
+/// Writes the members of an outcome.
 #[tactic(auto, unfolding(crate::specs::Telling::outcome_tokens))]
 pub(crate) fn outcome_members(
     alloc: Global,
@@ -44,7 +44,7 @@ pub(crate) fn outcome_members(
     Ok(())
 }
 
-/// That a restart may find it or not.
+/// Writes that a restart may find it or not.
 fn unknown_member(text: &mut Writer) -> Result<(), AllocError>
     ensures tokens { OnOk result (text.new.tokens ≡ text.old.tokens ++ unknown_tokens) }
     ensures before { OnOk result (text.new.before ≡ text.old.before) }
@@ -52,7 +52,7 @@ fn unknown_member(text: &mut Writer) -> Result<(), AllocError>
     truth(text, "unknown", true)
 }
 
-/// That nothing of it is in the log, and no fault has a number for that.
+/// Writes that nothing was begun, for which no fault has a number.
 fn not_begun_members(text: &mut Writer) -> Result<(), AllocError>
     ensures tokens { OnOk result (text.new.tokens ≡ text.old.tokens ++ not_begun_tokens) }
     ensures before { OnOk result (text.new.before ≡ text.old.before) }
@@ -62,7 +62,7 @@ fn not_begun_members(text: &mut Writer) -> Result<(), AllocError>
     Ok(())
 }
 
-/// What is in the log: the transaction's number, and the LSN of the record that says so.
+/// Writes what is in the log: the TransID, and the LSN of the record that says so.
 pub(crate) fn written_members(text: &mut Writer, written: &Written) -> Result<(), AllocError>
     ensures tokens { OnOk result (text.new.tokens ≡ text.old.tokens ++ written_tokens written.now) }
     ensures before { OnOk result (text.new.before ≡ text.old.before) }
@@ -72,7 +72,7 @@ pub(crate) fn written_members(text: &mut Writer, written: &Written) -> Result<()
     Ok(())
 }
 
-/// Why nothing is committed.
+/// Writes why nothing is committed.
 fn refusal_members(alloc: Global, text: &mut Writer, refusal: &Refusal) -> Result<(), AllocError>
     ensures tokens { OnOk result (text.new.tokens ≡ text.old.tokens ++ refusal_tokens refusal.now) }
     ensures before { OnOk result (text.new.before ≡ text.old.before) }
@@ -106,7 +106,7 @@ fn kind_undecided(why: &NotDecided) -> FaultKind
     }
 }
 
-/// A fault by its number and its name.
+/// Writes the number and the name of a fault.
 #[tactic(auto, unfolding(crate::specs::Telling::fault_tokens))]
 fn fault_members(text: &mut Writer, kind: FaultKind) -> Result<(), AllocError>
     ensures tokens { OnOk result (text.new.tokens ≡ text.old.tokens ++ fault_tokens kind) }
@@ -117,7 +117,7 @@ fn fault_members(text: &mut Writer, kind: FaultKind) -> Result<(), AllocError>
     Ok(())
 }
 
-/// What is wrong with a transaction, and the key that it is wrong with.
+/// Writes what is wrong with a transaction, and with which key.
 fn flaw_members(text: &mut Writer, flaw: Flaw) -> Result<(), AllocError>
     ensures tokens { OnOk result (text.new.tokens ≡ text.old.tokens ++ flaw_tokens flaw) }
     ensures before { OnOk result (text.new.before ≡ text.old.before) }
@@ -127,7 +127,7 @@ fn flaw_members(text: &mut Writer, flaw: Flaw) -> Result<(), AllocError>
     Ok(())
 }
 
-/// What is wrong with a transaction.
+/// What is wrong with a transaction, in words.
 fn why_flaw(flaw: Flaw) -> &'static str
     ensures { result.now ≡ why_flaw flaw }
 {
@@ -139,7 +139,7 @@ fn why_flaw(flaw: Flaw) -> &'static str
     }
 }
 
-/// The key that is wrong.
+/// Writes the key that is wrong, if it is one.
 fn flaw_key(text: &mut Writer, flaw: Flaw) -> Result<(), AllocError>
     ensures tokens { OnOk result (text.new.tokens ≡ text.old.tokens ++ flaw_key flaw) }
     ensures before { OnOk result (text.new.before ≡ text.old.before) }
@@ -151,7 +151,7 @@ fn flaw_key(text: &mut Writer, flaw: Flaw) -> Result<(), AllocError>
     Ok(())
 }
 
-/// The key whose comparison fails, and its value now.
+/// Writes the key whose comparison failed, and its value now.
 fn unmet_members(
     alloc: Global,
     text: &mut Writer,
@@ -168,7 +168,7 @@ fn unmet_members(
     Ok(())
 }
 
-/// What stands before a comparison that fails.
+/// Writes what precedes a failed comparison.
 fn begin_unmet(text: &mut Writer) -> Result<(), AllocError>
     ensures tokens { OnOk result (text.new.tokens ≡ text.old.tokens ++ key (codes "not_as_asked") ∷ begin_array ∷ begin_object ∷ []) }
     ensures before { OnOk result (text.new.before ≡ text.old.before) }
@@ -179,7 +179,7 @@ fn begin_unmet(text: &mut Writer) -> Result<(), AllocError>
     Ok(())
 }
 
-/// What stands behind it.
+/// Writes what follows it.
 fn end_unmet(text: &mut Writer) -> Result<(), AllocError>
     ensures tokens { OnOk result (text.new.tokens ≡ text.old.tokens ++ end_object ∷ end_array ∷ []) }
     ensures before { OnOk result (text.new.before ≡ text.old.before) }

@@ -20,7 +20,7 @@ pub fn wanted_in(alloc: Global, body: &[u8]) -> Result<Wanted, Unread>
     }
 }
 
-/// The transaction that a body is.
+/// The transaction in a body.
 #[tactic(auto, unfolding(crate::specs::Bodies::Asks))]
 fn one(alloc: Global, body: &[u8]) -> Result<Wanted, Unread>
     ensures asks { IfOk result (λ w. Asks body.now w) }
@@ -32,14 +32,14 @@ fn one(alloc: Global, body: &[u8]) -> Result<Wanted, Unread>
     }
 }
 
-/// Whether a byte stands for nothing between the parts of a JSON text.
+/// Whether a byte is a blank of JSON.
 fn is_blank(byte: u8) -> bool
     ensures { result ≡ is_blank byte }
 {
     byte == b' ' || byte == b'\t' || byte == b'\n' || byte == b'\r'
 }
 
-/// A text without the blanks that it begins with.
+/// A text without its leading blanks.
 #[tactic(auto, using(crate::proofs::BodyLaws::skipped_step, crate::proofs::BodyLaws::skipped_end, crate::proofs::BodyLaws::skipped_all))]
 fn skipped(text: &[u8]) -> &[u8]
     ensures { result.now ≡ skipped text.now }
@@ -54,7 +54,7 @@ fn skipped(text: &[u8]) -> &[u8]
     rest
 }
 
-/// Whether a bracket is there, and only blanks behind it.
+/// Whether a text is a closing bracket, followed by blanks only.
 #[tactic(auto, unfolding(crate::specs::Bodies::closes))]
 fn closes(text: &[u8]) -> bool
     ensures { result ≡ closes text.now }
@@ -65,7 +65,8 @@ fn closes(text: &[u8]) -> bool
     }
 }
 
-/// The items of an array, behind whose first bracket this is. None: no bracket closes it, or more follows.
+/// The items of an array, from the text after its opening bracket. None: no bracket closes it, or more
+/// follows.
 fn closed(rest: &[u8]) -> Option<&[u8]>
     ensures { IfSome result (λ items. IsClosed rest.now items.now) }
 {
@@ -78,7 +79,7 @@ fn closed(rest: &[u8]) -> Option<&[u8]>
     None
 }
 
-/// The transactions of an array, behind whose first bracket this is.
+/// The transactions of an array, from the text after its opening bracket.
 fn each(alloc: Global, rest: &[u8]) -> Result<Wanted, Unread>
     ensures asks { IfOk result (λ w. AsksBehind rest.now w) }
 {

@@ -1,17 +1,17 @@
 ghost use Rattle.std.specs.Prelude.{◌≤◌, length};
 
-/// Where in a JSON text a scan is.
+/// The position of a scan in the structure of a JSON text.
 #[derive(Clone, Copy)]
 struct Scan {
-    /// Objects and arrays that are open.
+    /// How many objects and arrays are open.
     depth: u64,
     in_string: bool,
-    /// The byte before, in a string, is a backslash that escapes this one.
+    /// Whether the byte before, in a string, is a backslash that escapes this one.
     is_escaped: bool,
 }
 
 impl Scan {
-    /// Whether this byte ends an item of the array that is scanned.
+    /// Scans a byte. Returns whether it ends an item of the scanned array.
     fn ends_by(&mut self, byte: u8) -> bool {
         if self.in_string {
             self.pass_string(byte);
@@ -26,7 +26,7 @@ impl Scan {
         byte == b',' && self.depth == 0
     }
 
-    /// Passes a byte of a string.
+    /// Scans a byte of a string.
     fn pass_string(&mut self, byte: u8) {
         if self.is_escaped {
             self.is_escaped = false;

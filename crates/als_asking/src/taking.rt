@@ -12,7 +12,7 @@ use crate::wanted::Wanted;
 use als_writer::{Transaction, Work};
 use std::alloc::{AllocError, Global};
 
-/// Commits or prepares what a body asks for, and returns what is answered.
+/// Commits or prepares what a body asks for, and returns what the request is told.
 pub fn take<C: Commits>(alloc: Global, commits: &mut C, manner: Manner, body: &[u8]) -> Told
     ensures { IsTaken C.commits manner body.now commits.old result commits.new }
 {
@@ -59,7 +59,7 @@ fn take_each<C: Commits>(
     }
 }
 
-/// The work that these transactions are.
+/// The work of doing that with these transactions.
 fn works_of(
     alloc: Global,
     manner: Manner,
@@ -74,7 +74,7 @@ fn works_of(
     Ok(works)
 }
 
-/// The first outcome. Without one it is lost.
+/// The first outcome. Lost if there is none.
 pub(crate) fn first_of(outcomes: &[Outcome]) -> Outcome
     ensures { result ≡ first_of outcomes.now }
 {

@@ -11,10 +11,10 @@ use als_record::TransId;
 use als_writer::{NotDecided, Refusal};
 use http::StatusCode;
 
-/// What a request for changes, or for what is in doubt, is answered.
+/// What a request for changes, or for the transactions in doubt, is told.
 #[derive(Drop)]
 pub enum Told {
-    /// The outcome of its one transaction. Lost: of an array, no list of outcomes was left.
+    /// The outcome of its one transaction. Of an array Lost: there was no memory for the outcomes.
     One(Outcome),
     /// The outcomes of its array of transactions, in order.
     Each(Vec<Outcome>),
@@ -24,9 +24,9 @@ pub enum Told {
         verdict: Decision,
         outcome: Outcome,
     },
-    /// The transactions in doubt, in rising number.
+    /// The transactions in doubt, by rising TransID.
     InDoubt(Vec<Doubt>),
-    /// It asks for no transaction and no decision.
+    /// Its body is neither a transaction nor a decision.
     Unread(Unread),
     /// It may not commit.
     Denied(Denied),
@@ -48,7 +48,7 @@ impl Told {
         }
     }
 
-    /// The status of a response that could not be written, for want of memory.
+    /// The status of a response for which there is no memory.
     pub(crate) fn status_unwritten(&self) -> StatusCode
         ensures { result ≡ status_unwritten self.now }
     {

@@ -1,19 +1,19 @@
 ghost use Rattle.std.specs.Prelude.{◌≡◌, IfOk, OnOk, ◌++◌, flat_map};
 ghost use Rattle.json.specs.Print.{print};
-ghost use Rattle.als_report.specs.Texts.{error_tokens};
 ghost use Rattle.als_asking.specs.Telling.{one_tokens, item_tokens, each_tokens, why_denied, HasText};
 
 use crate::decision_text::decision_text;
 use crate::denied::Denied;
 use crate::doubt_text::doubts_text;
-use crate::members::{number, string};
+use crate::members::number;
 use crate::outcome::Outcome;
 use crate::outcome_text::outcome_members;
 use crate::told::{Told, status_of_outcome};
+use als_report::error_text;
 use json::Writer;
 use std::alloc::{AllocError, Global};
 
-/// The text of what a request is answered.
+/// The text of what a request is told.
 #[tactic(auto, unfolding(crate::specs::Telling::HasText))]
 pub(crate) fn told_text(alloc: Global, told: &Told) -> Result<Vec<u8>, AllocError>
     ensures { IfOk result (λ text. HasText told.now text.items) }
@@ -35,7 +35,7 @@ pub(crate) fn told_text(alloc: Global, told: &Told) -> Result<Vec<u8>, AllocErro
     }
 }
 
-/// The text of one transaction.
+/// The text of one outcome.
 #[tactic(auto, using(crate::proofs::TextLaws::printed))]
 fn one_text(alloc: Global, outcome: &Outcome) -> Result<Vec<u8>, AllocError>
     ensures { IfOk result (λ text. text.items ≡ print (one_tokens outcome.now)) }
@@ -45,7 +45,7 @@ fn one_text(alloc: Global, outcome: &Outcome) -> Result<Vec<u8>, AllocError>
     Ok(text.into_inner())
 }
 
-/// The object of one transaction.
+/// Writes the object of one outcome.
 fn write_one(alloc: Global, text: &mut Writer, outcome: &Outcome) -> Result<(), AllocError>
     ensures tokens { OnOk result (text.new.tokens ≡ text.old.tokens ++ one_tokens outcome.now) }
     ensures before { OnOk result (text.new.before ≡ text.old.before) }
@@ -56,7 +56,7 @@ fn write_one(alloc: Global, text: &mut Writer, outcome: &Outcome) -> Result<(), 
     Ok(())
 }
 
-/// The text of an array of transactions.
+/// The text of an array of outcomes.
 #[tactic(auto, using(crate::proofs::TextLaws::printed))]
 fn each_text(alloc: Global, outcomes: &[Outcome]) -> Result<Vec<u8>, AllocError>
     ensures { IfOk result (λ text. text.items ≡ print (each_tokens outcomes.now)) }
@@ -66,7 +66,7 @@ fn each_text(alloc: Global, outcomes: &[Outcome]) -> Result<Vec<u8>, AllocError>
     Ok(text.into_inner())
 }
 
-/// The array of these outcomes.
+/// Writes an array of outcomes.
 fn write_each(alloc: Global, text: &mut Writer, outcomes: &[Outcome]) -> Result<(), AllocError>
     ensures tokens { OnOk result (text.new.tokens ≡ text.old.tokens ++ each_tokens outcomes.now) }
     ensures before { OnOk result (text.new.before ≡ text.old.before) }
@@ -77,7 +77,7 @@ fn write_each(alloc: Global, text: &mut Writer, outcomes: &[Outcome]) -> Result<
     Ok(())
 }
 
-/// The items of an array.
+/// Writes the items of an array.
 fn write_items(alloc: Global, text: &mut Writer, outcomes: &[Outcome]) -> Result<(), AllocError>
     ensures tokens { OnOk result (text.new.tokens ≡ text.old.tokens ++ flat_map item_tokens outcomes.now) }
     ensures before { OnOk result (text.new.before ≡ text.old.before) }
@@ -88,7 +88,7 @@ fn write_items(alloc: Global, text: &mut Writer, outcomes: &[Outcome]) -> Result
     Ok(())
 }
 
-/// The object of a transaction of an array.
+/// Writes the object of an outcome in an array, with its status.
 fn write_item(alloc: Global, text: &mut Writer, outcome: &Outcome) -> Result<(), AllocError>
     ensures tokens { OnOk result (text.new.tokens ≡ text.old.tokens ++ item_tokens outcome.now) }
     ensures before { OnOk result (text.new.before ≡ text.old.before) }
@@ -101,28 +101,7 @@ fn write_item(alloc: Global, text: &mut Writer, outcome: &Outcome) -> Result<(),
     Ok(())
 }
 
-/// The text of a request that asks for nothing.
-#[tactic(auto, using(crate::proofs::TextLaws::printed))]
-fn error_text(alloc: Global, why: &str) -> Result<Vec<u8>, AllocError>
-    ensures { IfOk result (λ text. text.items ≡ print (error_tokens why.now)) }
-{
-    let mut text = Writer::new(Vec::new(alloc));
-    write_error(&mut text, why)?;
-    Ok(text.into_inner())
-}
-
-/// The object of a request that asks for nothing.
-fn write_error(text: &mut Writer, why: &str) -> Result<(), AllocError>
-    ensures tokens { OnOk result (text.new.tokens ≡ text.old.tokens ++ error_tokens why.now) }
-    ensures before { OnOk result (text.new.before ≡ text.old.before) }
-{
-    text.begin_object()?;
-    string(text, "error", why)?;
-    text.end_object()?;
-    Ok(())
-}
-
-/// Why a request may not commit.
+/// Why a request may not commit, in words.
 fn why_denied(why: Denied) -> &'static str
     ensures { result.now ≡ why_denied why }
 {

@@ -2,19 +2,19 @@ use als_request::Mistake;
 use std::alloc::AllocFailed;
 use std::fmt;
 
-/// The transactions that one request may ask for: as many as one force makes durable.
+/// The most transactions of one request: as many as one force makes durable.
 pub const MOST: usize = 64;
 
-/// Why a body asks for no transaction.
+/// Why a body could not be read.
 #[derive(Clone, Copy)]
 pub enum Unread {
     /// An allocation failed.
     Memory,
-    /// It is no transaction.
+    /// It is not a transaction.
     One(Mistake),
-    /// The transaction at this place of its array, counted from 1, is none.
+    /// The item at this place of its array, counted from 1, is not a transaction.
     At(usize, Mistake),
-    /// It begins as an array and is none.
+    /// It begins like an array and is not one.
     Array,
     /// Its array has more than 64 transactions.
     TooMany,

@@ -21,12 +21,12 @@ const BATCH_LIMIT: u64 = 1_000;
 /// The log bytes from one checkpoint to the next: 4 MiB.
 const CHECKPOINT_BYTES: u64 = 4_194_304;
 
-/// How a writer of lines ends.
+/// How the writer of lines ended.
 #[derive(Clone, Copy, Debug, PartialEq, Eq)]
 pub enum Ending {
-    /// Each line was answered, or passed over.
+    /// Each line was answered or skipped.
     Done,
-    /// A line was no transaction and no decision, and those behind it were not read.
+    /// A line was neither a transaction nor a decision, and the lines after it were not read.
     BadLine,
 }
 
@@ -36,7 +36,7 @@ pub enum Ending {
 ///
 /// BadConfig: the batch is not 1 to 1,000, or a size of a new database is out of its range or missing.
 /// Stream: the input or the output failed. Else as `als_lead::open` says, or the first refusal of an
-/// event. However it ends, what is held is put on the devices.
+/// event. However it ends, what the engine has is put on the devices.
 pub fn commit<
     R: AllocGlobal + Files<File = File> + Wait,
     I: Read + Drop,
@@ -82,7 +82,7 @@ fn write_all<R: AllocGlobal + Wait, E: Writes, I: Read + Drop, B: BadLines, O: W
     output: &mut O,
 ) -> Result<Ending, Fault>
     // Each line that is a transaction or a decision was answered once, in order, by what is true of the
-    // log at the end; and the log has no other new commit.
+    // log at the end; and the log has no other new commits.
     ensures leads { (asked : List AnyAsked) × (told : List AnyTold) × Leads E.alone
         (E.machine engine.old) (E.machine engine.new) [] asked [] told }
     ensures book { E.book engine.new ≡ E.book engine.old }

@@ -1,4 +1,4 @@
-/// What a writer of lines is asked for.
+/// The names and numbers of the command.
 #[derive(Clone, Copy, Debug)]
 pub struct Committing<'a> {
     /// The folder of the primary's database.
@@ -9,6 +9,6 @@ pub struct Committing<'a> {
     pub log_blocks: u64,
     /// The lines that one force makes durable, 1 to 1,000.
     pub batch: u64,
-    /// A line that is no transaction and no decision is passed over.
+    /// Whether a line that is neither a transaction nor a decision is skipped.
     pub skip_bad: bool,
 }

@@ -10,9 +10,9 @@ const LINE_LIMIT: usize = 65_536;
 pub(crate) enum InputLine {
     /// It is in the buffer.
     Whole,
-    /// It has more bytes than a line may have; it was passed over.
+    /// It has more bytes than a line may have, and was skipped.
     TooLong,
-    /// There is none any more.
+    /// The input has ended.
     End,
 }
 

@@ -1,22 +1,22 @@
-//! The writer of a primary from lines: it opens the folder of a primary, and writes what each line asks
-//! for, a transaction or a decision. It is a leader (als_lead) whose clients are the lines.
+//! The writer of a primary from lines: it opens the folder of a primary and writes what each line asks for,
+//! a transaction or a decision. It is a leader (als_lead) whose clients are the lines.
 //!
 //! 1. Who may write: a new folder, one whose `role` says that it is a primary of its own epoch, or
 //!    one that was taken over. The role is made before anything else is.
 //! 2. What a crash left in mid-transaction is tidied first, in one force.
-//! 3. Each line that is a transaction is planned, and refused or fed as a whole. A group of lines is
-//!    forced once, and only then its lines are answered, in order, refusals too.
+//! 3. Each line is planned, and refused or fed as a whole. A group of lines is forced once, and only then
+//!    its lines are answered, in order, refusals too: no printed line tells of what a crash may take back.
 //! 4. A line may prepare a transaction, and a later one decides it by the number that was printed, also
 //!    after a restart.
 //! 5. After each group its changes are redone, and after 4 MiB of log a checkpoint is taken. At the
 //!    end everything is put on the devices.
 #![tactic(auto)]
 
-// What is asked for.
+// What the command asks for.
 mod committing;
 // A line of the input.
 mod input_lines;
-// A line that is none.
+// A line that cannot be read.
 mod bad_line;
 // The line of an answer.
 mod printing;

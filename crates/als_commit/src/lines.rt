@@ -11,26 +11,26 @@ use als_writer::{Flaw, Work, find_flaw};
 use std::alloc::Global;
 use std::io::{BufReader, Read, Write};
 
-/// Why no more lines are taken.
+/// Why no more lines are read.
 #[derive(Clone, Copy, PartialEq, Eq)]
 pub(crate) enum LinesEnd {
-    /// The input is at its end.
+    /// The input has ended.
     End,
-    /// A line is no transaction and no decision.
+    /// A line is neither a transaction nor a decision.
     Bad,
 }
 
-/// A line of the input, read.
+/// What a line of the input says.
 enum Line {
     /// It is a transaction, or a decision.
     Work(Work),
-    /// It is none, which `bad` received.
+    /// It is neither, and `bad` has received it.
     Bad,
-    /// There is none any more.
+    /// The input has ended.
     End,
 }
 
-/// The clients of a leader that are the lines of an input. Each is answered by a line of the output.
+/// The lines of an input as clients of the leader. Each is answered by a line of the output.
 #[derive(Drop)]
 pub(crate) struct Lines<'a, I: Read, B: BadLines, O: Write> {
     pub alloc: Global,
@@ -41,13 +41,13 @@ pub(crate) struct Lines<'a, I: Read, B: BadLines, O: Write> {
     pub number: u64,
     /// The pages of the database.
     pub pages: u32,
-    /// A line that is no transaction and no decision is passed over.
+    /// Whether a line that is neither a transaction nor a decision is skipped.
     pub skip_bad: bool,
-    /// None: more lines may be taken.
+    /// Why no more lines are read. None: more may be.
     pub end: Option<LinesEnd>,
     pub bad: &'a mut B,
     pub output: &'a mut O,
-    /// What was taken and printed, for clauses alone.
+    /// What was taken and printed, for clauses only.
     pub account: Account,
 }
 
@@ -91,7 +91,7 @@ impl<I: Read + Drop, B: BadLines, O: Write> Clients for Lines<'_, I, B, O> {
 }
 
 impl<I: Read + Drop, B: BadLines, O: Write> Lines<'_, I, B, O> {
-    /// What the next line asks for. None: no more lines are taken.
+    /// What the next line asks for. None: no more lines are read.
     fn next_work(&mut self) -> Result<Option<Work>, Fault>
         ensures { self.new.account ≡ self.old.account }
     {
@@ -140,8 +140,8 @@ impl<I: Read + Drop, B: BadLines, O: Write> Lines<'_, I, B, O> {
     }
 }
 
-/// What is wrong with a transaction, in a database with this many pages. Nothing with a decision: whether
-/// there is anything to decide the log says.
+/// What is wrong with a transaction in a database with this many pages. Nothing is with a decision: only
+/// the log says whether there is anything to decide.
 fn flaw_in(work: &Work, pages: u32) -> Option<Flaw> {
     match work {
         Work::Commit(transaction) | Work::Prepare(transaction) => find_flaw(transaction, pages),

@@ -6,7 +6,7 @@ use als_writer::{NotDecided, Refusal, Work, Written};
 use std::io;
 use std::io::Write;
 
-/// Prints the line of an answer to what a line asks for. What ends the writer is the command's to report.
+/// Prints the line of an answer. What ends the writer is reported by the command.
 pub(crate) fn print<O: Write>(work: &Work, answer: &Answer, output: &mut O) -> io::Result<()> {
     match answer {
         Answer::Committed(written) => {
@@ -22,14 +22,14 @@ pub(crate) fn print<O: Write>(work: &Work, answer: &Answer, output: &mut O) -> i
     }
 }
 
-/// Prints what became of a transaction in doubt, or that it is in doubt now.
+/// Prints that a transaction is prepared, or how it was decided.
 fn print_written<O: Write>(word: &str, written: &Written, output: &mut O) -> io::Result<()> {
     let lsn = written.lsn;
     let trans = written.trans;
     writeln!(output, "{word} trans={} lsn={}", trans.0, lsn.0)
 }
 
-/// The word for what was decided.
+/// The word for a decision.
 fn word_for(work: &Work) -> &'static str {
     match work {
         Work::Decide { verdict, .. } => match verdict {
@@ -40,7 +40,7 @@ fn word_for(work: &Work) -> &'static str {
     }
 }
 
-/// Prints the line of a refusal, where the transaction alone was refused and the writer goes on.
+/// Prints the line of a refusal after which the writer goes on.
 fn print_refusal<O: Write>(refusal: &Refusal, output: &mut O) -> io::Result<()> {
     match refusal {
         Refusal::NotAsAsked { key, now } => {
@@ -60,7 +60,7 @@ fn print_refusal<O: Write>(refusal: &Refusal, output: &mut O) -> io::Result<()> 
     }
 }
 
-/// Prints the line of a decision that nothing came of, where the writer goes on.
+/// Prints the line of a decision that was not made, after which the writer goes on.
 fn print_undecided<O: Write>(work: &Work, reason: &NotDecided, output: &mut O) -> io::Result<()> {
     match reason {
         NotDecided::NotInDoubt => match work {
@@ -75,7 +75,7 @@ fn print_undecided<O: Write>(work: &Work, reason: &NotDecided, output: &mut O) -
     }
 }
 
-/// The fault by which a refusal is printed.
+/// The fault that is printed for a refusal.
 fn kind_of(fault: Option<Fault>) -> FaultKind {
     match fault {
         Some(fault) => fault.kind(),

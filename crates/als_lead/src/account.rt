@@ -5,8 +5,8 @@ use crate::answer::Answer;
 use crate::asked::Asked;
 use std::snapshot::Snapshot;
 
-/// What clients handed out, and what they were answered, for clauses alone: it takes no bytes. Who
-/// meets `Clients` has one.
+/// What clients handed out and what they were answered, for clauses only: it takes no bytes. Each
+/// implementor of `Clients` has one.
 #[derive(Drop)]
 pub enum Account {
     Nothing,
@@ -15,7 +15,7 @@ pub enum Account {
 }
 
 impl Account {
-    /// One is handed out.
+    /// Notes what was handed out.
     pub fn take(&mut self, asked: &Asked)
         ensures taken { taken_of self.new ≡ taken_of self.old ++ asked.now ∷ [] }
         ensures told { told_of self.new ≡ told_of self.old }
@@ -24,7 +24,7 @@ impl Account {
         *self = Account::Taken(before, Snapshot::of(asked));
     }
 
-    /// One is answered.
+    /// Notes what was answered.
     pub fn tell(&mut self, asked: &Asked, answer: Answer)
         ensures taken { taken_of self.new ≡ taken_of self.old }
         ensures told { told_of self.new

@@ -1,6 +1,6 @@
 use als_writer::{NotDecided, Refusal, Written};
 
-/// What becomes of what a client asks for.
+/// The answer to what a client asked for.
 #[derive(Clone, Copy)]
 pub enum Answer {
     /// The transaction is committed and durable, and enough others hold it.
@@ -17,7 +17,7 @@ pub enum Answer {
     /// It is in the log, but the force failed, or too few others hold it: a restart or a takeover may
     /// find it or not.
     Unknown(Written),
-    /// Nothing of it is done. Why is not answered: too few others hold what refused it, so a takeover may
-    /// take that back.
+    /// Nothing of it is done. The reason is withheld: too few others hold what refused it, so a takeover
+    /// may take that back.
     Withheld,
 }

@@ -6,18 +6,18 @@ use crate::answer::Answer;
 use crate::asked::Asked;
 use als_operate::Fault;
 
-/// What a leader that waited meets.
+/// What the leader found when it woke.
 #[derive(Clone, Copy, Debug, PartialEq, Eq)]
 pub enum Waited {
-    /// Somebody asks.
+    /// Something is asked for.
     Asks,
-    /// Nobody asked for a while.
+    /// Nothing was asked for within the time.
     Idle,
-    /// Nobody will ask any more.
+    /// Nothing will be asked for any more.
     Closed,
 }
 
-/// Who asks a leader for transactions and decisions, and gets its answers.
+/// Asks the leader for transactions and decisions, and receives its answers.
 pub trait Clients {
     /// What was handed out, in order.
     ghost taken: { Self → List AnyAsked };
@@ -25,12 +25,12 @@ pub trait Clients {
     /// What was answered, with the answers, in order.
     ghost told: { Self → List AnyTold };
 
-    /// Waits until somebody asks. It may block.
+    /// Waits until something is asked for. It may block.
     fn wait(&mut self) -> Result<Waited, Fault>
         ensures taken { taken self.new ≡ taken self.old }
         ensures told { told self.new ≡ told self.old };
 
-    /// What is asked for next, `None` where nobody asks now. It never blocks.
+    /// Takes what is asked for next. None: nothing is asked for now. It never blocks.
     fn next(&mut self) -> Result<Option<Asked>, Fault>
         ensures taken { IfOk result (λ next. taken self.new
             ≡ taken self.old ++ option_to_list next) }
@@ -43,7 +43,7 @@ pub trait Clients {
         ensures told { told self.new ≡ told self.old ++ record { asked = asked; answer = answer }
             ∷ [] };
 
-    /// All of a group is answered.
+    /// All of a group was answered.
     fn end_group(&mut self) -> Result<(), Fault>
         ensures taken { taken self.new ≡ taken self.old }
         ensures told { told self.new ≡ told self.old };

@@ -9,7 +9,7 @@ use als_engine::{Events, Fault as EngineFault};
 use als_operate::Fault;
 use als_record::Lsn;
 
-/// What a group's force comes to: waits until enough others hold the log.
+/// The result of a group's force: waits until enough others hold the log.
 pub(crate) fn confirmed<U: Upkeep>(upkeep: &mut U, forced: Result<Lsn, EngineFault>) -> Forced
     ensures by { IsForcedBy (U.confirmed upkeep.new) (U.missed upkeep.new) forced result }
     ensures keeps { (n : ℕ) → U.confirmed upkeep.old n → U.confirmed upkeep.new n }
@@ -48,7 +48,7 @@ pub(crate) fn show<E: Events, U: Upkeep>(
     }
 }
 
-/// Whether enough others hold all of the log, which is made durable first, where it is not. Then readers
+/// Makes the log durable, if it is not, and returns whether enough others hold all of it. If so, readers
 /// see all of it.
 pub(crate) fn confirm_earlier<E: Events, U: Upkeep>(
     engine: &mut E,

@@ -14,8 +14,8 @@ use std::fs::File;
 use std::rt::Files;
 use std::sync::Wait;
 
-/// The engine of a folder's database, of as many pages as `pages.blk` has blocks, and so many readers.
-/// Old blocks of the log are forgotten: a writer does not read them again.
+/// Opens the engine of a folder's database, with as many pages as `pages.blk` has blocks, and its readers.
+/// Old blocks of the log are dropped from memory: a writer does not read them again.
 pub(crate) fn open_devices<R: AllocGlobal + Files<File = File> + Wait>(
     rt: &R,
     folder: &Folder,
@@ -37,8 +37,8 @@ pub(crate) fn open_devices<R: AllocGlobal + Files<File = File> + Wait>(
     made_or_fault(Engine::open(rt.alloc(), rt, disks(devices), config))
 }
 
-/// The engine of a new database, and its readers. The folder has a primary's role before it has the
-/// database.
+/// Makes the engine of a new database, and its readers. The folder gets a primary's role before it gets
+/// the database.
 pub(crate) fn begin<R: AllocGlobal + Files<File = File> + Wait>(
     rt: &R,
     folder: &Folder,
@@ -60,8 +60,8 @@ pub(crate) fn begin<R: AllocGlobal + Files<File = File> + Wait>(
     Ok(made)
 }
 
-/// How many bytes of the log a control block of a database of so many pages acknowledges. None: it is
-/// no such control block.
+/// The bytes of the log that the control block of a database with this many pages acknowledges. None: it
+/// is not such a control block.
 fn mark_in(control: &mut FileDisk, pages: u64) -> Option<u64>
     requires { (k : ℕ) → IsSettled (⟦<FileDisk<File> as BlockDisk>⟧.slot control.old k) }
 {
@@ -77,8 +77,7 @@ fn mark_in(control: &mut FileDisk, pages: u64) -> Option<u64>
     }
 }
 
-/// How many bytes of the log may hold something: those that are acknowledged, and each where that is not
-/// known.
+/// The bytes of the log that have to be read: those that are acknowledged, or all if that is not known.
 fn known_bytes(mark: Option<u64>) -> u64
     ensures known { IfSome mark (λ m. result ≡ m) }
     ensures unknown { mark ≡ None → result ≡ 18446744073709551615 }
@@ -89,7 +88,7 @@ fn known_bytes(mark: Option<u64>) -> u64
     }
 }
 
-/// How many pages the folder's database has: as many as `pages.blk` has whole blocks.
+/// The pages of a folder's database: as many as `pages.blk` has whole blocks.
 fn pages_in<R: AllocGlobal + Files<File = File>>(rt: &R, folder: &Folder) -> Result<u64, Fault> {
     let files = folder.open_to_read(rt)?;
     match files.sizes() {
@@ -98,8 +97,8 @@ fn pages_in<R: AllocGlobal + Files<File = File>>(rt: &R, folder: &Folder) -> Res
     }
 }
 
-/// Refuses files that are too short for a database of so many pages, and for the mark that its
-/// control block has.
+/// Refuses files that are too short for a database with this many pages, or for the mark of its control
+/// block.
 fn check_lengths(devices: &Devices, pages: u64, mark: Option<u64>) -> Result<(), Fault> {
     let found = devices.sizes();
     if found.control < CONTROL_BLOCKS {
@@ -117,7 +116,7 @@ fn check_lengths(devices: &Devices, pages: u64, mark: Option<u64>) -> Result<(),
     match (found.shorter_than(needed), mark) {
         (None, _) => Ok(()),
         (Some(part), Some(_)) => Err(damaged(part, Wrong::Short)),
-        // What the files should have is not known: the engine tells what is wrong with them.
+        // What the files should have is not known: the engine finds what is wrong with them.
         (Some(_), None) if pages <= u64::from(u32::MAX) => {
             Err(damaged(Part::Control, Wrong::BadControl))
         }
@@ -125,8 +124,8 @@ fn check_lengths(devices: &Devices, pages: u64, mark: Option<u64>) -> Result<(),
     }
 }
 
-/// Refuses a `pages.blk` that has fewer blocks than the log's header says pages. A header that is none
-/// says nothing: the engine refuses it.
+/// Refuses a `pages.blk` with fewer blocks than the log's header has pages. A header that cannot be read is
+/// left to the engine, which refuses it.
 fn check_header(devices: &mut Devices, pages: u64) -> Result<(), Fault> {
     if devices.log.blocks() == 0 {
         return Ok(());
@@ -145,12 +144,12 @@ fn check_header(devices: &mut Devices, pages: u64) -> Result<(), Fault> {
     }
 }
 
-/// The files are not those of one database.
+/// The fault of a file that does not fit the others.
 fn damaged(part: Part, wrong: Wrong) -> Fault {
     Fault::Folder(FolderFault::Damaged(Trouble { part, wrong }))
 }
 
-/// The devices of a folder as an engine takes them.
+/// The devices of a folder, for an engine.
 fn disks(devices: Devices) -> Disks<FileDisk> {
     let (log, control, pages) = devices.into_parts();
     Disks {
@@ -160,7 +159,7 @@ fn disks(devices: Devices) -> Disks<FileDisk> {
     }
 }
 
-/// The engine and its readers, or why there is none. The devices are dropped on a refusal.
+/// The engine and its readers, or the fault. After a refusal the devices are dropped.
 fn made_or_fault(
     made: Result<(Engine<FileDisk>, Vec<Reader>), Refused<FileDisk>>,
 ) -> Result<(Engine<FileDisk>, Vec<Reader>), Fault> {

@@ -18,8 +18,8 @@ use als_writer::{Changes, NotDecided, Refusal};
 use std::alloc::Global;
 use std::collections::VecDeque;
 
-/// Takes what clients ask for, and writes each work, until nobody asks, or the group is full. An `Err`
-/// ends the group too: the clients failed, or the engine takes nothing any more.
+/// Takes what clients ask for and writes each work, until nothing is asked for or the group is full. An
+/// `Err` ends the group too: the clients failed, or the engine refuses everything from now on.
 pub(crate) fn fill<E: Writes, C: Clients>(
     alloc: Global,
     engine: &mut E,
@@ -52,8 +52,8 @@ pub(crate) fn fill<E: Writes, C: Clients>(
     Ok(())
 }
 
-/// Writes one work, and queues it with its answer. An `Err` says that the engine takes nothing any
-/// more; it is queued all the same.
+/// Writes one work and queues it with its answer. `Err`: the engine refuses everything from now on; it is
+/// queued all the same.
 fn take<E: Writes>(
     alloc: Global,
     engine: &mut E,
@@ -78,7 +78,7 @@ fn take<E: Writes>(
     goes_on
 }
 
-/// An `Err` where the engine takes nothing any more.
+/// `Err` if the engine refuses everything from now on.
 fn go_on(answer: &Answer) -> Result<(), Fault>
     ensures { OnOk result (IsTried answer.now → IsBegun answer.now) }
 {

@@ -1,7 +1,7 @@
 use als_engine::Fault;
 use als_record::Lsn;
 
-/// What a group's force and its confirmation came to.
+/// The result of a group's force and of its confirmation.
 #[derive(Clone, Copy)]
 pub(crate) enum Forced {
     /// The force or the confirmation failed.

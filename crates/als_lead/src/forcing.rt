@@ -6,7 +6,7 @@ ghost use Rattle.als_lead.specs.Groups.{IsStableTo};
 use als_engine::{Events, Fault};
 use als_record::Lsn;
 
-/// Makes the log durable to its end, and answers the acknowledged LSN. Nothing is done where it is.
+/// Makes the log durable to its end, if it is not, and returns the acknowledged LSN.
 ///
 /// NotDrained: the log is not acknowledged to its end after a force. No test has met that.
 #[tactic(auto, using(crate::proofs::Going::stays_refl, crate::proofs::Going::stable_to))]
@@ -41,7 +41,7 @@ fn force<E: Events>(engine: &mut E) -> Result<(), Fault>
     sync_control(engine)
 }
 
-/// Writes what is unwritten of the log.
+/// Writes the unwritten blocks of the log.
 #[tactic(auto, using(crate::proofs::Going::stays_trans))]
 fn write_log<E: Events>(engine: &mut E) -> Result<(), Fault>
     ensures stays { E.alone → Stays (E.machine engine.old) (E.machine engine.new) }
@@ -56,7 +56,7 @@ fn write_log<E: Events>(engine: &mut E) -> Result<(), Fault>
     Err(Fault::NotDrained)
 }
 
-/// Writes the next block of the log, and answers whether there was one.
+/// Writes the next block of the log. Returns whether there was one.
 #[tactic(auto, using(crate::proofs::Going::stays_log_write))]
 fn write_block<E: Events>(engine: &mut E) -> Result<bool, Fault>
     ensures stays { E.alone → Stays (E.machine engine.old) (E.machine engine.new) }
@@ -81,7 +81,7 @@ fn sync_log<E: Events>(engine: &mut E) -> Result<(), Fault>
     }
 }
 
-/// Writes the control block with the log's synced end as its mark, where that has risen.
+/// Writes the control block with the log's synced end as its mark, if that has risen.
 #[tactic(auto, using(crate::proofs::Going::stays_mark_write))]
 fn write_mark<E: Events>(engine: &mut E) -> Result<(), Fault>
     ensures stays { E.alone → Stays (E.machine engine.old) (E.machine engine.new) }

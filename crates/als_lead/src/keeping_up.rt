@@ -11,12 +11,12 @@ use std::sync::Wait;
 /// The most pages that one `keep_up` writes.
 const PAGES_EACH: u32 = 64;
 
-/// The upkeep of a primary. Between two groups its pages are redone. After so many log bytes the dirty
-/// pages are written, some after each group, and then a checkpoint is taken, so that a restart has
-/// little to redo.
+/// The upkeep of a primary. Between two groups its pages are redone. After every `each` log bytes the dirty
+/// pages are written, some after each group, and then a checkpoint is taken, so that a restart has little
+/// to redo.
 #[derive(Drop)]
 pub struct PrimaryUpkeep<'a, R: Wait> {
-    /// What waits for readers when commits are published.
+    /// The runtime, by which publishing waits for readers.
     rt: &'a R,
     /// The log bytes from one checkpoint to the next. 0: none is taken.
     each: u64,
@@ -27,7 +27,7 @@ pub struct PrimaryUpkeep<'a, R: Wait> {
 }
 
 impl<'a, R: Wait> PrimaryUpkeep<'a, R> {
-    /// The upkeep of a primary whose log ends there, with a checkpoint each so many bytes of log; with
+    /// The upkeep of a primary whose log ends there, with a checkpoint after every `each` bytes of log, or
     /// none for 0.
     pub fn new(rt: &'a R, each: u64, end: Lsn) -> PrimaryUpkeep<'a, R> {
         PrimaryUpkeep {
@@ -58,7 +58,7 @@ impl<'a, R: Wait> PrimaryUpkeep<'a, R> {
 }
 
 impl<R: Wait> Upkeep for PrimaryUpkeep<'_, R> {
-    // Nobody else is to hold the log.
+    // Nobody else has to hold the log.
     ghost confirmed = { λ upkeep n. Unit {0} };
 
     ghost missed = { λ upkeep n. ⊥ };
@@ -91,7 +91,7 @@ impl<R: Wait> Upkeep for PrimaryUpkeep<'_, R> {
     }
 }
 
-/// Writes the next dirty pages from there on, and answers where to go on; none where there is none.
+/// Writes the next dirty pages from there on, and returns where to go on. None: no dirty page is left.
 #[tactic(auto, using(crate::proofs::Going::stays_refl, crate::proofs::Going::stays_trans))]
 fn flush_pages<E: Events>(engine: &mut E, from: u32) -> Result<Option<u32>, Fault>
     ensures stays { E.alone → Stays (E.machine engine.old) (E.machine engine.new) }
@@ -108,7 +108,7 @@ fn flush_pages<E: Events>(engine: &mut E, from: u32) -> Result<Option<u32>, Faul
     Ok(Some(next))
 }
 
-/// Writes a dirty page to its block. A page whose image was written before is passed over.
+/// Writes a dirty page to its block, unless its image was written before.
 #[tactic(auto, using(crate::proofs::Going::stays_flush))]
 fn flush_page<E: Events>(engine: &mut E, page: u32) -> Result<(), Fault>
     ensures stays { E.alone → Stays (E.machine engine.old) (E.machine engine.new) }
@@ -173,7 +173,7 @@ fn write_blocks<E: Events>(engine: &mut E) -> Result<(), Fault>
     Err(Fault::CkptBusy)
 }
 
-/// Writes the next block of the checkpoint, and answers whether there was one.
+/// Writes the next block of the checkpoint. Returns whether there was one.
 #[tactic(auto, using(crate::proofs::Going::stays_ckpt_block))]
 fn write_block<E: Events>(engine: &mut E) -> Result<bool, Fault>
     ensures stays { E.alone → Stays (E.machine engine.old) (E.machine engine.new) }

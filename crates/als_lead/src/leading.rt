@@ -29,15 +29,15 @@ pub fn lead<E: Writes, C: Clients, U: Upkeep>(
     limits: Limits,
 ) -> Result<(), Fault>
     // However it ends: what was taken is answered once, in order, to its own seat. The log's commits are
-    // the old ones and those answered. Each answer is true of the log.
+    // the old ones and those that were answered. Each answer is true of the log.
     ensures leads { Leads E.alone (E.machine engine.old) (E.machine engine.new)
         (C.taken clients.old) (C.taken clients.new) (C.told clients.old) (C.told clients.new) }
     // What is done, and what refused another work, is confirmed.
     ensures confirmed { E.alone
         → AllTold (IsConfirmedOf (U.confirmed upkeep.new) (E.machine engine.new))
         (C.told clients.old) (C.told clients.new) }
-    // Where it ends well, nothing was refused because the leader ends, and why an answer was withheld is
-    // that a confirmation was missed.
+    // If it ends well, nothing was refused because the leader ended, and an answer was withheld only
+    // because a confirmation was missed.
     ensures works { OnOk result (AllTold (IsCarriedOut (U.missed upkeep.new))
         (C.told clients.old) (C.told clients.new)) }
     // Readers see what they saw, or what is confirmed.
@@ -64,19 +64,19 @@ pub fn lead<E: Writes, C: Clients, U: Upkeep>(
     Err(Fault::Stream)
 }
 
-/// What is known of the last commits at the start: none is above the last one of the log.
+/// The bounds of the last commits at the start: none is above the last commit of the log.
 fn first_changes<E: Writes>(alloc: Global, engine: &E) -> Result<Changes, Fault>
     ensures bounds { IfOk result (λ changes. E.alone
         → AreBounds changes (E.machine engine.now).held.pages (E.machine engine.now).held.log) }
 {
-    // For the prover alone: what always holds of the log.
+    // For the prover only: what always holds of the log.
     let _ = engine.status();
     let changes = Changes::new(alloc, engine.pages(), engine.writing().last_commit)?;
     Ok(changes)
 }
 
-/// Waits for clients, and serves them where they ask, unless an earlier group is not confirmed. Then
-/// upkeep is done. Answers whether there may be more.
+/// Waits for clients and serves them if they ask, unless an earlier group is not confirmed. Then does the
+/// upkeep. Returns whether there may be more.
 fn round<E: Writes, C: Clients, U: Upkeep>(
     alloc: Global,
     engine: &mut E,
@@ -118,7 +118,7 @@ fn round<E: Writes, C: Clients, U: Upkeep>(
     }
 }
 
-/// Waits for clients, and takes nothing from them. Answers whether there may be more.
+/// Waits for clients and takes nothing from them. Returns whether there may be more.
 fn pause<E: Writes, C: Clients, U: Upkeep>(
     engine: &mut E,
     clients: &mut C,
@@ -137,7 +137,7 @@ fn pause<E: Writes, C: Clients, U: Upkeep>(
     }
 }
 
-/// Does what is due where nobody is served. The leader goes on.
+/// Does the upkeep when nobody is served. The leader goes on.
 fn rest<E: Writes, U: Upkeep>(engine: &mut E, upkeep: &mut U) -> Result<bool, Fault>
     ensures stays { E.alone → Stays (E.machine engine.old) (E.machine engine.new) }
     ensures keeps { (n : ℕ) → U.confirmed upkeep.old n → U.confirmed upkeep.new n }

@@ -1,33 +1,38 @@
-//! The leader of a primary: it owns the engine alone, and writes what its clients ask for.
+//! The leader of a primary: it alone has the engine, and writes what its clients ask for, in groups.
 //!
-//! waits for clients -> writes each work of a group -> forces the log once -> waits until enough
-//! others hold it -> publishes -> answers all of the group, in order -> upkeep -> waits again
+//! ```text
+//! waiting -> writing each work of a group -> one force -> enough others hold it -> publish -> answer all -> upkeep
+//!    ^                                         | failed           | too few in time                        |
+//!    |                                         v                  v                                        |
+//!    |                                   answer, and end    answer `Unknown`, `Withheld`                   |
+//!    '--- waiting until they do <---------------------------------'   <------------------------------------'
+//! ```
 //!
-//! 1. Nobody else makes events. So each answer is true of the engine's own log.
-//! 2. All of a group is answered after its force and its confirmation, refusals too: a refusal may tell
-//!    of a commit that a crash or a takeover takes back until then.
+//! 1. Nobody else makes events, so each answer is true of the engine's own log.
+//! 2. All of a group is answered after its force and its confirmation, refusals too: until then a refusal
+//!    may tell of a commit that a crash or a takeover takes back.
 //! 3. What is taken is answered once, in the order in which it was taken, and to its own seat.
-//! 4. Where a force fails, what may be in the log is answered `Unknown`, the rest is refused, and the
-//!    leader ends.
-//! 5. A group that too few others hold in time is answered so that nothing is promised: what is written
-//!    `Unknown`, what was refused `Withheld`. It is not published, and no other group is taken, until
-//!    enough others hold it.
+//! 4. If a force fails, what may be in the log is answered `Unknown`, the rest is refused, and the leader
+//!    ends: what a failed device has is not known.
+//! 5. If too few others hold a group in time, nothing is promised: what is written is answered `Unknown`,
+//!    what was refused `Withheld`. Nothing of it is published and no other group is taken until enough hold
+//!    it, so at most one group of the log is ever unconfirmed.
 //! 6. What an earlier work owes to the log is written before the next one, and before the force.
 //! 7. A work is a transaction that commits, one that prepares, or the decision of one in doubt. Each kind
 //!    has its own answer.
 #![tactic(auto)]
 
-// What is asked for, and where its answer goes.
+// What is asked for, and the seat that its answer goes to.
 mod asked;
-// What becomes of it.
+// The answer.
 mod answer;
 // Both of them.
 mod told;
 // What was asked and answered, for clauses.
 mod account;
-// Who asks.
+// The clients.
 mod clients;
-// What a group may have.
+// The most that a group may have.
 mod limits;
 // One work written.
 mod writing;
@@ -35,13 +40,13 @@ mod writing;
 mod filling;
 // The log made durable.
 mod forcing;
-// What a force came to.
+// The result of a force and its confirmation.
 mod forced;
 // The log confirmed by others, and then published.
 mod confirming;
 // A group answered.
 mod telling;
-// All of a group.
+// All that is done with a group.
 mod serving;
 // What is done between groups.
 mod keeping_up;

@@ -1,8 +1,8 @@
-/// What a group may have: the works that one force makes durable.
+/// The most that a group may have: the works that one force makes durable.
 #[derive(Clone, Copy, Debug, PartialEq, Eq)]
 pub struct Limits {
-    /// The most works, 1 at least.
+    /// The most works, at least 1.
     pub transactions: usize,
-    /// A group of so many log bytes takes no more.
+    /// A group with this many log bytes takes no more.
     pub bytes: u64,
 }

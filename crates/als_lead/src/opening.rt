@@ -24,7 +24,7 @@ pub struct Database<'a> {
     pub readers: u64,
 }
 
-/// A primary whose folder is held. What it held is redone, and nothing is owed to its log.
+/// A primary whose folder is locked. Its pages are redone, and nothing is owed to its log.
 pub struct Primary {
     pub folder: Folder,
     pub engine: Engine<FileDisk>,
@@ -34,12 +34,11 @@ pub struct Primary {
 /// An engine and the readers of its view.
 type Opened = (Engine<FileDisk>, Vec<Reader>);
 
-/// Opens the folder of a primary, or makes a new one of it.
+/// Opens the folder of a primary, or makes a new database in it.
 ///
 /// BadConfig: there is no database, and no page count for a new one, or a number is out of its range.
-/// NotPrimary: it is a standby's folder. Sealed: a takeover is not at its end. Device: the folder or one
-/// of its files failed, or another program has it. Memory: allocation failed. Else as `Engine::open`
-/// says.
+/// NotPrimary: it is a standby's folder. Sealed: a takeover has not finished. Device: the folder or one of
+/// its files failed, or another program has it. Memory: allocation failed. Else as for `Engine::open`.
 pub fn open<R: AllocGlobal + Files<File = File> + Wait, P: Progress>(
     rt: &R,
     database: Database<'_>,
@@ -56,7 +55,7 @@ pub fn open<R: AllocGlobal + Files<File = File> + Wait, P: Progress>(
     }
 }
 
-/// The engine of a folder that is held. What a crash left in mid-transaction is tidied, in one force.
+/// Opens the engine of a locked folder. What a crash left in mid-transaction is tidied, in one force.
 fn open_in<R: AllocGlobal + Files<File = File> + Wait, P: Progress>(
     rt: &R,
     folder: &Folder,
@@ -73,7 +72,7 @@ fn open_in<R: AllocGlobal + Files<File = File> + Wait, P: Progress>(
     Ok((engine, readers))
 }
 
-/// The engine of a folder's database, or of a new one.
+/// Opens the engine of a folder's database, or makes a new one.
 fn open_or_begin<R: AllocGlobal + Files<File = File> + Wait>(
     rt: &R,
     folder: &Folder,
@@ -110,7 +109,7 @@ fn config_of(database: Database<'_>) -> Result<Config, Fault> {
     }
 }
 
-/// Why a primary is not opened that can't be tidied.
+/// The fault of a primary that cannot be tidied.
 fn ended(refusal: Refusal) -> Fault {
     match refusal {
         Refusal::Memory { .. } => Fault::Memory,
@@ -119,11 +118,11 @@ fn ended(refusal: Refusal) -> Fault {
     }
 }
 
-/// Lets the node of a folder follow its own log, as a primary does, where it is a primary's or was
-/// taken over. A node that was taken over gets the role of its epoch first, and then its control block says
-/// Following; a stop between leaves a primary with a role, which is made one again.
+/// Lets the node of a folder follow its own log, as a primary does, if it is a primary's or was taken over.
+/// A node that was taken over gets the role of its epoch first, and then its control block says Following.
+/// A stop between the two leaves a primary with a role, for which the same is done again.
 ///
-/// Files that say nothing are left to those who open them.
+/// Files that cannot be read are left to the calls that open them.
 fn follow_own_log<R: AllocGlobal + Files<File = File>>(
     rt: &R,
     folder: &Folder,

@@ -60,8 +60,8 @@ pub(crate) fn serve<E: Writes, C: Clients, U: Upkeep>(
     first(first(filled, shown), first(told, ended))
 }
 
-/// Writes what the group owes to the log, where that can be done. Else it is owed on, and what it
-/// is the end of stays `Unknown`.
+/// Writes what the group owes to the log, if possible. If not, it stays owed, and the work that it ends
+/// stays `Unknown`.
 fn tidy_owed<E: Writes>(alloc: Global, engine: &mut E, changes: &Changes)
     ensures tidies { E.alone → Tidies (E.machine engine.old) (E.machine engine.new) }
     ensures bounds { E.alone → AreBounds changes.now (E.machine engine.old).held.pages

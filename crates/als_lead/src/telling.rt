@@ -13,8 +13,8 @@ use als_record::Lsn;
 use als_writer::{NotDecided, Refusal, Work, Written};
 use std::collections::VecDeque;
 
-/// Answers all of a group, in order, after its force. Each one is answered, also where an earlier
-/// answer failed; the first failure is reported.
+/// Answers all of a group, in order, after its force. Each work is answered, even if an earlier answer
+/// failed; the first failure is returned.
 pub(crate) fn tell_all<C: Clients>(
     clients: &mut C,
     queue: &mut VecDeque<Told>,
@@ -45,7 +45,7 @@ fn answer_after(work: &Work, answer: Answer, forced: Forced) -> Answer
     }
 }
 
-/// The answer where enough others hold the log up to an LSN.
+/// The answer if enough others hold the log up to an LSN.
 fn confirmed(work: &Work, answer: Answer, lsn: Lsn) -> Answer
     ensures { result ≡ answer_after (Confirmed lsn) work.now answer }
 {
@@ -54,7 +54,7 @@ fn confirmed(work: &Work, answer: Answer, lsn: Lsn) -> Answer
         | Answer::Prepared(written)
         | Answer::Decided(written)
         | Answer::Unknown(written) => {
-            // What the transaction is the end of may be owed still.
+            // The end of the transaction may still be owed.
             if written.end.0 <= lsn.0 {
                 done(work, written)
             } else {
@@ -67,7 +67,7 @@ fn confirmed(work: &Work, answer: Answer, lsn: Lsn) -> Answer
     }
 }
 
-/// The answer to what is done.
+/// The answer to work that is done.
 fn done(work: &Work, written: Written) -> Answer
     ensures { result ≡ done_by work.now written }
 {
@@ -78,7 +78,7 @@ fn done(work: &Work, written: Written) -> Answer
     }
 }
 
-/// The answer where too few others hold the log: a takeover may take back what refused it.
+/// The answer if too few others hold the log: a takeover may take back what refused it.
 fn unconfirmed(work: &Work, answer: Answer) -> Answer
     ensures { result ≡ answer_after Unconfirmed work.now answer }
 {
@@ -92,8 +92,8 @@ fn unconfirmed(work: &Work, answer: Answer) -> Answer
     }
 }
 
-/// The answer where the force or its confirmation failed. The leader ends, so that failure is why
-/// anything is refused.
+/// The answer if the force or its confirmation failed. The leader ends, so that failure is the reason of
+/// each refusal.
 fn failed(work: &Work, answer: Answer, fault: EngineFault) -> Answer
     ensures { result ≡ answer_after (Failed fault) work.now answer }
 {

@@ -4,8 +4,8 @@ ghost use Rattle.als_lead.specs.Going.{Stays, Publishes};
 use als_engine::{Events, Fault};
 use als_record::Lsn;
 
-/// What a leader does beside writing transactions. The log stays, and what is acknowledged and
-/// published stays so. What is confirmed stays confirmed.
+/// What a leader does beside writing transactions. The log stays, and so does what is acknowledged and
+/// published. What is confirmed stays confirmed.
 pub trait Upkeep {
     /// Enough others hold the log up to this offset.
     ghost confirmed: { Self → ℕ → Type 0 };
@@ -13,31 +13,30 @@ pub trait Upkeep {
     /// A group's confirmation up to this offset was waited for, and did not come.
     ghost missed: { Self → ℕ → Type 0 } = { λ _ _. Unit {0} };
 
-    /// Shows readers what is acknowledged. It is done only where that is confirmed, and before the group
-    /// is answered.
+    /// Shows readers what is acknowledged. Called only when that is confirmed, and before the group is
+    /// answered.
     fn publish<E: Events>(&mut self, engine: &mut E) -> Result<(), Fault>
         ensures publishes { E.alone → Publishes (E.machine engine.old) (E.machine engine.new) }
         ensures book { E.book engine.new ≡ E.book engine.old }
         ensures keeps { (n : ℕ) → confirmed self.old n → confirmed self.new n }
         ensures misses { (n : ℕ) → missed self.old n → missed self.new n };
 
-    /// Does what is due between two groups. Readers see what they saw.
+    /// Does what is due between two groups. Readers see what they saw before.
     fn keep_up<E: Events>(&mut self, engine: &mut E) -> Result<(), Fault>
         ensures stays { E.alone → Stays (E.machine engine.old) (E.machine engine.new) }
         ensures book { E.book engine.new ≡ E.book engine.old }
         ensures keeps { (n : ℕ) → confirmed self.old n → confirmed self.new n }
         ensures misses { (n : ℕ) → missed self.old n → missed self.new n };
 
-    /// Waits until enough others hold the log up to there, and answers whether they do. It is called
-    /// after a group's force, and waits for as long as a group may wait.
+    /// Waits until enough others hold the log up to there, for as long as a group may wait, and returns
+    /// whether they do. Called after a group's force.
     fn confirm(&mut self, end: Lsn) -> Result<bool, Fault>
         ensures confirms { IfOk result (λ yes. yes ≡ true → confirmed self.new end.0) }
         ensures fails { IfOk result (λ yes. yes ≡ false → missed self.new end.0) }
         ensures keeps { (n : ℕ) → confirmed self.old n → confirmed self.new n }
         ensures misses { (n : ℕ) → missed self.old n → missed self.new n };
 
-    /// Answers whether enough others hold the log up to there. It is called before each group. Where
-    /// they do not, it waits a moment.
+    /// Whether enough others hold the log up to there. If not, it waits a moment. Called before each group.
     fn has_confirmed(&mut self, end: Lsn) -> Result<bool, Fault>
         ensures confirms { IfOk result (λ yes. yes ≡ true → confirmed self.new end.0) }
         ensures keeps { (n : ℕ) → confirmed self.old n → confirmed self.new n }

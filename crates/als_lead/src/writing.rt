@@ -10,9 +10,9 @@ use als_record::TransId;
 use als_writer::{Changes, NotDecided, Refusal, Transaction, Work, decide, prepare, tidy, write};
 use std::alloc::Global;
 
-/// Does what a client asks for, once what an earlier work owes to the log is written. What is written
-/// is `Unknown` until a force. Memory, with nothing owed: what is owed could not be written, and
-/// nothing of this work was begun.
+/// Does what a client asks for, after what an earlier work owes to the log is written. What is written is
+/// `Unknown` until a force. Memory, with nothing owed: what is owed could not be written, and nothing of
+/// this work was begun.
 pub(crate) fn write_tidily<E: Writes>(
     alloc: Global,
     engine: &mut E,
@@ -144,7 +144,7 @@ fn decide_once<E: Writes>(
     }
 }
 
-/// Why a work is not begun where what is owed could not be written.
+/// The answer to a work that is not begun, because what is owed could not be written.
 fn not_begun(work: &Work, refusal: Refusal) -> Answer
     ensures not { IsNotBegun work.now result }
     ensures tried { IsTried result }
@@ -156,7 +156,7 @@ fn not_begun(work: &Work, refusal: Refusal) -> Answer
     }
 }
 
-/// Why a transaction is not begun.
+/// The refusal of a transaction that is not begun.
 fn not_written(refusal: Refusal) -> Refusal
     ensures { IsUnwritten result }
 {
@@ -167,7 +167,7 @@ fn not_written(refusal: Refusal) -> Refusal
     }
 }
 
-/// Why a decision is not begun.
+/// The reason for which a decision is not begun.
 fn not_decided(refusal: Refusal) -> NotDecided
     ensures { IsUndecided result }
 {

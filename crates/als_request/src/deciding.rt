@@ -12,7 +12,7 @@ use als_record::TransId;
 use json::{Scratch, Value};
 use std::alloc::Global;
 
-/// The decision that a text says: of which transaction, and whether it commits.
+/// Reads a decision from a text: of which transaction, and whether it commits.
 pub fn decision(alloc: Global, text: &[u8]) -> Result<(TransId, Decision), Mistake>
     // What is found is what the text says, in which no object has a name twice.
     ensures found { IfOk result (λ d. IsDecision text.now d) }
@@ -22,7 +22,7 @@ pub fn decision(alloc: Global, text: &[u8]) -> Result<(TransId, Decision), Mista
     decided(&value)
 }
 
-/// The decision that a value says.
+/// Reads a decision from a value.
 pub(crate) fn decided(value: &Value<'_>) -> Result<(TransId, Decision), Mistake>
     ensures found { IfOk result (λ d. decision_in (value_view value.now) ≡ Some d) }
     ensures none { OnErr result (decision_in (value_view value.now) ≡ None) }
@@ -37,14 +37,14 @@ pub(crate) fn decided(value: &Value<'_>) -> Result<(TransId, Decision), Mistake>
     Ok((trans, verdict_of(commit)))
 }
 
-/// The number of a transaction that a value is.
+/// Reads a TransID from a value.
 fn trans_in(value: &Value<'_>) -> Option<TransId>
     ensures { result ≡ trans_in (value_view value.now) }
 {
     trans_from(natural(value)?)
 }
 
-/// The transaction of this number. 0 is none.
+/// The TransID with this number. 0 is not one.
 fn trans_from(number: u64) -> Option<TransId>
     ensures { result ≡ trans_from number }
 {
@@ -54,7 +54,7 @@ fn trans_from(number: u64) -> Option<TransId>
     Some(TransId(number as u32))
 }
 
-/// Whether a transaction commits.
+/// Reads whether a transaction commits.
 fn verdict_of(commits: bool) -> Decision
     ensures { result ≡ verdict_of commits }
 {

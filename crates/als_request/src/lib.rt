@@ -11,17 +11,17 @@
 //! 4. A decision names a transaction by its number, and says whether it commits.
 //! 5. Where one text may ask for either, `"prepare":true` beside `set` prepares a transaction, and
 //!    `{"decide":..}` decides one.
-//! 6. What is read is equal to a definition over the JSON value; whether the database has the key, and
-//!    how many sets a transaction may have, the writer judges.
+//! 6. What is read is equal to a definition over the JSON value. Whether the database has the key, and how
+//!    many sets a transaction may have, is for the writer to judge.
 #![tactic(auto)]
 
-// Why a text is no transaction.
+// Why a text is not a transaction.
 mod mistake;
 // A key, a number and a value.
 mod parts;
 // One comparison and one set.
 mod members;
-// The value that a text is.
+// A text as JSON.
 mod parsing;
 // A transaction.
 mod reading;

@@ -8,7 +8,7 @@ use als_record::Lsn;
 use als_writer::{Ask, Set};
 use json::Value;
 
-/// How many members an object has. 0: it is none.
+/// The number of members of an object, 0 for any other value.
 pub(crate) fn member_count(value: &Value<'_>) -> usize
     ensures { result ≡ member_count (value_view value.now) }
 {
@@ -18,7 +18,7 @@ pub(crate) fn member_count(value: &Value<'_>) -> usize
     }
 }
 
-/// One comparison.
+/// Reads one comparison.
 pub(crate) fn ask(value: &Value<'_>) -> Result<Ask, Wrong>
     ensures found { IfOk result (λ a. ask_in (value_view value.now) ≡ Some a) }
     ensures none { OnErr result (ask_in (value_view value.now) ≡ None) }
@@ -37,7 +37,7 @@ pub(crate) fn ask(value: &Value<'_>) -> Result<Ask, Wrong>
     Ok(Ask::Unchanged { key, since })
 }
 
-/// One set.
+/// Reads one set.
 pub(crate) fn set(value: &Value<'_>) -> Result<Set, Wrong>
     ensures found { IfOk result (λ s. set_in (value_view value.now) ≡ Some s) }
     ensures none { OnErr result (set_in (value_view value.now) ≡ None) }

@@ -5,26 +5,26 @@ use std::fmt;
 /// What is wrong with one comparison or one set.
 #[derive(Clone, Copy, Debug, PartialEq, Eq)]
 pub enum Wrong {
-    /// It is no object of the two members that it has to have.
+    /// It is not an object with the two members that it must have.
     Members,
-    /// Its key is no `[PAGE,SLOT]`.
+    /// Its key is not `[PAGE,SLOT]`.
     Key,
     /// Its value is neither null nor hexadecimal digits of at most 31 bytes.
     Value,
-    /// Its LSN is no whole number of at most 64 bits.
+    /// Its LSN is not a whole number of at most 64 bits.
     Lsn,
 }
 
-/// Why a text is no transaction and no decision.
+/// Why a text is neither a transaction nor a decision.
 #[derive(Clone, Copy, Debug, PartialEq, Eq)]
 pub enum Mistake {
     /// An allocation failed.
     Memory,
-    /// It is no JSON.
+    /// It is not JSON.
     NoJson,
     /// An object has a name twice.
     NameTwice,
-    /// It is no object with `set`, with `if` or without, and with nothing else.
+    /// It is not an object with `set`, with or without `if`, and nothing else.
     Members,
     /// The comparison at this place of `if`, counted from 1, is wrong.
     If(usize, Wrong),
@@ -32,11 +32,11 @@ pub enum Mistake {
     Set(usize, Wrong),
     /// `prepare` is not true.
     Prepare,
-    /// `decide` has members beside it.
+    /// There are members beside `decide`.
     Alone,
-    /// It is no object of `trans` and `commit` alone.
+    /// It is not an object with `trans` and `commit` and nothing else.
     Decision,
-    /// `trans` is no number from 1 to 2^32 - 1.
+    /// `trans` is not a number from 1 to 2^32 - 1.
     Trans,
     /// `commit` is neither true nor false.
     Verdict,

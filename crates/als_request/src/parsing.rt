@@ -6,7 +6,7 @@ use crate::mistake::Mistake;
 use json::{Scratch, Value};
 use std::alloc::Global;
 
-/// The value that a text is.
+/// Parses a text as JSON, in which no object has a name twice.
 pub(crate) fn parse<'a>(
     alloc: Global,
     text: &'a [u8],

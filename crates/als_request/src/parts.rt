@@ -6,8 +6,8 @@ ghost use Rattle.als_request.specs.Asking.{value_of, image_in};
 use als_record::{ImageView, KeptImage, Key};
 use json::Value;
 
-/// The whole number that a text of decimal digits is. None: it has none or another byte, or it takes
-/// more than 64 bits.
+/// The number that these decimal digits spell. None: there is no digit, another byte is among them, or the
+/// number does not fit 64 bits.
 #[tactic(auto, using(crate::proofs::NumberLaws::number_taken))]
 fn number(text: &[u8]) -> Option<u64>
     ensures { result ≡ number_of text.now }
@@ -22,7 +22,7 @@ fn number(text: &[u8]) -> Option<u64>
     so_far
 }
 
-/// A number with one more digit.
+/// A number with one more digit, if it was one and still fits.
 fn with_digit(so_far: Option<u64>, digit: u8) -> Option<u64>
     ensures { result ≡ with_digit so_far digit }
 {
@@ -33,14 +33,14 @@ fn with_digit(so_far: Option<u64>, digit: u8) -> Option<u64>
     so_far.checked_mul(10)?.checked_add(u64::from(digit - b'0'))
 }
 
-/// The whole number that a value is.
+/// Reads a whole number from a value.
 pub(crate) fn natural(value: &Value<'_>) -> Option<u64>
     ensures { result ≡ natural_in (value_view value.now) }
 {
     number(value.as_number()?.as_bytes())
 }
 
-/// The key of a page and a slot.
+/// The key with this page and slot, if they are in range.
 fn key_from(page: u64, slot: u64) -> Option<Key>
     ensures { result ≡ key_from page slot }
 {
@@ -53,7 +53,7 @@ fn key_from(page: u64, slot: u64) -> Option<Key>
     })
 }
 
-/// The key that a value is: an array of a page and a slot.
+/// Reads a key from a value: an array of a page and a slot.
 pub(crate) fn key(value: &Value<'_>) -> Option<Key>
     ensures { result ≡ key_in (value_view value.now) }
 {
@@ -65,7 +65,7 @@ pub(crate) fn key(value: &Value<'_>) -> Option<Key>
     key_from(page, slot)
 }
 
-/// The value of hexadecimal digits.
+/// Reads an image from hexadecimal digits.
 fn value_of(digits: &[u8]) -> Option<KeptImage>
     ensures { result ≡ value_of digits.now }
 {
@@ -82,7 +82,7 @@ fn value_of(digits: &[u8]) -> Option<KeptImage>
     }
 }
 
-/// The image that a value is: null is no value.
+/// Reads an image from a value: null is no value.
 pub(crate) fn image(value: &Value<'_>) -> Option<KeptImage>
     ensures { result ≡ image_in (value_view value.now) }
 {

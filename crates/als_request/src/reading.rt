@@ -11,7 +11,7 @@ use als_writer::{Ask, Set, Transaction};
 use json::{Scratch, Value};
 use std::alloc::Global;
 
-/// The transaction that a text says.
+/// Reads a transaction from a text.
 pub fn transaction(alloc: Global, text: &[u8]) -> Result<Transaction, Mistake>
     // What is found is what the text says, in which no object has a name twice.
     ensures found { IfOk result (λ t. IsRead text.now t) }
@@ -21,7 +21,7 @@ pub fn transaction(alloc: Global, text: &[u8]) -> Result<Transaction, Mistake>
     asked(alloc, &value, 0)
 }
 
-/// The transaction that a value says, which has so many members beside it.
+/// Reads a transaction from a value with `extra` more members.
 pub(crate) fn asked(alloc: Global, value: &Value<'_>, extra: usize) -> Result<Transaction, Mistake>
     requires { extra ≤ 1 }
     ensures found { IfOk result (λ t. transaction_beside extra (value_view value.now)
@@ -47,7 +47,7 @@ pub(crate) fn asked(alloc: Global, value: &Value<'_>, extra: usize) -> Result<Tr
     }
 }
 
-/// The comparisons of an array.
+/// Reads the comparisons of an array.
 fn asks(alloc: Global, value: &Value<'_>) -> Result<Vec<Ask>, Mistake>
     ensures found { IfOk result (λ asks. all_in ask_in (value_view value.now)
         ≡ Some asks.items) }
@@ -60,7 +60,7 @@ fn asks(alloc: Global, value: &Value<'_>) -> Result<Vec<Ask>, Mistake>
     }
 }
 
-/// Each comparison of a list.
+/// Reads each comparison of a list.
 fn each_ask(alloc: Global, items: &[Value<'_>]) -> Result<Vec<Ask>, Mistake>
     ensures found { IfOk result (λ asks. each ask_in (items_view items.now)
         ≡ Some asks.items) }
@@ -77,7 +77,7 @@ fn each_ask(alloc: Global, items: &[Value<'_>]) -> Result<Vec<Ask>, Mistake>
     Ok(asks)
 }
 
-/// The sets of an array.
+/// Reads the sets of an array.
 fn sets(alloc: Global, value: &Value<'_>) -> Result<Vec<Set>, Mistake>
     ensures found { IfOk result (λ sets. all_in set_in (value_view value.now)
         ≡ Some sets.items) }
@@ -90,7 +90,7 @@ fn sets(alloc: Global, value: &Value<'_>) -> Result<Vec<Set>, Mistake>
     }
 }
 
-/// Each set of a list.
+/// Reads each set of a list.
 fn each_set(alloc: Global, items: &[Value<'_>]) -> Result<Vec<Set>, Mistake>
     ensures found { IfOk result (λ sets. each set_in (items_view items.now)
         ≡ Some sets.items) }

@@ -12,7 +12,7 @@ use als_writer::Work;
 use json::{Scratch, Value};
 use std::alloc::Global;
 
-/// What a text asks for: a transaction that commits, one that prepares, or a decision.
+/// Reads what a text asks for: a transaction that commits, one that prepares, or a decision.
 ///
 ///     {"if":[..],"set":[..]}
 ///     {"prepare":true,"if":[..],"set":[..]}
@@ -26,7 +26,7 @@ pub fn work(alloc: Global, text: &[u8]) -> Result<Work, Mistake>
     wanted(alloc, &value)
 }
 
-/// What a value asks for.
+/// Reads what a value asks for.
 fn wanted(alloc: Global, value: &Value<'_>) -> Result<Work, Mistake>
     ensures found { IfOk result (λ w. work_in (value_view value.now) ≡ Some (meant w)) }
     ensures none { IfErr result (λ m. (m ≡ Memory)
@@ -41,7 +41,7 @@ fn wanted(alloc: Global, value: &Value<'_>) -> Result<Work, Mistake>
     Ok(Work::Commit(asked(alloc, value, 0)?))
 }
 
-/// The decision of a value, and of its member for it.
+/// Reads the decision of a value with the member `decide`.
 fn to_decide(value: &Value<'_>, decision: &Value<'_>) -> Result<Work, Mistake>
     ensures found { IfOk result (λ w. decided_in (value_view value.now) (value_view decision.now)
         ≡ Some (meant w)) }
@@ -55,7 +55,7 @@ fn to_decide(value: &Value<'_>, decision: &Value<'_>) -> Result<Work, Mistake>
     Ok(Work::Decide { trans, verdict })
 }
 
-/// The transaction of a value that prepares, and of its member that says so.
+/// Reads the transaction of a value with the member `prepare`.
 fn to_prepare(alloc: Global, value: &Value<'_>, flag: &Value<'_>) -> Result<Work, Mistake>
     ensures found { IfOk result (λ w. prepared_in (value_view value.now) (value_view flag.now)
         ≡ Some (meant w)) }

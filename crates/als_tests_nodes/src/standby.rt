@@ -1,8 +1,6 @@
 use als_drive::Progress;
-use als_follow::standby;
-use als_operate::{Following, Forgets, TakenOver, takeover};
+use als_operate::{Following, Forgets, TakenOver, standby, takeover};
 use als_record::Lsn;
-use als_share::Runtime;
 use std::fs::File;
 use std::net::Net;
 use std::rt::Files;
@@ -22,7 +20,7 @@ impl Forgets for Untold {
 
 /// Follows one session as the standby of a folder. Its primary may be silent for so many seconds. Whether the
 /// session came to its end.
-pub fn follows<R: AllocGlobal + Files<File = File> + Net + Runtime>(
+pub fn follows<R: AllocGlobal + Files<File = File> + Net + Wait>(
     rt: &R,
     dir: &str,
     from: &str,
@@ -37,7 +35,7 @@ pub fn follows<R: AllocGlobal + Files<File = File> + Net + Runtime>(
         timeout,
     };
     let mut printed = Vec::new(rt.alloc());
-    let ended = standby(rt, following, 1, &mut Untold, &mut printed);
+    let ended = standby(rt, following, &mut Untold, &mut printed);
     ended.is_ok()
 }
 

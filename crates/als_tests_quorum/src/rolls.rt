@@ -5,7 +5,7 @@ use std::net::{IpAddr, Ipv4Addr, Ipv6Addr};
 use std::test::Fail;
 use std::time::Duration;
 
-/// An address that ends so.
+/// The IPv4 address with this last byte.
 fn v4(last: u8) -> IpAddr {
     IpAddr::V4(Ipv4Addr::new(10, 0, 0, last))
 }
@@ -20,7 +20,7 @@ fn at(seconds: u64) -> Duration {
     Duration::from_secs(seconds)
 }
 
-/// A roll of so many seats. None: allocation failed.
+/// A roll with this many seats. None: allocation failed.
 fn roll(alloc: Global, seats: u32) -> Option<Roll> {
     Roll::new(alloc, seats).ok()
 }
@@ -84,7 +84,7 @@ fn a_mark_never_falls_but_with_its_session(rt: HostRuntime) -> Result<(), Fail> 
     Ok(())
 }
 
-/// How many of 0, 1, 2, 3 followers are enough at an LSN, where these joined and acknowledged it.
+/// The most of 0, 1, 2, 3 followers that are enough, once these three have joined and acknowledged 108.
 fn enough(alloc: Global, peers: [IpAddr; 3], counts: bool) -> Option<u32> {
     let mut roll = roll(alloc, 8)?;
     for peer in peers {

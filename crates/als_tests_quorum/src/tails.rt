@@ -5,7 +5,7 @@ use std::test::Fail;
 use std::thread;
 use std::time::{Clock, Duration};
 
-/// Waits until a log may be read past 52, for so many milliseconds at most. Answers its end, and whether it
+/// Waits, at most this many milliseconds, until a log may be read past 52. Returns its end, and whether it
 /// is closed.
 fn wait_past<R: Wait + Clock>(rt: &R, tail: &Tail, millis: u64) -> (u64, bool) {
     let reach = tail.wait_past(rt, 52, Duration::from_millis(millis));

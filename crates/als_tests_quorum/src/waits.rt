@@ -10,7 +10,7 @@ use std::time::{Clock, Duration};
 /// No time.
 const NONE: Duration = Duration::ZERO;
 
-/// An address that ends so.
+/// The IPv4 address with this last byte.
 fn v4(last: u8) -> IpAddr {
     IpAddr::V4(Ipv4Addr::new(10, 0, 0, last))
 }
@@ -28,7 +28,7 @@ fn made<R: Wait + Clock>(rt: &R, alloc: Global) -> Option<Quorum> {
     two(rt, alloc).or(two(rt, alloc))
 }
 
-/// Waits for two followers, for so many milliseconds at most.
+/// Waits for two followers, at most this many milliseconds.
 fn wait_for_two<R: Wait + Clock>(rt: &R, quorum: &Quorum, millis: u64) -> bool {
     quorum.wait_for(rt, 2, Lsn(108), Duration::from_millis(millis))
 }

@@ -11,7 +11,7 @@ const ROUNDS: u64 = 500;
 /// The questions of a request.
 const EACH: u64 = 3;
 
-/// So many questions from this one on.
+/// The questions of a request, from this one on.
 fn questions(alloc: Global, first: u64) -> Result<Vec<u64>, AllocError> {
     let mut questions = Vec::new(alloc);
     for more in 0..EACH {
@@ -33,7 +33,7 @@ fn are_own(outcomes: &[Outcome<u64>], first: u64) -> bool {
     outcomes.len() as u64 == EACH
 }
 
-/// Asks again and again. Whether each answer was its own.
+/// Asks again and again. Returns whether each answer was its own.
 fn ask_all<R: Wait + Clock>(rt: &R, alloc: Global, asker: Asker<u64, u64>, first: u64) -> bool {
     let mut asker = asker;
     let mut right = true;
@@ -50,7 +50,7 @@ fn ask_all<R: Wait + Clock>(rt: &R, alloc: Global, asker: Asker<u64, u64>, first
     right
 }
 
-/// Answers so many questions.
+/// Answers `count` questions.
 fn answer_all<R: Wait + Clock>(rt: &R, leader: Leader<u64, u64>, count: u64) {
     let mut left = count;
     for _ in rt.forever() {

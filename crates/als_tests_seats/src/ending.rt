@@ -5,7 +5,7 @@ use std::test::Fail;
 use std::thread;
 use std::time::{Clock, Duration};
 
-/// What became of two questions, as letters: answered, not begun or lost.
+/// The outcomes of two questions, as letters: answered, not begun or lost.
 fn ask_two<R: Wait + Clock>(rt: &R, alloc: Global, asker: Asker<u8, u8>, millis: u64) -> [u8; 2] {
     let mut asker = asker;
     let mut told = [b'-', b'-'];

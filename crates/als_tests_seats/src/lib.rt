@@ -1,4 +1,4 @@
-//! Tests of the seats between threads that ask and one that answers. They use public names alone.
+//! Tests of the seats between threads that ask and one that answers, by public names only.
 #![tactic(auto)]
 
 // Askers and a leader at work.

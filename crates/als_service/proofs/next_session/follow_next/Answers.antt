@@ -28,10 +28,10 @@ returns-after-is_silent-clause-vouched g c = λ alone.
     let floor = acknowledged (g.E.Events.machine c.follow_beside-engine.result.engine).held in
     let told = c.follow_beside-engine.ensures.vouched alone in
     let behind = subst (λ w. TellsVouched floor (g.S.Write.contents c.new-in-Ok.result.stream) (g.S.Write.contents w))
-    (sym c.end-in-Ok.ensures) told in
-    let tells = subst (λ w. TellsVouched floor (g.S.Write.contents w) (g.S.Write.contents c.end-in-Ok.result))
+    (sym c.end.ensures) told in
+    let tells = subst (λ w. TellsVouched floor (g.S.Write.contents w) (g.S.Write.contents c.end.result))
     c.new-in-Ok.ensures behind in
     vouches_last floor c.follow_beside-engine.result.ended (g.S.Write.contents c.in-Ok.writer)
-    (g.S.Write.contents c.end-in-Ok.result) (g.L.Primaries.met c.args.primaries.now)
+    (g.S.Write.contents c.end.result) (g.L.Primaries.met c.args.primaries.now)
     (g.L.Primaries.met c.next.new.self) (g.L.Primaries.met c.part.new.self) c.in-Ok.ensures.begins c.part.ensures.ends
     tells
