@@ -20,8 +20,6 @@ mod laws;
 mod looking;
 // How a view begins.
 mod opening;
-// A commit of the published list.
-mod past_commit;
 // The publisher.
 mod publisher;
 // A reader.
