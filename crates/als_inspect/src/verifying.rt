@@ -46,11 +46,7 @@ pub fn verify<R: AllocGlobal + Files<File = File> + Wait, O: Write>(
 }
 
 /// The same, and tells how far it has come.
-pub fn verify_telling<
-    R: AllocGlobal + Files<File = File> + Wait,
-    P: Progress + Advance,
-    O: Write,
->(
+pub fn verify_telling<R: AllocGlobal + Files<File = File> + Wait, P: Progress + Advance, O: Write>(
     rt: &R,
     path: &str,
     progress: &mut P,

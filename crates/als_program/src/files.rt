@@ -16,7 +16,8 @@ use als_folder::Trouble;
 use als_follow::standby as standby_with_workers;
 use als_inspect::{Wanted, check_pages, dump, get, status, verify_telling};
 use als_lookback::{
-    Fault as LookFault, Until, commit_of, commits, cut, get as get_at, grow, show, status as status_at,
+    Fault as LookFault, Until, commit_of, commits, cut, get as get_at, grow, show,
+    status as status_at,
 };
 use als_operate::{Following, TakenOver, Verdict, forget, resolve, standby, takeover};
 use als_progress::Advance;
@@ -146,9 +147,8 @@ fn attempt<
             renew(rt, seen, command, output, errors)
         }
         Command::Dump { .. } => inspect(rt, beside, command, output, errors),
-        Command::Verify { .. }
-        | Command::Status { at: None, .. }
-        | Command::Get { at: None, .. } => inspect(rt, seen, command, output, errors),
+        Command::Verify { .. } | Command::Status { at: None, .. } | Command::Get { at: None, .. } =>
+            inspect(rt, seen, command, output, errors),
         Command::Commits { .. } | Command::CutAt { .. } | Command::CutBefore { .. } => {
             look(rt, beside, command, output, errors)
         }

@@ -213,10 +213,7 @@ fn obey<
             serve_primary(rt, terminals, command, serving, output, errors)
         }
         Command::Begin { .. } | Command::CutAt { .. } | Command::CutBefore { .. }
-            if terminals.output =>
-        {
-            Err(Failure::TextOnTerminal)
-        }
+            if terminals.output => { Err(Failure::TextOnTerminal) }
         command => operate(rt, terminals, command, output, errors),
     }
 }

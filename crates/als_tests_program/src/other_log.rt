@@ -1,9 +1,8 @@
 use crate::folder::Folder;
 use crate::following::{TEXT, refuses};
-use std::fs;
 use std::io::{Read, Write};
 use std::net::{Ipv4Addr, SocketAddr, TcpListener};
-use std::thread;
+use std::{fs, thread};
 
 /// The files of a standby's folder.
 const FILES: [&str; 3] = ["other/log.blk", "other/control.blk", "other/pages.blk"];
@@ -43,7 +42,16 @@ fn another_log_is_told(rt: HostRuntime) {
     let addr = format!(in rt.alloc(); "{addr}").expect(&rt, "its text");
     let (rt, addr) = (&rt, addr.as_str());
     let words = [
-        "als", "standby", "--dir", "other", "--from", addr, "--pages", "4", "--keep", "--explain",
+        "als",
+        "standby",
+        "--dir",
+        "other",
+        "--from",
+        addr,
+        "--pages",
+        "4",
+        "--keep",
+        "--explain",
     ];
     let (asked, told) = thread::join(
         rt,
