@@ -16,6 +16,7 @@ const LOG_BYTES: usize = 4_096;
 const CONTROL_BYTES: usize = 321 * 512;
 
 /// Nobody is told how far it has come.
+#[derive(Clone, Copy)]
 struct Quiet;
 
 impl Progress for Quiet {
