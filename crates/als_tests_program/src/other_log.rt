@@ -1,7 +1,13 @@
 use crate::folder::Folder;
 use crate::following::{TEXT, refuses};
+use std::fs::File;
 use std::io::{Read, Write};
-use std::net::{Ipv4Addr, SocketAddr, TcpListener};
+use std::net::{Ipv4Addr, Net, SocketAddr, TcpListener, TcpStream};
+use std::random::RandomSource;
+use std::rt::Files;
+use std::sync::Wait;
+use std::thread::Threads;
+use std::time::Clock;
 use std::{fs, thread};
 
 /// The files of a standby's folder.
@@ -29,18 +35,21 @@ fn answers(listener: TcpListener) -> bool {
         && stream.write_all(&OTHER).is_ok()
 }
 
-/// A primary that has another log ends a standby that is kept, and it is said what to do. The folder
-/// stays as it was.
-#[test]
-fn another_log_is_told(rt: HostRuntime) {
-    assert!(rt; fs::create_dir(&rt, "other").is_ok());
-    let folder = Folder::of(rt.alloc(), &TEXT).expect(&rt, "a folder");
-    assert!(rt; folder.write(&rt, FILES).is_some());
-    let listener = TcpListener::bind(&rt, SocketAddr::from((Ipv4Addr::LOCALHOST, 0)));
-    let listener = listener.expect(&rt, "a port");
-    let addr = listener.local_addr().expect(&rt, "an address");
-    let addr = format!(in rt.alloc(); "{addr}").expect(&rt, "its text");
-    let (rt, addr) = (&rt, addr.as_str());
+/// Whether a standby that is kept and comes there is refused, and it is said what to do.
+fn is_refused<
+    R: AllocGlobal
+        + Files<File = File>
+        + Net<Listener = TcpListener, Stream = TcpStream>
+        + Threads
+        + Wait
+        + Sync
+        + Clock
+        + RandomSource
+        + Clone
+        + Send
+        + Drop
+        + 'static,
+>(rt: &R, addr: &str) -> bool {
     let words = [
         "als",
         "standby",
@@ -53,19 +62,37 @@ fn another_log_is_told(rt: HostRuntime) {
         "--keep",
         "--explain",
     ];
-    let (asked, told) = thread::join(
-        rt,
-        move || answers(listener),
-        move || refuses(rt, &words, "", TOLD),
-    );
-    assert!(rt; asked && told);
-    match fs::read(rt, FILES[0]) {
-        Ok(log) => {
-            assert!(rt; log.as_slice() == folder.log.as_slice());
-        }
-        Err(_) => {
-            assert!(rt; false);
-        }
+    refuses(rt, &words, "", TOLD)
+}
+
+/// A folder that holds that log to its end. Whether it could be written.
+fn lays_out<R: AllocGlobal + Files<File = File>>(rt: &R) -> bool {
+    match Folder::of(rt.alloc(), &TEXT) {
+        Some(folder) => fs::create_dir(rt, "other").is_ok() && folder.write(rt, FILES).is_some(),
+        None => false,
     }
+}
+
+/// Whether its log is as it was.
+fn holds<R: AllocGlobal + Files<File = File>>(rt: &R) -> bool {
+    match (Folder::of(rt.alloc(), &TEXT), fs::read(rt, FILES[0])) {
+        (Some(folder), Ok(log)) => log.as_slice() == folder.log.as_slice(),
+        _ => false,
+    }
+}
+
+/// A primary that has another log ends a standby that is kept, and it is said what to do. The folder
+/// stays as it was.
+#[test]
+fn another_log_is_told(rt: HostRuntime) {
+    assert!(rt; lays_out(&rt));
+    let listener = TcpListener::bind(&rt, SocketAddr::from((Ipv4Addr::LOCALHOST, 0)));
+    let listener = listener.expect(&rt, "a port");
+    let addr = listener.local_addr().expect(&rt, "an address");
+    let addr = format!(in rt.alloc(); "{addr}").expect(&rt, "its text");
+    let (rt, addr) = (&rt, addr.as_str());
+    let (asked, told) = thread::join(rt, move || answers(listener), move || is_refused(rt, addr));
+    assert!(rt; asked && told);
+    assert!(rt; holds(rt));
     assert!(rt; fs::remove_dir_all(rt, "other").is_ok());
 }
