@@ -12,6 +12,11 @@ returns-in-Some-final_fault-clause-vouched g c = λ alone.
     (c.position-before.ensures alone) (c.follow_next-back.ensures.reached alone) (c.loop.invariant.4 alone)
     (c.follow_next-back.ensures.vouched alone)
 
+pub returns-in-Some-final_fault-clause-reached : goal.returns-in-Some-final_fault-clause-reached
+returns-in-Some-final_fault-clause-reached g c = λ alone.
+    reaches_both (g.E.Events.machine c.args.events) (g.E.Events.machine c.loop.held) (g.E.Events.machine c.follow_next-back.result.events)
+    (c.loop.invariant.2 alone) (c.follow_next-back.ensures.reached alone)
+
 pub returns-in-Some-final_fault-clause-follows : goal.returns-in-Some-final_fault-clause-follows
 returns-in-Some-final_fault-clause-follows g c = λ alone.
     follows_both (g.E.Events.machine c.args.events) (g.E.Events.machine c.loop.held) (g.E.Events.machine c.follow_next-back.result.events)
