@@ -35,15 +35,33 @@ const TRIES: [Folders; 2] = [
     },
 ];
 
+/// Removes a folder, if it is there.
+fn remove<R: AllocGlobal + Files>(rt: &R, dir: &str) {
+    let _ = fs::remove_dir_all(rt, dir);
+}
+
+/// Makes an empty folder. What an earlier run left of it goes.
+fn make<R: AllocGlobal + Files>(rt: &R, dir: &str) -> Option<()> {
+    remove(rt, dir);
+    fs::create_dir(rt, dir).ok()
+}
+
 /// Makes the folders, and listens. None: something failed.
 fn begin<R: AllocGlobal + Files<File = File> + Net<Listener = TcpListener, Stream = TcpStream>>(
     rt: &R,
     folders: Folders,
 ) -> Option<TcpListener> {
-    fs::create_dir(rt, folders.primary).ok()?;
-    fs::create_dir(rt, folders.first).ok()?;
-    fs::create_dir(rt, folders.second).ok()?;
+    make(rt, folders.primary)?;
+    make(rt, folders.first)?;
+    make(rt, folders.second)?;
     TcpListener::bind(rt, "127.0.0.1:0").ok()
+}
+
+/// Removes the folders.
+fn clear<R: AllocGlobal + Files>(rt: &R, folders: Folders) {
+    remove(rt, folders.primary);
+    remove(rt, folders.first);
+    remove(rt, folders.second);
 }
 
 /// Where a listener is reached.
@@ -94,6 +112,7 @@ fn an_answered_commit_is_found_by_a_takeover(rt: HostRuntime) -> Result<(), Fail
             if committed == Some(40) && !parted && stayed {
                 found = has_all(rt, folders.second);
             }
+            clear(rt, folders);
         }
     }
     assert!(rt; found == Some(true));
