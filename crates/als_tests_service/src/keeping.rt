@@ -5,8 +5,8 @@ use als_fault::FaultKind;
 use als_operate::Fault;
 use als_report::{Board, Report, Reports, State, Watch};
 use als_sample_logs::{FIRST, Primary};
-use als_service::{BoardReporter, Kept, Pace, follow_sessions};
-use als_share::{Counts, Observed};
+use als_service::{Kept, Pace, follow_sessions};
+use als_share::Counts;
 use als_ship::Fault as SessionFault;
 use std::alloc::Global;
 use std::process::Abort;
@@ -32,9 +32,6 @@ const PACE: Pace = Pace {
     workers: 2,
     each: FRAME as u64,
 };
-
-/// The bytes of a log's device of which three frames are nine tenths.
-const ROOM: u64 = 3 * FRAME as u64;
 
 /// The history of a primary that took over where a log of no record ends: a log that goes on from there has parted from it.
 const PARTED: &[u8] = b"E\0\0\0\x01\0\0\0\0\0\0\0\x10";
@@ -126,15 +123,6 @@ fn hang_ups(alloc: Global) -> Option<Scripted<End>> {
     ready.push(Some(sends(alloc, b"")?)).ok()?;
     ready.push(Some(sends(alloc, b"")?)).ok()?;
     ready.push(Some(sends(alloc, b"")?)).ok()?;
-    Some(Scripted::new(ready))
-}
-
-/// Connections: one that goes to the end of the log, and one to a primary whose log parted from it. The last
-/// one first. `None`: allocation failed.
-fn one_session(alloc: Global, sent: &[u8]) -> Option<Scripted<End>> {
-    let mut ready = Vec::new(alloc);
-    ready.push(Some(sends(alloc, PARTED)?)).ok()?;
-    ready.push(Some(sends(alloc, sent)?)).ok()?;
     Some(Scripted::new(ready))
 }
 
@@ -236,58 +224,6 @@ fn is_turned_away<E: Counts + Send + Drop, R: Threads + Wait + Sync + Clock + Cl
     assert!(rt; told.hang_ups == Some(3));
     assert!(rt; told.refusal.is_none());
     Some(())
-}
-
-/// Fills a log within one session. `None`: it ended otherwise, as where allocation fails.
-fn is_told_of_room<E: Counts + Send + Drop, R: Threads + Wait + Sync + Clock + Drop + Abort>(
-    rt: &R,
-    alloc: Global,
-    engine: E,
-) -> Option<()> {
-    let sent = sent_by_a_primary(alloc)?;
-    let mut primaries = one_session(alloc, sent.frames.as_slice())?;
-    let board = Board::new();
-    board.set_capacity(ROOM);
-    let events = Observed::new(BoardReporter::new(rt, &board, None), engine);
-    let mut told = Told::nothing();
-    let Kept { events, ended } = follow_sessions(
-        rt,
-        alloc,
-        events,
-        PACE,
-        &mut primaries,
-        &board,
-        &mut told,
-    );
-    drop(events);
-    if ended.kind() != (FaultKind::Diverged { seal: 16 }) {
-        return None;
-    }
-    // It was told before the session came to the log's end, and not again: an hour was not over, or the
-    // next try shows it.
-    if told.fulls != 1 {
-        return None;
-    }
-    let full = told.full?;
-    assert!(rt; full >= ROOM - ROOM / 10 && full < sent.end);
-    Some(())
-}
-
-/// Fills a log in memory.
-fn is_told_of_room_in_memory<R: Threads + Wait + Sync + Clock + Drop + Abort>(
-    rt: &R,
-    alloc: Global,
-) -> Option<()> {
-    is_told_of_room(rt, alloc, standby(rt, alloc)?)
-}
-
-#[test]
-fn a_log_that_is_nearly_full_is_told_of_within_a_session(rt: HostRuntime) {
-    let alloc = rt.alloc();
-    assert!(rt;
-        is_told_of_room_in_memory(&rt, alloc).is_some()
-            || is_told_of_room_in_memory(&rt, alloc).is_some()
-    );
 }
 
 /// Follows such connections over devices in memory.

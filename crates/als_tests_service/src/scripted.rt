@@ -101,15 +101,12 @@ impl<S: Read + Write + Drop> Primaries<S> for Scripted<S> {
     }
 }
 
-/// The last outage, the last refusal and the last hang-ups that were told; and how often it was told that the
-/// log is nearly full, and where it ended the last time.
+/// The last outage, the last refusal and the last hang-ups that were told.
 #[derive(Drop)]
 pub struct Told {
     pub last: Option<(Option<Fault>, u64)>,
     pub refusal: Option<(Fault, u64)>,
     pub hang_ups: Option<u32>,
-    pub full: Option<u64>,
-    pub fulls: u32,
 }
 
 impl Told {
@@ -119,8 +116,6 @@ impl Told {
             last: None,
             refusal: None,
             hang_ups: None,
-            full: None,
-            fulls: 0,
         }
     }
 }
@@ -145,8 +140,5 @@ impl Outages for Told {
     fn uncompared(&mut self) {}
 
     #[inline(never)]
-    fn nearly_full(&mut self, end: Lsn, _capacity: u64) {
-        self.full = Some(end.0);
-        self.fulls = self.fulls.saturating_add(1);
-    }
+    fn nearly_full(&mut self, _end: Lsn, _capacity: u64) {}
 }
