@@ -20,6 +20,10 @@ mod laws;
 mod looking;
 // How a view begins.
 mod opening;
+// A commit of the published list.
+mod past_commit;
+// What a value was.
+mod past_value;
 // The publisher.
 mod publisher;
 // A reader.

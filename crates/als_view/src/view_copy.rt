@@ -7,6 +7,7 @@ ghost use Rattle.als_view.specs.Images.{AreImagesAfter};
 use crate::change::Change;
 use crate::history::Token;
 use crate::images::{place, unwritten, write_commit};
+use crate::past_commit::PastCommit;
 use crate::state::State;
 use als_commits::Commit;
 use als_record::{Image, KeptImage, Key, Lsn, SLOT_COUNT};
@@ -19,7 +20,7 @@ pub struct ViewCopy {
     pages: u32,
     images: Vec<KeptImage>,
     listed: bool,
-    list: Vec<Commit>,
+    list: Vec<PastCommit>,
     // The LSN of the last commit.
     last: Lsn,
     seen: Token,
@@ -115,14 +116,14 @@ impl ViewCopy {
     }
 
     /// One more commit, for which there is room.
-    fn add(&mut self, commit: Commit)
+    fn add(&mut self, commit: &Commit)
         requires { vec_len self.old.list < vec_capacity self.old.list }
-        ensures { (self.new.list.items ≡ self.old.list.items ++ commit ∷ [])
+        ensures { (self.new.list.items ≡ self.old.list.items ++ commit.now ∷ [])
             × (self.new.seen ≡ self.old.seen) × (self.new.pages ≡ self.old.pages) }
     {
-        write_commit(&mut self.images, &commit);
+        write_commit(&mut self.images, commit);
         self.last = commit.lsn;
-        self.list.push_reserved(commit);
+        self.list.push_reserved(PastCommit::of(commit));
         self.listed = true;
     }
 }
@@ -144,9 +145,8 @@ impl Absorb<Change> for ViewCopy {
     fn absorb_first(&mut self, operation: &Change, _other: &ViewCopy) -> Result<(), AllocError> {
         match operation {
             Change::Add(commit) => {
-                let copy = commit.copy()?;
                 self.list.reserve(1)?;
-                self.add(copy);
+                self.add(commit);
             }
             Change::Mark(seen) => {
                 self.listed = true;
@@ -162,7 +162,7 @@ impl Absorb<Change> for ViewCopy {
                 if self.list.reserve(1).is_err() {
                     return Err(Change::Add(commit));
                 }
-                self.add(commit);
+                self.add(&commit);
             }
             Change::Mark(seen) => {
                 self.listed = true;
