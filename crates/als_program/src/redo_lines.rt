@@ -27,7 +27,7 @@ pub struct RedoLines<'a, W: Write, C> {
     seen: bool,
     pace: Pace,
     meter: Meter,
-    /// The work over bytes that was told last, and how much of it was done.
+    /// The work over bytes that was reported last, and how much of it was done.
     last: Option<(Work, u64)>,
     /// Whether it is said that nobody sends.
     tells_outages: bool,
