@@ -76,7 +76,7 @@ impl<S: Read, C: Clock> Read for Peer<'_, S, C> {
     /// may have stood still. Once the peer's time is over: between two requests 0 bytes, as if it had hung
     /// up; within a request TimedOut.
     fn read(&mut self, into: &mut [u8]) -> io::Result<usize> {
-        let since = self.clock.monotonic()?;
+        let mut since = self.clock.monotonic()?;
         self.turn.listen(since);
         if self.has_ended(since) {
             return Ok(0);
@@ -94,7 +94,11 @@ impl<S: Read, C: Clock> Read for Peer<'_, S, C> {
                         self.ended()
                     };
                 }
-                Err(e) if is_late(&e) => self.turn.look(now),
+                Err(e) if is_late(&e) => {
+                    if self.turn.look(now) {
+                        since = now;
+                    }
+                }
                 Err(e) => return Err(e),
             }
             if self.is_over(since, now) {

@@ -30,9 +30,9 @@ impl Turn {
         self.looked.store(stamp(now), Ordering::SeqCst);
     }
 
-    /// The thread looks at its peer. Time in which the node stood still, as a stopped process or a busy
-    /// machine does, is not taken from the peer's request.
-    pub fn look(&self, now: Duration) {
+    /// The thread looks at its peer. Returns whether the node stood still since the last look, as a stopped
+    /// process or a busy machine does. That time is not taken from the peer's request.
+    pub fn look(&self, now: Duration) -> bool {
         let still = since(&self.looked, now);
         self.looked.store(stamp(now), Ordering::SeqCst);
         let asked = self.asked.load(Ordering::SeqCst);
@@ -40,6 +40,7 @@ impl Turn {
             self.asked
                 .store(asked.saturating_add(still), Ordering::SeqCst);
         }
+        still >= STILL
     }
 
     /// Bytes of a request came.
