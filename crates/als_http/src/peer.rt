@@ -1,3 +1,5 @@
+ghost use Rattle.std.specs.Prelude.{◌≡◌, IfOk};
+
 use crate::connections::Connections;
 use crate::limits::{CROWDED, LIFE, REQUEST, RESPONSE, SILENCE};
 use crate::turn::Turn;
@@ -54,7 +56,9 @@ impl<'a, S, C: Clock> Peer<'a, S, C> {
     }
 
     /// What a read returns once the time of the peer is over: an error within a request, else the end.
-    fn ended(&self) -> io::Result<usize> {
+    fn ended(&self) -> io::Result<usize>
+        ensures { IfOk result (λ count. count ≡ 0) }
+    {
         if self.turn.is_asking() {
             Err(ErrorKind::TimedOut.into())
         } else {
@@ -91,7 +95,7 @@ impl<S: Read, C: Clock> Read for Peer<'_, S, C> {
                     return if self.turn.asking(now) < REQUEST {
                         Ok(count)
                     } else {
-                        self.ended()
+                        Err(ErrorKind::TimedOut.into())
                     };
                 }
                 Err(e) if is_late(&e) => {
