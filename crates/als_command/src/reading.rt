@@ -293,7 +293,7 @@ fn status<'a>(matches: &ArgMatches<'a>) -> Option<Command<'a>> {
 
 fn get<'a>(matches: &ArgMatches<'a>) -> Option<Command<'a>> {
     Some(Command::Get {
-        dir: matches.get_str("path")?,
+        dir: matches.get_str("folder")?,
         page: matches.get_one("key-page")?,
         slot: matches.get_one("key-slot")?,
         at: matches.get_one("at"),
