@@ -11,7 +11,7 @@ use als_request::{Mistake, decision};
 use als_writer::Work;
 use std::alloc::Global;
 
-/// Decides the transaction that a body names, and returns what the request is told.
+/// Decides the transaction that a body names, and returns the answer to the request.
 pub fn decide<C: Commits>(alloc: Global, commits: &mut C, body: &[u8]) -> Told
     ensures { IsDecided C.commits body.now commits.old result commits.new }
 {
@@ -37,7 +37,7 @@ fn decide_one<C: Commits>(alloc: Global, commits: &mut C, trans: TransId, verdic
     }
 }
 
-/// The transactions in doubt, as the request is told.
+/// The transactions in doubt, as the answer to the request.
 #[tactic(auto, unfolding(crate::specs::Deciding::IsListed))]
 pub fn list<C: Commits>(commits: &C) -> Told
     ensures { IsListed C.doubts commits.now result }

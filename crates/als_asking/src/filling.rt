@@ -14,7 +14,7 @@ use http::{HeaderName, HeaderValue, StatusCode};
 use http_server::Response;
 use std::alloc::{AllocError, Global};
 
-/// Fills a response by what a request is told. Without memory for it the response is empty: a 504 if
+/// Fills a response by the answer to a request. Without memory for it the response is empty: a 504 if
 /// transactions may have been committed, else a 503.
 pub(crate) fn show(alloc: Global, told: &Told, response: &mut Response)
     requires { IsBlank response.old }
@@ -29,7 +29,7 @@ pub(crate) fn show(alloc: Global, told: &Told, response: &mut Response)
     }
 }
 
-/// Fills a response by what a request is told. After an error it may be filled in part.
+/// Fills a response by the answer to a request. After an error it may be filled in part.
 #[tactic(auto, using(crate::proofs::TextLaws::text_same))]
 fn fill(alloc: Global, told: &Told, response: &mut Response) -> Result<(), AllocError>
     requires { IsBlank response.old }

@@ -34,7 +34,7 @@ mod reading;
 mod scan;
 mod unread;
 mod wanted;
-// What is committed, and what the request is told.
+// What is committed, and what the request is answered.
 mod taking;
 mod told;
 // What is decided, and what is in doubt.

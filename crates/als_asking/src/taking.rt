@@ -12,7 +12,7 @@ use crate::wanted::Wanted;
 use als_writer::{Transaction, Work};
 use std::alloc::{AllocError, Global};
 
-/// Commits or prepares what a body asks for, and returns what the request is told.
+/// Commits or prepares what a body asks for, and returns the answer to the request.
 pub fn take<C: Commits>(alloc: Global, commits: &mut C, manner: Manner, body: &[u8]) -> Told
     ensures { IsTaken C.commits manner body.now commits.old result commits.new }
 {

@@ -11,7 +11,7 @@ use als_record::TransId;
 use als_writer::{NotDecided, Refusal};
 use http::StatusCode;
 
-/// What a request for changes, or for the transactions in doubt, is told.
+/// The answer to a request for changes, or for the transactions in doubt.
 #[derive(Drop)]
 pub enum Told {
     /// The outcome of its one transaction. Of an array Lost: there was no memory for the outcomes.

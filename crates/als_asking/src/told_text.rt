@@ -13,7 +13,7 @@ use als_report::error_text;
 use json::Writer;
 use std::alloc::{AllocError, Global};
 
-/// The text of what a request is told.
+/// The text of an answer to a request.
 #[tactic(auto, unfolding(crate::specs::Telling::HasText))]
 pub(crate) fn told_text(alloc: Global, told: &Told) -> Result<Vec<u8>, AllocError>
     ensures { IfOk result (λ text. HasText told.now text.items) }

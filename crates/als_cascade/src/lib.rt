@@ -7,9 +7,9 @@
 //!                     ctl_sync --raise--> tail --log bytes--> under one era --> follower
 //! ```
 //!
-//! 1. A follower gets acknowledged log alone, and is told the history that was adopted before all of it came.
+//! 1. A follower gets acknowledged log alone, and the history that was adopted before all of it came.
 //! 2. A session begins only once the standby's history is durable.
-//! 3. A session ends once the standby has adopted another history. Its follower asks again, and is told
+//! 3. A session ends once the standby has adopted another history. Its follower asks again, and is sent
 //!    that one.
 //! 4. A session asks for the end of the log first, and for the number of the era before it writes. What was
 //!    acknowledged before the number was read was acknowledged before another adoption, so no byte of a

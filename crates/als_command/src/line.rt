@@ -81,12 +81,7 @@ pub(crate) const LINES: [Line; 18] = [
                 help: "How many pages the database has",
                 is_wanted: true,
             },
-            Word::Long {
-                name: "log-blocks",
-                value: "B",
-                help: "Blocks of the log of a new database [default: 2048]",
-                is_wanted: false,
-            },
+            NEW_LOG_BLOCKS,
             Word::Long {
                 name: "checkpoint-mb",
                 value: "M",
@@ -139,18 +134,8 @@ pub(crate) const LINES: [Line; 18] = [
         help: texts::COMMIT_HELP,
         words: &[
             DIR,
-            Word::Long {
-                name: "pages",
-                value: "N",
-                help: "Pages of a new database, 1 to 4096",
-                is_wanted: false,
-            },
-            Word::Long {
-                name: "log-blocks",
-                value: "B",
-                help: "Blocks of the log of a new database [default: 2048]",
-                is_wanted: false,
-            },
+            NEW_PAGES,
+            NEW_LOG_BLOCKS,
             Word::Long {
                 name: "batch",
                 value: "L",
@@ -176,18 +161,8 @@ pub(crate) const LINES: [Line; 18] = [
                 value: "ADDR",
                 help: "Answer over HTTP there: a port of the loopback, or HOST:PORT",
             },
-            Word::Long {
-                name: "pages",
-                value: "N",
-                help: "Pages of a new database, 1 to 4096",
-                is_wanted: false,
-            },
-            Word::Long {
-                name: "log-blocks",
-                value: "B",
-                help: "Blocks of the log of a new database [default: 2048]",
-                is_wanted: false,
-            },
+            NEW_PAGES,
+            NEW_LOG_BLOCKS,
             Word::Free {
                 name: "token-file",
                 value: "FILE",
@@ -370,7 +345,7 @@ pub(crate) const LINES: [Line; 18] = [
         name: "get",
         about: texts::GET_ABOUT,
         help: texts::GET_HELP,
-        words: &[PATH_OR_FOLDER, KEY_PAGE, KEY_SLOT, AT, EXPLAIN],
+        words: &[FOLDER, KEY_PAGE, KEY_SLOT, AT, EXPLAIN],
         choice: &[],
     },
 ];
@@ -392,6 +367,22 @@ const TIMEOUT: Word = Word::Long {
     name: "timeout",
     value: "SECONDS",
     help: "How long the other end may be silent, 0 without a limit [default: 60]",
+    is_wanted: false,
+};
+
+/// How large a new database is.
+const NEW_PAGES: Word = Word::Long {
+    name: "pages",
+    value: "N",
+    help: "Pages of a new database, 1 to 4096",
+    is_wanted: false,
+};
+
+/// How long its log may get.
+const NEW_LOG_BLOCKS: Word = Word::Long {
+    name: "log-blocks",
+    value: "B",
+    help: "Blocks of the log of a new database [default: 2048]",
     is_wanted: false,
 };
 
@@ -429,12 +420,6 @@ const AT: Word = Word::Long {
     value: "LSN",
     help: "Up to the last record that ends at or below this LSN",
     is_wanted: false,
-};
-
-const PATH_OR_FOLDER: Word = Word::Place {
-    name: "path",
-    value: "DIR",
-    help: "The folder of a node; with --at a log file too",
 };
 
 const FOLDER: Word = Word::Place {

@@ -69,7 +69,7 @@ fn is_parted(matches: &ArgMatches<'_>) -> bool {
     }
 }
 
-/// The command that was found. An error is what was not, which the parser has told by then.
+/// The command that was found. An error is what was not, which the parser has printed by then.
 fn found<'a>(matches: &ArgMatches<'a>) -> Result<Command<'a>, ErrorKind> {
     let (name, matches) = matches.subcommand().ok_or(ErrorKind::MissingSubcommand)?;
     asked(name, matches).ok_or(ErrorKind::MissingRequiredArgument)
@@ -89,7 +89,7 @@ fn told(alloc: Global, error: &Error) -> Result<NoCommand, AllocError> {
 }
 
 /// The command of this name. None: an argument that has to be given is missing, which the parser
-/// has told by then.
+/// has printed by then.
 fn asked<'a>(name: &str, matches: &ArgMatches<'a>) -> Option<Command<'a>> {
     match name {
         "make" => Some(Command::Make {
@@ -293,7 +293,7 @@ fn status<'a>(matches: &ArgMatches<'a>) -> Option<Command<'a>> {
 
 fn get<'a>(matches: &ArgMatches<'a>) -> Option<Command<'a>> {
     Some(Command::Get {
-        dir: matches.get_str("path")?,
+        dir: matches.get_str("folder")?,
         page: matches.get_one("key-page")?,
         slot: matches.get_one("key-slot")?,
         at: matches.get_one("at"),

@@ -151,8 +151,8 @@ Example:
 Exit statuses: 0 done, 2 a fault of the command line, 3 `als: refused N Name`:
   2 to 16 a record of the primary may not follow: it is not held
   21  the database was taken over, and follows no more
-  29  the log has no room for more: B is too small. With the largest B this database takes no
-      more: --explain says what to do
+  29  the log has no room for more: B is too small. als grow makes it longer; with the largest B
+      als begin makes a new log
   30  DIR or a file of it failed, or another program has DIR; or control.blk is missing,
       but log.blk or pages.blk has data: nothing was touched
   34  DIR has a database of another number of pages, or a damaged one (1, 33 too)

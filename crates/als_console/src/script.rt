@@ -8,7 +8,7 @@ const FAULTS = [
   [8, 16, 'may not follow', 'A record came that may not follow this log: the file is another database, or the primary was restored ' +
     'from a backup. Compare als dump of both around the end, and rebuild the one that is wrong.'],
   [21, 21, 'Sealed', 'The folder was taken over: it is a primary. Start no standby there.'],
-  [29, 29, 'LogFull', 'log.blk is full. Rebuild with a greater --log-blocks; at 4,194,304 there are no more.'],
+  [29, 29, 'LogFull', 'log.blk is full. als grow makes it longer; at 4,194,304 blocks als begin makes a new log of what the database holds.'],
   [30, 30, 'Device', 'A file or its disk failed, or another als uses the folder. --explain names the cause.'],
   [32, 32, 'Memory', 'An allocation failed; nothing is damaged. Give the machine more, and start again.'],
   [33, 34, 'damaged', 'A file of the folder is damaged, or --pages is not its own. als verify says more; als rebuild-pages makes ' +
@@ -17,6 +17,8 @@ const FAULTS = [
   [42, 42, 'Diverged', 'The node that sends was taken over, and this log does not go on with it. Keep the folder, and rebuild.'],
   [43, 44, 'connection lost', 'Nobody sends there, or the peer was silent for too long. With --keep it asks again by itself.'],
   [48, 48, 'OtherEpoch', 'The node that sends is of another epoch. Follow the node that took over last, or rebuild.'],
+  [50, 50, 'OtherLog', 'The node that sends has another log: both have bytes at one offset, and they differ. Keep the folder, and compare ' +
+    'sha256= of als verify of both.'],
   [0, 999, 'refused', 'Start it again. If it comes again, see the disk, and then rebuild.'],
 ];
 const SPAN = 300, BEAT = 1000;

@@ -19,13 +19,13 @@ use std::sync::{Arc, Wait};
 use std::thread::Threads;
 use std::time::{Clock, Duration};
 
-/// So many followers are served at once.
+/// The most followers that are served at once.
 const FOLLOWERS: u32 = 8;
 
-/// Milliseconds after which it is looked who was hung up on.
+/// Milliseconds between two looks for followers that hung up.
 const MOMENT: u64 = 100;
 
-/// So many of them are told in one turn at most.
+/// The most remarks that are printed in one turn.
 const NOTICES: u32 = 64;
 
 /// What the threads of a shipper share with the one that prints.

@@ -159,7 +159,7 @@ impl<'a, C, N> GrowingLog<'a, C, N> {
 }
 
 impl<C, N: Naming> GrowingLog<'_, C, N> {
-    /// Why it is no longer the file that it was, where that was not told yet.
+    /// Why it is no longer the file that it was, where that was not printed yet.
     pub fn told_once(&mut self) -> Option<Strayed>
         ensures { self.new.account ≡ self.old.account }
     {

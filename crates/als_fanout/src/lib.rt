@@ -28,7 +28,7 @@ mod stop;
 mod outcome;
 // The same, for the thread that prints it.
 mod outbox;
-// What a session told of its follower beside what others hear.
+// What a session reports of its follower beside what others hear.
 mod noted;
 // Whether a path still names a file.
 mod naming;

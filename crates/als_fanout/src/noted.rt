@@ -40,7 +40,7 @@ impl<'a, M> Noted<'a, M> {
 }
 
 impl<M: Marks> Marks for Noted<'_, M> {
-    // What is told is told to the marks behind it.
+    // What it hears, the marks behind it hear.
     ghost heard = { λ noted. M.heard noted.marks.now };
 
     ghost begun = { λ noted. M.begun noted.marks.now };

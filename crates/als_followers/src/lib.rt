@@ -19,7 +19,7 @@ mod node_log;
 mod serves;
 // A follower's seat in the quorum.
 mod seated;
-// What is told of followers.
+// Remarks on followers.
 mod notice;
 // The last notices, for who runs it.
 mod notices;

@@ -2,7 +2,7 @@ use als_record::Lsn;
 use als_ship::Fault;
 use std::net::IpAddr;
 
-/// What is told of a follower, to who runs the primary.
+/// A remark on a follower, for who runs the primary.
 #[derive(Clone, Copy)]
 pub struct Notice {
     pub peer: IpAddr,

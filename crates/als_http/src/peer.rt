@@ -1,3 +1,5 @@
+ghost use Rattle.std.specs.Prelude.{◌≡◌, IfOk};
+
 use crate::connections::Connections;
 use crate::limits::{CROWDED, LIFE, REQUEST, RESPONSE, SILENCE};
 use crate::turn::Turn;
@@ -34,11 +36,15 @@ impl<'a, S, C: Clock> Peer<'a, S, C> {
         }
     }
 
+    /// Whether the connection ends here, between two requests.
+    fn has_ended(&self, now: Duration) -> bool {
+        !self.turn.is_asking()
+            && (self.connections.is_closed()
+                || now.saturating_sub(self.begun) >= Duration::from_millis(LIFE))
+    }
+
     /// Whether the time of the peer is over, if it has been silent since then.
-    fn is_over(&self, since: Duration) -> bool {
-        let Ok(now) = self.clock.monotonic() else {
-            return true;
-        };
+    fn is_over(&self, since: Duration, now: Duration) -> bool {
         let patience = if self.connections.is_crowded() {
             CROWDED
         } else {
@@ -47,7 +53,17 @@ impl<'a, S, C: Clock> Peer<'a, S, C> {
         self.connections.is_closed()
             || now.saturating_sub(since) >= Duration::from_millis(patience)
             || self.turn.asking(now) >= REQUEST
-            || now.saturating_sub(self.begun) >= Duration::from_millis(LIFE)
+    }
+
+    /// What a read returns once the time of the peer is over: an error within a request, else the end.
+    fn ended(&self) -> io::Result<usize>
+        ensures { IfOk result (λ count. count ≡ 0) }
+    {
+        if self.turn.is_asking() {
+            Err(ErrorKind::TimedOut.into())
+        } else {
+            Ok(0)
+        }
     }
 }
 
@@ -60,24 +76,40 @@ pub(crate) fn is_late(e: &io::Error) -> bool {
 }
 
 impl<S: Read, C: Clock> Read for Peer<'_, S, C> {
-    /// Reads from the peer. 0 bytes once its time is over: it is treated as if it had hung up.
+    /// Reads from the peer: what has come is read before anybody asks for the time, since the node itself
+    /// may have stood still. Once the peer's time is over: between two requests 0 bytes, as if it had hung
+    /// up; within a request TimedOut.
     fn read(&mut self, into: &mut [u8]) -> io::Result<usize> {
-        let since = self.clock.monotonic()?;
-        self.turn.listen();
+        let mut since = self.clock.monotonic()?;
+        self.turn.listen(since);
+        if self.has_ended(since) {
+            return Ok(0);
+        }
         for _ in 0..u64::MAX {
-            if self.is_over(since) {
-                break;
-            }
-            match self.stream.read(into) {
+            let heard = self.stream.read(into);
+            let now = self.clock.monotonic()?;
+            match heard {
                 Ok(count) => {
-                    self.turn.ask(self.clock.monotonic()?);
-                    return Ok(count);
+                    self.turn.ask(now);
+                    // A peer that drips is never silent.
+                    return if self.turn.asking(now) < REQUEST {
+                        Ok(count)
+                    } else {
+                        Err(ErrorKind::TimedOut.into())
+                    };
                 }
-                Err(e) if is_late(&e) => {}
+                Err(e) if is_late(&e) => {
+                    if self.turn.look(now) {
+                        since = now;
+                    }
+                }
                 Err(e) => return Err(e),
             }
+            if self.is_over(since, now) {
+                break;
+            }
         }
-        Ok(0)
+        self.ended()
     }
 }
 

@@ -1,6 +1,6 @@
 use crate::connections::{Connections, peer_of};
 use crate::limits::{LEFTOVERS, RESPONSE, TICK};
-use crate::peer::Peer;
+use crate::peer::{Peer, is_late};
 use crate::spare::{attend, welcome};
 use crate::terms::Terms;
 use crate::turn::Turn;
@@ -10,6 +10,10 @@ use std::io::{Read, Write};
 use std::net::{OpenListener, OpenStream, Shutdown, SocketAddr};
 use std::time::{Clock, Duration};
 use std::{io, thread};
+
+/// The response to a request that is not whole in time. Nothing of it was done, and its peer may ask again.
+const LATE: &[u8] =
+    b"HTTP/1.1 408 Request Timeout\r\nconnection: close\r\ncontent-length: 0\r\n\r\n";
 
 /// Serves one connection after another, until the threads are to end. The listener does not block. A peer
 /// that already has a connection of every other thread becomes a guest: what it has sent is read, and it
@@ -77,7 +81,10 @@ fn serve_one<T: Read + Write + OpenStream + Drop, V: Service, C: Clock>(
     let mut writer = Peer::new(stream.try_clone()?, clock, connections, &turn, begun);
     let mut reader = Peer::new(stream, clock, connections, &turn, begun);
     let mut connection = Connection::new(alloc, terms.keys, terms.config);
-    serve(&mut connection, service, &mut reader, &mut writer)?;
+    match serve(&mut connection, service, &mut reader, &mut writer) {
+        Err(e) if turn.is_asking() && is_late(&e) => rest.write_all(LATE)?,
+        ended => ended?,
+    }
     linger(&mut rest)
 }
 

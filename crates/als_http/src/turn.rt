@@ -1,12 +1,17 @@
 use std::sync::atomic::{AtomicU64, Ordering};
 use std::time::Duration;
 
-/// When a peer began its request, and when its response began: milliseconds of the clock, plus 1; 0 for
-/// neither. The two ends of a stream share it.
+/// Milliseconds between two looks at a peer from which on the node itself stood still: each look is one
+/// tick after the last.
+const STILL: u64 = 1_000;
+
+/// When a peer began its request, when its response began, and when its thread last looked at it:
+/// milliseconds of the clock, plus 1; 0 for never. The two ends of a stream share it.
 #[derive(Drop)]
 pub(crate) struct Turn {
     asked: AtomicU64,
     answered: AtomicU64,
+    looked: AtomicU64,
 }
 
 impl Turn {
@@ -15,17 +20,38 @@ impl Turn {
         Turn {
             asked: AtomicU64::new(0),
             answered: AtomicU64::new(0),
+            looked: AtomicU64::new(0),
         }
     }
 
     /// A read begins: any response has been sent.
-    pub fn listen(&self) {
+    pub fn listen(&self, now: Duration) {
         self.answered.store(0, Ordering::SeqCst);
+        self.looked.store(stamp(now), Ordering::SeqCst);
+    }
+
+    /// The thread looks at its peer. Returns whether the node stood still since the last look, as a stopped
+    /// process or a busy machine does. That time is not taken from the peer's request.
+    pub fn look(&self, now: Duration) -> bool {
+        let still = since(&self.looked, now);
+        self.looked.store(stamp(now), Ordering::SeqCst);
+        let asked = self.asked.load(Ordering::SeqCst);
+        if still >= STILL && asked != 0 {
+            self.asked
+                .store(asked.saturating_add(still), Ordering::SeqCst);
+        }
+        still >= STILL
     }
 
     /// Bytes of a request came.
     pub fn ask(&self, now: Duration) {
+        self.look(now);
         begin(&self.asked, now);
+    }
+
+    /// Whether a part of a request has come, and not yet all of it.
+    pub fn is_asking(&self) -> bool {
+        self.asked.load(Ordering::SeqCst) != 0
     }
 
     /// Bytes of a response are sent: the request was whole.
@@ -52,10 +78,15 @@ pub(crate) fn millis(time: Duration) -> u64 {
         .saturating_add(u64::from(time.subsec_millis()))
 }
 
+/// What a cell has for a time.
+fn stamp(now: Duration) -> u64 {
+    millis(now).saturating_add(1)
+}
+
 /// Stores this time in the cell, unless it has an earlier one.
 fn begin(cell: &AtomicU64, now: Duration) {
     if cell.load(Ordering::SeqCst) == 0 {
-        cell.store(millis(now).saturating_add(1), Ordering::SeqCst);
+        cell.store(stamp(now), Ordering::SeqCst);
     }
 }
 

@@ -33,7 +33,7 @@ pub(crate) fn read_all_telling<D: BlockDisk, A: Advance>(
     Err(Fault::Memory)
 }
 
-/// Whether it is told how far a work has come, behind so many records.
+/// Whether a work reports how far it has come, after this many records.
 pub(crate) fn is_told(count: u64) -> bool {
     count % 1_024 == 0
 }

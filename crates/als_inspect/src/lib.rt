@@ -22,7 +22,7 @@ mod standing;
 mod getting;
 // The pages of a folder against its log.
 mod page_checking;
-// Nobody is told.
+// Nothing is printed.
 mod quiet;
 // What is not sound.
 mod unsound;

@@ -652,7 +652,7 @@ fn wanted(from: u64, trans: Option<u32>, page: Option<u32>) -> Wanted {
     }
 }
 
-/// The path that more is told of where the command is refused, if anything is.
+/// The path on which a refusal of the command says more, if there is one.
 fn told_of(command: Command<'_>, seen: bool) -> Option<&str> {
     let (path, explain) = match command {
         Command::Make { .. } | Command::Sim { .. } | Command::Ship { .. } => return None,

@@ -2,8 +2,8 @@ use als_fault::FaultKind;
 use std::io;
 use std::io::Write;
 
-/// Says in words that a standby's log or history is not that of the node which it was to follow, and
-/// what an operator does then.
+/// Says in words why a standby goes no further, and what an operator does then: its log or history is not
+/// that of the node which it was to follow, or its log has no room.
 pub fn tell<W: Write>(errors: &mut W, path: &str, kind: FaultKind) -> io::Result<()> {
     match kind {
         FaultKind::Diverged { seal } => writeln!(
@@ -17,6 +17,10 @@ pub fn tell<W: Write>(errors: &mut W, path: &str, kind: FaultKind) -> io::Result
         FaultKind::OtherLog => writeln!(
             errors,
             "als: {path}: the node that serves has another log: both have bytes at one offset, and they differ. One of the two lost what it had not forced, or was restored from a copy. Nothing of this folder has changed: keep it. Find the log that is right, by sha256= of als verify of both; then follow that one with an empty folder, or take over from this one"
+        ),
+        FaultKind::LogFull => writeln!(
+            errors,
+            "als: {path}: the log has no room for what comes next. What it holds is whole, and it may be taken over as it is. als grow makes it longer, and then als standby goes on; at 4194304 blocks, 2 GiB, als begin makes a new log of what the database holds, for a new primary and its standbys"
         ),
         _ => Ok(()),
     }

@@ -27,7 +27,7 @@ pub struct RedoLines<'a, W: Write, C> {
     seen: bool,
     pace: Pace,
     meter: Meter,
-    /// The work over bytes that was told last, and how much of it was done.
+    /// The work over bytes that was reported last, and how much of it was done.
     last: Option<(Work, u64)>,
     /// Whether it is said that nobody sends.
     tells_outages: bool,
@@ -254,7 +254,7 @@ impl<W: Write, C> Outages for RedoLines<'_, W, C> {
     fn nearly_full(&mut self, end: Lsn, capacity: u64) {
         let _ = writeln!(
             self.errors,
-            "als: the log has {} of the {capacity} bytes that its device takes: plan a folder with more --log-blocks",
+            "als: the log has {} of the {capacity} bytes that its device takes: als grow makes it longer; at 2147483648 bytes als begin makes a new log",
             end.0
         );
     }

@@ -68,7 +68,7 @@ impl<W: Write, C: Clock> Announces for ServingLines<'_, W, C> {
     fn nearly_full(&mut self, end: Lsn, capacity: u64) {
         let _ = writeln!(
             self.redo.errors(),
-            "als: the log has {} of the {capacity} bytes that its device takes: plan a folder with more --log-blocks",
+            "als: the log has {} of the {capacity} bytes that its device takes: als grow makes it longer; at 2147483648 bytes als begin makes a new log",
             end.0
         );
     }

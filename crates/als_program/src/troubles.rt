@@ -50,7 +50,7 @@ fn say<W: Write>(errors: &mut W, trouble: Trouble) -> io::Result<()> {
         Wrong::NoHeader => "the log's header is damaged, or that of another database",
         Wrong::BadRecord => "a record is damaged, or may not follow those in front of it",
         Wrong::Full => {
-            "the log has no room for more. Follow with an empty folder and more --log-blocks; at 4194304 of them, 2 GiB, this database takes no more: make a new one of the rows that als takeover prints"
+            "the log has no room for more: als grow makes it longer; at 4194304 blocks, 2 GiB, als begin makes a new log of what the database holds"
         }
         Wrong::BadControl => {
             "the control block or the checkpoint is damaged, or that of another log or page count"

@@ -27,7 +27,7 @@ use std::io::Write;
 use std::rt::Files;
 use std::sync::Wait;
 
-/// After so many records it is told how far the log was read.
+/// After this many records it reports how far the log was read.
 const TOLD_EACH: u64 = 1_024;
 
 /// A log that was read up to its mark.

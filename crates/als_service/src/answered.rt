@@ -4,7 +4,7 @@ use als_report::Board;
 use std::io;
 use std::io::Write;
 
-/// What a primary is told. The board records that a frame was acknowledged: the question of a session is
+/// What is answered to a primary. The board records that a frame was acknowledged: the question of a session is
 /// before any frame, and whatever is written after one is its acknowledgement.
 pub(crate) struct Answered<'a, O> {
     stream: O,
@@ -35,7 +35,7 @@ impl<'a, O> Answered<'a, O> {
 }
 
 impl<O: Write> Write for Answered<'_, O> {
-    // What the primary is told is what its stream is given.
+    // What is answered to the primary is what its stream is given.
     ghost contents = { λ answered. O.contents answered.stream };
 
     fn write(&mut self, bytes: &[u8]) -> io::Result<usize> {

@@ -54,7 +54,7 @@ impl<'a, I, C, N: Drop> Heard<'a, I, C, N> {
         self.is_silent
     }
 
-    /// The stream, and who is told.
+    /// The stream, and who prints.
     pub fn end(self) -> (I, Notices<N>) {
         let Heard {
             stream,

@@ -16,7 +16,7 @@ mod cascade;
 mod reporting;
 // A stream that tells a board when something came.
 mod heard;
-// What a primary is told.
+// What is answered to a primary.
 mod answered;
 // How long is waited before a primary is asked again.
 mod pause;

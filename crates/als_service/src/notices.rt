@@ -12,7 +12,7 @@ const HOUR: u64 = 3_600;
 /// After so many connections in a row over which nothing came it is reported that the primary hangs up.
 const HANG_UPS: u32 = 3;
 
-/// Who is told of a primary that is waited for, and of a log that is nearly full; and what was told, and when.
+/// Who prints that a primary is waited for, and that a log is nearly full; and what was printed, and when.
 #[derive(Drop)]
 pub(crate) struct Notices<N: Drop> {
     outages: N,
@@ -32,7 +32,7 @@ struct Minute {
 }
 
 impl<N: Drop> Notices<N> {
-    /// They are told from now on.
+    /// They print from now on.
     pub fn new(outages: N) -> Notices<N> {
         Notices {
             outages,

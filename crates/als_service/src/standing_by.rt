@@ -83,11 +83,21 @@ fn seats(readers: u64) -> u64 {
     }
 }
 
-/// Bytes that the log of a folder takes at most. None: its files can't be read.
-fn capacity_of<R: AllocGlobal + Files<File = File>>(rt: &R, folder: &Folder) -> Option<u64> {
-    let files = folder.open_to_read(rt).ok()?;
-    let sizes = files.sizes().ok()?;
-    Some(sizes.log.saturating_mul(BLOCK))
+/// Bytes that the log of a folder takes at most: of a database that is laid out once its primary has
+/// answered, those of this many blocks. None: the files of the folder can't be read.
+fn capacity_of<R: AllocGlobal + Files<File = File>>(
+    rt: &R,
+    folder: &Folder,
+    new_blocks: Option<u64>,
+) -> Option<u64> {
+    let blocks = match new_blocks {
+        Some(blocks) => blocks,
+        None => {
+            let files = folder.open_to_read(rt).ok()?;
+            files.sizes().ok()?.log
+        }
+    };
+    Some(blocks.saturating_mul(BLOCK))
 }
 
 /// Answers reads and follows, over a folder that is held.
@@ -122,7 +132,8 @@ fn stand<
         greeted,
     } = held;
     let (board, servers) = answer(rt, listener, readers)?;
-    if let Some(bytes) = capacity_of(rt, &folder) {
+    let new_blocks = is_new.then_some(following.log_blocks);
+    if let Some(bytes) = capacity_of(rt, &folder, new_blocks) {
         board.set_capacity(bytes);
     }
     let unkept = if is_new { Some(&folder) } else { None };

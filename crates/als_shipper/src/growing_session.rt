@@ -74,7 +74,7 @@ pub fn serve_growing<G: Growing, T: Read + Write + Drop, V: Visitors<T>, M: Meet
     }
 }
 
-/// Sends the log to the next who comes: what was told of that one, and how its session ended.
+/// Sends the log to the next who comes, and returns what that one acknowledged and how its session ended.
 fn send_next<G: Growing, T: Read + Write + Drop, V: Visitors<T>>(
     alloc: Global,
     log: &mut G,

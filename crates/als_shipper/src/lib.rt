@@ -39,7 +39,7 @@ mod meeting;
 mod shipping;
 // The log of a node as what is shipped.
 mod node_command;
-// What a session over a log that grows told of its follower.
+// What a session over a log that grows reports of its follower.
 mod sent;
 // The next who comes, to a log that may grow.
 mod growing_session;

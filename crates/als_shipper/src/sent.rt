@@ -4,7 +4,7 @@ ghost use Rattle.als_sending.specs.Accounts.{heard_of, begun_of};
 use als_record::Lsn;
 use als_sending::{Heard, Marks};
 
-/// What a session told of its follower.
+/// What a session reports of its follower.
 #[derive(Drop)]
 pub(crate) struct Sent {
     /// Whether the follower asked for the log, and was admitted.

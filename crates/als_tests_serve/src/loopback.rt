@@ -132,7 +132,7 @@ fn a_silent_peer_gives_way(rt: HostRuntime) -> Result<(), Fail> {
     assert!(rt; text.as_str().starts_with("HTTP/1.1 200 "));
     // The part of a request is refused where its time is over.
     let refused = io::read_to_string(alloc, silent)?;
-    assert!(rt; refused.as_str().starts_with("HTTP/1.1 400 "));
+    assert!(rt; refused.as_str().starts_with("HTTP/1.1 408 "));
     // A peer that keeps its connection does not keep the thread from its end.
     let kept = TcpStream::connect(&rt, at)?;
     thread::sleep(&rt, Duration::from_millis(50));

@@ -82,7 +82,7 @@ pub(crate) fn feed_plan<E: Writes>(
     }
 }
 
-/// What is told of a plan that is in the log.
+/// What is returned of a plan that is in the log.
 fn told_of(planned: &Plan) -> Written
     ensures { result ≡ record {
       trans = planned.now.trans;
