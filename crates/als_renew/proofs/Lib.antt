@@ -1,5 +1,3 @@
-mod Before
-mod Behind
 mod Doubts
 mod Fitting
 mod Generations

@@ -18,8 +18,6 @@
 
 // Why no log is begun.
 mod fault;
-// Where the next record of a transaction stands.
-mod place;
 // The records of one page.
 mod page;
 // The new log.

@@ -8,14 +8,14 @@ ghost use Rattle.als_record.specs.Images.{image_now};
 ghost use Rattle.als_record.specs.Validity.{is_valid};
 ghost use Rattle.als_writing.specs.Writing.{Writes, moved, is_new};
 ghost use Rattle.als_lookback.specs.Seen.{IsSeenOf};
-ghost use Rattle.als_renew.specs.Placing.{IsPlaceOf, SoFar};
+ghost use Rattle.als_writing.specs.Placing.{IsPlaceOf, SoFar};
 ghost use Rattle.als_renew.specs.Pages.{write_at, key_at, page_writes, value_in, IsUnwritten, SpellsPage};
 ghost use Rattle.als_renew.specs.Refusals.{IsOfOutput};
 
 use crate::fault::Fault;
-use crate::place::Place;
 use als_lookback::Seen;
 use als_record::{Body, Image, Key, Lsn, SLOT_COUNT, TransId};
+use als_writing::Place;
 use std::alloc::Global;
 
 /// The most bytes of the records of a page: 15 updates, a commit and an end.

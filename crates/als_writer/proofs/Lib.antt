@@ -1,6 +1,4 @@
 pub mod Checked
-pub mod Behind
-pub mod Before
 pub mod Spelt
 pub mod Roomy
 pub mod Reread

@@ -1,61 +1,13 @@
--- How far a transaction is spelled: the bytes of its moves up to here, and the place behind them.
-use Rattle.std.proofs.Common.{◌≡◌, ℕ, ◌+◌, ◌<◌, List, [], ◌∷◌, ◌++◌, length, map, take, get_or, refl, sym, ap, ◌∙◌, subst, append_assoc, append-nil}
+-- The moves of writes, one after another, and those of a transaction that prepares.
+use Rattle.std.proofs.Common.{◌≡◌, ℕ, ◌+◌, ◌<◌, List, [], ◌∷◌, ◌++◌, length, map, take, get_or, refl, sym, ap, ◌∙◌}
 use Rattle.std.proofs.lemmas.List.{take_more, map-append}
 use Rattle.als_record.specs.declared.record.Record.{Record}
-use Rattle.als_record.specs.Spelling.{spelling, record_len}
-use Rattle.als_record.specs.LogText.{spellings, end_of}
 use Rattle.als_record.specs.Commits.{Write}
-use Rattle.als_record.proofs.LogLaws.{spellings-nil, spellings_push}
-use Rattle.als_record.proofs.Places.{end_of-push}
-use Rattle.als_writing.specs.Writing.{Move, Writes, Commits, Ends, Prepares, record_for, moved, updates, transaction, prepared}
-use Rattle.als_writing.proofs.Moved.{moved-push}
-use Rattle.als_writer.specs.declared.place.Place.{Place}
-use Rattle.als_writer.specs.Placing.{IsPlaceOf}
-
-pub record SoFar (log : List Record) (t : ℕ) (done : List Move) (piece : List ℕ) (place : Place) : Type 0 where
-  pub spelled : piece ≡ spellings (moved log t done)
-  pub behind : IsPlaceOf place (log ++ moved log t done)
-
-pub SoFar-none : (log : List Record) (t : ℕ) (piece : List ℕ) (place : Place) → piece ≡ [] → IsPlaceOf place log → SoFar log t [] piece place
-unfolding moved
-SoFar-none log t piece place e p = record {
-  spelled = e ∙ sym spellings-nil;
-  behind = subst (IsPlaceOf place) (sym (append-nil log)) p;
-}
-
--- one more move
-pub Spelled-more : (log : List Record) (t : ℕ) (done : List Move) (piece after : List ℕ) (move : Move) → piece ≡ spellings (moved log t done) → after ≡ piece ++ spelling (record_for (log ++ moved log t done) t move) → after ≡ spellings (moved log t (done ++ move ∷ []))
-Spelled-more log t done piece after move s e =
-    let r : Record = record_for (log ++ moved log t done) t move in
-    e ∙ ap (λ (b : List ℕ). b ++ spelling r) s ∙ sym (spellings_push (moved log t done) r) ∙ ap spellings (sym (moved-push log t done move))
-
-pub SoFar-more : (log : List Record) (t : ℕ) (done : List Move) (piece after : List ℕ) (place next : Place) (move : Move) → SoFar log t done piece place → after ≡ piece ++ spelling (record_for (log ++ moved log t done) t move) → IsPlaceOf next ((log ++ moved log t done) ++ record_for (log ++ moved log t done) t move ∷ []) → SoFar log t (done ++ move ∷ []) after next
-SoFar-more log t done piece after place next move s e n =
-    let r : Record = record_for (log ++ moved log t done) t move in
-    record {
-      spelled = Spelled-more log t done piece after move s.spelled e;
-      behind = subst (IsPlaceOf next) (append_assoc log (moved log t done) (r ∷ []) ∙ ap (λ (more : List Record). log ++ more) (sym (moved-push log t done move))) n;
-    }
+use Rattle.als_writing.specs.Writing.{Writes, Prepares, moved, prepared}
 
 pub take-writes : (ws : List Write) (i : ℕ) (w : Write) → i < length ws → w ≡ get_or ws i w → map Writes (take (i + 1) ws) ≡ map Writes (take i ws) ++ Writes w ∷ []
 take-writes ws i w lt e = ap (map Writes) (take_more ws i w lt ∙ ap (λ x. take i ws ++ x ∷ []) (sym e)) ∙ map-append Writes (take i ws) (w ∷ [])
 
-pub all-updates : (log : List Record) (t : ℕ) (ws : List Write) → moved log t (map Writes ws) ≡ updates log t ws
-unfolding updates
-all-updates log t ws = refl
-
-pub whole-transaction : (log : List Record) (t : ℕ) (ws : List Write) → moved log t ((map Writes ws ++ Commits ∷ []) ++ Ends ∷ []) ≡ transaction log t ws
-unfolding transaction
-whole-transaction log t ws = ap (moved log t) (append_assoc (map Writes ws) (Commits ∷ []) (Ends ∷ []))
-
 pub whole-prepared : (log : List Record) (t : ℕ) (ws : List Write) → moved log t (map Writes ws ++ Prepares ∷ []) ≡ prepared log t ws
 unfolding prepared
 whole-prepared log t ws = refl
-
--- where the moves end with one more
-pub end_of-more : (log : List Record) (t : ℕ) (done : List Move) (move : Move) → end_of (log ++ moved log t (done ++ move ∷ [])) ≡ end_of (log ++ moved log t done) + record_len (record_for (log ++ moved log t done) t move)
-end_of-more log t done move =
-    let r : Record = record_for (log ++ moved log t done) t move in
-    ap (λ (more : List Record). end_of (log ++ more)) (moved-push log t done move)
-    ∙ ap end_of (sym (append_assoc log (moved log t done) (r ∷ [])))
-    ∙ end_of-push (log ++ moved log t done) r

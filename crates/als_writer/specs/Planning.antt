@@ -6,14 +6,14 @@ use Rattle.als_record.specs.Validity.{IsValidLog}
 use Rattle.als_record.specs.Commits.{Write}
 use Rattle.als_record.specs.Tail.{tail_of, reserve_of}
 use Rattle.als_writing.specs.Writing.{updates, room_for, is_new, MayWrite}
+use Rattle.als_writing.specs.declared.place.Place.{Place}
+use Rattle.als_writing.specs.Placing.{IsPlaceOf}
 use Rattle.als_engine.specs.Machine.{Machine}
 use Rattle.als_engine.specs.Refusals.{feed_refusal}
 use Rattle.als_writer.specs.declared.closing.Closing.{Closing}
-use Rattle.als_writer.specs.declared.place.Place.{Place}
 use Rattle.als_writer.specs.declared.planning.Plan.{Plan}
 use Rattle.als_writer.specs.declared.transaction.Transaction.{Transaction}
 use Rattle.als_writer.specs.Closing.{records_for, extra_of}
-use Rattle.als_writer.specs.Placing.{IsPlaceOf}
 
 -- no part of a record waits, and nothing is owed to the log
 pub record IsTidy (m : Machine) : Type 0 where

@@ -33,8 +33,6 @@ mod asking;
 mod unmet;
 // How its records close.
 mod closing;
-// Where its next record stands.
-mod place;
 // The room that it takes.
 mod room;
 // Its records as bytes.

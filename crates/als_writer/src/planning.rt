@@ -12,7 +12,6 @@ use crate::asking::{befores_of, first_unmet};
 use crate::changes::Changes;
 use crate::checking::find_flaw;
 use crate::closing::Closing;
-use crate::place::Place;
 use crate::refusal::Refusal;
 use crate::room::room;
 use crate::set::Set;
@@ -20,6 +19,7 @@ use crate::spelling::spell;
 use crate::transaction::Transaction;
 use als_engine::Writes;
 use als_record::{KeptImage, Lsn, TRANSACTION_LIMIT, TransId};
+use als_writing::Place;
 use std::alloc::Global;
 
 /// The log keeps this distance to 2^64 bytes, which is more than a transaction's records take.

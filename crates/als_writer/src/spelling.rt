@@ -4,14 +4,15 @@ ghost use Rattle.als_record.specs.Spelling.{body_len};
 ghost use Rattle.als_record.specs.declared.record.Body.TheVariants.{Update};
 ghost use Rattle.als_record.specs.LogText.{spellings, end_of};
 ghost use Rattle.als_writing.specs.Writing.{updates};
+ghost use Rattle.als_writing.specs.Placing.{IsPlaceOf};
 ghost use Rattle.als_writer.specs.Closing.{records_for};
-ghost use Rattle.als_writer.specs.Placing.{IsPlaceOf, AreBefores};
+ghost use Rattle.als_writer.specs.Placing.{AreBefores};
 ghost use Rattle.als_writer.specs.Checking.{AreApart};
 
 use crate::closing::Closing;
-use crate::place::Place;
 use crate::set::Set;
 use als_record::{Body, Fault, KeptImage, Lsn};
+use als_writing::Place;
 use std::alloc::Global;
 
 /// The records of a transaction as bytes of the log.

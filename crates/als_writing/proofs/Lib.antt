@@ -15,4 +15,7 @@ pub mod Owed
 pub mod LastWrites
 pub mod Preparing
 pub mod Doubting
+pub mod Before
+mod Behind
+pub mod Spelt
 mod Worked

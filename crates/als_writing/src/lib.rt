@@ -6,6 +6,7 @@
 //! 2. A transaction may begin with a number above all of the log, where fewer than 256 transactions
 //!    are unended and no other open transaction holds a key that it sets.
 //! 3. Each law is the contract of a function that does nothing.
+//! 4. A `Place` spells the records of one transaction, one behind another.
 #![tactic(auto)]
 
 // One record of a transaction, also where others write between its records.
@@ -20,9 +21,12 @@ mod stopped;
 mod unchanged;
 // All records of a transaction, which follow one another.
 mod laws;
+// Where the next one stands, and its bytes.
+mod place;
 
 pub use laws::{rollback_follows, transaction_commits, transaction_follows};
 pub use moves::{moves_follow, moves_leave_others};
+pub use place::Place;
 pub use prepared::{a_prepared_transaction_keeps_its_writes, prepared_fits, prepared_follows};
 pub use room::{room_is_a_sum, transaction_fits};
 pub use stopped::tail_ends_a_transaction;

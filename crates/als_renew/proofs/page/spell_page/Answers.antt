@@ -5,9 +5,10 @@ use Rattle.als_record.specs.LogText.{spellings, end_of}
 use Rattle.als_record.specs.Commits.{Write}
 use Rattle.als_record.proofs.LogLaws.{spellings-nil}
 use Rattle.als_writing.specs.Writing.{Move, Writes, Commits, Ends, moved}
-use Rattle.als_renew.specs.Placing.{SoFar}
+use Rattle.als_writing.specs.Placing.{SoFar}
 use Rattle.als_renew.specs.Pages.{page_writes, value_in}
-use Rattle.als_renew.proofs.Spelt.{page-none, page-some, nothing-written, committed, ended, end_len, end_of-more, whole-transaction, moved-nothing}
+use Rattle.als_writing.proofs.Spelt.{committed, ended, end_len, end_of-more, whole-transaction}
+use Rattle.als_renew.proofs.Spelt.{page-none, page-some, nothing-written, moved-nothing}
 use Rattle.als_renew.proofs.page.spell_page.Goals as goal
 
 pub returns-then-count-eq0-clause-piece : goal.returns-then-count-eq0-clause-piece

@@ -6,7 +6,7 @@ use Rattle.als_record.specs.LogText.{spellings}
 use Rattle.als_record.specs.Commits.{Write}
 use Rattle.als_record.proofs.LogLaws.{spellings-nil}
 use Rattle.als_writing.specs.Writing.{Writes, body_for, record_for, moved}
-use Rattle.als_renew.specs.Placing.{IsPlaceOf}
+use Rattle.als_writing.specs.Placing.{IsPlaceOf}
 use Rattle.als_renew.specs.Pages.{write_at}
 use Rattle.als_renew.proofs.Spelt.{write_at-none, write_at-some, moved-nothing, moved-one, spellings-one}
 use Rattle.als_renew.proofs.page.spell_value.Goals as goal

@@ -9,11 +9,12 @@ use Rattle.als_record.specs.Images.{image_now}
 use Rattle.als_record.specs.Commits.{Write}
 use Rattle.als_writing.specs.Writing.{Move, Writes, moved}
 use Rattle.als_lookback.specs.Seen.{IsSeenOf}
-use Rattle.als_renew.specs.Placing.{IsPlaceOf, SoFar}
+use Rattle.als_writing.specs.Placing.{IsPlaceOf, SoFar}
 use Rattle.als_renew.specs.Pages.{key_at, write_at, page_writes, value_in}
-use Rattle.als_renew.proofs.Before.{image_now-moved}
+use Rattle.als_writing.proofs.Before.{image_now-moved}
 use Rattle.als_renew.proofs.PageWrites.{none-later, all_images-more}
-use Rattle.als_renew.proofs.Spelt.{SoFar-none, SoFar-append}
+use Rattle.als_writing.proofs.Spelt.{SoFar-none}
+use Rattle.als_renew.proofs.Spelt.{SoFar-append}
 use Rattle.als_renew.proofs.page.spell_values.Goals as goal
 
 pub loop-slot-init : goal.loop-slot-init

@@ -5,7 +5,7 @@ use Rattle.als_record.specs.Spelling.{IsImage}
 use Rattle.als_record.specs.Images.{image_now}
 use Rattle.als_writing.specs.Writing.{Writes}
 use Rattle.als_lookback.specs.Seen.{IsSeenOf}
-use Rattle.als_renew.specs.Placing.{IsPlaceOf, SoFar}
+use Rattle.als_writing.specs.Placing.{IsPlaceOf, SoFar}
 use Rattle.als_renew.specs.Pages.{key_at, page_writes, value_in}
 use Rattle.als_renew.proofs.page.spell_values.Given as goal
 

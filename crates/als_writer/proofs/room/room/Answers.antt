@@ -7,7 +7,7 @@ use Rattle.als_record.specs.Spelling.{Image, image_len, IsImage}
 use Rattle.als_record.specs.Images.{image_now}
 use Rattle.als_record.specs.Commits.{Write}
 use Rattle.als_writing.specs.Writing.{Writes, moved, room_for}
-use Rattle.als_writer.proofs.Before.{image_now-moved}
+use Rattle.als_writing.proofs.Before.{image_now-moved}
 use Rattle.als_writer.proofs.Roomy.{room_for-none, room_for-more}
 use Rattle.als_writer.proofs.room.room.Goals as goal
 

@@ -7,12 +7,13 @@ use Rattle.als_record.specs.LogText.{spellings, end_of}
 use Rattle.als_record.specs.Images.{image_now}
 use Rattle.als_record.specs.Commits.{Write}
 use Rattle.als_writing.specs.Writing.{Move, Writes, Commits, Ends, Prepares, body_for, record_for, moved, updates}
+use Rattle.als_writing.specs.declared.place.Place.{Place}
+use Rattle.als_writing.specs.Placing.{IsPlaceOf, SoFar}
+use Rattle.als_writing.proofs.Before.{image_now-moved}
+use Rattle.als_writing.proofs.Spelt.{SoFar-none, SoFar-more, Spelled-more, all-updates, whole-transaction, end_of-more, committed, ended, end_len}
 use Rattle.als_writer.specs.declared.closing.Closing.{Closing}
-use Rattle.als_writer.specs.declared.place.Place.{Place}
 use Rattle.als_writer.specs.Closing.{records_for}
-use Rattle.als_writer.specs.Placing.{IsPlaceOf}
-use Rattle.als_writer.proofs.Before.{image_now-moved}
-use Rattle.als_writer.proofs.Spelt.{SoFar, SoFar-none, SoFar-more, Spelled-more, take-writes, all-updates, whole-transaction, whole-prepared, end_of-more}
+use Rattle.als_writer.proofs.Spelt.{take-writes, whole-prepared}
 use Rattle.als_writer.proofs.spelling.spell.Goals as goal
 
 pub loop-i-init : goal.loop-i-init
@@ -53,22 +54,6 @@ loop-i-preserved c =
 -- all updates are spelled
 updated : (log : List AnyRecord) (t : ℕ) (ws : List Write) (i : ℕ) (piece : List ℕ) (place : Place) → length ws ≤ i → SoFar log t (map Writes (take i ws)) piece place → SoFar log t (map Writes ws) piece place
 updated log t ws i piece place over h = subst (λ (vs : List Write). SoFar log t (map Writes vs) piece place) (take_all i ws over) h
-
--- the commit too
-committed : (log : List AnyRecord) (t : ℕ) (done : List Move) (piece after : List ℕ) (place next : Place) → place.trans.0 ≡ t → SoFar log t done piece place → after ≡ piece ++ spelling (record_for (log ++ moved log t done) place.trans.0 Commits) → IsPlaceOf next ((log ++ moved log t done) ++ record_for (log ++ moved log t done) place.trans.0 Commits ∷ []) → SoFar log t (done ++ Commits ∷ []) after next
-committed log t done piece after place next same h e n =
-    SoFar-more log t done piece after place next Commits h
-    (e ∙ ap (λ (x : ℕ). piece ++ spelling (record_for (log ++ moved log t done) x Commits)) same)
-    (subst (λ (x : ℕ). IsPlaceOf next ((log ++ moved log t done) ++ record_for (log ++ moved log t done) x Commits ∷ [])) same n)
-
--- and the end
-ended : (log : List AnyRecord) (t : ℕ) (done : List Move) (piece after : List ℕ) (place : Place) → place.trans.0 ≡ t → SoFar log t done piece place → after ≡ piece ++ spelling (record_for (log ++ moved log t done) place.trans.0 Ends) → after ≡ spellings (moved log t (done ++ Ends ∷ []))
-ended log t done piece after place same h e =
-    Spelled-more log t done piece after Ends h.spelled (e ∙ ap (λ (x : ℕ). piece ++ spelling (record_for (log ++ moved log t done) x Ends)) same)
-
-end_len : (log : List AnyRecord) (t : ℕ) → record_len (record_for log t Ends) ≡ 28
-unfolding record_len
-end_len log t = refl
 
 prepare_len : (log : List AnyRecord) (t : ℕ) → record_len (record_for log t Prepares) ≡ 28
 unfolding record_len

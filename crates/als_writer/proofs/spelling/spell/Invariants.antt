@@ -1,9 +1,9 @@
 use Rattle.std.proofs.Common.{◌≡◌, ◌+◌, ◌*◌, ◌≤◌, List, map, take}
 use Rattle.als_record.specs.declared.record.Record.{Record as AnyRecord}
 use Rattle.als_writing.specs.Writing.{Writes}
-use Rattle.als_writer.specs.Placing.{IsPlaceOf, AreBefores}
+use Rattle.als_writing.specs.Placing.{IsPlaceOf, SoFar}
+use Rattle.als_writer.specs.Placing.{AreBefores}
 use Rattle.als_writer.specs.Checking.{AreApart}
-use Rattle.als_writer.proofs.Spelt.{SoFar}
 use Rattle.als_writer.proofs.spelling.spell.Given as goal
 
 abbrev pub invariant-loop-i : goal.invariant-loop-i

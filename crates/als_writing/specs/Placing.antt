@@ -5,7 +5,7 @@ use Rattle.als_record.specs.LogText.{spellings, end_of}
 use Rattle.als_record.specs.Transactions.{has_ended}
 use Rattle.als_record.specs.Validity.{prev_of}
 use Rattle.als_writing.specs.Writing.{Move, moved}
-use Rattle.als_renew.specs.declared.place.Place.{Place}
+use Rattle.als_writing.specs.declared.place.Place.{Place}
 
 -- the place behind a log for a transaction that has not ended
 pub record IsPlaceOf (place : Place) (log : List Record) : Type 0 where

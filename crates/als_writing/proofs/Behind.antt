@@ -11,8 +11,8 @@ use Rattle.als_record.proofs.Records.{has_ended-own, has_ended-none, is_unended-
 use Rattle.als_record.proofs.Places.{end_of-push}
 use Rattle.als_writing.specs.Writing.{is_new}
 use Rattle.als_writing.proofs.Going.{IsNew, IsNew-is_new}
-use Rattle.als_renew.specs.declared.place.Place.{Place}
-use Rattle.als_renew.specs.Placing.{IsPlaceOf}
+use Rattle.als_writing.specs.declared.place.Place.{Place}
+use Rattle.als_writing.specs.Placing.{IsPlaceOf}
 
 -- the place behind a record that is no end
 module _ (place : Place) (log : List Record) (body : Body) (n : ℕ) where

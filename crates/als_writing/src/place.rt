@@ -5,13 +5,13 @@ ghost use Rattle.als_record.specs.LogText.{end_of};
 ghost use Rattle.als_record.specs.Transactions.{is_transactional, is_end};
 ghost use Rattle.als_record.specs.Validity.{is_valid};
 ghost use Rattle.als_writing.specs.Writing.{Move, body_for, record_for, is_new};
-ghost use Rattle.als_renew.specs.Placing.{IsPlaceOf};
+ghost use Rattle.als_writing.specs.Placing.{IsPlaceOf};
 
 use als_record::{Body, Fault, Lsn, Record, TransId, encode, encoded_len};
 
 /// Where a transaction's next record stands behind a log.
 #[derive(Clone, Copy)]
-pub(crate) struct Place {
+pub struct Place {
     /// The log's end.
     pub end: Lsn,
     /// The transaction's last record, 0 before the first.
