@@ -8,7 +8,15 @@ use als_ship::Fault as SessionFault;
 use std::fs::File;
 use std::net::{Net, OpenStream};
 use std::rt::Files;
-use std::time::Clock;
+use std::thread;
+use std::time::{Clock, Duration};
+
+/// How often a primary is asked that hangs up on the question. One that has just begun, or has no place, does
+/// so too, and may take a session a moment later.
+const ASKED: u32 = 3;
+
+/// Milliseconds between two questions.
+const PAUSE: u64 = 200;
 
 /// Whether a primary answered what log it has.
 #[derive(Clone, Copy, Debug, PartialEq, Eq)]
@@ -71,9 +79,10 @@ impl<C: Clock> Comparing<C> {
     /// Asks the primary, over a connection of its own, whether its log is the one that is acknowledged here.
     /// Where nothing is, it is not asked. One that does not answer is followed all the same.
     ///
-    /// OtherLog: it has another one. Stream: there was no connection, or the own log can't be read. Memory:
+    /// OtherLog: it has another one. Gap: it has less of one, and no session begins: by then it could have
+    /// more, which nobody compared. Stream: there was no connection, or the own log can't be read. Memory:
     /// there was none to read it.
-    pub fn compare<R: AllocGlobal + Files<File = File> + Net>(
+    pub fn compare<R: AllocGlobal + Files<File = File> + Net + Clock>(
         &mut self,
         rt: &R,
         following: Following<'_>,
@@ -81,14 +90,13 @@ impl<C: Clock> Comparing<C> {
         let Some(question) = self.question(rt, following)? else {
             return Ok(());
         };
-        let mut writer = dial(rt, following)?;
-        let mut reader = writer.try_clone()?;
-        match ask(&question, &mut reader, &mut writer) {
-            Ok(Verdict::Other) => return Err(Fault::OtherLog),
-            Ok(Verdict::Same | Verdict::Shorter | Verdict::Parted) => self.note(true),
-            Err(_) => self.note(false),
+        let verdict = verdict_on(rt, following, &question)?;
+        self.note(verdict.is_some());
+        match verdict {
+            Some(Verdict::Other) => Err(Fault::OtherLog),
+            Some(Verdict::Shorter) => Err(Fault::Session(SessionFault::Gap)),
+            Some(Verdict::Same | Verdict::Parted) | None => Ok(()),
         }
-        Ok(())
     }
 
     /// What the primary is asked. None: no record is acknowledged.
@@ -115,4 +123,23 @@ impl<C: Clock> Comparing<C> {
             Err(_) => Err(Fault::Stream),
         }
     }
+}
+
+/// What the primary answers to the question. None: it hangs up, each time.
+fn verdict_on<R: AllocGlobal + Net + Clock>(
+    rt: &R,
+    following: Following<'_>,
+    question: &Summary,
+) -> Result<Option<Verdict>, Fault> {
+    for asked in 0..ASKED {
+        if asked > 0 {
+            thread::sleep(rt, Duration::from_millis(PAUSE));
+        }
+        let mut writer = dial(rt, following)?;
+        let mut reader = writer.try_clone()?;
+        if let Ok(verdict) = ask(question, &mut reader, &mut writer) {
+            return Ok(Some(verdict));
+        }
+    }
+    Ok(None)
 }
