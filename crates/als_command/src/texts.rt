@@ -246,8 +246,9 @@ Redoes what was not redone, undoes what a crash left in mid-transaction, and ans
     A key is page P, slot S (0 to 14); a value is up to 31 bytes in hexadecimal, null is none.
     All comparisons hold and all is set, or nothing is; `if` may be left out.
     200 {\"trans\":T,\"lsn\":L}: it is durable. 409: a comparison does not hold, or another
-    transaction holds a key. 400, 413: no transaction. 503: nothing was written, ask again.
-    504: it may be written or not. 507: the log has no room.
+    transaction holds a key. 400, 413: no transaction. 408, 503: nothing was written, ask again;
+    408: the request was not whole after 5 s. 504: it may be written or not. 507: the log has no
+    room.
   POST /prepare           the same, but it is in doubt, and holds its keys, until it is decided
   POST /decide            {\"trans\":T,\"commit\":true} commits T, false rolls it back; 404: not in doubt
   GET /in-doubt           [{\"trans\":T,\"lsn\":L}]: the transactions in doubt
@@ -373,7 +374,8 @@ Writes standard output: a line
   phase=F pages=N end=E ack=A checkpoint=Q behind=B transactions=T capacity=C left=L
 with F Following, Sealed or Primary; E, where the held log ends; A, up to where no crash can
 lose it; Q, where the log ended at the last checkpoint, 0 without one; B, the bytes of log that
-a restart redoes; C, the bytes that the log takes at most; and L, those that it still takes.
+a restart redoes; C, the bytes that the log takes at most; and L, those that are left, with the room
+that is kept for a takeover.
 After takeovers a line `epoch N seals S ..`; of a primary's folder a line `role primary epoch=N`.
 Then a line for each unended transaction, in rising TransID:
   trans T STATE last=L undo=U      (STATE active, prepared, committed or rollback)
