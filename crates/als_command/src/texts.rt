@@ -158,9 +158,10 @@ Exit statuses: 0 done, 2 a fault of the command line, 3 `als: refused N Name`:
   34  DIR has a database of another number of pages, or a damaged one (1, 33 too)
   37  N is not 1 to 4,096, B not 1 to 4,194,304, a number of threads not 0 to 8 or 1 to 8, a
       window not 1 to 64, or ADDRS no addresses; no file was touched
-  40, 41 what came is no frame that may come
-  43  the primary went away; it does so too where its log is another or a shorter one, or has
-      another number of pages than N
+  40, 41 what came is no frame that may come; with --serve, --keep or --listen 40 is also: the
+      primary's log is shorter than that in DIR
+  43  the primary went away; it does so too where it has another number of pages than N, and,
+      without --serve, --keep and --listen, where its log is another or a shorter one
   44  nobody serves at ADDR, the network or standard output failed, or the primary was
       silent for longer than SECONDS: run it again
   42  the log in DIR goes past the takeover of the node that serves: the two parted there

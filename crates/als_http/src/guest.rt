@@ -1,3 +1,4 @@
+use crate::limits::STILL;
 use crate::numbers::number;
 use crate::peer::is_late;
 use std::alloc::Global;
@@ -20,6 +21,8 @@ pub(crate) struct Guest<T> {
     limit: usize,
     /// When it connected, by the clock.
     begun: Duration,
+    /// When its thread last looked at it.
+    looked: Duration,
     is_answered: bool,
 }
 
@@ -30,6 +33,7 @@ impl<T: Drop> Drop for Guest<T> {
             said,
             limit: _,
             begun: _,
+            looked: _,
             is_answered: _,
         } = self;
         drop(stream);
@@ -55,11 +59,21 @@ impl<T> Guest<T> {
             said: Vec::new(alloc),
             limit,
             begun,
+            looked: begun,
             is_answered: false,
         }
     }
 
-    /// How long it has been connected.
+    /// The thread looks at it. Time in which the node itself stood still is not taken from it.
+    pub fn look(&mut self, now: Duration) {
+        let still = now.saturating_sub(self.looked);
+        if still >= Duration::from_millis(STILL) {
+            self.begun = self.begun.saturating_add(still);
+        }
+        self.looked = now;
+    }
+
+    /// How long it has been connected, less the time in which the node stood still.
     pub fn age(&self, now: Duration) -> Duration {
         now.saturating_sub(self.begun)
     }

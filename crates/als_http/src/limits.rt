@@ -25,6 +25,10 @@ pub(crate) const NAP: u64 = 5;
 /// Milliseconds after which a read of a silent peer checks whether it has to end.
 pub(crate) const TICK: u64 = 200;
 
+/// Milliseconds between two looks at a peer from which on the node itself stood still: each look is one
+/// tick after the last.
+pub(crate) const STILL: u64 = 1_000;
+
 /// Milliseconds after which a silent peer is dropped.
 pub(crate) const SILENCE: u64 = 10_000;
 

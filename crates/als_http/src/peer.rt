@@ -123,7 +123,12 @@ impl<S: Write, C: Clock> Write for Peer<'_, S, C> {
         if self.turn.answering(now) >= RESPONSE {
             return Err(ErrorKind::TimedOut.into());
         }
-        self.stream.write(bytes)
+        let written = self.stream.write(bytes);
+        // However long the peer took for these bytes, the node did not stand still.
+        if let Ok(now) = self.clock.monotonic() {
+            self.turn.rest(now);
+        }
+        written
     }
 
     fn flush(&mut self) -> io::Result<()> {

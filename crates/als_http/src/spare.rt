@@ -88,6 +88,7 @@ pub(crate) fn attend<T: Read + Write + OpenStream + Drop, V: Service>(
     let mut left = Vec::new(alloc);
     for guest in guests {
         let mut guest = guest;
+        guest.look(now);
         let heard = guest.hear();
         let stays = match heard {
             Heard::All => answer(alloc, &mut guest, service, terms).is_ok(),

@@ -1,9 +1,6 @@
+use crate::limits::STILL;
 use std::sync::atomic::{AtomicU64, Ordering};
 use std::time::Duration;
-
-/// Milliseconds between two looks at a peer from which on the node itself stood still: each look is one
-/// tick after the last.
-const STILL: u64 = 1_000;
 
 /// When a peer began its request, when its response began, and when its thread last looked at it:
 /// milliseconds of the clock, plus 1; 0 for never. The two ends of a stream share it.
@@ -31,16 +28,20 @@ impl Turn {
     }
 
     /// The thread looks at its peer. Returns whether the node stood still since the last look, as a stopped
-    /// process or a busy machine does. That time is not taken from the peer's request.
+    /// process or a busy machine does. That time is not taken from the peer.
     pub fn look(&self, now: Duration) -> bool {
         let still = since(&self.looked, now);
-        self.looked.store(stamp(now), Ordering::SeqCst);
-        let asked = self.asked.load(Ordering::SeqCst);
-        if still >= STILL && asked != 0 {
-            self.asked
-                .store(asked.saturating_add(still), Ordering::SeqCst);
+        self.rest(now);
+        if still >= STILL {
+            put_off(&self.asked, still);
+            put_off(&self.answered, still);
         }
         still >= STILL
+    }
+
+    /// The thread turns away from its peer: what the peer took until now is the peer's own time.
+    pub fn rest(&self, now: Duration) {
+        self.looked.store(stamp(now), Ordering::SeqCst);
     }
 
     /// Bytes of a request came.
@@ -57,6 +58,7 @@ impl Turn {
     /// Bytes of a response are sent: the request was whole.
     pub fn answer(&self, now: Duration) {
         self.asked.store(0, Ordering::SeqCst);
+        self.look(now);
         begin(&self.answered, now);
     }
 
@@ -87,6 +89,14 @@ fn stamp(now: Duration) -> u64 {
 fn begin(cell: &AtomicU64, now: Duration) {
     if cell.load(Ordering::SeqCst) == 0 {
         cell.store(stamp(now), Ordering::SeqCst);
+    }
+}
+
+/// Makes the time in the cell later by so many milliseconds, if it has one.
+fn put_off(cell: &AtomicU64, millis: u64) {
+    let then = cell.load(Ordering::SeqCst);
+    if then != 0 {
+        cell.store(then.saturating_add(millis), Ordering::SeqCst);
     }
 }
 
