@@ -16,8 +16,8 @@
 //! 4. However the session ended, every thread is joined, leases that are out are recalled, all that
 //!    is held is put on the devices, and the engine comes back. It is reached from the one that was
 //!    handed in by events of the small machine, and has all that the follower acknowledged.
-//! 5. Where a thread could not be started, or allocation failed, no frame was asked for, and
-//!    `standby` follows the session in one thread.
+//! 5. Where a thread could not be started, or allocation failed, no frame was asked for, and the
+//!    caller may follow the session in one thread.
 #![tactic(auto)]
 
 // What threads sleep on.
@@ -48,9 +48,6 @@ mod coordinator;
 mod followed;
 // A session over an engine that threads share.
 mod beside;
-// The standby of a folder that follows with threads.
-mod standby_command;
 
 pub use beside::follow_beside;
 pub use followed::Followed;
-pub use standby_command::standby;

@@ -13,7 +13,6 @@ use als_engine::Decision;
 use als_fanout::{Lasting, ship_node_on, ship_on};
 use als_fault::FaultKind;
 use als_folder::Trouble;
-use als_follow::standby as standby_with_workers;
 use als_inspect::{Wanted, check_pages, dump, get, status, verify_telling};
 use als_lookback::{
     Fault as LookFault, Until, commit_of, commits, cut, get as get_at, grow, show,
@@ -25,7 +24,7 @@ use als_rebuild::rebuild_pages;
 use als_record::{Key, Lsn, TransId};
 use als_renew::{Fault as RenewFault, begin};
 use als_rewind::{Fault as RewindFault, rewind};
-use als_service::{Service, standby as serve_standby};
+use als_service::{Outages, Service, standby as serve_standby};
 use als_shipper::{NodeShipping, Shipping, ship, ship_node};
 use std::alloc::{AllocError, Global};
 use std::fs;
@@ -516,8 +515,9 @@ fn until(at: Option<u64>) -> Until {
     }
 }
 
-/// Follows a session with this many threads that redo; with none in the calling thread alone.
-/// BadConfig: more than `WORKER_LIMIT`.
+/// Follows a session with this many threads that redo, once the primary was asked whether its log is the
+/// held one; with none in the calling thread alone, and nothing is asked. BadConfig: more than
+/// `WORKER_LIMIT`.
 fn stand_by<
     R: AllocGlobal
         + Files<File = File>
@@ -531,7 +531,7 @@ fn stand_by<
         + Send
         + Drop
         + 'static,
-    P: Progress,
+    P: Progress + Outages,
     O: Write,
 >(
     rt: &R,
@@ -540,18 +540,20 @@ fn stand_by<
     progress: &mut P,
     output: &mut O,
 ) -> Result<(), Refusal> {
-    match workers {
-        0 => standby(rt, following, progress, output)?,
-        1..=WORKER_LIMIT => {
-            standby_with_workers(rt, following, workers as usize, progress, output)?
-        }
-        _ => {
-            return Err(Refusal {
-                kind: FaultKind::BadConfig,
-                trouble: None,
-            });
-        }
+    if workers == 0 {
+        standby(rt, following, progress, output)?;
+        return Ok(());
     }
+    let service = Service {
+        workers: workers_of(workers)?,
+        serve: None,
+        readers: 1,
+        keep: false,
+        listen: None,
+        window: 1,
+        followers: &[],
+    };
+    serve_standby(rt, following, service, progress, output)?;
     Ok(())
 }
 

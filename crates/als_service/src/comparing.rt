@@ -1,7 +1,7 @@
 use crate::shipping::log_file;
 use als_compare::{Summary, Verdict, ask};
 use als_comparing::HeldLog;
-use als_operate::{Fault, Following, dial};
+use als_operate::{Fault, Following, dial, silence};
 use als_record::FIRST_LSN;
 use als_report::{Reports, Watch};
 use als_ship::Fault as SessionFault;
@@ -17,6 +17,9 @@ const ASKED: u32 = 3;
 
 /// Milliseconds between two questions.
 const PAUSE: u64 = 200;
+
+/// Bytes of its log that a primary reads in a second to answer, on a busy machine.
+const READ: u64 = 32 * 1_048_576;
 
 /// Whether a primary answered what log it has.
 #[derive(Clone, Copy, Debug, PartialEq, Eq)]
@@ -77,11 +80,11 @@ impl<R: Clock> Comparing<R> {
 
 impl<C: Clock> Comparing<C> {
     /// Asks the primary, over a connection of its own, whether its log is the one that is acknowledged here.
-    /// Where nothing is, it is not asked. One that does not answer is followed all the same.
+    /// Where nothing is, it is not asked. One that hangs up each time is followed all the same.
     ///
     /// OtherLog: it has another one. Gap: it has less of one, and no session begins: by then it could have
-    /// more, which nobody compared. Stream: there was no connection, or the own log can't be read. Memory:
-    /// there was none to read it.
+    /// more, which nobody compared. Stream: there was no connection, no answer in time, or the own log can't
+    /// be read. Memory: there was none to read it.
     pub fn compare<R: AllocGlobal + Files<File = File> + Net + Clock>(
         &mut self,
         rt: &R,
@@ -125,7 +128,8 @@ impl<C: Clock> Comparing<C> {
     }
 }
 
-/// What the primary answers to the question. None: it hangs up, each time.
+/// What the primary answers to the question. None: it hangs up, each time. Stream: there was no connection,
+/// or no answer in time.
 fn verdict_on<R: AllocGlobal + Net + Clock>(
     rt: &R,
     following: Following<'_>,
@@ -135,11 +139,44 @@ fn verdict_on<R: AllocGlobal + Net + Clock>(
         if asked > 0 {
             thread::sleep(rt, Duration::from_millis(PAUSE));
         }
-        let mut writer = dial(rt, following)?;
-        let mut reader = writer.try_clone()?;
-        if let Ok(verdict) = ask(question, &mut reader, &mut writer) {
+        if let Some(verdict) = answer_to(rt, following, question)? {
             return Ok(Some(verdict));
         }
     }
     Ok(None)
+}
+
+/// What the primary answers to one question. None: it hangs up, or what it sends is no answer. Stream: there
+/// was no connection, or no answer in time. The primary reads its log before it answers.
+fn answer_to<R: AllocGlobal + Net + Clock>(
+    rt: &R,
+    following: Following<'_>,
+    question: &Summary,
+) -> Result<Option<Verdict>, Fault> {
+    let mut writer = dial(rt, following)?;
+    let mut reader = writer.try_clone()?;
+    let patience = patience_for(following.timeout, question.end);
+    reader.set_read_timeout(patience)?;
+    let begun = rt.monotonic()?;
+    match ask(question, &mut reader, &mut writer) {
+        Ok(verdict) => Ok(Some(verdict)),
+        Err(_) if is_over(patience, rt.monotonic()?.saturating_sub(begun)) => Err(Fault::Stream),
+        Err(_) => Ok(None),
+    }
+}
+
+/// How long an answer may take: as long as all that a primary sends, and as long as it reads for it.
+fn patience_for(timeout: u64, end: u64) -> Option<Duration> {
+    match timeout {
+        0 => None,
+        _ => silence(timeout.saturating_add(end / READ)),
+    }
+}
+
+/// Whether an answer took that long.
+fn is_over(patience: Option<Duration>, waited: Duration) -> bool {
+    match patience {
+        Some(patience) => waited >= patience,
+        None => false,
+    }
 }

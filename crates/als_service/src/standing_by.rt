@@ -16,7 +16,8 @@ use als_engine::{Engine, Events, Reader};
 use als_folder::Folder;
 use als_follow::{Followed, follow_beside};
 use als_http::{Servers, listen};
-use als_operate::{Fault, Following, Held, conclude, follow, hold};
+use als_operate::{Fault, Following, Held, Line, conclude, follow, hold};
+use als_record::FIRST_LSN;
 use als_report::{Board, State, Watch};
 use als_share::{Counts, Observed, Runtime};
 use std::alloc::Global;
@@ -35,8 +36,11 @@ const MEGABYTE: u64 = 1_048_576;
 /// The bytes of a block.
 const BLOCK: u64 = 512;
 
-/// The standby of a folder that answers reads over HTTP, follows one session or one after another, and
-/// then prints `end=E ack=A`. Its reads are answered from the moment that its folder is held: 503 until
+/// A connection over which the primary was greeted, to be read and to be written.
+type Greeted<S> = Option<(Line<S>, Line<S>)>;
+
+/// The standby of a folder that follows one session or one after another, and then prints `end=E ack=A`. It
+/// may answer reads over HTTP and serve followers of its own. Its reads are answered from the moment that its folder is held: 503 until
 /// what that holds is redone.
 ///
 /// As `als_operate::hold` says. Stream: an address can't be listened at, and no file was touched; or
@@ -136,6 +140,7 @@ fn stand<
     if let Some(bytes) = capacity_of(rt, &folder, new_blocks) {
         board.set_capacity(bytes);
     }
+    let greeted = first_lines(service.keep, &engine, greeted);
     let unkept = if is_new { Some(&folder) } else { None };
     let watch = Watch::new(Arc::try_clone(&board)?, rt.clone()?);
     let mut primaries = Dialled::new(rt, following, unkept, greeted, watch);
@@ -170,6 +175,16 @@ fn stand<
     end_sessions(rt, cascading);
     close(rt, servers);
     conclude(&folder, &engine, ended, output)
+}
+
+/// The connection over which the primary was greeted, for the first session. A standby that is kept gives it up
+/// where it holds a record: before that session too the primary is asked whether it has the same log.
+fn first_lines<S: Drop>(keep: bool, engine: &Engine<FileDisk>, greeted: Greeted<S>) -> Greeted<S> {
+    if keep && engine.status().acknowledged.0 > FIRST_LSN.0 {
+        drop(greeted);
+        return None;
+    }
+    greeted
 }
 
 /// What the standby shares with the sessions of its own followers, and these sessions, where somebody may
