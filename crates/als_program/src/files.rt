@@ -311,6 +311,7 @@ fn follow<
         serve_standby(rt, following, service, &mut lines, output)?;
         return Ok(());
     }
+    lines.of_one_session();
     stand_by(rt, following, workers, &mut lines, output)
 }
 
