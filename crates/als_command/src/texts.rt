@@ -140,8 +140,9 @@ encrypted, and nobody is asked who he is.
 With --keep, --serve or --listen one thread redoes at least: --workers 0 is 1.
 Before each session it asks ADDR, over a connection of its own, whether its log is the one that DIR
 holds. A node that hangs up on that three times, as `als ship` without --keep does, is followed all
-the same; standard error says so with --keep, --serve, --listen or --explain. Nothing is asked where DIR holds no record, nor, without --keep, where DIR was a primary's, nor
-by --workers 0 alone: compare `als verify` of both first.
+the same; standard error says so with --keep, --serve, --listen or --explain. Nothing is asked
+where DIR holds no record, nor, without --keep, where DIR was a primary's, nor by --workers 0
+alone: compare `als verify` of both first.
 With --listen it serves what it has acknowledged to up to 8 standbys of its own, which follow it as
 they would follow a primary; with --follower only those at these addresses.
 With --forget-unreached it first forgets the takeovers that were sealed at the end of the log in
