@@ -27,7 +27,7 @@ const GAP: &str = "als: refused 40 Gap\n";
 
 /// What is printed of another one.
 const TOLD: &str = "als: refused 50 OtherLog
-als: other: the node that serves has another log: both have bytes at one offset, and they differ. One of the two lost what it had not forced, or was restored from a copy. Nothing of this folder has changed: keep it. Find the log that is right, by sha256= of als verify of both; then follow that one with an empty folder, or take over from this one
+als: other: the node that serves has another log: both have bytes at one offset, and they differ. One of the two lost what it had not forced, or was restored from a copy. Nothing of this folder's log has changed: keep it. Find the log that is right, by sha256= of als verify of both; then follow that one with an empty folder, or take over from this one
 ";
 
 /// Answers one who asks. Returns whether the question came.
