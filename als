@@ -2,6 +2,7 @@
 # Runs the program als with the given arguments and standard input, from any folder; first builds it where a source
 # is newer than the last build. A build proves what has changed, so the first one takes minutes.
 # The pages of docs/help and the version are printed without a build; ./check compares both with what the program prints.
+# Help of a command that has no page ends with 2, also without a build.
 # Status and streams are the program's own; a build that fails ends with 1.
 set -euo pipefail
 
@@ -27,14 +28,25 @@ version() {
     sed -n 's/^pub const VERSION: &str = "\(.*\)";$/als \1/p' "$top/crates/als_command/src/texts.rt"
 }
 
+# Ends with 2, as the program does, where there is no such command.
+refuse_unknown() {
+    if [[ $1 == -* || $1 == help ]]; then
+        return
+    fi
+    if [[ $1 == als || ! -r $top/docs/help/$1.txt ]]; then
+        echo "als: there is no command '$1'; ./als --help has them all" >&2
+        exit 2
+    fi
+}
+
 # The page of help that the words ask for; returns 1 where they ask for something else.
 tell() {
     local words="$*" page
     case "$words" in
         --version | -V) version && return 0 ;;
         --help | -h | help) page=als ;;
-        *' --help' | *' -h') page=${words% *} ;;
-        'help '*) page=${words#help } ;;
+        *' --help' | *' -h') page=${words% *} && refuse_unknown "${page%% *}" ;;
+        'help '*) page=${words#help } && refuse_unknown "${page%% *}" ;;
         *) return 1 ;;
     esac
     [[ $page != *[!a-z-]* && -r $top/docs/help/$page.txt ]] || return 1

@@ -55,7 +55,7 @@ pub enum Command<'a> {
     Commit {
         dir: &'a str,
         pages: Option<u64>,
-        log_blocks: u64,
+        log_blocks: Option<u64>,
         batch: u64,
         skip_bad: bool,
         explain: bool,
@@ -65,7 +65,7 @@ pub enum Command<'a> {
         dir: &'a str,
         serve: &'a str,
         pages: Option<u64>,
-        log_blocks: u64,
+        log_blocks: Option<u64>,
         token_file: Option<&'a str>,
         connections: u64,
         commit_timeout: u64,

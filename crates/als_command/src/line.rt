@@ -251,7 +251,7 @@ pub(crate) const LINES: [Line; 18] = [
             },
             Word::Flag {
                 name: "commits",
-                help: "A line for each commit, with its keys, and no other option",
+                help: "A line for each commit, with its keys; the options above count for nothing",
             },
             EXPLAIN,
         ],

@@ -18,9 +18,6 @@ const READERS: u64 = 2;
 /// The seconds that the other end may be silent, where the command line does not say.
 const TIMEOUT: u64 = 60;
 
-/// The log blocks of a new database, where the command line does not say.
-const LOG_BLOCKS: u64 = 2_048;
-
 /// The connections that a primary serves at a time, where the command line does not say.
 const CONNECTIONS: u64 = 64;
 
@@ -176,7 +173,7 @@ fn commit<'a>(matches: &ArgMatches<'a>) -> Option<Command<'a>> {
     Some(Command::Commit {
         dir: matches.get_str("dir")?,
         pages: matches.get_one("pages"),
-        log_blocks: matches.get_one("log-blocks").unwrap_or(LOG_BLOCKS),
+        log_blocks: matches.get_one("log-blocks"),
         batch: matches.get_one("batch").unwrap_or(1),
         skip_bad: matches.get_flag("skip-bad"),
         explain: matches.get_flag("explain"),
@@ -188,7 +185,7 @@ fn primary<'a>(matches: &ArgMatches<'a>) -> Option<Command<'a>> {
         dir: matches.get_str("dir")?,
         serve: matches.get_str("serve")?,
         pages: matches.get_one("pages"),
-        log_blocks: matches.get_one("log-blocks").unwrap_or(LOG_BLOCKS),
+        log_blocks: matches.get_one("log-blocks"),
         token_file: matches.get_str("token-file"),
         connections: matches.get_one("connections").unwrap_or(CONNECTIONS),
         commit_timeout: matches.get_one("commit-timeout").unwrap_or(COMMIT_TIMEOUT),

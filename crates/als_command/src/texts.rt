@@ -4,7 +4,7 @@ pub const ABOUT: &str =
     "A hot standby that redoes the log which its primary ships (ARIES, continuous redo).";
 
 /// What `--version` prints behind the program's name. The kit is the one that proved the program.
-pub const VERSION: &str = "0.2, proved with rattle-kit-13f";
+pub const VERSION: &str = "0.2.0, proved with rattle-kit-13f";
 
 pub const STATUSES: &str = "Exit statuses:
   0  done (in sim also where a step was refused: its line says so)
@@ -78,7 +78,7 @@ Exit statuses: 0 done (a refused step is a line `refused N Name`, and the script
 goes on), 2 a fault of the command line or `line N: bad line`, 3 a refused world
 line or `als: refused N Name`.";
 
-pub const SHIP_ABOUT: &str = "Serves a log file, or a node's log, to one follower";
+pub const SHIP_ABOUT: &str = "Serves a log file, or a node's log, to standbys";
 
 pub const SHIP_HELP: &str =
     "Reads FILE whole, at most 2,147,483,648 bytes: a log text as `als make` writes it, of
@@ -138,6 +138,11 @@ terminal, standard error says once a minute at most that nothing comes.
 With --serve it answers over HTTP: GET /keys/P/S, /status, /metrics and /health. Nothing is
 encrypted, and nobody is asked who he is.
 With --keep, --serve or --listen one thread redoes at least: --workers 0 is 1.
+Before each session it asks ADDR, over a connection of its own, whether its log is the one that DIR
+holds. A node that hangs up on that three times, as `als ship` without --keep does, is followed all
+the same; standard error says so with --keep, --serve, --listen or --explain. Nothing is asked
+where DIR holds no record, nor, without --keep, where DIR was a primary's, nor by --workers 0
+alone: compare `als verify` of both first.
 With --listen it serves what it has acknowledged to up to 8 standbys of its own, which follow it as
 they would follow a primary; with --follower only those at these addresses.
 With --forget-unreached it first forgets the takeovers that were sealed at the end of the log in
@@ -158,13 +163,13 @@ Exit statuses: 0 done, 2 a fault of the command line, 3 `als: refused N Name`:
   34  DIR has a database of another number of pages, or a damaged one (1, 33 too)
   37  N is not 1 to 4,096, B not 1 to 4,194,304, a number of threads not 0 to 8 or 1 to 8, a
       window not 1 to 64, or ADDRS no addresses; no file was touched
-  40, 41 what came is no frame that may come; with --serve, --keep or --listen 40 is also: the
-      primary's log is shorter than that in DIR
-  43  the primary went away; it does so too where it has another number of pages than N, and,
-      without --serve, --keep and --listen, where its log is another or a shorter one
+  40, 41 what came is no frame that may come; 40 is also: the primary's log is shorter than that in
+      DIR
+  43  the primary went away; it does so too where it has another number of pages than N
   44  nobody serves at ADDR, the network or standard output failed, or the primary was
       silent for longer than SECONDS: run it again
-  42  the log in DIR goes past the takeover of the node that serves: the two parted there
+  42  the log in DIR goes past the takeover of the node that serves: the two parted there.
+      `als rewind` takes DIR back to it
   48  the takeovers of that node do not go on from those of DIR; see --forget-unreached
   50  that node has another log: what DIR holds is not a front of it, nor it of that. Nothing in
       DIR has changed: keep DIR, find which log is right (`als verify`, sha256=, of both), and
@@ -190,7 +195,9 @@ Example:
 Exit statuses: 0 done, 2 a fault of the command line, 3 `als: refused N Name`:
   30  DIR or a file of it failed, it has no database, or another program has DIR
   33, 34, 1 to 16 a file of it is damaged
-  37  log.blk is longer than the largest log";
+  37  log.blk is longer than the largest log
+  49  the history has no room for one more: where seals at the end of the log are of takeovers that
+      DIR never reached, `als standby --forget-unreached` drops them";
 
 pub const COMMIT_ABOUT: &str = "Writes transactions into the log of a primary";
 
@@ -232,7 +239,7 @@ Exit statuses: 0 done, 2 a fault of the command line or a line that is no transa
   37  N is missing for a new database or not 1 to 4,096, B not 1 to 4,194,304, or L not 1 to
       1,000; no file was touched
   44  standard input or output failed
-  46  DIR is the folder of a standby: take it over first";
+  46  DIR is the folder of a standby: `als takeover` first, where its primary is gone";
 
 pub const PRIMARY_ABOUT: &str = "Serves a primary: commits and reads over HTTP";
 
@@ -249,13 +256,14 @@ Redoes what was not redone, undoes what a crash left in mid-transaction, and ans
     200 {\"trans\":T,\"lsn\":L}: it is durable. 409: a comparison does not hold, or another
     transaction holds a key. 400, 413: no transaction. 408, 503: nothing was written, ask again;
     408: the request was not whole after 5 s. 504: it may be written or not. 507: the log has no
-    room.
+    room. A 409 shows the first comparison that does not hold.
   POST /prepare           the same, but it is in doubt, and holds its keys, until it is decided
   POST /decide            {\"trans\":T,\"commit\":true} commits T, false rolls it back; 404: not in doubt
   GET /in-doubt           [{\"trans\":T,\"lsn\":L}]: the transactions in doubt
   GET /keys/P/S, /status, /metrics and /health, as `als standby --serve` does.
 It writes what waits as a group, forces the log once, and then answers all of the group. It ends
-only where a file fails; a kill at any time loses nothing that was answered 200: run it again.
+only where a file, or memory again and again, fails; a kill at any time loses nothing that was
+answered 200: run it again.
 Standard error says `primary of DIR serves at ADDR: epoch E, LSN L` once it serves, and once an
 hour where the log has used nine tenths of its device.
 Without --token-file ADDR has to be of the loopback. FILE has mode 0600 and at least 16 bytes;
@@ -264,7 +272,8 @@ without, 403 with others). Nothing is encrypted. A transaction that is not begun
 not written (503).
 With --listen it serves its log to up to 8 standbys at once, each as far as the log is durable
 here: `als standby --from HOST:PORT`. With --sync K a commit is answered, and readers see it, once
-K standbys at different addresses have acknowledged it. Where fewer are there it waits, and
+K standbys at different addresses have acknowledged it. After a start nothing is read (503) before K
+have acknowledged what the log held then. Where fewer are there it waits, and
 never answers with less: a transaction that is not begun after SECONDS is 503, one that was is
 504 with its LSN. /health is 503 then, and standard error says so once a minute. With --follower
 only standbys at these addresses may connect, and only they count; without it whoever connects
@@ -285,7 +294,7 @@ Exit statuses: 2 a fault of the command line, of FILE or of ADDR without it, 3
       SECONDS not 1 to 3,600, K over 8 or without --listen, W not 1 to 64, or ADDRS no addresses;
       no file was touched
   44  ADDR or HOST:PORT can't be listened at
-  46  DIR is the folder of a standby: take it over first";
+  46  DIR is the folder of a standby: `als takeover` first, where its primary is gone";
 
 pub const RESOLVE_ABOUT: &str = "Decides a transaction in doubt after a takeover";
 
@@ -305,7 +314,8 @@ Example:
 Exit statuses: 0 done, 2 a fault of the command line, 3 `als: refused N Name`:
   30  DIR or a file of it failed, it has no database, or another program has DIR
   33, 34, 1 to 16 a file of it is damaged
-  46  DIR was not taken over: `als takeover` does that
+  46  DIR was not taken over: `als takeover` does that; a primary's folder decides by POST /decide,
+      or by a line {\"decide\":..} of `als commit`
   47  T is not in doubt";
 
 pub const REBUILD_PAGES_ABOUT: &str = "Lays the pages of a folder out anew from its log";
@@ -327,7 +337,9 @@ Exit statuses: 0 done, 2 a fault of the command line, 3 `als: refused N Name`:
   30  DIR or log.blk or control.blk failed, or another program has DIR
   29  the log leaves no room for what a takeover would append
   34, 1 to 16 log.blk or control.blk is damaged; nothing was written
-  37  log.blk is longer than the largest log";
+  37  log.blk is longer than the largest log
+  49  the history has no room for one more: where seals at the end of the log are of takeovers that
+      DIR never reached, `als standby --forget-unreached` drops them";
 
 pub const DUMP_ABOUT: &str = "Prints the records of a log file or of a node";
 
@@ -395,7 +407,8 @@ Example:
 Exit statuses: 0 done, 2 a fault of the command line, 3 `als: refused N Name`:
   30  DIR or a file of it failed, it has no database, or a node runs there: ask that one
   33, 34, 1 to 16 a file of it is damaged: `als verify` tells where
-  37  with --at: LSN is within the header or past the end of the log";
+  37  with --at: LSN is within the header or past the end of the log
+  43, 44 with --at: a log file ends within a record; it can't be read";
 
 pub const CUT_ABOUT: &str = "Writes the log of a file or of a node up to an LSN";
 
@@ -413,7 +426,8 @@ Example:
   als cut a --before-commit 7 > earlier.log
   als ship --log earlier.log --listen 127.0.0.1:7070
 
-Exit statuses: 0 done, 2 a fault of the command line, 3 `als: refused N Name`:
+Exit statuses: 0 done, 2 a fault of the command line, 3 `als: refused N Name`; then the output is
+of no use:
   30  PATH is a folder that failed, has no database, or is in use
   33, 34, 1 to 16 a file of it is damaged up to there: `als verify` tells where
   37  LSN is within the header or past the end of the log, or T has no commit: standard error
@@ -447,14 +461,14 @@ that does not run, of which the log is read as far as it is acknowledged.
 Writes the new log text to standard output: its header, and for each page with a value one
 transaction, which sets all values of that page. Readers see of it what they see of PATH. LSNs and
 transactions count anew, so LSNs that clients keep mean nothing there.
-What has not committed is left out. A transaction in doubt is refused: decide it first, with
-`als resolve` or in the primary.
+What has not committed is left out. A transaction in doubt is refused: decide it first, in the
+primary. Take the new folder over only where `end=` of its standby is the length of new.log.
 
 Example:
   als begin --from a > new.log
   als ship --log new.log --listen 127.0.0.1:7070 &
   mkdir b
-  als standby --dir b --from 127.0.0.1:7070 --pages 4
+  als standby --dir b --from 127.0.0.1:7070 --pages 4 --log-blocks 4194304
   als takeover --dir b
   als primary --dir b --serve 127.0.0.1:7071 --listen 127.0.0.1:7070
 
@@ -475,13 +489,14 @@ node: its pages are laid out anew from its own log, and nothing comes over the n
 Needs DIR, the folder of a node that does not run, for itself alone. LSN is the seal that 42 names,
 or any lower end of a record.
 First copies what the log has behind LSN into a file beside DIR, DIR.past-LSN-to-END.log, and syncs
-it: the commits in it were never on the other node. `als cut DIR --at LSN`, and then this file, are
-the log as it was. Then lays the pages out anew, takes the file `role` away, and writes a new
-control block: the node follows, its log ends at LSN, and takeovers sealed at LSN or above are none
-of its own.
+it: where LSN is the seal, the commits in it were never on the other node. `als cut DIR --at LSN`,
+and then this file, are the log as it was. Then lays the pages out anew, takes the file `role` away,
+and writes a new control block: the node follows, its log ends at LSN, and takeovers sealed at LSN
+or above are none of its own.
 Writes standard output: `end=E ack=A past=B`: where the log ends, up to where no crash can lose it,
 and how many bytes were kept.
-Killed at any time it leaves a node: run it again, with the same LSN.
+Killed at any time it leaves a node: run it again, with the same LSN. Run it as the owner of DIR: it
+makes new files there.
 
 Example:
   als rewind --dir a --to 4096
@@ -489,11 +504,12 @@ Example:
 
 Exit statuses: 0 done, 2 a fault of the command line, 3 `als: refused N Name`:
   29  the log up to LSN has no room for what a takeover would append: `als grow` first
-  30  DIR or a file of it failed, its disk has no room, it has no database, or it is in use
+  30  DIR or a file of it failed, it has no database, or it is in use
   34, 1 to 16 log.blk or control.blk is damaged below LSN; nothing was written
   37  LSN is within the header or past the end, or no record ends there: standard error has the
       nearest end below it. Nothing was written
-  44  the file beside DIR can't be written, or is there with something else; the node is as it was";
+  44  the file beside DIR can't be written, its disk has no room, or it is there with something
+      else; the node is as it was";
 
 pub const GROW_ABOUT: &str = "Gives a node's log device more blocks";
 
@@ -526,4 +542,6 @@ Example:
 
 Exit statuses: 0 done, 2 a fault of the command line, 3 `als: refused N Name`:
   30  DIR or a file of it failed, it has no database, or a node runs there: ask that one
-  33, 34, 1 to 16 a file of it is damaged: `als verify` tells where";
+  33, 34, 1 to 16 a file of it is damaged: `als verify` tells where
+  37  with --at: LSN is within the header or past the end of the log
+  43, 44 with --at: a log file ends within a record; it can't be read";

@@ -59,7 +59,7 @@ pub const PAGE: &str = "<!doctype html>
 </div>
 </section>
 <section aria-labelledby='fault-head'>
-<h2 id='fault-head'>Last refusal</h2>
+<h2 id='fault-head'>Last session ended by a refusal</h2>
 <p id='fault'>-</p>
 <p id='advice' class='note'></p>
 </section>

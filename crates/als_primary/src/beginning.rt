@@ -3,6 +3,7 @@ ghost use Rattle.std.specs.Prelude.{◌≤◌};
 use crate::doubts::Doubts;
 use crate::services::Common;
 use crate::serving::Serving;
+use crate::shown::Shown;
 use als_asking::Guard;
 use als_engine::{Events, Reader};
 use als_folder::Folder;
@@ -34,6 +35,7 @@ const BLOCK: u64 = 512;
 pub(crate) struct Begun {
     pub board: Arc<Board, Global>,
     pub doubts: Arc<Doubts, Global>,
+    pub shown: Arc<Shown, Global>,
     pub leader: Leader<Work, Answer>,
     pub servers: Servers,
 }
@@ -53,13 +55,14 @@ pub(crate) fn begin<
 ) -> Result<Begun, Fault> {
     let alloc = rt.alloc();
     let board = board_of(alloc, engine, capacity)?;
-    let doubts = doubts_of(rt, alloc, engine, &board)?;
+    let (doubts, shown) = shared(alloc, serving.sync)?;
     let (leader, askers) = seats(alloc, seats_of(serving.connections))?;
     let common = Common {
         rt,
         alloc,
         board: &board,
         doubts: &doubts,
+        shown: &shown,
         guard: &guard,
         hosts: Hosts::at(listener),
         patience: Duration::from_secs(serving.commit_timeout),
@@ -70,6 +73,7 @@ pub(crate) fn begin<
     Ok(Begun {
         board,
         doubts,
+        shown,
         leader,
         servers,
     })
@@ -83,16 +87,17 @@ fn seats_of(connections: u64) -> u32
     connections.min(CONNECTIONS) as u32 + 2
 }
 
-/// The transactions in doubt at the start. The board receives how many.
-fn doubts_of<R: Wait, E: Events>(
-    rt: &R,
+/// What the threads share: nothing is looked up yet, and nothing is confirmed if that takes followers.
+fn shared(
     alloc: Global,
-    engine: &E,
-    board: &Board,
-) -> Result<Arc<Doubts, Global>, AllocError> {
+    sync: u32,
+) -> Result<(Arc<Doubts, Global>, Arc<Shown, Global>), AllocError> {
     let doubts = Arc::new(alloc, Doubts::new(alloc))?;
-    doubts.look(rt, engine, board);
-    Ok(doubts)
+    let shown = Arc::new(alloc, Shown::new())?;
+    if sync == 0 {
+        shown.confirm();
+    }
+    Ok((doubts, shown))
 }
 
 /// The board of a primary with this engine.

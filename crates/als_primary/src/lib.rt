@@ -12,7 +12,8 @@
 //! 3. Who may commit is decided before the folder is touched: clients with the token, or, without a
 //!    token, all clients of a loopback address.
 //! 4. Followers are sent the log below what is forced, each in a session of its own. With `sync` above 0
-//!    a group is published and answered once that many with different addresses have acknowledged it.
+//!    a group is published and answered once that many with different addresses have acknowledged it. So is
+//!    the log with which the primary began: before that no request reads a key, or what is in doubt.
 //! 5. However the leader ends, what was not begun is answered so, what the engine has is put on the
 //!    devices, and each thread is joined.
 #![tactic(auto)]
@@ -33,6 +34,10 @@ mod doubts;
 mod chair;
 // The services of the threads.
 mod services;
+// Whether the log with which it began is confirmed.
+mod shown;
+// What is not read before that.
+mod withheld;
 // The token of those who may commit.
 mod token;
 // Why its file is refused.

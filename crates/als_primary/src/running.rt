@@ -188,10 +188,11 @@ fn stand<
     let Begun {
         board,
         doubts,
+        shown,
         leader,
         servers,
     } = begun;
-    let shown = Arc::try_clone(&board)?;
+    let reported = Arc::try_clone(&board)?;
     let noted = Arc::try_clone(&doubts)?;
     let status = engine.status();
     board.set_sync(u64::from(serving.sync));
@@ -201,6 +202,7 @@ fn stand<
         upkeep: PrimaryUpkeep::new(rt, CHECKPOINT_BYTES, status.end),
         board: &*board,
         doubts: &*doubts,
+        shown: &*shown,
         clock: rt,
         lines: &mut *lines,
         capacity,
@@ -211,7 +213,7 @@ fn stand<
         followers: followers.as_ref(),
         short: 0,
     };
-    let mut desk = Desk::new(rt, shown, noted, leader);
+    let mut desk = Desk::new(rt, reported, noted, leader);
     let led = lead(rt.alloc(), engine, &mut desk, &mut watching, GROUP);
     drop(watching);
     board.set_state(State::Stopped);

@@ -3,6 +3,8 @@ ghost use Rattle.als_primary.specs.Guards.{token_of};
 
 use crate::chair::Chair;
 use crate::doubts::Doubts;
+use crate::shown::Shown;
+use crate::withheld::Withheld;
 use als_asking::{Asking, Guard, Lent};
 use als_engine::Reader;
 use als_http::{Answering, Hosts};
@@ -18,7 +20,7 @@ use std::time::{Clock, Duration};
 type Reads<R> = Answering<Watch<R>>;
 
 /// The service of a thread.
-pub(crate) type Service<R> = Asking<Chair<R>, Lent<Reads<R>, R>>;
+pub(crate) type Service<R> = Withheld<Asking<Chair<R>, Lent<Reads<R>, R>>>;
 
 /// What the services of all threads have in common.
 #[derive(Drop)]
@@ -27,6 +29,7 @@ pub(crate) struct Common<'a, R> {
     pub alloc: Global,
     pub board: &'a Arc<Board, Global>,
     pub doubts: &'a Arc<Doubts, Global>,
+    pub shown: &'a Arc<Shown, Global>,
     pub guard: &'a Guard,
     pub hosts: Hosts,
     /// How long a piece of work may wait to begin.
@@ -75,7 +78,8 @@ impl<R: Wait + Clock + Clone + Drop> Common<'_, R> {
         let chair = Chair::new(self.rt.clone()?, self.alloc, asker, doubts, self.patience);
         let lent = Lent::new(self.rt.clone()?, reads);
         let guard = copy_of(self.alloc, self.guard)?;
-        Ok(Asking::new(self.alloc, guard, self.hosts, chair, lent))
+        let asking = Asking::new(self.alloc, guard, self.hosts, chair, lent);
+        Ok(Withheld::new(self.alloc, Arc::try_clone(self.shown)?, asking))
     }
 }
 

@@ -6,6 +6,7 @@ use crate::announcing::Announces;
 use crate::delay::Delay;
 use crate::doubts::Doubts;
 use crate::others::Others;
+use crate::shown::Shown;
 use als_engine::{Events, Fault, Status};
 use als_followers::{Followers, NodeSource};
 use als_lead::{PrimaryUpkeep, Upkeep};
@@ -36,6 +37,7 @@ pub(crate) struct Watching<'a, R: Wait + Drop, A> {
     pub upkeep: PrimaryUpkeep<'a, R>,
     pub board: &'a Board,
     pub doubts: &'a Doubts,
+    pub shown: &'a Shown,
     pub clock: &'a R,
     pub lines: A,
     /// The bytes of the log's device. None: not known.
@@ -67,6 +69,7 @@ impl<R: Wait + Clock + Drop, A: Announces> Watching<'_, R, A> {
     {
         let is_enough = self.others.ask(end, Duration::from_millis(MOMENT));
         if is_enough {
+            self.shown.confirm();
             if self.delay.is_on() {
                 self.board.set_state(State::Committing);
             }
@@ -192,7 +195,10 @@ impl<R: Wait + Clock + Drop, A: Announces> Upkeep for Watching<'_, R, A> {
         if kept.is_err() && !waits_out(&mut self.short, &kept) {
             return kept;
         }
-        self.doubts.look(self.clock, &*engine, self.board);
+        // What is not confirmed may come to nothing.
+        if self.shown.is_confirmed() && !self.delay.is_on() {
+            self.doubts.look(self.clock, &*engine, self.board);
+        }
         let status = engine.status();
         self.others.show(status.acknowledged);
         note(

@@ -41,7 +41,7 @@ use std::time::Clock;
 const WORKER_LIMIT: u64 = 8;
 
 /// The log blocks of a new database, where the command line does not say.
-const LOG_BLOCKS: u64 = 2_048;
+pub const LOG_BLOCKS: u64 = 2_048;
 
 /// A command on files, that reads no standard input. More is said of a refusal where that was asked
 /// for, or a person sees it.
@@ -93,14 +93,35 @@ pub fn refused<R: AllocGlobal + Files<File = File>, O: Write, E: Write>(
     // What was printed comes before what is said of it.
     output.flush()?;
     let status = failure.report(errors);
-    if let Some(trouble) = refusal.trouble {
-        explain(rt, path, trouble, errors);
+    match refusal.trouble {
+        Some(trouble) => explain(rt, path, trouble, errors),
+        None => explain_path(rt, path, refusal.kind, errors),
     }
     if matches!(command, Command::Standby { .. }) {
         // Where it can't be said, the status has to do.
         let _ = partings::tell(errors, path, refusal.kind);
     }
     Ok(status)
+}
+
+/// Says what is wrong with a path, where nobody looked at its files.
+fn explain_path<R: AllocGlobal + Files<File = File>, E: Write>(
+    rt: &R,
+    path: &str,
+    kind: FaultKind,
+    errors: &mut E,
+) {
+    // Where it can't be said, the status has to do.
+    let _ = match kind {
+        FaultKind::Stream if fs::metadata(rt, path).is_err() => {
+            writeln!(errors, "als: {path}: it is missing, or may not be read")
+        }
+        FaultKind::NotPrimary => writeln!(
+            errors,
+            "als: {path}: it is the folder of a standby, or a primary decides there: see als status; als takeover makes a standby a primary, once its own is gone"
+        ),
+        _ => Ok(()),
+    };
 }
 
 /// Does what is asked for. A person who sees standard error reads there how long work goes on.
@@ -262,9 +283,7 @@ fn follow<
     else {
         return Ok(());
     };
-    if let Some(asked) = log_blocks {
-        log_sizes::tell(rt, dir, asked, errors);
-    }
+    contradict(rt, dir, log_blocks, errors);
     let following = Following {
         dir,
         from,
@@ -292,7 +311,20 @@ fn follow<
         serve_standby(rt, following, service, &mut lines, output)?;
         return Ok(());
     }
+    lines.of_one_session();
     stand_by(rt, following, workers, &mut lines, output)
+}
+
+/// Says where the log of a folder's database has another number of blocks than is asked for.
+pub fn contradict<R: AllocGlobal + Files<File = File>, E: Write>(
+    rt: &R,
+    dir: &str,
+    log_blocks: Option<u64>,
+    errors: &mut E,
+) {
+    if let Some(asked) = log_blocks {
+        log_sizes::tell(rt, dir, asked, errors);
+    }
 }
 
 /// The addresses of a list, which have commas between them.

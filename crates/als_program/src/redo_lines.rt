@@ -31,6 +31,8 @@ pub struct RedoLines<'a, W: Write, C> {
     last: Option<(Work, u64)>,
     /// Whether it is said that nobody sends.
     tells_outages: bool,
+    /// Whether one session is followed, and nobody is served.
+    is_brief: bool,
 }
 
 // Written out: a derived drop is proved wherever they are dropped, this one only here.
@@ -44,6 +46,7 @@ impl<W: Write + Drop, C> Drop for RedoLines<'_, W, C> {
             meter: _,
             last: _,
             tells_outages: _,
+            is_brief: _,
         } = self;
         drop(errors);
     }
@@ -83,7 +86,13 @@ impl<'a, W: Write, C: Clock> RedoLines<'a, W, C> {
             meter: Meter::new(),
             last: None,
             tells_outages: seen || asked,
+            is_brief: false,
         }
+    }
+
+    /// One session is followed, and nobody is served.
+    pub fn of_one_session(&mut self) {
+        self.is_brief = true;
     }
 
     /// Where they are written.
@@ -259,7 +268,11 @@ impl<W: Write, C> Outages for RedoLines<'_, W, C> {
         );
     }
 
+    // A source of one session answers no question: who follows that is told where he asks for more.
     fn uncompared(&mut self) {
+        if self.is_brief && !self.tells_outages {
+            return;
+        }
         let _ = writeln!(
             self.errors,
             "als: the primary does not compare logs: another log with records of the same lengths would be followed"

@@ -3,7 +3,7 @@ ghost use Rattle.als_program.specs.Status.{IsStatus};
 
 use crate::committing::commit_lines;
 use crate::failure::Failure;
-use crate::files::{named_in, operate};
+use crate::files::{LOG_BLOCKS, contradict, named_in, operate};
 use crate::lines::{Telling, make_lines, run_script};
 use crate::remarks::Language;
 use crate::serving::serve_primary;
@@ -171,10 +171,11 @@ fn obey<
             skip_bad,
             explain: _,
         } => {
+            contradict(rt, dir, log_blocks, errors);
             let committing = Committing {
                 dir,
                 pages,
-                log_blocks,
+                log_blocks: log_blocks.unwrap_or(LOG_BLOCKS),
                 batch,
                 skip_bad,
             };
@@ -195,12 +196,13 @@ fn obey<
             timeout,
             explain: _,
         } => {
+            contradict(rt, dir, log_blocks, errors);
             let followers = named_in(rt.alloc(), followers)?;
             let serving = Serving {
                 dir,
                 serve,
                 pages,
-                log_blocks,
+                log_blocks: log_blocks.unwrap_or(LOG_BLOCKS),
                 token_file,
                 connections,
                 commit_timeout,

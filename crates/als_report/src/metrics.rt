@@ -3,7 +3,7 @@ use crate::report::Report;
 use std::alloc::{AllocError, Global};
 
 /// The version of the program.
-pub const VERSION: &str = "0.2";
+pub const VERSION: &str = "0.2.0";
 
 /// Writes the HELP and TYPE lines of a metric.
 pub(crate) fn head(

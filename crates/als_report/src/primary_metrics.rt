@@ -48,19 +48,19 @@ fn write_work(text: &mut String, work: &Work) -> Result<(), AllocError> {
     counter(
         text,
         "als_transactions_total",
-        "Transactions of clients that are committed.",
+        "Transactions of clients that were answered as committed.",
         work.transactions,
     )?;
     counter(
         text,
         "als_groups_total",
-        "Groups of them, of which each was acknowledged by one force.",
+        "Groups that were answered, also of refusals alone.",
         work.groups,
     )?;
     head(
         text,
         "als_force_seconds_total",
-        "Seconds that these forces took.",
+        "Seconds from a group's last transaction to its first answer, confirmation included.",
         "counter",
     )?;
     let seconds = work.force_microseconds / SECOND;

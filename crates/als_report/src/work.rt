@@ -1,11 +1,11 @@
 /// What a primary has committed since it started.
 #[derive(Clone, Copy, PartialEq)]
 pub struct Work {
-    /// Transactions that are committed.
+    /// Transactions that were answered as committed.
     pub transactions: u64,
-    /// Groups of transactions, each acknowledged by one force.
+    /// Groups that were answered, also of refusals alone.
     pub groups: u64,
-    /// Microseconds that these forces took.
+    /// Microseconds from the last transaction of each group to its first answer.
     pub force_microseconds: u64,
 }
 

@@ -273,7 +273,7 @@ fn metrics_and_health_are_answered(rt: HostRuntime) -> Result<(), Fail> {
         "\nals_warming 0\n",
         "\nals_commits 1\n",
         "\nals_seconds_since_last_frame 2\n",
-        "\nals_info{version=\"0.2\",role=\"standby\",epoch=\"1\"} 1\n",
+        "\nals_info{version=\"0.2.0\",role=\"standby\",epoch=\"1\"} 1\n",
         "\nals_log_capacity_bytes 1024\n",
         "\nals_log_left_bytes 916\n",
         "\n# TYPE als_session_failures_total counter\nals_session_failures_total 3\n",

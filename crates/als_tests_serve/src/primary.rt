@@ -40,7 +40,7 @@ fn a_primary_has_metrics_of_its_followers(rt: HostRuntime) -> Result<(), Fail> {
     let text = String::from_utf8(found).ok().ok_or("text")?;
     for line in [
         "\nals_state{state=\"unconfirmed\"} 1\n",
-        "\nals_info{version=\"0.2\",role=\"primary\",epoch=\"1\"} 1\n",
+        "\nals_info{version=\"0.2.0\",role=\"primary\",epoch=\"1\"} 1\n",
         "\n# TYPE als_transactions_total counter\nals_transactions_total 9\n",
         "\nals_groups_total 4\n",
         "\n# TYPE als_force_seconds_total counter\nals_force_seconds_total 1.500007\n",
