@@ -337,9 +337,7 @@ Exit statuses: 0 done, 2 a fault of the command line, 3 `als: refused N Name`:
   30  DIR or log.blk or control.blk failed, or another program has DIR
   29  the log leaves no room for what a takeover would append
   34, 1 to 16 log.blk or control.blk is damaged; nothing was written
-  37  log.blk is longer than the largest log
-  49  the history has no room for one more: where seals at the end of the log are of takeovers that
-      DIR never reached, `als standby --forget-unreached` drops them";
+  37  log.blk is longer than the largest log";
 
 pub const DUMP_ABOUT: &str = "Prints the records of a log file or of a node";
 
