@@ -4,3 +4,4 @@ pub mod Taking
 pub mod Deciding
 pub mod Telling
 pub mod Answering
+pub mod Withholding

@@ -3,7 +3,7 @@ use Rattle.std.specs.Prelude.{◌≡◌, ℕ, ◌⊎◌, ◌==◌, Bool, true, f
 use Rattle.http1.specs.Fields.{Header}
 use Rattle.http_server.specs.declared.response.Response.{Response}
 use Rattle.http_server.specs.Response.{IsResponse, fields_of}
-use Rattle.json.specs.Token.{Token, begin_object, end_object, begin_array, end_array, key, string, number, boolean, null}
+use Rattle.json.specs.Token.{Token, begin_object, end_object, begin_array, end_array, key, string, number, boolean}
 use Rattle.json.specs.Print.{print}
 use Rattle.als_fault.specs.Kinds.{number_of, name_of}
 use Rattle.als_fault.specs.declared.fault_kind.FaultKind.{FaultKind}
@@ -28,7 +28,7 @@ use Rattle.als_asking.specs.declared.outcome.Outcome.{Outcome}
 use Rattle.als_asking.specs.declared.outcome.Outcome.TheVariants.{Committed, Prepared, Decided, Refused, NotDecided, Unknown, NotBegun, Lost}
 use Rattle.als_asking.specs.declared.doubt.Doubt.{Doubt}
 use Rattle.als_asking.specs.declared.denied.Denied.{Denied as AnyDenied}
-use Rattle.als_asking.specs.declared.denied.Denied.TheVariants.{Host, Method, NoRead, Page, NoToken, OtherToken}
+use Rattle.als_asking.specs.declared.denied.Denied.TheVariants.{Host, Method, NoRead, Page, NoToken, OtherToken, Early}
 use Rattle.als_asking.specs.declared.unread.Unread.{Unread as AnyUnread}
 use Rattle.als_asking.specs.declared.unread.Unread.TheVariants as unread
 use Rattle.als_asking.specs.declared.told.Told.{Told}
@@ -72,6 +72,7 @@ status_of_denied NoRead = 405
 status_of_denied Page = 403
 status_of_denied NoToken = 401
 status_of_denied OtherToken = 403
+status_of_denied Early = 503
 
 abbrev pub status_of_unread : AnyUnread → ℕ
 status_of_unread unread.Memory = 503
@@ -152,10 +153,6 @@ string_tokens name text = key name ∷ string text ∷ []
 abbrev pub truth_tokens : List ℕ → Bool → List Token
 truth_tokens name b = key name ∷ boolean b ∷ []
 
--- a member without a value
-abbrev pub nothing_tokens : List ℕ → List Token
-nothing_tokens name = key name ∷ null ∷ []
-
 abbrev pub written_tokens : Written → List Token
 written_tokens w = number_tokens (codes "trans") w.trans.0 ++ number_tokens (codes "lsn") w.lsn.0
 
@@ -205,9 +202,9 @@ refusal_tokens r = fault_tokens (kind_or (fault_of r))
 abbrev pub unknown_tokens : List Token
 unknown_tokens = truth_tokens (codes "unknown") true
 
--- that nothing of it is in the log: no fault has a number for that
+-- that nothing of it is in the log, by a name: no fault has a number for that
 abbrev pub not_begun_tokens : List Token
-not_begun_tokens = nothing_tokens (codes "refused") ++ string_tokens (codes "name") (codes "NotBegun")
+not_begun_tokens = string_tokens (codes "name") (codes "NotBegun")
 
 -- the members of an outcome
 unfoldable pub outcome_tokens : Outcome → List Token
@@ -266,6 +263,7 @@ why_denied NoRead = codes "transactions in doubt are read by GET"
 why_denied Page = codes "a page of a browser may not commit"
 why_denied NoToken = codes "a commit brings the token: Authorization: Bearer TOKEN"
 why_denied OtherToken = codes "this is not the token"
+why_denied Early = codes "35 Warming: too few standbys have acknowledged the log with which this primary began"
 
 -- the bytes of the text; what is wrong with a body is only tested
 unfoldable pub HasText : Told → List ℕ → Type 0

@@ -1,4 +1,4 @@
-/// Why a request may not commit.
+/// Why a request may not commit, or is not answered yet.
 #[derive(Clone, Copy, Debug, PartialEq, Eq)]
 pub enum Denied {
     /// Its `Host` is not one of the node's.
@@ -13,4 +13,6 @@ pub enum Denied {
     NoToken,
     /// It has another token.
     OtherToken,
+    /// It reads commits, and the log with which the primary began is not confirmed yet.
+    Early,
 }

@@ -19,7 +19,7 @@ const PREPARE: &str = "/prepare";
 const DECIDE: &str = "/decide";
 
 /// The path at which transactions in doubt are listed.
-const IN_DOUBT: &str = "/in-doubt";
+pub(crate) const IN_DOUBT: &str = "/in-doubt";
 
 /// The way that a request goes.
 #[derive(Clone, Copy, Debug, PartialEq, Eq)]

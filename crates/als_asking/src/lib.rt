@@ -13,7 +13,9 @@
 //! 2. The body of the first two is one transaction, or an array of them, each of which is committed or
 //!    prepared on its own. The body of the third is one decision of a transaction in doubt.
 //! 3. `/in-doubt` lists the transactions in doubt to whoever may read.
-//! 4. 200 means that it is durable, 503 that nothing was written, 504 that a restart may find it or
+//! 4. Before the log with which a primary began is confirmed, no key is read, nor what is in doubt
+//!    (`Withheld`).
+//! 5. 200 means that it is durable, 503 that nothing was written, 504 that a restart may find it or
 //!    not. So a client that gets a 503 may ask again, and one that gets a 504 has to look first.
 #![tactic(auto)]
 
@@ -50,6 +52,9 @@ mod told_text;
 mod asking;
 // Reads that threads share.
 mod lent;
+// What is not read before the log with which a primary began is confirmed, and whether it is.
+mod shown;
+mod withheld;
 
 pub use asking::Asking;
 pub use commits::Commits;
@@ -62,7 +67,9 @@ pub use lent::Lent;
 pub use manner::Manner;
 pub use outcome::Outcome;
 pub use reading::wanted_in;
+pub use shown::Shown;
 pub use taking::take;
 pub use told::Told;
 pub use unread::{MOST, Unread};
 pub use wanted::Wanted;
+pub use withheld::Withheld;

@@ -1,7 +1,7 @@
 ghost use Rattle.std.specs.Prelude.{◌≡◌, OnOk, ◌++◌, ◌∷◌, [], codes, decimal};
 ghost use Rattle.json.specs.Token.{begin_array, key, number};
 ghost use Rattle.als_asking.specs.Telling.{number_tokens, string_tokens, key_tokens, value_tokens};
-ghost use Rattle.als_asking.specs.Telling.{truth_tokens, nothing_tokens};
+ghost use Rattle.als_asking.specs.Telling.{truth_tokens};
 
 use als_record::{KeptImage, Key};
 use json::Writer;
@@ -34,16 +34,6 @@ pub(crate) fn truth(text: &mut Writer, name: &str, value: bool) -> Result<(), Al
 {
     text.key(name)?;
     text.boolean(value)?;
-    Ok(())
-}
-
-/// Writes a member that is null.
-pub(crate) fn nothing(text: &mut Writer, name: &str) -> Result<(), AllocError>
-    ensures tokens { OnOk result (text.new.tokens ≡ text.old.tokens ++ nothing_tokens name.now) }
-    ensures before { OnOk result (text.new.before ≡ text.old.before) }
-{
-    text.key(name)?;
-    text.null()?;
     Ok(())
 }
 

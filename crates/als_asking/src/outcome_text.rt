@@ -6,7 +6,7 @@ ghost use Rattle.als_asking.specs.Telling.{not_begun_tokens};
 ghost use Rattle.als_asking.specs.Telling.{outcome_tokens};
 ghost use Rattle.als_writer.specs.Refusing.{fault_of, fault_undecided};
 
-use crate::members::{key, nothing, number, string, truth, value};
+use crate::members::{key, number, string, truth, value};
 use crate::outcome::Outcome;
 use als_fault::FaultKind;
 use als_record::{KeptImage, Key};
@@ -52,14 +52,12 @@ fn unknown_member(text: &mut Writer) -> Result<(), AllocError>
     truth(text, "unknown", true)
 }
 
-/// Writes that nothing was begun, for which no fault has a number.
+/// Writes that nothing was begun. No fault has a number for that.
 fn not_begun_members(text: &mut Writer) -> Result<(), AllocError>
     ensures tokens { OnOk result (text.new.tokens ≡ text.old.tokens ++ not_begun_tokens) }
     ensures before { OnOk result (text.new.before ≡ text.old.before) }
 {
-    nothing(text, "refused")?;
-    string(text, "name", "NotBegun")?;
-    Ok(())
+    string(text, "name", "NotBegun")
 }
 
 /// Writes what is in the log: the TransID, and the LSN of the record that says so.

@@ -112,5 +112,8 @@ fn why_denied(why: Denied) -> &'static str
         Denied::Page => "a page of a browser may not commit",
         Denied::NoToken => "a commit brings the token: Authorization: Bearer TOKEN",
         Denied::OtherToken => "this is not the token",
+        Denied::Early => {
+            "35 Warming: too few standbys have acknowledged the log with which this primary began"
+        }
     }
 }

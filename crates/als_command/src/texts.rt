@@ -4,7 +4,7 @@ pub const ABOUT: &str =
     "A hot standby that redoes the log which its primary ships (ARIES, continuous redo).";
 
 /// What `--version` prints behind the program's name. The kit is the one that proved the program.
-pub const VERSION: &str = "0.2.0, proved with rattle-kit-13f";
+pub const VERSION: &str = "0.2.0, proved with rattle-kit-13b";
 
 pub const STATUSES: &str = "Exit statuses:
   0  done (in sim also where a step was refused: its line says so)
@@ -107,7 +107,7 @@ Example:
 Exit statuses: 0 done, 2 a fault of the command line, 3 `als: refused N Name`:
   1   FILE has no header, or the follower has another database
   32  there was no memory for FILE
-  37  W is not 1 to 64; no file was touched
+  37  with --keep or --follow of FILE: W is not 1 to 64; no file was touched
   40  the follower holds more than there is
   41  what came is no frame of a follower
   42  the follower's log goes past the seal with which the history goes on
@@ -161,8 +161,9 @@ Exit statuses: 0 done, 2 a fault of the command line, 3 `als: refused N Name`:
   30  DIR or a file of it failed, or another program has DIR; or control.blk is missing,
       but log.blk or pages.blk has data: nothing was touched
   34  DIR has a database of another number of pages, or a damaged one (1, 33 too)
-  37  N is not 1 to 4,096, B not 1 to 4,194,304, a number of threads not 0 to 8 or 1 to 8, a
-      window not 1 to 64, or ADDRS no addresses; no file was touched
+  37  N is not 1 to 4,096, B not 1 to 4,194,304, a number of workers not 0 to 8, or with --serve
+      of readers not 1 to 8, or with --listen a window not 1 to 64 or ADDRS no addresses; no file
+      was touched
   40, 41 what came is no frame that may come; 40 is also: the primary's log is shorter than that in
       DIR
   43  the primary went away; it does so too where it has another number of pages than N
@@ -173,7 +174,8 @@ Exit statuses: 0 done, 2 a fault of the command line, 3 `als: refused N Name`:
   48  the takeovers of that node do not go on from those of DIR; see --forget-unreached
   50  that node has another log: what DIR holds is not a front of it, nor it of that. Nothing in
       DIR has changed: keep DIR, find which log is right (`als verify`, sha256=, of both), and
-      follow that one with an empty folder";
+      follow that one with an empty folder, or with DIR once `als rewind` took it back to where
+      both are the same";
 
 pub const TAKEOVER_ABOUT: &str = "Makes a primary of the standby of a folder";
 
@@ -197,7 +199,8 @@ Exit statuses: 0 done, 2 a fault of the command line, 3 `als: refused N Name`:
   33, 34, 1 to 16 a file of it is damaged
   37  log.blk is longer than the largest log
   49  the history has no room for one more: where seals at the end of the log are of takeovers that
-      DIR never reached, `als standby --forget-unreached` drops them";
+      DIR never reached, `als standby --forget-unreached` drops them
+  44  standard output failed: DIR was taken over";
 
 pub const COMMIT_ABOUT: &str = "Writes transactions into the log of a primary";
 
@@ -316,6 +319,7 @@ Exit statuses: 0 done, 2 a fault of the command line, 3 `als: refused N Name`:
   33, 34, 1 to 16 a file of it is damaged
   46  DIR was not taken over: `als takeover` does that; a primary's folder decides by POST /decide,
       or by a line {\"decide\":..} of `als commit`
+  44  standard output failed: T is decided
   47  T is not in doubt";
 
 pub const REBUILD_PAGES_ABOUT: &str = "Lays the pages of a folder out anew from its log";
@@ -337,7 +341,8 @@ Exit statuses: 0 done, 2 a fault of the command line, 3 `als: refused N Name`:
   30  DIR or log.blk or control.blk failed, or another program has DIR
   29  the log leaves no room for what a takeover would append
   34, 1 to 16 log.blk or control.blk is damaged; nothing was written
-  37  log.blk is longer than the largest log";
+  37  log.blk is longer than the largest log
+  44  standard output failed: the pages are laid out";
 
 pub const DUMP_ABOUT: &str = "Prints the records of a log file or of a node";
 
@@ -391,8 +396,8 @@ After takeovers a line `epoch N seals S ..`; of a primary's folder a line `role 
 Then a line for each unended transaction, in rising TransID:
   trans T STATE last=L undo=U      (STATE active, prepared, committed or rollback)
 The whole log and the checkpoint are read as a restart reads them, in a copy in memory.
-With --at it reads the log alone, which DIR may be a file of, up to the last record that ends at or
-below LSN, and writes a line
+With --at it reads the log alone, which DIR may be a file of (a folder has to have its other files
+all the same), up to the last record that ends at or below LSN, and writes a line
   pages=N end=E greatest=G commits=C last=L transactions=T doubts=D
 with E, where that record ends; G, the greatest TransID; C, the commits, and L, the LSN of the last
 one; T, the unended transactions, and D, those of them that are in doubt. Then a line for each.
@@ -406,7 +411,8 @@ Exit statuses: 0 done, 2 a fault of the command line, 3 `als: refused N Name`:
   30  DIR or a file of it failed, it has no database, or a node runs there: ask that one
   33, 34, 1 to 16 a file of it is damaged: `als verify` tells where
   37  with --at: LSN is within the header or past the end of the log
-  43, 44 with --at: a log file ends within a record; it can't be read";
+  43  with --at: a log file ends within a record
+  44  with --at: a log file can't be read; or standard output failed";
 
 pub const CUT_ABOUT: &str = "Writes the log of a file or of a node up to an LSN";
 
@@ -482,10 +488,11 @@ pub const REWIND_ABOUT: &str = "Takes a node back to an LSN of its own log";
 
 pub const REWIND_HELP: &str =
     "For a node that `als standby` refused with 42: its log goes past the takeover of the node that
-it is to follow, as that of a primary does which came back. Behind `als rewind` it follows that
-node: its pages are laid out anew from its own log, and nothing comes over the network.
+it is to follow, as that of a primary does which came back; or with 50, where the other log is the
+right one. Behind `als rewind` it follows that node: its pages are laid out anew from its own log,
+and nothing comes over the network.
 Needs DIR, the folder of a node that does not run, for itself alone. LSN is the seal that 42 names,
-or any lower end of a record.
+or any lower end of a record: for 50 the last one up to which both logs are the same.
 First copies what the log has behind LSN into a file beside DIR, DIR.past-LSN-to-END.log, and syncs
 it: where LSN is the seal, the commits in it were never on the other node. `als cut DIR --at LSN`,
 and then this file, are the log as it was. Then lays the pages out anew, takes the file `role` away,
@@ -507,14 +514,15 @@ Exit statuses: 0 done, 2 a fault of the command line, 3 `als: refused N Name`:
   37  LSN is within the header or past the end, or no record ends there: standard error has the
       nearest end below it. Nothing was written
   44  the file beside DIR can't be written, its disk has no room, or it is there with something
-      else; the node is as it was";
+      else: the node is as it was; or standard output failed: the node was taken back";
 
 pub const GROW_ABOUT: &str = "Gives a node's log device more blocks";
 
 pub const GROW_HELP: &str =
     "Needs DIR, the folder of a node that does not run, for itself alone. Writes zeros behind
 the last block of log.blk, and syncs it, until it has B blocks of 512 bytes. Killed at any time
-it leaves the node as it was: run it again.
+it leaves a node, maybe with some more blocks than before: run it again. Nothing of what the files
+hold is looked at: see `als verify`.
 
 Example:
   als grow --dir standby --log-blocks 1048576
@@ -532,7 +540,8 @@ Writes standard output: a line `VALUE commits=C lsn=L`: the value in lower case 
 `.` for the empty value, `-` where the key has none or lies outside the database; how many
 commits were counted, and the LSN of the last one.
 With --at it reads the log alone, which DIR may be a file of, and counts the commits that end at
-or below LSN. The lsn= of a commit is where its record begins: it counts from --at L+28 on.
+or below LSN; a folder has to have its other files all the same. The lsn= of a commit is where its
+record begins: it counts from --at L+28 on.
 
 Example:
   als get standby 0 3
@@ -542,4 +551,5 @@ Exit statuses: 0 done, 2 a fault of the command line, 3 `als: refused N Name`:
   30  DIR or a file of it failed, it has no database, or a node runs there: ask that one
   33, 34, 1 to 16 a file of it is damaged: `als verify` tells where
   37  with --at: LSN is within the header or past the end of the log
-  43, 44 with --at: a log file ends within a record; it can't be read";
+  43  with --at: a log file ends within a record
+  44  with --at: a log file can't be read; or standard output failed";

@@ -22,7 +22,7 @@ pub const PAGE: &str = "<!doctype html>
 <div><dt>version</dt><dd id='version'>-</dd></div>
 </dl>
 </header>
-<noscript><p class='note'>This page draws what /status answers, and needs its script. Without it: <a href='/status'>/status</a>.</p></noscript>
+<noscript><p class='note'>Without its script: <a href='/status'>/status</a>.</p></noscript>
 <main id='numbers' tabindex='-1'>
 <section aria-labelledby='log-head'>
 <h2 id='log-head'>Log</h2>
@@ -47,7 +47,7 @@ pub const PAGE: &str = "<!doctype html>
 <figure><figcaption>pending redo <b id='redo-now'>-</b></figcaption><svg id='redo' role='img' aria-label='pending redo'></svg></figure>
 </div>
 </section>
-<section class='primary' aria-labelledby='followers-head'>
+<section id='following' aria-labelledby='followers-head'>
 <h2 id='followers-head'>Followers</h2>
 <p id='sync' class='note'></p>
 <div class='scroll' role='region' aria-labelledby='followers-head' tabindex='0'>
@@ -59,7 +59,7 @@ pub const PAGE: &str = "<!doctype html>
 </div>
 </section>
 <section aria-labelledby='fault-head'>
-<h2 id='fault-head'>Last session ended by a refusal</h2>
+<h2 id='fault-head'>Last refusal</h2>
 <p id='fault'>-</p>
 <p id='advice' class='note'></p>
 </section>

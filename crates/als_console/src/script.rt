@@ -1,30 +1,33 @@
 /// What the page does, in JavaScript.
 pub const SCRIPT: &str = "'use strict';
-// What a fault means, and what to do: the first and the last number, a name, and the words.
+// First and last number, name, what to do: of commits, of sessions.
+const REFUSED = [
+  [13, 13, 'RecordHeld', 'A transaction in doubt holds the key. Decide it.'],
+  [15, 15, 'TooManyTransactions', '256 are in doubt. Decide them.'],
+  [45, 45, 'NumbersSpent', 'The last TransID is used. als begin makes a new log.'],
+  [47, 47, 'NotInDoubt', 'It was never prepared, or is decided.'],
+];
 const FAULTS = [
-  [1, 1, 'BadHeader', 'The folder is damaged, or the node that sends has another number of pages. Mend --pages; else rebuild.'],
-  [2, 7, 'no record', 'The bytes that came are no record. als verify the primary: if it is sound, --keep asks again by itself; ' +
-    'if not, consider a takeover.'],
-  [8, 16, 'may not follow', 'A record came that may not follow this log: the file is another database, or the primary was restored ' +
-    'from a backup. Compare als dump of both around the end, and rebuild the one that is wrong.'],
+  [1, 1, 'BadHeader', 'The folder is damaged, or the node that sends has another page count. Mend --pages; else rebuild.'],
+  [2, 7, 'no record', 'No record came. als verify the primary: if it is sound, --keep asks again; else consider a takeover.'],
+  [8, 16, 'may not follow', 'A record may not follow this log: the primary is another one, or was restored. Compare als dump of both.'],
   [21, 21, 'Sealed', 'The folder was taken over: it is a primary. Start no standby there.'],
-  [29, 29, 'LogFull', 'log.blk is full. als grow makes it longer; at 4,194,304 blocks als begin makes a new log of what the database holds.'],
+  [29, 29, 'LogFull', 'log.blk is full. als grow makes it longer; at 2 GiB als begin makes a new log.'],
   [30, 30, 'Device', 'A file or its disk failed, or another als uses the folder. --explain names the cause.'],
   [32, 32, 'Memory', 'An allocation failed; nothing is damaged. Give the machine more, and start again.'],
-  [33, 34, 'damaged', 'A file of the folder is damaged, or --pages is not its own. als verify says more; als rebuild-pages makes ' +
-    'pages.blk anew.'],
-  [40, 41, 'Gap or BadFrame', 'What came is no frame that may come: another version of als, or a file that was truncated or replaced.'],
-  [42, 42, 'Diverged', 'The node that sends was taken over, and this log does not go on with it. Keep the folder, and rebuild.'],
-  [43, 44, 'connection lost', 'Nobody sends there, or the peer was silent for too long. With --keep it asks again by itself.'],
+  [33, 34, 'damaged', 'A file of the folder is damaged, or --pages is not its own. als verify says more; als rebuild-pages makes pages.blk anew.'],
+  [40, 41, 'Gap or BadFrame', 'No frame that may come: another version of als, or a file that was truncated or replaced.'],
+  [42, 42, 'Diverged', 'The node that sends was taken over, and this log parted from it. als rewind takes it back to there.'],
+  [43, 44, 'connection lost', 'Nobody sends there, or was silent for too long. With --keep it asks again.'],
   [48, 48, 'OtherEpoch', 'The node that sends is of another epoch. Follow the node that took over last, or rebuild.'],
-  [50, 50, 'OtherLog', 'The node that sends has another log: both have bytes at one offset, and they differ. Keep the folder, and compare ' +
-    'sha256= of als verify of both.'],
+  [50, 50, 'OtherLog', 'The node that sends has another log. Keep the folder, and compare sha256= of als verify of both.'],
   [0, 999, 'refused', 'Start it again. If it comes again, see the disk, and then rebuild.'],
 ];
 const SPAN = 300, BEAT = 1000;
 const at = id => document.getElementById(id);
 const put = (id, text) => { const e = at(id); if (e.textContent !== text) e.textContent = text; };
-const whole = n => n == null ? '-' : n.toLocaleString('en-US');
+const hide = (of, yes) => { for (const e of document.querySelectorAll(of)) e.hidden = yes; };
+const whole = n => n?.toLocaleString('en-US') ?? '-';
 const number = n => n >= 100 ? whole(Math.round(n)) : String(Math.round(n * 10) / 10);
 const bytes = n => n == null ? '-' : n < 1e3 ? `${n} B` : n < 1e6 ? `${(n / 1e3).toFixed(1)} KB`
   : n < 1e9 ? `${(n / 1e6).toFixed(1)} MB` : `${(n / 1e9).toFixed(2)} GB`;
@@ -34,17 +37,17 @@ const ask = path => fetch(path, { cache: 'no-store', signal: AbortSignal.timeout
 
 let samples = [], before = null, turn = 0;
 
-// One answer of /status, as a point of the plots. A count that fell is of a node that began again.
+// A point of the plots. Where a count fell, the node began again.
 function sample(s) {
   const now = performance.now() / 1000, count = s.transactions ?? s.commits;
   let rate = null;
   if (before && count != null && count >= before.count) rate = (count - before.count) / (now - before.now);
   before = count == null ? null : { now, count };
-  const lag = s.followers ? Math.max(0, ...s.followers.map(f => f.behind)) : s.end - s.acknowledged;
+  const lag = s.sync != null ? Math.max(0, ...s.followers.map(f => f.behind)) : s.end - s.acknowledged;
   samples.push({ now, rate, lag, redo: s.pending });
 }
 
-// The next of 1, 2 and 5 times a power of ten.
+// 1, 2 or 5 times a power of ten.
 function ceiling(n) {
   const unit = 10 ** Math.floor(Math.log10(n));
   return [1, 2, 5, 10].map(k => k * unit).find(m => m >= n);
@@ -54,7 +57,7 @@ function draw(id, show) {
   const svg = at(id), now = performance.now() / 1000;
   const w = svg.clientWidth || 300, h = svg.clientHeight || 136, top = 16, low = h - 18;
   const known = samples.map(s => s[id]).filter(v => v != null);
-  const most = ceiling(Math.max(1, ...known)), last = samples.length ? samples[samples.length - 1][id] : null;
+  const most = ceiling(Math.max(1, ...known)), last = samples.at(-1)?.[id];
   let line = '', drawn = false;
   for (const s of samples) {
     if (s[id] == null) { drawn = false; continue; }
@@ -79,7 +82,7 @@ function draw(id, show) {
 
 function followers(s) {
   put('sync', s.sync ? `A commit is answered once ${s.sync} of them ${s.sync > 1 ? 'have' : 'has'} acknowledged it.`
-    : 'A commit is answered without them.');
+    : s.sync == null ? '' : 'A commit is answered without them.');
   const rows = s.followers.map(f => {
     const row = document.createElement('tr');
     row.setAttribute('role', 'row');
@@ -123,28 +126,35 @@ function show(s, well) {
   put('left', s.left == null ? '-' : `${bytes(s.left)} of ${bytes(s.capacity)}`);
   at('room').hidden = s.left == null;
   if (s.left != null) at('room').value = s.left / s.capacity;
-  put('lag-name', s.followers ? 'lag of the last follower' : 'held, not acknowledged');
-  for (const e of document.querySelectorAll('.primary')) e.hidden = !s.followers;
-  for (const e of document.querySelectorAll('.standby')) e.hidden = !!s.followers;
-  if (s.followers) {
+  const leads = s.sync != null;
+  put('lag-name', leads ? 'lag of the last follower' : 'held, not acknowledged');
+  hide('.primary', !leads);
+  hide('.standby', leads);
+  hide('#following', !s.followers);
+  if (s.refused != null) blame(s.last_refusal, REFUSED, 'Last refused commit', `${whole(s.refused)} refused so far`,
+    s.refused ? 'without a number' : 'none');
+  if (s.followers) followers(s);
+  if (leads) {
     put('transactions', whole(s.transactions));
     put('group', s.groups ? number(s.transactions / s.groups) : '-');
     put('force', s.groups ? `${number(s.force_microseconds / s.groups / 1000)} ms` : '-');
-    followers(s);
   }
 }
 
-// What /status has not: the epoch, the version and the last refusal.
+function blame(last, own, head, count, none) {
+  const f = last == null ? null : own.concat(FAULTS).find(f => f[0] <= last && last <= f[1]);
+  put('fault-head', head);
+  put('fault', `${f ? `${last} ${f[2]}` : none}: ${count}`);
+  put('advice', f ? f[3] : '');
+}
+
 function more(text) {
-  const of = pattern => (text.match(pattern) || [])[1];
+  const of = pattern => text.match(pattern)?.[1];
   put('epoch', of(/epoch=.([0-9]+)/) ?? '-');
   put('version', of(/version=.([0-9.]+)/) ?? '-');
-  const failures = Number(of(/^als_session_failures_total ([0-9]+)/m) ?? 0);
-  const last = of(/^als_session_last_fault ([0-9]+)/m);
-  if (last == null) { put('fault', 'none'); put('advice', ''); return; }
-  const f = FAULTS.find(f => f[0] <= last && last <= f[1]);
-  put('fault', `${last} ${f[2]}: ended a session, ${whole(failures)} ended so far`);
-  put('advice', f[3]);
+  if (of(/^(als_refused_total) /m)) return;
+  const ended = Number(of(/^als_session_failures_total ([0-9]+)/m) ?? 0);
+  blame(of(/^als_session_last_fault ([0-9]+)/m), [], 'Last session ended by a refusal', `${whole(ended)} ended so far`, 'none');
 }
 
 function draw_all() {

@@ -14,7 +14,8 @@
 //!    syncs the file, and then settles the mirror. So a write that the file refuses may be answered
 //!    by a later call.
 //! 3. Once the file has failed, each call fails, and the first failure is kept. A sync fails too
-//!    where the file lost its last name or was cut, since nobody would find there what it holds.
+//!    where the file lost its last name or was cut, since nobody would find there what it holds. So
+//!    does one after somebody has noted that the path names another file (`FirstError`).
 //! 4. A device that forgets old blocks (`forget_old`) fails a read of one, and goes on.
 //!
 //! One premise is left, which no clause can say: the next opening reads, in each block that it reads,
@@ -282,11 +283,16 @@ impl<F: OpenFile + FileExt + Drop> FileDisk<F> {
         Ok(())
     }
 
-    /// Makes what the file was given last, and sees that it is still the file that was opened.
+    /// Makes what the file was given last, and sees that it is still the file that was opened, and
+    /// that nobody has noted otherwise.
     fn make_last(&self) -> Result<(), Failure> {
-        match self.file.sync_data() {
-            Ok(()) => self.intact.check(&self.file),
-            Err(error) => Err(Failure::of_call(&error)),
+        if let Err(error) = self.file.sync_data() {
+            return Err(Failure::of_call(&error));
+        }
+        self.intact.check(&self.file)?;
+        match self.first_error.failure() {
+            Some(failure) => Err(failure),
+            None => Ok(()),
         }
     }
 

@@ -29,6 +29,12 @@ impl FirstError {
         let _ = self.noted.try_set(failure);
     }
 
+    /// Notes that the path by which the file was opened names it no more. The device's next sync
+    /// fails. For whoever can look at the path: the device itself has the open file alone.
+    pub fn note_removed(&self) {
+        self.note(Failure::Removed);
+    }
+
     /// The first failure. None: the file has not failed.
     pub fn failure(&self) -> Option<Failure> {
         self.noted.get().copied()

@@ -24,6 +24,7 @@ use crate::errors::Errors;
 use crate::fault::Fault;
 use crate::holding::{Holding, check_room};
 use crate::locks::{Locks, Sharing};
+use crate::name_watch::{Name, NameWatch};
 use crate::part::Part;
 use crate::trouble::Trouble;
 use crate::vacancy::{Found, Vacancy};
@@ -293,6 +294,24 @@ impl<F: OpenFile + FileExt + Drop> Folder<F> {
     /// What is wrong with a file of which a device has failed. None: no device of this folder has.
     pub fn trouble(&self) -> Option<Trouble> {
         self.errors.trouble()
+    }
+
+    /// The names of its three files, to be looked at while their devices are open. Those of a database that
+    /// was there when the folder was taken are known from then on. Memory: there was none for them.
+    pub fn names<R: AllocGlobal>(&self, rt: &R) -> Result<NameWatch, Fault> {
+        let log = Name::new(self.path_of(rt, Part::Log)?, self.errors.log.clone()?);
+        let control = Name::new(
+            self.path_of(rt, Part::Control)?,
+            self.errors.control.clone()?,
+        );
+        let pages = Name::new(self.path_of(rt, Part::Pages)?, self.errors.pages.clone()?);
+        // Without a control block a layout may still replace what is locked.
+        if self.locks.control.is_some() {
+            log.know(&self.locks.log);
+            control.know(&self.locks.control);
+            pages.know(&self.locks.pages);
+        }
+        Ok(NameWatch::over(log, control, pages))
     }
 
     /// Makes the names in the folder last.

@@ -27,6 +27,8 @@ mod vacancy;
 mod role;
 // The files that are locked with their folder.
 mod locks;
+// Whether the files still have their names.
+mod name_watch;
 // The folder.
 mod folder;
 
@@ -35,6 +37,7 @@ pub use fault::Fault;
 pub use folder::Folder;
 pub use lengths::Sizes;
 pub use limit::{FOLLOWED_PIECES, LOG_LIMIT};
+pub use name_watch::NameWatch;
 pub use part::Part;
 pub use refusal::trouble_of;
 pub use role::{EPOCH_LIMIT, Role};

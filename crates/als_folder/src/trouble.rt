@@ -36,6 +36,8 @@ pub enum Wrong {
     Gone,
     /// It is shorter than what it has to hold.
     Short,
+    /// It has so many blocks, and its database fewer pages.
+    Long { blocks: u64, pages: u32 },
     /// It was removed while it was open, or another file took its name.
     Removed,
     /// It was cut to this length while it was open.

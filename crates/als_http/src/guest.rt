@@ -13,6 +13,9 @@ const END: &[u8] = b"\r\n\r\n";
 /// The field that has the length of a body.
 const LENGTH: &[u8] = b"content-length:";
 
+/// What a request that reads begins with.
+const READS: [&[u8]; 2] = [b"GET ", b"HEAD "];
+
 /// A connection that no thread waits for: its stream does not block.
 pub(crate) struct Guest<T> {
     stream: T,
@@ -78,9 +81,18 @@ impl<T> Guest<T> {
         now.saturating_sub(self.begun)
     }
 
-    /// The bytes that it has sent.
-    pub fn said(&self) -> &[u8] {
-        self.said.as_slice()
+    /// The bytes of its first request: it is answered once.
+    pub fn request(&self) -> &[u8] {
+        let said = self.said.as_slice();
+        match whole_len(said) {
+            Some(len) if len < said.len() as u64 => &said[..len as usize],
+            _ => said,
+        }
+    }
+
+    /// Whether its request reads: its method is GET or HEAD. No such request waits.
+    pub fn reads(&self) -> bool {
+        READS.iter().any(|method| self.said.starts_with(method))
     }
 }
 
@@ -92,7 +104,14 @@ impl<T: Read> Guest<T> {
             Ok(0) => Heard::Gone,
             Ok(_) if self.is_answered => Heard::Part,
             Ok(count) => {
-                if count > 1024 || self.said.extend_from_slice(&bytes[..count]).is_err() {
+                if count > 1024 {
+                    return Heard::Gone;
+                }
+                let mut came = &bytes[..count];
+                if self.said.is_empty() {
+                    came = after_empty_lines(came);
+                }
+                if self.said.extend_from_slice(came).is_err() {
                     return Heard::Gone;
                 }
                 if is_whole(self.said.as_slice(), self.limit) {
@@ -119,18 +138,29 @@ impl<T: Write + OpenStream> Guest<T> {
     }
 }
 
+/// The bytes without the empty lines with which they begin: before a request these mean nothing.
+fn after_empty_lines(bytes: &[u8]) -> &[u8] {
+    let mut rest = bytes;
+    for _ in 0..bytes.len() {
+        match rest.split_first() {
+            Some((first, after)) if *first == b'\r' || *first == b'\n' => rest = after,
+            _ => break,
+        }
+    }
+    rest
+}
+
 /// Whether these bytes contain a whole request, or are more than a request may have.
 fn is_whole(said: &[u8], limit: usize) -> bool {
-    if said.len() >= limit {
-        return true;
-    }
-    match said.windows(END.len()).position(|four| four == END) {
-        Some(at) => {
-            let (head, rest) = said.split_at(at);
-            rest.len() as u64 >= body_len(head).saturating_add(END.len() as u64)
-        }
-        None => false,
-    }
+    said.len() >= limit || whole_len(said).is_some_and(|len| said.len() as u64 >= len)
+}
+
+/// The length of the request that these bytes begin with, head and body. None: its head is not whole.
+fn whole_len(said: &[u8]) -> Option<u64> {
+    let at = said.windows(END.len()).position(|four| four == END)?;
+    let (head, _) = said.split_at(at);
+    let head_len = (head.len() as u64).saturating_add(END.len() as u64);
+    Some(head_len.saturating_add(body_len(head)))
 }
 
 /// The length of the body after a head, by its Content-Length only: a body in chunks is not waited for and

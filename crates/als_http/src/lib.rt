@@ -12,8 +12,10 @@
 //!    connection each have a limit. So slow peers end by themselves.
 //! 3. The spare thread waits for nobody. While every other thread has a connection, it answers one request
 //!    of whoever connects: so slow peers, however many, shut nobody out.
-//! 4. One peer has at most one connection less than there are waiting threads, if there are several.
-//! 5. What a request is (`query_of`), what it is answered (`Reply`) and the response (`show`) make no system
+//! 4. No guest waits for the answer to another one, if its request reads. Requests that may wait stand in a
+//!    line, and one thread answers them; if it is full, they are refused at once.
+//! 5. One peer has at most one connection less than there are waiting threads, if there are several.
+//! 6. What a request is (`query_of`), what it is answered (`Reply`) and the response (`show`) make no system
 //!    call, and are proved exactly. Times and sockets are tested.
 #![tactic(auto)]
 
@@ -38,12 +40,18 @@ mod reply;
 mod telling;
 // What is wrong with a request, as JSON.
 mod wrong_text;
+// The thread that answers requests that may wait.
+mod clerk;
 // The connections that the threads have.
 mod connections;
+// What each thread does.
+mod duty;
 // A connection of the spare thread.
 mod guest;
 // Times and sizes.
 mod limits;
+// The guests whose requests may wait.
+mod line;
 // Where the threads listen.
 mod listening;
 // A stream whose peer has limited time.
@@ -62,7 +70,6 @@ mod turn;
 pub use answering::Answering;
 pub use asked::Asked;
 pub use asking::asked_by;
-pub use connections::Connections;
 pub use hosts::{Hosts, is_own};
 pub use limits::{MOST_THREADS, THREADS, config, config_with};
 pub use listening::listen;
@@ -70,6 +77,4 @@ pub use numbers::number;
 pub use query::{Query, Wrong};
 pub use reply::Reply;
 pub use servers::Servers;
-pub use serving::serve_until_closed;
 pub use telling::{AT_LEAST, query_of};
-pub use terms::Terms;

@@ -9,8 +9,11 @@ pub const THREADS: usize = 8;
 /// The most threads that serve a listener, whatever their service.
 pub const MOST_THREADS: usize = 258;
 
-/// The most connections of the spare thread. If more come, the first one is closed.
+/// The most connections of a thread that answers guests. If more come, the first one is closed.
 pub(crate) const GUESTS: usize = 64;
+
+/// The most guests in the line of those whose requests may wait. If more come, they are refused.
+pub(crate) const LINE: usize = 64;
 
 /// The most bytes of a request's head.
 const HEAD: usize = 7 * 1024;

@@ -1,7 +1,10 @@
 use crate::answering::Answering;
+use crate::clerk::answer_line;
 use crate::connections::Connections;
+use crate::duty::{Duty, duty_of, waiting_of};
 use crate::hosts::Hosts;
-use crate::limits::{MOST_THREADS, THREADS, config};
+use crate::limits::{LINE, MOST_THREADS, THREADS, config};
+use crate::line::Line;
 use crate::serving::serve_until_closed;
 use crate::spare::answer_guests;
 use crate::terms::Terms;
@@ -11,7 +14,7 @@ use std::alloc::{AllocError, Global};
 use std::hash::RandomState;
 use std::net::{TcpListener, TcpStream};
 use std::random::RandomSource;
-use std::sync::Arc;
+use std::sync::{Arc, Wait};
 use std::thread::{JoinHandle, Threads};
 use std::time::Clock;
 use std::{io, thread};
@@ -34,6 +37,11 @@ impl Drop for Servers {
     }
 }
 
+/// The guests that may stand in the line: none, where no thread is left to answer them.
+fn room_of(count: usize, may_wait: bool) -> usize {
+    if may_wait && count > 2 { LINE } else { 0 }
+}
+
 impl Servers {
     /// Starts a thread for each of these, up to eight, which answer reads until `close`. Each has a clock
     /// of its own. On the loopback only requests that name one of its hosts are answered.
@@ -42,7 +50,7 @@ impl Servers {
     pub fn start<
         R: Threads + RandomSource,
         S: Reports + Send + Drop + 'static,
-        C: Clock + Send + Drop + 'static,
+        C: Clock + Wait + Send + Drop + 'static,
     >(
         rt: &R,
         alloc: Global,
@@ -58,18 +66,20 @@ impl Servers {
                 own.push((answering, clock))?;
             }
         }
-        Servers::start_any(rt, alloc, listener, own, config())
+        Servers::start_each(rt, alloc, listener, own, config(), false)
     }
 
     /// Starts a thread for each of these services, up to 258, which serve the listener until `close`, with
-    /// these limits of a connection. Each has a clock of its own. If there are two or more, the last one
-    /// is spare: it waits for nobody, and serves while each other one has a connection.
+    /// these limits of a connection. Each has a clock of its own. A service may wait in a request by another
+    /// method than GET and HEAD. If there are two or more, the last one is spare: it waits for nobody, and
+    /// serves while each other one has a connection. If there are three or more, the one before it answers
+    /// the guests whose requests may wait; else these are refused.
     ///
     /// An error: allocation failed, or the system refused a thread. Then no thread goes on.
     pub fn start_any<
         R: Threads + RandomSource,
         V: Service + Send + Drop + 'static,
-        C: Clock + Send + Drop + 'static,
+        C: Clock + Wait + Send + Drop + 'static,
     >(
         rt: &R,
         alloc: Global,
@@ -77,13 +87,31 @@ impl Servers {
         seats: Vec<(V, C)>,
         config: Config,
     ) -> io::Result<Servers> {
+        Servers::start_each(rt, alloc, listener, seats, config, true)
+    }
+
+    /// Starts a thread for each of these services, which may wait in a request that does not read, or never.
+    fn start_each<
+        R: Threads + RandomSource,
+        V: Service + Send + Drop + 'static,
+        C: Clock + Wait + Send + Drop + 'static,
+    >(
+        rt: &R,
+        alloc: Global,
+        listener: &TcpListener,
+        seats: Vec<(V, C)>,
+        config: Config,
+        may_wait: bool,
+    ) -> io::Result<Servers> {
         listener.set_nonblocking(true)?;
         let terms = Terms {
             keys: RandomState::new(rt)?,
             config,
+            may_wait,
         };
         let count = seats.len().min(MOST_THREADS);
-        let waiting = if count > 1 { count - 1 } else { count };
+        let waiting = waiting_of(count, may_wait);
+        let line = Arc::new(alloc, Line::new(alloc, room_of(count, may_wait))?)?;
         let connections = Arc::new(alloc, Connections::new(alloc, waiting)?)?;
         let mut servers = Servers {
             connections,
@@ -91,31 +119,47 @@ impl Servers {
         };
         for seat in seats {
             if servers.handles.len() < count {
-                let is_spare = servers.handles.len() >= waiting;
-                servers.add(rt, alloc, listener.try_clone()?, terms, seat, is_spare)?;
+                let duty = duty_of(servers.handles.len(), count, may_wait);
+                let own = Arc::try_clone(&line)?;
+                servers.add(rt, alloc, listener.try_clone()?, terms, seat, own, duty)?;
             }
         }
         Ok(servers)
     }
 
     /// Starts one more thread.
-    fn add<R: Threads, V: Service + Send + Drop + 'static, C: Clock + Send + Drop + 'static>(
+    fn add<R: Threads, V: Service + Send + Drop + 'static, C: Clock + Wait + Send + Drop + 'static>(
         &mut self,
         rt: &R,
         alloc: Global,
         listener: TcpListener,
         terms: Terms,
         seat: (V, C),
-        is_spare: bool,
+        line: Arc<Line<TcpStream>, Global>,
+        duty: Duty,
     ) -> io::Result<()> {
         let (mut service, clock) = seat;
         let connections = Arc::try_clone(&self.connections)?;
-        let handle = thread::spawn(rt, move || {
-            if is_spare {
-                answer_guests(alloc, &listener, &mut service, terms, &clock, &connections)
-            } else {
-                serve_until_closed(alloc, &listener, &mut service, terms, &clock, &connections)
-            }
+        let handle = thread::spawn(rt, move || match duty {
+            Duty::Peers => serve_until_closed(
+                alloc,
+                &listener,
+                &mut service,
+                terms,
+                &clock,
+                &connections,
+                &line,
+            ),
+            Duty::Line => answer_line(alloc, &mut service, terms, &clock, &connections, &line),
+            Duty::Guests => answer_guests(
+                alloc,
+                &listener,
+                &mut service,
+                terms,
+                &clock,
+                &connections,
+                &line,
+            ),
         });
         match handle {
             Ok(handle) => Ok(self.handles.push(handle)?),

@@ -1,5 +1,6 @@
 use crate::connections::{Connections, peer_of};
 use crate::limits::{LEFTOVERS, RESPONSE, TICK};
+use crate::line::Line;
 use crate::peer::{Peer, is_late};
 use crate::spare::{attend, welcome};
 use crate::terms::Terms;
@@ -8,6 +9,7 @@ use http_server::{Connection, Service, serve};
 use std::alloc::Global;
 use std::io::{Read, Write};
 use std::net::{OpenListener, OpenStream, Shutdown, SocketAddr};
+use std::sync::Wait;
 use std::time::{Clock, Duration};
 use std::{io, thread};
 
@@ -18,11 +20,11 @@ const LATE: &[u8] =
 /// Serves one connection after another, until the threads are to end. The listener does not block. A peer
 /// that already has a connection of every other thread becomes a guest: what it has sent is read, and it
 /// is never waited for. While there is a guest, so is everybody who connects.
-pub fn serve_until_closed<
+pub(crate) fn serve_until_closed<
     L: OpenListener<Stream = T>,
     T: Read + Write + OpenStream + Drop,
     V: Service,
-    C: Clock,
+    C: Clock + Wait,
 >(
     alloc: Global,
     listener: &L,
@@ -30,6 +32,7 @@ pub fn serve_until_closed<
     terms: Terms,
     clock: &C,
     connections: &Connections,
+    line: &Line<T>,
 ) {
     let mut guests = Vec::new(alloc);
     for _ in 0..u64::MAX {
@@ -51,7 +54,7 @@ pub fn serve_until_closed<
             // Nobody wants to connect, or the system refuses for now.
             Err(_) => thread::sleep(clock, connections.nap()),
         }
-        guests = attend(alloc, guests, service, terms, now);
+        guests = attend(alloc, guests, service, terms, clock, line, now);
     }
 }
 

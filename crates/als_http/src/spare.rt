@@ -1,14 +1,21 @@
 use crate::connections::Connections;
 use crate::guest::{Guest, Heard};
 use crate::limits::{GUESTS, NAP, REQUEST, request_len};
+use crate::line::Line;
 use crate::terms::Terms;
 use http_server::{Connection, Service, serve};
-use std::alloc::{AllocError, Global};
-use std::hash::RandomState;
+use std::alloc::Global;
 use std::io::{Read, Write};
 use std::net::{OpenListener, OpenStream};
+use std::sync::Wait;
 use std::time::{Clock, Duration};
 use std::{io, thread};
+
+/// The response to a guest's request that may wait, where the line is full or the guest stood in it for too
+/// long. Nothing of it was done, and the guest may ask again.
+const NOT_BEGUN: &[u8] = b"HTTP/1.1 503 Service Unavailable\r\ncontent-type: application/json\r\n\
+    cache-control: no-store\r\nretry-after: 1\r\nconnection: close\r\ncontent-length: 55\r\n\r\n\
+    {\"name\":\"NotBegun\",\"error\":\"all connections are taken\"}";
 
 /// Answers whoever connects while each other thread has a connection, until the threads are to end. It
 /// waits for none of them: a peer without a whole request in time is dropped. Each connection is closed
@@ -17,7 +24,7 @@ pub(crate) fn answer_guests<
     L: OpenListener<Stream = T>,
     T: Read + Write + OpenStream + Drop,
     V: Service,
-    C: Clock,
+    C: Clock + Wait,
 >(
     alloc: Global,
     listener: &L,
@@ -25,6 +32,7 @@ pub(crate) fn answer_guests<
     terms: Terms,
     clock: &C,
     connections: &Connections,
+    line: &Line<T>,
 ) {
     let mut guests = Vec::new(alloc);
     for _ in 0..u64::MAX {
@@ -35,7 +43,7 @@ pub(crate) fn answer_guests<
             break;
         };
         let has_come = connections.is_crowded() && admit(alloc, listener, &mut guests, terms, now);
-        guests = attend(alloc, guests, service, terms, now);
+        guests = attend(alloc, guests, service, terms, clock, line, now);
         if !has_come {
             thread::sleep(clock, Duration::from_millis(NAP));
         }
@@ -78,11 +86,13 @@ pub(crate) fn welcome<T: OpenStream + Drop>(
 
 /// Serves each guest once. Those with a part of a request stay, and those that have yet to read their
 /// response.
-pub(crate) fn attend<T: Read + Write + OpenStream + Drop, V: Service>(
+pub(crate) fn attend<T: Read + Write + OpenStream + Drop, V: Service, C: Wait>(
     alloc: Global,
     guests: Vec<Guest<T>>,
     service: &mut V,
     terms: Terms,
+    rt: &C,
+    line: &Line<T>,
     now: Duration,
 ) -> Vec<Guest<T>> {
     let mut left = Vec::new(alloc);
@@ -91,30 +101,42 @@ pub(crate) fn attend<T: Read + Write + OpenStream + Drop, V: Service>(
         guest.look(now);
         let heard = guest.hear();
         let stays = match heard {
-            Heard::All => answer(alloc, &mut guest, service, terms).is_ok(),
-            Heard::Part => guest.age(now) < Duration::from_millis(REQUEST),
-            Heard::Gone => false,
+            Heard::All if terms.may_wait && !guest.reads() => match line.join(rt, guest) {
+                Some(guest) => refuse(guest),
+                None => None,
+            },
+            Heard::All => answer(alloc, guest, service, terms),
+            Heard::Part if guest.age(now) < Duration::from_millis(REQUEST) => Some(guest),
+            Heard::Part | Heard::Gone => None,
         };
-        if stays {
+        if let Some(guest) = stays {
             // Without memory for it, it is dropped.
             let _ = left.push(guest);
-        } else {
-            drop(guest);
         }
     }
     left
 }
 
-/// Answers the request of a guest. The response is short enough for the socket's buffer.
-fn answer<T: Read + Write + OpenStream, V: Service>(
+/// Answers the request of a guest, and returns the guest, unless it hung up. The response is short enough for
+/// the socket's buffer.
+pub(crate) fn answer<T: Read + Write + OpenStream + Drop, V: Service>(
     alloc: Global,
-    guest: &mut Guest<T>,
+    guest: Guest<T>,
     service: &mut V,
     terms: Terms,
-) -> io::Result<()> {
+) -> Option<Guest<T>> {
+    let mut guest = guest;
     let mut connection = Connection::new(alloc, terms.keys, terms.config);
     let mut response = Vec::new(alloc);
-    let mut said = guest.said();
-    serve(&mut connection, service, &mut said, &mut response)?;
-    guest.tell(response.as_slice())
+    let mut request = guest.request();
+    serve(&mut connection, service, &mut request, &mut response).ok()?;
+    guest.tell(response.as_slice()).ok()?;
+    Some(guest)
+}
+
+/// Refuses the request of a guest, and returns the guest, unless it hung up.
+pub(crate) fn refuse<T: Write + OpenStream + Drop>(guest: Guest<T>) -> Option<Guest<T>> {
+    let mut guest = guest;
+    guest.tell(NOT_BEGUN).ok()?;
+    Some(guest)
 }

@@ -8,4 +8,6 @@ pub struct Terms {
     pub keys: RandomState,
     /// The limits of a connection.
     pub config: Config,
+    /// Whether the service may wait in a request by another method than GET and HEAD.
+    pub may_wait: bool,
 }

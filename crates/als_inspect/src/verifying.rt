@@ -9,7 +9,7 @@ use crate::unsound::Unsound;
 use als_comparing::HeldLog;
 use als_drive::{Progress, listing, recover_telling};
 use als_fault::FaultKind;
-use als_folder::Folder;
+use als_folder::{DeviceFiles, Fault as FolderFault, Folder, Part, Trouble, Wrong};
 use als_progress::{Advance, Work};
 use als_ship::Fault as SessionFault;
 use std::alloc::Global;
@@ -218,9 +218,26 @@ fn restart<R: AllocGlobal + Files<File = File> + Wait, P: Progress + Advance>(
 ) -> Result<(), Fault> {
     let files = folder.open_to_read(rt)?;
     let database = database_of(rt.alloc(), &files)?;
+    check_page_count(&files, database.pages)?;
     let (mut engine, readers) = restarted(rt, &files, database, progress)?;
     drop(readers);
     recover_telling(rt, &mut engine, progress)?;
     listing(rt.alloc(), &mut engine)?;
     Ok(())
+}
+
+/// Refuses a `pages.blk` of more blocks than its database has pages: so does each command that takes its
+/// page count from there, `als takeover` for one.
+fn check_page_count(files: &DeviceFiles, pages: u32) -> Result<(), Fault> {
+    let blocks = match files.sizes() {
+        Ok(sizes) => sizes.pages,
+        Err(e) => return Err(Fault::Folder(FolderFault::of(Part::Pages, e))),
+    };
+    if blocks <= u64::from(pages) {
+        return Ok(());
+    }
+    Err(Fault::Folder(FolderFault::Damaged(Trouble {
+        part: Part::Pages,
+        wrong: Wrong::Long { blocks, pages },
+    })))
 }

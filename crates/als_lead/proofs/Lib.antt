@@ -4,3 +4,4 @@ pub mod Doubts
 pub mod Truths
 pub mod Rounds
 pub mod Confirms
+pub mod Excuses

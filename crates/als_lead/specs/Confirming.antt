@@ -1,5 +1,5 @@
 -- What enough others hold of the log, and what of it is answered and shown.
-use Rattle.std.specs.Prelude.{◌≡◌, ℕ, ◌≤◌, ◌⊎◌, Result, Ok}
+use Rattle.std.specs.Prelude.{◌≡◌, ℕ, ◌<◌, ◌≤◌, ◌⊎◌, Result, Ok}
 use Rattle.als_record.specs.declared.lsn.Lsn.{Lsn}
 use Rattle.als_record.specs.LogText.{end_of}
 use Rattle.als_record.specs.Commits.{commits_of}
@@ -11,15 +11,17 @@ use Rattle.als_writer.specs.declared.not_decided.NotDecided.{NotDecided as Undec
 use Rattle.als_writer.specs.declared.not_decided.NotDecided.TheVariants as undecided
 use Rattle.als_writer.specs.declared.refusal.Refusal.{Refusal}
 use Rattle.als_writer.specs.declared.refusal.Refusal.TheVariants as refusal
+use Rattle.als_writer.specs.declared.transaction.Transaction.{Transaction}
 use Rattle.als_writer.specs.declared.work.Work.{Work}
+use Rattle.als_writer.specs.declared.work.Work.TheVariants as work
 use Rattle.als_writer.specs.declared.written.Written.{Written}
 use Rattle.als_lead.specs.declared.answer.Answer.{Answer}
 use Rattle.als_lead.specs.declared.answer.Answer.TheVariants.{Committed, Prepared, Decided, Refused, NotDecided, Unknown, Withheld}
 use Rattle.als_lead.specs.declared.forced.Forced.{Forced}
 use Rattle.als_lead.specs.declared.forced.Forced.TheVariants as forced
 use Rattle.als_lead.specs.declared.told.Told.{Told}
-use Rattle.als_lead.specs.Going.{Publishes}
-use Rattle.als_lead.specs.Answers.{WasRefused, IsEnded}
+use Rattle.als_lead.specs.Going.{Grows, Publishes}
+use Rattle.als_lead.specs.Answers.{IsIn, WasRefused, IsEnded}
 
 -- ---- the log
 
@@ -118,3 +120,26 @@ IsCarried missed _ = Unit {0}
 
 abbrev pub IsCarriedOut : (ℕ → Type 0) → Told → Type 0
 IsCarriedOut missed told = IsCarried missed told.answer
+
+-- The end of a commit was owed: in an engine that this one goes on from, the commit was in the log and all of the log was acknowledged, and the
+-- transaction's last record was not in it.
+pub record IsOwed (E : Type 0) (machine : E → Machine) (m : Machine) (t : Transaction) (w : Written) : Type 0 where
+  pub engine : E
+  pub goes_on : Grows (machine engine) m
+  pub in_log : IsIn (machine engine) t w
+  pub forced : end_of (machine engine).held.log ≤ acknowledged (machine engine).held
+  pub short : end_of (machine engine).held.log < w.end.0
+
+-- why it is not known whether what is written stays: a confirmation was missed, or the end of a commit was owed
+abbrev pub IsDoubted : {E : Type 0} → (ℕ → Type 0) → (E → Machine) → Machine → Work → Written → Type 0
+IsDoubted {E} missed machine m (work.Commit t) w = ((end : ℕ) × missed end) ⊎ IsOwed E machine m t w
+IsDoubted missed machine m (work.Prepare t) w = (end : ℕ) × missed end
+IsDoubted missed machine m (work.Decide trans verdict) w = (end : ℕ) × missed end
+
+-- only so is an answer that it is not known
+abbrev pub IsExcused : {E : Type 0} → (ℕ → Type 0) → (E → Machine) → Machine → Work → Answer → Type 0
+IsExcused missed machine m asked (Unknown w) = IsDoubted missed machine m asked w
+IsExcused missed machine m asked _ = Unit {0}
+
+abbrev pub IsExcusedOf : {E : Type 0} → (ℕ → Type 0) → (E → Machine) → Machine → Told → Type 0
+IsExcusedOf missed machine m told = IsExcused missed machine m told.asked.work told.answer

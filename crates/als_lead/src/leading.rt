@@ -2,7 +2,7 @@ ghost use Rattle.std.specs.Prelude.{◌≡◌, ℕ, [], IfOk, OnOk};
 ghost use Rattle.als_writer.specs.Changes.{AreBounds};
 ghost use Rattle.als_lead.specs.Going.{Stays};
 ghost use Rattle.als_lead.specs.Leading.{Leads, AllTold};
-ghost use Rattle.als_lead.specs.Confirming.{IsShown, IsConfirmedOf, IsCarriedOut};
+ghost use Rattle.als_lead.specs.Confirming.{IsShown, IsConfirmedOf, IsCarriedOut, IsExcusedOf};
 
 use crate::clients::{Clients, Waited};
 use crate::confirming::confirm_earlier;
@@ -39,6 +39,11 @@ pub fn lead<E: Writes, C: Clients, U: Upkeep>(
     // If it ends well, nothing was refused because the leader ended, and an answer was withheld only
     // because a confirmation was missed.
     ensures works { OnOk result (AllTold (IsCarriedOut (U.missed upkeep.new))
+        (C.told clients.old) (C.told clients.new)) }
+    // If it ends well, it is unknown whether what is written stays only where a confirmation was missed, or
+    // where the end of a commit was owed.
+    ensures known { OnOk result (E.alone
+        → AllTold (IsExcusedOf (U.missed upkeep.new) E.machine (E.machine engine.new))
         (C.told clients.old) (C.told clients.new)) }
     // Readers see what they saw, or what is confirmed.
     ensures shown { E.alone
@@ -95,6 +100,9 @@ fn round<E: Writes, C: Clients, U: Upkeep>(
         → AllTold (IsConfirmedOf (U.confirmed upkeep.new) (E.machine engine.new))
         (C.told clients.old) (C.told clients.new) }
     ensures works { OnOk result (AllTold (IsCarriedOut (U.missed upkeep.new))
+        (C.told clients.old) (C.told clients.new)) }
+    ensures known { OnOk result (E.alone
+        → AllTold (IsExcusedOf (U.missed upkeep.new) E.machine (E.machine engine.new))
         (C.told clients.old) (C.told clients.new)) }
     ensures shown { E.alone
         → IsShown (U.confirmed upkeep.new) (E.machine engine.old) (E.machine engine.new) }

@@ -4,7 +4,7 @@ use als_disk::{BlockDisk, FileDisk};
 use als_drive::{Progress, recover_telling};
 use als_engine::{Config, Engine, Fault as EngineFault, LOG_BLOCK_LIMIT, Reader};
 use als_folder::{Folder, Found, Role};
-use als_operate::{Extent, Fault, PENDING, extent_of, named};
+use als_operate::{Extent, Fault, PENDING, check_pages_fit, extent_of, named};
 use als_ship::force;
 use als_writer::{Refusal, tidy};
 use std::fs::File;
@@ -80,6 +80,7 @@ fn open_or_begin<R: AllocGlobal + Files<File = File> + Wait>(
 ) -> Result<Opened, Fault> {
     match folder.find(rt)? {
         Found::Kept => {
+            check_pages_fit(rt, folder)?;
             follow_own_log(rt, folder)?;
             open_devices(rt, folder, database.readers)
         }

@@ -2,7 +2,7 @@ ghost use Rattle.std.specs.Prelude.{◌≡◌, ◌++◌, ℕ, [], OnOk};
 ghost use Rattle.als_writer.specs.Changes.{AreBounds};
 ghost use Rattle.als_lead.specs.Leading.{Leads, AllTold};
 ghost use Rattle.als_lead.specs.Going.{Tidies};
-ghost use Rattle.als_lead.specs.Confirming.{IsWhole, IsShown, IsConfirmedOf, IsCarriedOut};
+ghost use Rattle.als_lead.specs.Confirming.{IsWhole, IsShown, IsConfirmedOf, IsCarriedOut, IsExcusedOf};
 
 use crate::clients::Clients;
 use crate::confirming::{confirmed, show};
@@ -40,6 +40,9 @@ pub(crate) fn serve<E: Writes, C: Clients, U: Upkeep>(
         → AllTold (IsConfirmedOf (U.confirmed upkeep.new) (E.machine engine.new))
         (C.told clients.old) (C.told clients.new) }
     ensures works { OnOk result (AllTold (IsCarriedOut (U.missed upkeep.new))
+        (C.told clients.old) (C.told clients.new)) }
+    ensures known { OnOk result (E.alone
+        → AllTold (IsExcusedOf (U.missed upkeep.new) E.machine (E.machine engine.new))
         (C.told clients.old) (C.told clients.new)) }
     ensures shown { E.alone
         → IsShown (U.confirmed upkeep.new) (E.machine engine.old) (E.machine engine.new) }

@@ -52,7 +52,7 @@ pub use greeting::call;
 pub use holding::{Held, hold};
 pub use line::Line;
 pub use nearly_full::NearlyFull;
-pub use opening::{named, reopen};
+pub use opening::{check_pages_fit, named, own_devices, reopen};
 pub use patience::{bound, dial, silence};
 pub use primary_folder::{begin_primary, open_primary};
 pub use resolve_command::{Verdict, resolve};

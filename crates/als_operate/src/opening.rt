@@ -3,6 +3,7 @@ ghost use Rattle.als_disk.specs.Slot.{IsSettled};
 ghost use Rattle.als_operate.specs.FaultNames.{kind_of};
 
 use crate::fault::Fault;
+use crate::forgetting::{Extent, extent_of};
 use als_ckpt::{Phase, read_state};
 use als_disk::{BlockDisk, FileDisk};
 use als_engine::{CONTROL_BLOCKS, Config, Disks, Engine, Fault as EngineFault, Reader, Refused};
@@ -35,6 +36,7 @@ pub(crate) fn open_kept<R: AllocGlobal + Files<File = File> + Wait>(
     folder: &Folder,
     config: Config,
 ) -> Result<(Engine<FileDisk>, Vec<Reader>), Fault> {
+    check_pages_fit(rt, folder)?;
     let (devices, told) = open_devices(rt, folder, config.pages)?;
     check_lengths(&devices, config.pages, told)?;
     match told {
@@ -63,11 +65,14 @@ pub fn reopen<R: AllocGlobal + Files<File = File> + Wait>(
 }
 
 /// The devices of the folder's database, and how many pages it has: as many as `pages.blk` has blocks.
-pub(crate) fn own_devices<R: AllocGlobal + Files<File = File>>(
+///
+/// Folder: a file failed, or has not the length that its database asks for.
+pub fn own_devices<R: AllocGlobal + Files<File = File>>(
     rt: &R,
     folder: &Folder,
 ) -> Result<(Devices, u64), Fault> {
-    let pages = pages_in(rt, folder)?;
+    let pages = page_blocks(rt, folder)?;
+    check_page_count(rt, folder, pages)?;
     let (devices, told) = open_devices(rt, folder, pages)?;
     let mut devices = devices;
     check_lengths(&devices, pages, told)?;
@@ -137,12 +142,49 @@ fn known_bytes(told: Option<Told>) -> u64
     }
 }
 
-/// How many pages the folder's database has: as many as `pages.blk` has whole blocks.
-fn pages_in<R: AllocGlobal + Files<File = File>>(rt: &R, folder: &Folder) -> Result<u64, Fault> {
+/// How many whole blocks `pages.blk` has.
+fn page_blocks<R: AllocGlobal + Files<File = File>>(rt: &R, folder: &Folder) -> Result<u64, Fault> {
     let files = folder.open_to_read(rt)?;
     match files.sizes() {
         Ok(sizes) => Ok(sizes.pages),
         Err(e) => Err(Fault::Folder(FolderFault::of(Part::Pages, e))),
+    }
+}
+
+/// Refuses a `pages.blk` of more blocks than its database has pages, before anything is written.
+///
+/// Folder: a file failed, or it has more.
+pub fn check_pages_fit<R: AllocGlobal + Files<File = File>>(
+    rt: &R,
+    folder: &Folder,
+) -> Result<(), Fault> {
+    let blocks = page_blocks(rt, folder)?;
+    check_page_count(rt, folder, blocks)
+}
+
+/// Refuses so many blocks for the pages of a database that has fewer: as many as the log's header and the
+/// control block both say. Where they do not agree, the engine tells what is wrong with them.
+fn check_page_count<R: AllocGlobal + Files<File = File>>(
+    rt: &R,
+    folder: &Folder,
+    blocks: u64,
+) -> Result<(), Fault> {
+    let Some(
+        Extent {
+            pages,
+            log_bytes: _,
+        },
+    ) = extent_of(rt, folder)?
+    else {
+        return Ok(());
+    };
+    if blocks <= u64::from(pages) {
+        return Ok(());
+    }
+    let mut control = folder.open_control(rt)?;
+    match told_by(&mut control, u64::from(pages)) {
+        Some(_) => Err(damaged(Part::Pages, Wrong::Long { blocks, pages })),
+        None => Ok(()),
     }
 }
 

@@ -3,4 +3,3 @@ pub mod Fates
 pub mod Guards
 pub mod Others
 pub mod Ranges
-pub mod Withholding

@@ -1,16 +1,15 @@
 -- What the quorum answered.
-use Rattle.std.specs.Prelude.{◌≡◌, ◌≤◌, ◌⊎◌, ℕ}
+use Rattle.std.specs.Prelude.{◌⊎◌, ℕ}
+use Rattle.als_quorum.specs.Tallies.{HadEnough, HadFew}
 use Rattle.als_primary.specs.declared.answers.Answers.{Answers}
-use Rattle.als_primary.specs.declared.answers.Answers.TheVariants.{Nothing, Enough', Few'}
+use Rattle.als_primary.specs.declared.answers.Answers.TheVariants.{Nothing, Told'}
 
--- it answered that k had acknowledged the log up to there or further
+-- it looked at a roll in which k of different addresses, each of which counts, had acknowledged the log up to there or further
 abbrev pub IsConfirmed : ℕ → Answers → ℕ → Type 0
 IsConfirmed k Nothing n = ⊥
-IsConfirmed k (Enough' mark before wanted) n = ((wanted.value.count ≡ k) × (n ≤ wanted.value.end.0)) ⊎ IsConfirmed k before n
-IsConfirmed k (Few' mark before wanted) n = IsConfirmed k before n
+IsConfirmed k (Told' mark before tally) n = HadEnough tally.value k n ⊎ IsConfirmed k before n
 
--- it answered that fewer than k had acknowledged the log up to there
+-- it looked at a roll in which fewer had
 abbrev pub IsMissed : ℕ → Answers → ℕ → Type 0
 IsMissed k Nothing n = ⊥
-IsMissed k (Enough' mark before wanted) n = IsMissed k before n
-IsMissed k (Few' mark before wanted) n = ((wanted.value.count ≡ k) × (wanted.value.end.0 ≡ n)) ⊎ IsMissed k before n
+IsMissed k (Told' mark before tally) n = HadFew tally.value k n ⊎ IsMissed k before n

@@ -3,8 +3,7 @@ ghost use Rattle.std.specs.Prelude.{◌≤◌};
 use crate::doubts::Doubts;
 use crate::services::Common;
 use crate::serving::Serving;
-use crate::shown::Shown;
-use als_asking::Guard;
+use als_asking::{Guard, Shown};
 use als_engine::{Events, Reader};
 use als_folder::Folder;
 use als_http::{Hosts, Servers, config_with};
@@ -79,12 +78,12 @@ pub(crate) fn begin<
     })
 }
 
-/// The seats for this many connections of one peer: one more for other peers, and one for the thread that
-/// waits for nobody.
+/// The seats for this many connections of one peer: one more for other peers, one for the thread that answers
+/// guests who commit, and one for the thread that waits for nobody.
 fn seats_of(connections: u64) -> u32
-    ensures { result ≤ 66 }
+    ensures { result ≤ 67 }
 {
-    connections.min(CONNECTIONS) as u32 + 2
+    connections.min(CONNECTIONS) as u32 + 3
 }
 
 /// What the threads share: nothing is looked up yet, and nothing is confirmed if that takes followers.

@@ -4,7 +4,7 @@ ghost use Rattle.als_seats.specs.Places.{number_of};
 
 use crate::doubts::Doubts;
 use crate::group::Group;
-use als_engine::Decision;
+use als_engine::{Decision, Fault as EngineFault};
 use als_lead::{Account, Answer, Asked, Clients, Waited};
 use als_operate::Fault;
 use als_report::Board;
@@ -118,6 +118,7 @@ impl<R: Wait + Clock> Clients for Desk<'_, R> {
         self.account.tell(&asked, again(&answer));
         self.group
             .tell(now_of(self.rt), is_committed(&asked.work, &answer));
+        note_refusal(&self.board, &answer);
         // Each seat that was handed out is the number of a place.
         if let Some(place) = Place::of(asked.seat) {
             self.leader.tell(self.rt, place, answer);
@@ -155,6 +156,21 @@ fn is_committed(work: &Work, answer: &Answer) -> bool {
         ),
         _ => false,
     }
+}
+
+/// Adds an answer to what the board shows of refusals, if it is one.
+fn note_refusal(board: &Board, answer: &Answer) {
+    match answer {
+        Answer::Refused(refusal) => board.note_refusal(number_of(refusal.fault())),
+        Answer::NotDecided(why) => board.note_refusal(number_of(why.fault())),
+        Answer::Withheld => board.note_refusal(None),
+        _ => {}
+    }
+}
+
+/// The number of a fault. None: there is no fault.
+fn number_of(fault: Option<EngineFault>) -> Option<u64> {
+    Some(u64::from(fault?.kind().number()))
 }
 
 /// A question as work for the leader: its seat is the number of its place.

@@ -34,10 +34,6 @@ mod doubts;
 mod chair;
 // The services of the threads.
 mod services;
-// Whether the log with which it began is confirmed.
-mod shown;
-// What is not read before that.
-mod withheld;
 // The token of those who may commit.
 mod token;
 // Why its file is refused.
@@ -64,6 +60,7 @@ mod running;
 pub use als_followers::{Notice, What};
 pub use announcing::Announces;
 pub use bad_token::BadToken;
+pub use ranges::check_numbers;
 pub use refusal::Refusal;
 pub use running::primary;
 pub use serving::Serving;

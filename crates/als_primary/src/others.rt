@@ -1,7 +1,7 @@
 ghost use Rattle.std.specs.Prelude.{◌≡◌, ℕ, true, false};
 ghost use Rattle.als_primary.specs.Others.{IsConfirmed, IsMissed};
 
-use crate::answers::{Answers, Wanted};
+use crate::answers::Answers;
 use als_quorum::{Quorum, SEATS, Tail};
 use als_record::Lsn;
 use als_report::Board;
@@ -83,10 +83,9 @@ impl<'a, R: Wait + Clock> Others<'a, R> {
         ensures misses { (k n : ℕ) → IsMissed k self.old.answers n → IsMissed k self.new.answers n }
         ensures same { self.new.count ≡ self.old.count }
     {
-        let count = self.count;
-        let is_enough = self.quorum.wait_for(self.rt, count, end, at_most);
-        self.answers.note(Wanted { count, end }, is_enough);
-        is_enough
+        let tally = self.quorum.wait_for(self.rt, self.count, end, at_most);
+        self.answers.note(&tally);
+        tally.is_enough
     }
 
     /// Writes the followers onto the board.

@@ -14,7 +14,7 @@ use als_sending::WINDOW_LIMIT;
 const PATIENCE: u64 = 3_600;
 
 /// Refuses numbers that are out of range: BadConfig.
-pub(crate) fn check_numbers(serving: Serving<'_>) -> Result<(), Fault>
+pub fn check_numbers(serving: Serving<'_>) -> Result<(), Fault>
     ensures within { OnOk result (AreInRange serving.entry) }
     ensures beyond { IfErr result (λ fault. (fault ≡ Refused BadConfig)
         × ¬ (AreInRange serving.entry)) }

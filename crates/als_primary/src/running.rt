@@ -19,7 +19,7 @@ use crate::watching::{Watching, moments_of};
 use als_disk::FileDisk;
 use als_drive::Progress;
 use als_engine::{Engine, Events};
-use als_folder::Folder;
+use als_folder::{Folder, NameWatch};
 use als_http::listen;
 use als_lead::{Database, Limits, Primary, PrimaryUpkeep, lead, open};
 use als_operate::{Fault, NearlyFull, named, settle};
@@ -102,6 +102,7 @@ fn serve<
         readers,
     } = open(rt, database_of(serving), lines)?;
     let capacity = capacity_of(rt, &folder);
+    let names = names_of(rt, &folder)?;
     let begun = begin(rt, &engine, capacity, readers, &listener, guard, serving)?;
     lines.serves(
         serving.dir,
@@ -113,6 +114,7 @@ fn serve<
         rt,
         &folder,
         &mut engine,
+        &names,
         begun,
         shipping,
         capacity,
@@ -122,6 +124,11 @@ fn serve<
         Ok(()) => Ok(()),
         Err(fault) => Err(Refusal::Ended(named(&folder, fault))),
     }
+}
+
+/// The names of a folder's files, to be looked at.
+fn names_of<R: AllocGlobal>(rt: &R, folder: &Folder) -> Result<NameWatch, Fault> {
+    Ok(folder.names(rt)?)
 }
 
 /// The listener of followers, and who may follow. None: nobody may.
@@ -179,6 +186,7 @@ fn stand<
     rt: &R,
     folder: &Folder,
     engine: &mut Engine<FileDisk>,
+    names: &NameWatch,
     begun: Begun,
     shipping: Option<Shipping>,
     capacity: Option<u64>,
@@ -206,12 +214,14 @@ fn stand<
         clock: rt,
         lines: &mut *lines,
         capacity,
+        names,
         full: NearlyFull::NEVER,
         others,
         moments: moments_of(serving.commit_timeout),
         delay: Delay::NONE,
         followers: followers.as_ref(),
         short: 0,
+        undone: 0,
     };
     let mut desk = Desk::new(rt, reported, noted, leader);
     let led = lead(rt.alloc(), engine, &mut desk, &mut watching, GROUP);

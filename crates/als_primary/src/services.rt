@@ -3,9 +3,7 @@ ghost use Rattle.als_primary.specs.Guards.{token_of};
 
 use crate::chair::Chair;
 use crate::doubts::Doubts;
-use crate::shown::Shown;
-use crate::withheld::Withheld;
-use als_asking::{Asking, Guard, Lent};
+use als_asking::{Asking, Guard, Lent, Shown, Withheld};
 use als_engine::Reader;
 use als_http::{Answering, Hosts};
 use als_lead::Answer;

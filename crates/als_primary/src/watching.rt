@@ -6,14 +6,16 @@ use crate::announcing::Announces;
 use crate::delay::Delay;
 use crate::doubts::Doubts;
 use crate::others::Others;
-use crate::shown::Shown;
+use als_asking::Shown;
 use als_engine::{Events, Fault, Status};
+use als_folder::NameWatch;
 use als_followers::{Followers, NodeSource};
 use als_lead::{PrimaryUpkeep, Upkeep};
 use als_operate::NearlyFull;
 use als_record::Lsn;
 use als_report::{Board, State};
 use std::fs::File;
+use std::rt::Files;
 use std::sync::Wait;
 use std::time::{Clock, Duration};
 
@@ -31,7 +33,8 @@ const SHORT: u32 = 100;
 
 /// The upkeep of a primary, with what its followers have acknowledged. After each turn the board is up to
 /// date, and what is due is announced: once an hour that the log has little room left, once a minute that
-/// followers are waited for, and who came and went.
+/// followers are waited for, and who came and went. Once a second it looks whether the files of the folder
+/// still have their names.
 #[derive(Drop)]
 pub(crate) struct Watching<'a, R: Wait + Drop, A> {
     pub upkeep: PrimaryUpkeep<'a, R>,
@@ -42,6 +45,8 @@ pub(crate) struct Watching<'a, R: Wait + Drop, A> {
     pub lines: A,
     /// The bytes of the log's device. None: not known.
     pub capacity: Option<u64>,
+    /// Whether the folder's files still have their names.
+    pub names: &'a NameWatch,
     pub full: NearlyFull,
     pub others: Others<'a, R>,
     /// The most moments for which a group waits for followers.
@@ -49,8 +54,10 @@ pub(crate) struct Watching<'a, R: Wait + Drop, A> {
     pub delay: Delay,
     /// The sessions. None: nobody may follow.
     pub followers: Option<&'a Followers<NodeSource<R, File>>>,
-    /// How often in a row memory was refused.
+    /// How often in a row memory was refused to the readers' list.
     pub short: u32,
+    /// The same for redo.
+    pub undone: u32,
 }
 
 impl<R: Wait + Clock + Drop, A: Announces> Watching<'_, R, A> {
@@ -170,7 +177,7 @@ fn waits_out(short: &mut u32, met: &Result<(), Fault>) -> bool {
     *short < SHORT
 }
 
-impl<R: Wait + Clock + Drop, A: Announces> Upkeep for Watching<'_, R, A> {
+impl<R: Wait + Clock + Files<File = File> + Drop, A: Announces> Upkeep for Watching<'_, R, A> {
     ghost use Rattle.als_primary.specs.Others.{IsConfirmed, IsMissed};
 
     // The quorum answered that enough followers have acknowledged it.
@@ -190,10 +197,15 @@ impl<R: Wait + Clock + Drop, A: Announces> Upkeep for Watching<'_, R, A> {
         published
     }
 
+    // If a file has lost its name, the primary ends, though nothing may be forced for a while.
     fn keep_up<E: Events>(&mut self, engine: &mut E) -> Result<(), Fault> {
         let kept = self.upkeep.keep_up(engine);
-        if kept.is_err() && !waits_out(&mut self.short, &kept) {
+        let is_passed = waits_out(&mut self.undone, &kept);
+        if kept.is_err() && !is_passed {
             return kept;
+        }
+        if self.names.look(self.clock) {
+            return Err(Fault::Device);
         }
         // What is not confirmed may come to nothing.
         if self.shown.is_confirmed() && !self.delay.is_on() {

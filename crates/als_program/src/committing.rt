@@ -5,6 +5,7 @@ use crate::failure::Failure;
 use crate::files::refused;
 use crate::redo_lines::RedoLines;
 use crate::refusal::Refusal;
+use crate::sound_pages::check_sound;
 use crate::terminals::Terminals;
 use als_command::Command;
 use als_commit::{Committing, Ending, commit};
@@ -33,11 +34,23 @@ pub fn commit_lines<
     ensures status { IfOk result IsStatus }
 {
     let mut lines = RedoLines::new(&mut *errors, rt, terminals.errors, false);
-    let ended = commit(rt, committing, input, &mut lines, output);
+    let ended = attempt(rt, committing, input, &mut lines, output);
     drop(lines);
     match ended {
         Ok(Ending::Done) => Ok(0),
         Ok(Ending::BadLine) => Ok(2),
-        Err(fault) => refused(rt, terminals, command, Refusal::from(fault), output, errors),
+        Err(refusal) => refused(rt, terminals, command, refusal, output, errors),
     }
+}
+
+/// The same, with nothing said of a refusal.
+fn attempt<R: AllocGlobal + Files<File = File> + Wait + Clock, I: Read + Drop, O: Write, W: Write>(
+    rt: &R,
+    committing: Committing<'_>,
+    input: I,
+    lines: &mut RedoLines<'_, W, R>,
+    output: &mut O,
+) -> Result<Ending, Refusal> {
+    check_sound(rt, committing.dir, lines)?;
+    Ok(commit(rt, committing, input, lines, output)?)
 }

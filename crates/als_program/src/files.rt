@@ -5,6 +5,7 @@ use crate::failure::Failure;
 use crate::meeting_lines::MeetingLines;
 use crate::redo_lines::RedoLines;
 use crate::refusal::Refusal;
+use crate::sound_pages::check_sound;
 use crate::terminals::Terminals;
 use crate::{log_sizes, partings, troubles};
 use als_command::Command;
@@ -13,7 +14,7 @@ use als_engine::Decision;
 use als_fanout::{Lasting, ship_node_on, ship_on};
 use als_fault::FaultKind;
 use als_folder::Trouble;
-use als_inspect::{Wanted, check_pages, dump, get, status, verify_telling};
+use als_inspect::{Wanted, dump, get, status, verify_telling};
 use als_lookback::{
     Fault as LookFault, Until, commit_of, commits, cut, get as get_at, grow, show,
     status as status_at,
@@ -367,6 +368,7 @@ fn lead<R: AllocGlobal + Files<File = File> + Wait + Clock, O: Write, E: Write>(
             is_commit,
             ..
         } => {
+            check_sound(rt, dir, &mut lines)?;
             resolve(rt, verdict(dir, trans, is_commit), &mut lines, output)?;
             Ok(())
         }
@@ -587,22 +589,6 @@ fn stand_by<
     };
     serve_standby(rt, following, service, progress, output)?;
     Ok(())
-}
-
-/// Refuses a page that is not what its log makes of it, before anything is written. What else is wrong with the
-/// folder the command itself reports, in its own order.
-fn check_sound<R: AllocGlobal + Files<File = File>, A: Advance>(
-    rt: &R,
-    dir: &str,
-    advance: &mut A,
-) -> Result<(), Refusal> {
-    match check_pages(rt, dir, advance) {
-        Ok(()) => Ok(()),
-        Err(fault) => match fault.kind() {
-            FaultKind::BadPage { page: _ } => Err(Refusal::from(fault)),
-            _ => Ok(()),
-        },
-    }
 }
 
 /// How many threads redo. BadConfig: more than `WORKER_LIMIT`.

@@ -13,6 +13,8 @@ mod log_sizes;
 mod troubles;
 // How long work goes on.
 mod redo_lines;
+// Each page is what the log makes of it.
+mod sound_pages;
 // A standby whose log parted from its primary's.
 mod partings;
 // Whom a shipper meets.

@@ -8,7 +8,7 @@ pub fn tell<W: Write>(errors: &mut W, path: &str, kind: FaultKind) -> io::Result
     match kind {
         FaultKind::Diverged { seal } => writeln!(
             errors,
-            "als: {path}: the two logs parted at offset {seal}: the node that serves goes on from a takeover that was sealed there, and this log goes past it. What it holds past {seal} is not in that node's log: als rewind --to {seal} keeps that in a file beside the folder, which follows on then; or keep the folder, and follow with an empty one"
+            "als: {path}: the two logs parted at offset {seal}: the node that serves goes on from a takeover that was sealed there, and this log goes past it. What it holds past {seal} is not in that node's log: als rewind --dir {path} --to {seal} keeps that in a file beside the folder, which follows on then; or keep the folder, and follow with an empty one"
         ),
         FaultKind::OtherEpoch { epoch } => writeln!(
             errors,
@@ -16,7 +16,7 @@ pub fn tell<W: Write>(errors: &mut W, path: &str, kind: FaultKind) -> io::Result
         ),
         FaultKind::OtherLog => writeln!(
             errors,
-            "als: {path}: the node that serves has another log: both have bytes at one offset, and they differ. One of the two lost what it had not forced, or was restored from a copy. Nothing of this folder's log has changed: keep it. Find the log that is right, by sha256= of als verify of both; then follow that one with an empty folder, or take over from this one"
+            "als: {path}: the node that serves has another log: both have bytes at one offset, and they differ. One of the two lost what it had not forced, or was restored from a copy. Nothing of this folder's log has changed: keep it. Find the log that is right, by sha256= of als verify of both; then follow that one with an empty folder, or with this one once als rewind took it back to where both are the same; or take over from this one"
         ),
         FaultKind::LogFull => writeln!(
             errors,

@@ -29,6 +29,8 @@ pub struct RedoLines<'a, W: Write, C> {
     meter: Meter,
     /// The work over bytes that was reported last, and how much of it was done.
     last: Option<(Work, u64)>,
+    /// How many bytes the work had of which a line was said last.
+    told: Option<u64>,
     /// Whether it is said that nobody sends.
     tells_outages: bool,
     /// Whether one session is followed, and nobody is served.
@@ -45,6 +47,7 @@ impl<W: Write + Drop, C> Drop for RedoLines<'_, W, C> {
             pace: _,
             meter: _,
             last: _,
+            told: _,
             tells_outages: _,
             is_brief: _,
         } = self;
@@ -85,6 +88,7 @@ impl<'a, W: Write, C: Clock> RedoLines<'a, W, C> {
             pace,
             meter: Meter::new(),
             last: None,
+            told: None,
             tells_outages: seen || asked,
             is_brief: false,
         }
@@ -93,6 +97,19 @@ impl<'a, W: Write, C: Clock> RedoLines<'a, W, C> {
     /// One session is followed, and nobody is served.
     pub fn of_one_session(&mut self) {
         self.is_brief = true;
+    }
+
+    /// The log of a folder was read, and is read once more by an engine, which tells nothing of it. Where it
+    /// took long enough for a line, one says so.
+    pub fn reads_again(&mut self, dir: &str) {
+        if let Some(bytes) = self.told {
+            // Where it can't be said, the log is read all the same.
+            let _ = writeln!(
+                self.errors,
+                "als: reading the log of {dir} ({} MB)",
+                bytes.div_ceil(MEGABYTE)
+            );
+        }
     }
 
     /// Where they are written.
@@ -180,6 +197,7 @@ impl<W: Write, C: Clock> Advance for RedoLines<'_, W, C> {
         self.note(work, done);
         let now = self.millis();
         if let Some(Line { percent, rate }) = self.meter.takes(work, done, whole, now) {
+            self.told = Some(whole);
             let _ = writeln!(
                 self.errors,
                 "als: {}: {percent} % of {} MB, {}.{} MB a second",

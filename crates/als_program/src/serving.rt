@@ -3,12 +3,14 @@ ghost use Rattle.als_program.specs.Status.{IsStatus};
 
 use crate::failure::Failure;
 use crate::files::refused;
+use crate::redo_lines::RedoLines;
 use crate::refusal::Refusal;
 use crate::serving_lines::{ServingLines, text_of};
+use crate::sound_pages::check_sound;
 use crate::terminals::Terminals;
 use als_command::Command;
 use als_operate::Fault;
-use als_primary::{Refusal as Unserved, Serving, primary};
+use als_primary::{Refusal as Unserved, Serving, check_numbers, primary};
 use std::alloc::{AllocError, Global};
 use std::fs::File;
 use std::io::Write;
@@ -46,6 +48,9 @@ pub fn serve_primary<
 ) -> Result<u8, Failure>
     ensures status { IfOk result IsStatus }
 {
+    if let Err(refusal) = check_pages(rt, terminals, serving, errors) {
+        return refused(rt, terminals, command, refusal, output, errors);
+    }
     let mut lines = ServingLines::new(&mut *errors, rt, terminals.errors);
     let ended = primary(rt, serving, &mut lines);
     drop(lines);
@@ -56,4 +61,19 @@ pub fn serve_primary<
         }
         Err(why) => Err(Failure::Usage(text_of(rt.alloc(), why, serving)?)),
     }
+}
+
+/// Refuses a page that is not what its log makes of it. A number that is out of its range is left to the
+/// command: no folder is looked at for it.
+fn check_pages<R: AllocGlobal + Files<File = File> + Clock, E: Write>(
+    rt: &R,
+    terminals: Terminals,
+    serving: Serving<'_>,
+    errors: &mut E,
+) -> Result<(), Refusal> {
+    if check_numbers(serving).is_err() {
+        return Ok(());
+    }
+    let mut lines = RedoLines::new(errors, rt, terminals.errors, false);
+    check_sound(rt, serving.dir, &mut lines)
 }

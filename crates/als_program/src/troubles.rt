@@ -38,6 +38,12 @@ fn say<W: Write>(errors: &mut W, trouble: Trouble) -> io::Result<()> {
         Wrong::NoRoom => "its disk has no room",
         Wrong::Gone => "its disk gave an input or output error, or is gone",
         Wrong::Short => "the file ends too early",
+        Wrong::Long { blocks, pages } => {
+            return writeln!(
+                errors,
+                "the file has {blocks} blocks, and its database {pages} pages: als rebuild-pages makes it anew"
+            );
+        }
         Wrong::Removed => "the file was removed, or another took its name, while it was open",
         Wrong::Cut { bytes } => {
             return writeln!(

@@ -23,6 +23,8 @@ mod row;
 mod roll;
 // How many addresses vouch for an LSN.
 mod counting;
+// Whether a roll has enough, and the roll.
+mod tally;
 // The roll under its lock.
 mod quorum;
 // Up to where a log may be read.
@@ -35,3 +37,4 @@ pub use reach::Reach;
 pub use roll::{Roll, SEATS};
 pub use row::Row;
 pub use tail::Tail;
+pub use tally::Tally;

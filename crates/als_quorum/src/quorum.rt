@@ -1,5 +1,8 @@
+ghost use Rattle.als_quorum.specs.Tallies.{IsTallyOf};
+
 use crate::roll::{Roll, SEATS};
 use crate::row::Row;
+use crate::tally::Tally;
 use als_record::Lsn;
 use std::alloc::{AllocError, Global};
 use std::net::IpAddr;
@@ -73,22 +76,25 @@ impl Quorum {
     }
 
     /// Waits, at most this long, until `count` followers with different addresses, each of which counts,
-    /// have acknowledged the log up to there. Returns whether they have. Once closed it does not wait.
+    /// have acknowledged the log up to there. Returns whether they have, by a roll that it looked at. Once
+    /// closed it does not wait.
     pub fn wait_for<R: Wait + Clock>(
         &self,
         rt: &R,
         count: u32,
         lsn: Lsn,
         at_most: Duration,
-    ) -> bool {
+    ) -> Tally
+        ensures { IsTallyOf count lsn.0 result }
+    {
         let held = self.held.lock(rt);
         if !held.is_awaited(count, lsn) {
-            return held.roll.has_enough(count, lsn);
+            return Tally::of(&held.roll, count, lsn);
         }
         let (held, _) = self
             .changed
             .wait_timeout_while(rt, held, at_most, |held| held.is_awaited(count, lsn));
-        held.roll.has_enough(count, lsn)
+        Tally::of(&held.roll, count, lsn)
     }
 
     /// Wakes all waiting threads. Nothing waits any more.

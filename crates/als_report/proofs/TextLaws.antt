@@ -29,6 +29,11 @@ pub six : (start mid late more much last end a b c d e f : List Token) → mid �
 six start mid late more much last end a b c d e f p q r s t u =
     two start mid end a (b ++ (c ++ (d ++ (e ++ f)))) p (five mid late more much last end b c d e f q r s t u)
 
+pub seven : (start mid late more much near last end a b c d e f g : List Token) → mid ≡ start ++ a → late ≡ mid ++ b → more ≡ late ++ c → much ≡ more ++ d
+    → near ≡ much ++ e → last ≡ near ++ f → end ≡ last ++ g → end ≡ start ++ (a ++ (b ++ (c ++ (d ++ (e ++ (f ++ g))))))
+seven start mid late more much near last end a b c d e f g p q r s t u v =
+    two start mid end a (b ++ (c ++ (d ++ (e ++ (f ++ g))))) p (six mid late more much near last end b c d e f g q r s t u v)
+
 -- a member whose number is another name of the one that is written
 pub number_is : (end start : List Token) (name : List ℕ) (n m : ℕ) → end ≡ start ++ number_tokens name n → n ≡ m → end ≡ start ++ number_tokens name m
 number_is end start name n m p q = p ∙ ap (λ (k : ℕ). start ++ number_tokens name k) q

@@ -1,12 +1,13 @@
 -- The JSON texts of replies, as tokens.
-use Rattle.std.specs.Prelude.{ℕ, Bool, List, [], ◌∷◌, ◌++◌, codes, decimal, Option, Some, None}
+use Rattle.std.specs.Prelude.{ℕ, Bool, List, [], ◌∷◌, ◌++◌, codes, decimal, Option, Some, None, if◌then◌else◌}
 use Rattle.json.specs.Token.{Token, begin_object, end_object, key, string, number, boolean, null}
 use Rattle.hex.specs.Hex.{encode_lower}
 use Rattle.als_record.specs.Spelling.{Image}
 use Rattle.als_view.specs.declared.answer.Answer.{Answer}
 use Rattle.als_report.specs.States.{name_of_state}
-use Rattle.als_report.specs.Health.{room_of}
-use Rattle.als_report.specs.Followers.{primary_tokens}
+use Rattle.als_report.specs.Health.{room_of, takes_commits}
+use Rattle.als_report.specs.Followers.{primary_tokens, number_tokens}
+use Rattle.als_report.specs.declared.refusals.Refusals.{Refusals}
 use Rattle.als_report.specs.declared.report.Report.{Report}
 use Rattle.als_report.specs.declared.unread.Unread.{Unread}
 use Rattle.als_report.specs.declared.unread.Unread.TheVariants.{Warming, Stopped, Older}
@@ -46,6 +47,14 @@ redo_tokens r commits =
 abbrev pub room_tokens : Report → List Token
 room_tokens r = key (codes "capacity") ∷ number_token r.capacity ∷ key (codes "left") ∷ number_token (room_of r) ∷ []
 
+-- how many were refused, and the number of the last refusal that has one
+abbrev pub refused_tokens : Refusals → List Token
+refused_tokens r = number_tokens (codes "refused") r.count ++ member_tokens (codes "last_refusal") r.last
+
+-- what a node that takes commits refused; of any other node nothing
+unfoldable pub refusal_tokens : Report → List Token
+refusal_tokens r = if takes_commits r.state then refused_tokens r.refusals else []
+
 -- the members that every node's status has, and behind them those of a node that takes commits
 abbrev pub status_tokens : Report → Option ℕ → List Token
 status_tokens r commits =
@@ -54,7 +63,7 @@ status_tokens r commits =
     ∷ key (codes "pending") ∷ number (decimal r.pending) ∷ key (codes "leases") ∷ number (decimal r.leases)
     ∷ key (codes "commits") ∷ number_token commits ∷ key (codes "seconds_since_last_frame") ∷ number_token r.silence
     ∷ key (codes "capacity") ∷ number_token r.capacity ∷ key (codes "left") ∷ number_token (room_of r)
-    ∷ (primary_tokens r ++ (end_object ∷ []))
+    ∷ (primary_tokens r ++ (refusal_tokens r ++ (end_object ∷ [])))
 
 abbrev pub health_tokens : Bool → List Token
 health_tokens healthy = begin_object ∷ key (codes "healthy") ∷ boolean healthy ∷ end_object ∷ []

@@ -3,6 +3,7 @@ ghost use Rattle.std.specs.Prelude.{◌≤◌};
 use crate::follower::Follower;
 use crate::follower_cells::FollowerCells;
 use crate::follower_row::FollowerRow;
+use crate::refusals::Refusals;
 use crate::report::{MOST_FOLLOWERS, Report};
 use crate::reports::Reports;
 use crate::state::State;
@@ -42,6 +43,10 @@ pub struct Board {
     /// How many followers have to acknowledge a commit before it is answered.
     sync: AtomicU64,
     followers: FollowerCells,
+    /// How many transactions and decisions were refused.
+    refused: AtomicU64,
+    /// The number of the last refusal that has one. 0: none had.
+    refusal: AtomicU64,
 }
 
 impl Board {
@@ -63,6 +68,8 @@ impl Board {
             in_doubt: AtomicU64::new(0),
             sync: AtomicU64::new(0),
             followers: FollowerCells::new(),
+            refused: AtomicU64::new(0),
+            refusal: AtomicU64::new(0),
         }
     }
 
@@ -139,6 +146,14 @@ impl Board {
     /// A group of transactions was committed by one force, which took this long.
     pub fn note_group(&self, transactions: u64, force: Duration) {
         self.work.note_group(transactions, force);
+    }
+
+    /// A transaction or a decision was refused, by the fault with this number. None: the refusal has none.
+    pub fn note_refusal(&self, number: Option<u64>) {
+        self.refused.fetch_add(1, Ordering::SeqCst);
+        if let Some(number) = number {
+            self.refusal.store(number, Ordering::SeqCst);
+        }
     }
 
     /// Sets how many transactions are in doubt.
@@ -235,6 +250,10 @@ impl<C: Clock> Reports for Watch<C> {
             in_doubt: board.in_doubt.load(Ordering::SeqCst),
             sync: board.sync.load(Ordering::SeqCst),
             followers: followers_now(board, &self.clock),
+            refusals: Refusals {
+                count: board.refused.load(Ordering::SeqCst),
+                last: known(&board.refusal),
+            },
         }
     }
 }

@@ -24,7 +24,8 @@ mod report;
 mod reports;
 // What a node is doing.
 mod state;
-// What a primary committed, and the cells of that.
+// What a primary committed, and the cells of that; what it refused.
+mod refusals;
 mod work;
 mod work_cells;
 // A key is read, and how many commits are published; why it is not read.
@@ -47,6 +48,7 @@ pub use follower::Follower;
 pub use follower_row::FollowerRow;
 pub use metrics::{VERSION, metrics_text};
 pub use reading::{published, read};
+pub use refusals::Refusals;
 pub use report::{MOST_FOLLOWERS, MOST_IN_DOUBT, PATIENCE, Report};
 pub use report_text::{health_text, status_text};
 pub use reports::Reports;

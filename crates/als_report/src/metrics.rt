@@ -30,7 +30,12 @@ fn metric(text: &mut String, name: &str, help: &str, value: u64) -> Result<(), A
 }
 
 /// Writes a gauge, or nothing if the value is not known.
-fn known(text: &mut String, name: &str, help: &str, value: Option<u64>) -> Result<(), AllocError> {
+pub(crate) fn known(
+    text: &mut String,
+    name: &str,
+    help: &str,
+    value: Option<u64>,
+) -> Result<(), AllocError> {
     match value {
         Some(value) => metric(text, name, help, value),
         None => Ok(()),

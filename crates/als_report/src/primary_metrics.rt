@@ -1,5 +1,6 @@
 use crate::follower::Follower;
-use crate::metrics::head;
+use crate::metrics::{head, known};
+use crate::refusals::Refusals;
 use crate::report::Report;
 use crate::work::Work;
 use std::alloc::AllocError;
@@ -32,7 +33,8 @@ pub(crate) fn write_primary(text: &mut String, report: &Report) -> Result<(), Al
         "gauge",
     )?;
     write!(text, "als_sync_followers {sync}\n")?;
-    write_followers(text, report)
+    write_followers(text, report)?;
+    write_refusals(text, &report.refusals)
 }
 
 /// Writes the four figures of each follower.
@@ -66,6 +68,22 @@ fn write_work(text: &mut String, work: &Work) -> Result<(), AllocError> {
     let seconds = work.force_microseconds / SECOND;
     let micros = work.force_microseconds % SECOND;
     write!(text, "als_force_seconds_total {seconds}.{micros:06}\n")
+}
+
+/// Writes what it refused.
+fn write_refusals(text: &mut String, refusals: &Refusals) -> Result<(), AllocError> {
+    counter(
+        text,
+        "als_refused_total",
+        "Transactions and decisions of clients that were refused.",
+        refusals.count,
+    )?;
+    known(
+        text,
+        "als_last_refusal",
+        "Number of the last refusal that has one.",
+        refusals.last,
+    )
 }
 
 /// Writes a counter: a number that only grows.

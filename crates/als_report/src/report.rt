@@ -2,6 +2,7 @@ ghost use Rattle.std.specs.Prelude.{◌≡◌};
 ghost use Rattle.als_report.specs.Health.{is_prompt, is_healthy, room_of};
 
 use crate::follower::Follower;
+use crate::refusals::Refusals;
 use crate::state::State;
 use crate::work::Work;
 use als_record::Lsn;
@@ -48,6 +49,8 @@ pub struct Report {
     pub sync: u64,
     /// Its followers.
     pub followers: ArrayVec<Follower, MOST_FOLLOWERS>,
+    /// What it refused to clients.
+    pub refusals: Refusals,
 }
 
 impl Report {

@@ -1,10 +1,11 @@
 ghost use Rattle.std.specs.Prelude.{◌≡◌, IfOk, OnOk, ◌++◌};
 ghost use Rattle.json.specs.Print.{print};
 ghost use Rattle.als_report.specs.Texts.{status_tokens, log_tokens, redo_tokens, room_tokens};
-ghost use Rattle.als_report.specs.Texts.{health_tokens};
+ghost use Rattle.als_report.specs.Texts.{health_tokens, refusal_tokens, refused_tokens};
 
-use crate::members::member;
+use crate::members::{member, number};
 use crate::primary_text::write_primary;
+use crate::refusals::Refusals;
 use crate::report::Report;
 use json::Writer;
 use std::alloc::{AllocError, Global};
@@ -39,6 +40,7 @@ fn write_status(
     write_redo(text, report, commits)?;
     write_room(text, report)?;
     write_primary(alloc, text, report)?;
+    write_refusals(text, report)?;
     text.end_object()?;
     Ok(())
 }
@@ -75,6 +77,30 @@ fn write_room(text: &mut Writer, report: &Report) -> Result<(), AllocError>
 {
     member(text, "capacity", report.capacity)?;
     member(text, "left", report.room())?;
+    Ok(())
+}
+
+/// Writes what a node that takes commits refused; of any other node nothing.
+#[tactic(auto, unfolding(crate::specs::Texts::refusal_tokens))]
+fn write_refusals(text: &mut Writer, report: &Report) -> Result<(), AllocError>
+    ensures tokens { OnOk result (text.new.tokens ≡ text.old.tokens ++ refusal_tokens report.now) }
+    ensures before { OnOk result (text.new.before ≡ text.old.before) }
+{
+    if !report.state.takes_commits() {
+        return Ok(());
+    }
+    write_refused(text, &report.refusals)?;
+    Ok(())
+}
+
+/// Writes how many were refused, and the number of the last refusal.
+fn write_refused(text: &mut Writer, refusals: &Refusals) -> Result<(), AllocError>
+    ensures tokens { OnOk result
+        (text.new.tokens ≡ text.old.tokens ++ refused_tokens refusals.now) }
+    ensures before { OnOk result (text.new.before ≡ text.old.before) }
+{
+    number(text, "refused", refusals.count)?;
+    member(text, "last_refusal", refusals.last)?;
     Ok(())
 }
 

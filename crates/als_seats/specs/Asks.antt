@@ -7,6 +7,10 @@ abbrev pub asks_of : {T : Type 0} → ℕ → ℕ → List T → List (Ask T)
 asks_of seat at [] = []
 asks_of seat at (q ∷ qs) = record { place = record { seat = seat; at = at }; question = q } ∷ asks_of seat (suc at) qs
 
+-- whether a question is of this seat
+abbrev pub is_of : {T : Type 0} → ℕ → Ask T → Bool
+is_of seat ask = nat_eq ask.place.seat seat
+
 -- whether a question is of another seat than this one
 abbrev pub is_of_other : {T : Type 0} → ℕ → Ask T → Bool
-is_of_other seat ask = not (nat_eq ask.place.seat seat)
+is_of_other seat ask = not (is_of seat ask)

@@ -1,6 +1,7 @@
-ghost use Rattle.std.specs.Prelude.{◌≡◌, ◌≤◌, ◌++◌, true, length, take, option_to_list};
+ghost use Rattle.std.specs.Prelude.{◌≡◌, ◌≤◌, ◌++◌, ◌-◌, true, length, take, option_to_list};
 ghost use Rattle.std.specs.List.{filter};
-ghost use Rattle.als_seats.specs.Asks.{asks_of, is_of_other};
+ghost use Rattle.als_seats.specs.Asks.{asks_of, is_of, is_of_other};
+ghost use Rattle.als_seats.specs.Outcomes.{TakesBack};
 
 use crate::ask::Ask;
 use crate::outcome::Outcome;
@@ -78,18 +79,35 @@ impl<T: Drop> Queue<T> {
         self.waiting.pop_front()
     }
 
-    /// Takes back the waiting questions of a seat: their outcome is NotBegun.
+    /// Takes back the waiting questions of a seat: their outcome is NotBegun, and no other one changes.
     pub fn take_back<A: Drop>(&mut self, seat: u32, slots: &mut Slots<A>)
         // None of them waits any more. The others stay, in their order.
         ensures kept { self.new.waiting.items ≡ filter (is_of_other seat) self.old.waiting.items }
+        ensures told { TakesBack seat self.old.waiting.items slots.old.outcomes.items
+            slots.new.outcomes.items }
+        // As many less are waited for as have left.
+        ensures left { slots.new.left ≡ slots.old.left
+            - (length self.old.waiting.items - length self.new.waiting.items) }
+        ensures over { slots.new.is_over ≡ slots.old.is_over }
         ensures same { self.new.is_closed ≡ self.old.is_closed }
     {
-        for ask in self.waiting.iter() {
-            if ask.place.seat == seat {
-                slots.set_outcome(ask.place.at as usize, Outcome::NotBegun);
-            }
-        }
+        tell_not_begun(&self.waiting, seat, slots);
         drop_asks(&mut self.waiting, seat);
+    }
+}
+
+/// The outcome of each waiting question of a seat is NotBegun.
+fn tell_not_begun<T: Drop, A: Drop>(waiting: &VecDeque<Ask<T>>, seat: u32, slots: &mut Slots<A>)
+    ensures told { TakesBack seat waiting.now.items slots.old.outcomes.items
+        slots.new.outcomes.items }
+    ensures left { slots.new.left ≡ slots.old.left
+        - length (filter (is_of seat) waiting.now.items) }
+    ensures over { slots.new.is_over ≡ slots.old.is_over }
+{
+    for ask in waiting.iter() {
+        if ask.place.seat == seat {
+            slots.set_outcome(ask.place.at as usize, Outcome::NotBegun);
+        }
     }
 }
 

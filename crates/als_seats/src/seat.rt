@@ -1,3 +1,7 @@
+ghost use Rattle.std.specs.Prelude.{◌≡◌};
+ghost use Rattle.std.specs.List.{filter};
+ghost use Rattle.als_seats.specs.Asks.{is_of_other};
+
 use crate::outcome::Outcome;
 use crate::queue::Queue;
 use crate::slots::Slots;
@@ -55,7 +59,11 @@ impl<A: Drop> Seat<A> {
     }
 
     /// Takes back this seat's questions that wait in the queue.
-    pub fn take_back<R: Wait, T: Drop>(&self, rt: &R, seat: u32, queue: &mut Queue<T>) {
+    pub fn take_back<R: Wait, T: Drop>(&self, rt: &R, seat: u32, queue: &mut Queue<T>)
+        ensures kept { queue.new.waiting.items
+            ≡ filter (is_of_other seat) queue.old.waiting.items }
+        ensures same { queue.new.is_closed ≡ queue.old.is_closed }
+    {
         let mut slots = self.slots.lock(rt);
         queue.take_back(seat, &mut *slots);
     }

@@ -1,5 +1,6 @@
-ghost use Rattle.std.specs.Prelude.{◌≡◌, ◌<◌, ◌-◌, length, slice_set};
+ghost use Rattle.std.specs.Prelude.{◌≡◌, ◌<◌, ◌≤◌, ◌-◌, length, slice_set};
 ghost use Rattle.std.specs.Vec.{vec_len};
+ghost use Rattle.als_seats.specs.Outcomes.{RefusesFrom};
 
 use crate::outcome::Outcome;
 use std::alloc::Global;
@@ -48,7 +49,10 @@ impl<A: Drop> Slots<A> {
     pub fn set_outcome(&mut self, at: usize, outcome: Outcome<A>)
         ensures told { at < length self.old.outcomes.items
             → self.new.outcomes.items ≡ slice_set self.old.outcomes.items at outcome }
+        ensures past { length self.old.outcomes.items ≤ at
+            → self.new.outcomes.items ≡ self.old.outcomes.items }
         ensures left { self.new.left ≡ self.old.left - 1 }
+        ensures same { self.new.is_over ≡ self.old.is_over }
     {
         if at < self.outcomes.len() {
             self.outcomes[at] = outcome;
@@ -56,8 +60,14 @@ impl<A: Drop> Slots<A> {
         self.left = self.left.saturating_sub(1);
     }
 
-    /// The questions from an index on were not put.
-    pub fn refuse_from(&mut self, put: usize) {
+    /// The questions from an index on were not put: their outcome is NotBegun, and no other one changes.
+    pub fn refuse_from(&mut self, put: usize)
+        ensures refused { RefusesFrom put self.old.outcomes.items self.new.outcomes.items }
+        // As many less are waited for.
+        ensures left { self.new.left
+            ≡ self.old.left - (length self.old.outcomes.items - put) }
+        ensures same { self.new.is_over ≡ self.old.is_over }
+    {
         for at in put..self.outcomes.len() {
             self.set_outcome(at, Outcome::NotBegun);
         }

@@ -3,3 +3,4 @@ pub mod Losses
 pub mod Endings
 pub mod Sessions
 pub mod Met
+pub mod Inquiries

@@ -1,3 +1,7 @@
+ghost use Rattle.std.specs.Prelude.{◌≡◌, ◌∷◌, IfOk, OnOk};
+ghost use Rattle.als_service.specs.Inquiries.{inquiries_of, IsAsked, MayFollow};
+
+use crate::inquiries::Inquiries;
 use crate::shipping::log_file;
 use als_compare::{Summary, Verdict, ask};
 use als_comparing::HeldLog;
@@ -10,10 +14,6 @@ use std::net::{Net, OpenStream};
 use std::rt::Files;
 use std::thread;
 use std::time::{Clock, Duration};
-
-/// How often a primary is asked that hangs up on the question. One that has just begun, or has no place, does
-/// so too, and may take a session a moment later.
-const ASKED: u32 = 3;
 
 /// Milliseconds between two questions.
 const PAUSE: u64 = 200;
@@ -39,6 +39,8 @@ pub(crate) struct Comparing<R: Clock> {
     /// The log's file, once it was read.
     own: Option<HeldLog<File>>,
     silence: Silence,
+    /// What was asked, for clauses alone.
+    pub(crate) inquiries: Inquiries,
 }
 
 impl<R: Clock + Drop> Drop for Comparing<R> {
@@ -47,9 +49,11 @@ impl<R: Clock + Drop> Drop for Comparing<R> {
             watch,
             own,
             silence: _,
+            inquiries,
         } = self;
         drop(watch);
         drop(own);
+        drop(inquiries);
     }
 }
 
@@ -60,6 +64,7 @@ impl<R: Clock> Comparing<R> {
             watch,
             own: None,
             silence: Silence::Never,
+            inquiries: Inquiries::Nothing,
         }
     }
 
@@ -69,7 +74,9 @@ impl<R: Clock> Comparing<R> {
     }
 
     /// The primary has answered, or not.
-    fn note(&mut self, is_answered: bool) {
+    fn note(&mut self, is_answered: bool)
+        ensures { self.new.inquiries ≡ self.old.inquiries }
+    {
         self.silence = match self.silence {
             Silence::Never if is_answered => Silence::Never,
             Silence::Never => Silence::First,
@@ -79,21 +86,21 @@ impl<R: Clock> Comparing<R> {
 }
 
 impl<C: Clock> Comparing<C> {
-    /// Asks the primary, over a connection of its own, whether its log is the one that is acknowledged here.
-    /// Where nothing is, it is not asked. One that hangs up each time is followed all the same.
+    /// Asks the primary, over connections of their own, whether its log is that of the question. One that hangs
+    /// up each time is followed all the same.
     ///
     /// OtherLog: it has another one. Gap: it has less of one, and no session begins: by then it could have
-    /// more, which nobody compared. Stream: there was no connection, no answer in time, or the own log can't
-    /// be read. Memory: there was none to read it.
-    pub fn compare<R: AllocGlobal + Files<File = File> + Net + Clock>(
+    /// more, which nobody compared. Stream: there was no connection, or no answer in time.
+    pub fn compare<R: AllocGlobal + Net + Clock>(
         &mut self,
         rt: &R,
         following: Following<'_>,
-    ) -> Result<(), Fault> {
-        let Some(question) = self.question(rt, following)? else {
-            return Ok(());
-        };
-        let verdict = verdict_on(rt, following, &question)?;
+        question: &Summary,
+    ) -> Result<(), Fault>
+        ensures { OnOk result (MayFollow question.now (inquiries_of self.old.inquiries)
+            (inquiries_of self.new.inquiries)) }
+    {
+        let verdict = verdict_on(rt, following, question, &mut self.inquiries)?;
         self.note(verdict.is_some());
         match verdict {
             Some(Verdict::Other) => Err(Fault::OtherLog),
@@ -102,8 +109,10 @@ impl<C: Clock> Comparing<C> {
         }
     }
 
-    /// What the primary is asked. None: no record is acknowledged.
-    fn question<R: AllocGlobal + Files<File = File>>(
+    /// What the primary is asked about the log that is acknowledged here. None: no record is.
+    ///
+    /// Folder: the own log is not there any more. Stream: it can't be read. Memory: there was none to read it.
+    pub fn question<R: AllocGlobal + Files<File = File>>(
         &mut self,
         rt: &R,
         following: Following<'_>,
@@ -128,22 +137,42 @@ impl<C: Clock> Comparing<C> {
     }
 }
 
-/// What the primary answers to the question. None: it hangs up, each time. Stream: there was no connection,
-/// or no answer in time.
+/// What the primary answers to the question. None: it hangs up, three times. One that has just begun, or has no
+/// place, does so too, and may take a session a moment later. Stream: there was no connection, or no answer in
+/// time.
 fn verdict_on<R: AllocGlobal + Net + Clock>(
     rt: &R,
     following: Following<'_>,
     question: &Summary,
-) -> Result<Option<Verdict>, Fault> {
-    for asked in 0..ASKED {
-        if asked > 0 {
-            thread::sleep(rt, Duration::from_millis(PAUSE));
-        }
-        if let Some(verdict) = answer_to(rt, following, question)? {
-            return Ok(Some(verdict));
-        }
+    inquiries: &mut Inquiries,
+) -> Result<Option<Verdict>, Fault>
+    ensures { IfOk result (IsAsked question.now (inquiries_of inquiries.old)
+        (inquiries_of inquiries.new)) }
+{
+    if let Some(verdict) = answer_to(rt, following, question, inquiries)? {
+        return Ok(Some(verdict));
     }
-    Ok(None)
+    if let Some(verdict) = later_answer(rt, following, question, inquiries)? {
+        return Ok(Some(verdict));
+    }
+    match later_answer(rt, following, question, inquiries)? {
+        Some(verdict) => Ok(Some(verdict)),
+        None => Ok(None),
+    }
+}
+
+/// What the primary answers a moment later.
+fn later_answer<R: AllocGlobal + Net + Clock>(
+    rt: &R,
+    following: Following<'_>,
+    question: &Summary,
+    inquiries: &mut Inquiries,
+) -> Result<Option<Verdict>, Fault>
+    ensures { IfOk result (λ answer. inquiries_of inquiries.new
+        ≡ record { question = question.now; answer = answer } ∷ inquiries_of inquiries.old) }
+{
+    thread::sleep(rt, Duration::from_millis(PAUSE));
+    answer_to(rt, following, question, inquiries)
 }
 
 /// What the primary answers to one question. None: it hangs up, or what it sends is no answer. Stream: there
@@ -152,17 +181,25 @@ fn answer_to<R: AllocGlobal + Net + Clock>(
     rt: &R,
     following: Following<'_>,
     question: &Summary,
-) -> Result<Option<Verdict>, Fault> {
+    inquiries: &mut Inquiries,
+) -> Result<Option<Verdict>, Fault>
+    ensures { IfOk result (λ answer. inquiries_of inquiries.new
+        ≡ record { question = question.now; answer = answer } ∷ inquiries_of inquiries.old) }
+{
     let mut writer = dial(rt, following)?;
     let mut reader = writer.try_clone()?;
     let patience = patience_for(following.timeout, question.end);
     reader.set_read_timeout(patience)?;
     let begun = rt.monotonic()?;
-    match ask(question, &mut reader, &mut writer) {
-        Ok(verdict) => Ok(Some(verdict)),
-        Err(_) if is_over(patience, rt.monotonic()?.saturating_sub(begun)) => Err(Fault::Stream),
-        Err(_) => Ok(None),
-    }
+    let answer = match ask(question, &mut reader, &mut writer) {
+        Ok(verdict) => Some(verdict),
+        Err(_) if is_over(patience, rt.monotonic()?.saturating_sub(begun)) => {
+            return Err(Fault::Stream);
+        }
+        Err(_) => None,
+    };
+    inquiries.note(question, answer);
+    Ok(answer)
 }
 
 /// How long an answer may take: as long as all that a primary sends, and as long as it reads for it.

@@ -46,7 +46,7 @@ fn is_final(kind: FaultKind) -> bool
 }
 
 /// Whether the connection was lost, or there was none.
-fn is_lost(fault: Fault) -> bool
+pub(crate) fn is_lost(fault: Fault) -> bool
     ensures { result ≡ false → IsLost fault → ⊥ }
 {
     matches!(

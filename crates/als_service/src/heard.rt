@@ -75,6 +75,7 @@ impl<I: Read, C: Clock, N: Outages + Drop> Read for Heard<'_, I, C, N> {
             Ok(count) => {
                 if count > 0 {
                     self.is_silent = false;
+                    self.notices.bytes_came();
                     let board = self.board;
                     board.note_frame(self.clock);
                     self.notices.room(self.clock, board.end(), board.capacity());

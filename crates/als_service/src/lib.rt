@@ -22,12 +22,16 @@ mod answered;
 mod pause;
 // Receives why a standby waits.
 mod outages;
+// Whether the files of the folder still have their names, as bytes come.
+mod named;
 // What was reported of a primary that is waited for.
 mod notices;
 // Which ends of a session end all.
 mod ending;
 // Which sessions there were, for clauses alone.
 mod met;
+// What a primary was asked and answered, for clauses alone.
+mod inquiries;
 // What a primary is asked about the held log.
 mod comparing;
 // The connections to a primary, one after another.
@@ -44,6 +48,8 @@ mod service;
 mod onlookers;
 // The sessions of its own followers.
 mod shipping;
+// The folder of a standby, held.
+mod holding_on;
 // The standby of a folder.
 mod standing_by;
 // What is true of a value that is read over HTTP.

@@ -54,6 +54,11 @@ impl<N: Outages + Drop> Notices<N> {
         }
     }
 
+    /// Bytes came from the primary.
+    pub fn bytes_came(&mut self) {
+        self.outages.bytes_came();
+    }
+
     /// Reports that the primary did not answer what log it has.
     pub fn uncompared(&mut self) {
         self.outages.uncompared();

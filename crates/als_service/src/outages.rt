@@ -18,6 +18,9 @@ pub trait Outages {
 
     /// The log ends there, and nine tenths of the bytes of its device are used, or more.
     fn nearly_full(&mut self, end: Lsn, capacity: u64);
+
+    /// Bytes came from the primary, and nothing of them is acknowledged yet.
+    fn bytes_came(&mut self) {}
 }
 
 impl<N: Outages> Outages for &mut N {
@@ -39,5 +42,9 @@ impl<N: Outages> Outages for &mut N {
 
     fn nearly_full(&mut self, end: Lsn, capacity: u64) {
         (**self).nearly_full(end, capacity);
+    }
+
+    fn bytes_came(&mut self) {
+        (**self).bytes_came();
     }
 }

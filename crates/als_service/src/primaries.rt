@@ -113,7 +113,9 @@ impl<R: AllocGlobal + Files<File = File> + Net + Clock> Dialled<'_, R> {
     {
         let greeted = self.greeted.take();
         if greeted.is_none() && self.unkept.is_none() {
-            self.comparing.compare(self.rt, self.following)?;
+            if let Some(question) = self.comparing.question(self.rt, self.following)? {
+                self.comparing.compare(self.rt, self.following, &question)?;
+            }
         }
         let lines = connect(self.rt, self.following, self.unkept, greeted)?;
         self.unkept = None;

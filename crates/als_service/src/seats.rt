@@ -5,12 +5,12 @@ use als_report::{Board, Watch};
 use std::alloc::{AllocError, Global};
 use std::net::TcpListener;
 use std::random::RandomSource;
-use std::sync::Arc;
+use std::sync::{Arc, Wait};
 use std::thread::Threads;
 use std::time::Clock;
 
 /// Starts a thread for each reader, which answers by it.
-pub(crate) fn serve_reads<R: Threads + Clock + RandomSource + Clone + Send + Drop + 'static>(
+pub(crate) fn serve_reads<R: Threads + Wait + Clock + RandomSource + Clone + Send + Drop + 'static>(
     rt: &R,
     alloc: Global,
     listener: &TcpListener,

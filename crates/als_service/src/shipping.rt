@@ -3,6 +3,7 @@ use crate::onlookers::Onlookers;
 use crate::service::Service;
 use als_cascade::StandbySource;
 use als_engine::Fault as EngineFault;
+use als_folder::{Fault as FolderFault, Part};
 use als_followers::{Allowed, Block, Followers, Quorum, Terms};
 use als_http::listen;
 use als_operate::{Fault, silence};
@@ -11,6 +12,7 @@ use als_report::Board;
 use als_sending::WINDOW_LIMIT;
 use std::alloc::{AllocError, Global};
 use std::fs::File;
+use std::io::ErrorKind;
 use std::net::{Net, TcpListener, TcpStream};
 use std::path::PathBuf;
 use std::rt::Files;
@@ -61,6 +63,8 @@ fn allowed_of(alloc: Global, texts: &[&str]) -> Result<Allowed, Fault> {
 
 /// The log of a folder, to be read. That of a new database has another name until its first primary has
 /// answered, and is the same file then.
+///
+/// Folder: it is not there any more. Stream: it can't be opened. Memory: there was none for its name.
 pub(crate) fn log_file<R: AllocGlobal + Files<File = File>>(
     rt: &R,
     dir: &str,
@@ -69,8 +73,13 @@ pub(crate) fn log_file<R: AllocGlobal + Files<File = File>>(
     let alloc = rt.alloc();
     let folder = PathBuf::from_str(alloc, dir)?;
     let path = folder.join(alloc, if is_new { "log.new" } else { "log.blk" })?;
-    let file = File::open(rt, path.as_path())?;
-    Ok(file)
+    match File::open(rt, path.as_path()) {
+        Ok(file) => Ok(file),
+        Err(e) if e.kind() == ErrorKind::NotFound => {
+            Err(Fault::Folder(FolderFault::of(Part::Log, e)))
+        }
+        Err(e) => Err(e.into()),
+    }
 }
 
 /// A seat for each follower.

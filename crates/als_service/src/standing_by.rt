@@ -1,7 +1,9 @@
 use crate::answered::Answered;
 use crate::cascade::Cascade;
 use crate::heard::Heard;
+use crate::holding_on::hold_at_last;
 use crate::keeping::{Kept, Pace, follow_sessions};
+use crate::named::Named;
 use crate::next_session::tell_uncompared;
 use crate::notices::Notices;
 use crate::outages::Outages;
@@ -16,7 +18,7 @@ use als_engine::{Engine, Events, Reader};
 use als_folder::Folder;
 use als_follow::{Followed, follow_beside};
 use als_http::{Servers, listen};
-use als_operate::{Fault, Following, Held, Line, conclude, follow, hold};
+use als_operate::{Fault, Following, Held, Line, conclude, follow};
 use als_record::FIRST_LSN;
 use als_report::{Board, State, Watch};
 use als_share::{Counts, Observed, Runtime};
@@ -26,7 +28,7 @@ use std::io::{Read, Write};
 use std::net::{Net, TcpListener, TcpStream};
 use std::random::RandomSource;
 use std::rt::Files;
-use std::sync::Arc;
+use std::sync::{Arc, Wait};
 use std::thread::Threads;
 use std::time::Clock;
 
@@ -44,7 +46,8 @@ type Greeted<S> = Option<(Line<S>, Line<S>)>;
 /// what that holds is redone.
 ///
 /// As `als_operate::hold` says. Stream: an address can't be listened at, and no file was touched; or
-/// the primary does not answer. BadConfig: also what is asked of its own followers. Then as a session ends; with `keep` only by what asking again can't mend.
+/// the primary does not answer, without `keep`. BadConfig: also what is asked of its own followers. Then as a session
+/// ends; with `keep` only by what asking again can't mend.
 pub fn standby<
     R: AllocGlobal
         + Files<File = File>
@@ -70,9 +73,8 @@ pub fn standby<
         None => None,
     };
     let shipping = shipping_of(rt, service)?;
-    // A standby that is kept waits for its primary, also the first time: until that has answered, the
-    // folder has no database.
-    let held = hold(rt, following, seats(service.readers), !service.keep)?;
+    let readers = seats(service.readers);
+    let held = hold_at_last(rt, following, readers, service.keep, progress)?;
     stand(
         rt, held, listener, shipping, following, service, progress, output,
     )
@@ -135,6 +137,14 @@ fn stand<
         is_new,
         greeted,
     } = held;
+    let names = folder.names(rt)?;
+    names.look_now(rt);
+    let own = rt.clone()?;
+    let mut named = Named {
+        inner: progress,
+        names,
+        rt: own,
+    };
     let (board, servers) = answer(rt, listener, readers)?;
     let new_blocks = is_new.then_some(following.log_blocks);
     if let Some(bytes) = capacity_of(rt, &folder, new_blocks) {
@@ -169,7 +179,7 @@ fn stand<
         service.keep,
         &mut primaries,
         &board,
-        progress,
+        &mut named,
     );
     board.set_state(State::Stopped);
     end_sessions(rt, cascading);
@@ -216,7 +226,7 @@ fn cascade_of<
 }
 
 /// A board, and, where somebody may come to ask, the threads that answer by it.
-fn answer<R: AllocGlobal + Threads + Clock + RandomSource + Clone + Send + Drop + 'static>(
+fn answer<R: AllocGlobal + Threads + Wait + Clock + RandomSource + Clone + Send + Drop + 'static>(
     rt: &R,
     listener: Option<TcpListener>,
     readers: Vec<Reader>,

@@ -1,3 +1,17 @@
+//! The receiving end of a session.
+//!
+//! It asks (`Resume`), joins the source's history, and then takes frame after frame until one without
+//! bytes. Its states are those of the session: joining, following, ended.
+//!
+//! 1. Bytes up to its position are skipped, and what is past it is fed. So a source may send again what
+//!    it does not know to be held, and no byte is fed twice.
+//! 2. A position is acknowledged after a force alone: each LSN that is sent back is acknowledged by the
+//!    engine that comes back (`vouched`), however the session ends.
+//! 3. A history that it has not is adopted before a byte of its last epoch is fed, and synced at once: a
+//!    byte is never held under an epoch that a crash forgets.
+//! 4. A frame of another epoch, or one that begins past the position, changes nothing and ends the
+//!    session. Of a frame with a record that an event refuses, the records before it are held.
+//! 5. An upkeep runs after each force: flushes and checkpoints, which the session does not wait for.
 ghost use Rattle.std.specs.Prelude.{◌≡◌, ◌≤◌, ◌<◌, ◌+◌, ◌^◌, ◌⊎◌, ℕ, Option, List, length, IfOk};
 ghost use Rattle.std.specs.Prelude.{IfErr, OnOk, OnErr};
 ghost use Rattle.std.specs.Prelude.{Ok, Err};

@@ -85,7 +85,7 @@ fn what_is_prepared_is_answered(rt: HostRuntime) -> Result<(), Fail> {
             (
                 "503 Service Unavailable",
                 "retry-after: 1\r\n",
-                "{\"refused\":null,\"name\":\"NotBegun\"}",
+                "{\"name\":\"NotBegun\"}",
             ),
         ),
         (

@@ -13,3 +13,6 @@ mod decisions;
 // Requests that commit nothing.
 #[cfg(test)]
 mod refusals;
+// What is not read before it is confirmed.
+#[cfg(test)]
+mod withholding;

@@ -60,8 +60,8 @@ fn what_is_in_the_log_is_answered(rt: HostRuntime) -> Result<(), Fail> {
         (
             Outcome::NotBegun,
             "HTTP/1.1 503 Service Unavailable\r\ncontent-type: application/json\r\n\
-            cache-control: no-store\r\nretry-after: 1\r\ncontent-length: 34\r\n\r\n\
-            {\"refused\":null,\"name\":\"NotBegun\"}",
+            cache-control: no-store\r\nretry-after: 1\r\ncontent-length: 19\r\n\r\n\
+            {\"name\":\"NotBegun\"}",
         ),
     ];
     for (outcome, answer) in table {

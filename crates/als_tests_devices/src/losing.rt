@@ -64,6 +64,25 @@ fn a_replaced_file_fails_a_sync(rt: HostRuntime) {
     assert!(rt; is_replaced(&rt).is_some() || is_replaced(&rt).is_some());
 }
 
+/// A file of which somebody noted that its path names another one now. `None`: allocation failed.
+fn is_noted<R: Abort + AllocGlobal + Files<File = File>>(rt: &R) -> Option<()> {
+    let path = "noted.blk";
+    let (mut disk, note) = made(rt, path)?;
+    write_last(&mut disk)?;
+    note.note_removed();
+    assert!(rt; disk.sync() == Err(DeviceError));
+    assert!(rt; note.failure() == Some(Failure::Removed));
+    assert!(rt; disk.sync() == Err(DeviceError));
+    assert!(rt; write_last(&mut disk).is_none());
+    drop(disk);
+    fs::remove_file(rt, path).ok()
+}
+
+#[test]
+fn a_noted_file_fails_a_sync(rt: HostRuntime) {
+    assert!(rt; is_noted(&rt).is_some() || is_noted(&rt).is_some());
+}
+
 /// A file that is cut while its device is open. `None`: allocation failed.
 fn is_cut<R: Abort + AllocGlobal + Files<File = File>>(rt: &R) -> Option<()> {
     let path = "cut.blk";

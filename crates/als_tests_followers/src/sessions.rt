@@ -1,5 +1,6 @@
 use crate::made::{Made, follow, make, next, notice};
 use als_followers::What;
+use als_quorum::Quorum;
 use als_record::Lsn;
 use std::alloc::Global;
 use std::net::{Net, TcpStream};
@@ -7,6 +8,11 @@ use std::sync::Wait;
 use std::test::Fail;
 use std::thread::Threads;
 use std::time::{Clock, Duration};
+
+/// Whether this many followers have acknowledged the log up to there, or do within the time.
+fn has<R: Wait + Clock>(rt: &R, quorum: &Quorum, count: u32, end: u64, at_most: Duration) -> bool {
+    quorum.wait_for(rt, count, Lsn(end), at_most).is_enough
+}
 
 /// Whether a follower gets what is below the tail, and more as that rises; whether the leader sees what it
 /// acknowledged; and whether its session ends in order. None: something failed.
@@ -25,16 +31,16 @@ fn grow<R: Net<Stream = TcpStream> + Threads + Wait + Clock + Clone + Send + Syn
     let long = Duration::from_secs(20);
     let mut stream = follow(rt, at, 16)?;
     right[0] = next(alloc, &mut stream)? == (16, 100);
-    right[1] = quorum.wait_for(rt, 1, Lsn(116), long);
+    right[1] = has(rt, &quorum, 1, 116, long);
     tail.raise(rt, Lsn(200));
     right[2] = next(alloc, &mut stream)? == (116, 84);
-    right[3] = quorum.wait_for(rt, 1, Lsn(200), long)
-        && !quorum.wait_for(rt, 2, Lsn(16), Duration::from_millis(10));
+    right[3] = has(rt, &quorum, 1, 200, long)
+        && !has(rt, &quorum, 2, 16, Duration::from_millis(10));
     right[4] = matches!(notice(rt, &followers)?, What::Came(Lsn(16)));
     tail.close(rt);
     right[5] = next(alloc, &mut stream)? == (200, 0)
         && matches!(notice(rt, &followers)?, What::Ended)
-        && !quorum.wait_for(rt, 1, Lsn(16), Duration::from_millis(10));
+        && !has(rt, &quorum, 1, 16, Duration::from_millis(10));
     followers.close(rt);
     Some(right)
 }

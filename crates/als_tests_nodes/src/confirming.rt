@@ -31,10 +31,10 @@ impl<R: Wait + Clock> Upkeep for OneFollower<'_, R> {
 
     fn confirm(&mut self, end: Lsn) -> Result<bool, Fault> {
         self.tail.raise(self.rt, end);
-        Ok(
-            self.quorum
-                .wait_for(self.rt, 1, end, Duration::from_secs(LONG)),
-        )
+        let tally = self
+            .quorum
+            .wait_for(self.rt, 1, end, Duration::from_secs(LONG));
+        Ok(tally.is_enough)
     }
 
     fn has_confirmed(&mut self, end: Lsn) -> Result<bool, Fault> {

@@ -1,5 +1,5 @@
 use crate::folder::Folder;
-use crate::following::TEXT;
+use crate::following::{SOUND, TEXT, prints};
 use als_program::program;
 use std::fs::{File, OpenOptions};
 use std::net::{Net, TcpListener, TcpStream};
@@ -23,6 +23,17 @@ const TAKEOVER: [&str; 4] = ["als", "takeover", "--dir", "damaged"];
 const VERIFY: [&str; 3] = ["als", "verify", "damaged"];
 
 const DUMP: [&str; 3] = ["als", "dump", "damaged"];
+
+const COMMIT: [&str; 4] = ["als", "commit", "--dir", "damaged"];
+
+const PRIMARY: [&str; 6] = [
+    "als",
+    "primary",
+    "--dir",
+    "damaged",
+    "--serve",
+    "127.0.0.1:0",
+];
 
 const STANDBY: [&str; 8] = [
     "als", "standby", "--dir", "damaged", "--from", "nowhere", "--pages", "4",
@@ -217,9 +228,14 @@ fn files_are_told<
     );
 }
 
-/// A folder whose file of this number is cut to so many bytes.
+/// A folder whose file of this number has so many bytes.
 fn cuts<R: AllocGlobal + Files<File = File>>(rt: &R, number: usize, len: u64) -> Option<()> {
     lays_out(rt, [None, None, None])?;
+    lengthens(rt, number, len)
+}
+
+/// The file of this number has so many bytes from now on.
+fn lengthens<R: AllocGlobal + Files<File = File>>(rt: &R, number: usize, len: u64) -> Option<()> {
     let path = FILES.get(number)?;
     let file = OpenOptions::new().write(true).open(rt, *path).ok()?;
     file.set_len(len).ok()
@@ -267,6 +283,52 @@ fn a_short_file_is_told<
         let printed = "unsound lsn=0 34 BadControl\n";
         is_refused(rt, &VERIFY, Refusal { printed, ..short });
     }
+}
+
+/// A pages.blk of more blocks than its database has pages, of a standby and of one that was taken over: the
+/// check of a folder and each command that writes it are refused so.
+fn a_long_file_is_told<
+    R: Abort
+        + AllocGlobal
+        + Files<File = File>
+        + Net<Listener = TcpListener, Stream = TcpStream>
+        + Threads
+        + Wait
+        + Sync
+        + Clock
+        + RandomSource
+        + Clone
+        + Send
+        + Drop
+        + 'static,
+>(rt: &R) {
+    let long = Refusal {
+        printed: "",
+        refusal: "als: refused 34 BadControl\n",
+        explained: "als: damaged/pages.blk: the file has 5 blocks, and its database 4 pages: als rebuild-pages makes it anew\n",
+    };
+    let printed = "unsound lsn=0 34 BadControl\n";
+    assert!(rt; cuts(rt, 2, 5 * 512).is_some() || cuts(rt, 2, 5 * 512).is_some());
+    is_refused(rt, &VERIFY, Refusal { printed, ..long });
+    is_refused(rt, &TAKEOVER, long);
+    is_refused(rt, &STANDBY, long);
+    // Bytes that are no whole block are none of it.
+    assert!(rt; cuts(rt, 2, 5 * 512 - 1).is_some() || cuts(rt, 2, 5 * 512 - 1).is_some());
+    assert!(rt; prints(rt, &VERIFY, SOUND) || prints(rt, &VERIFY, SOUND));
+    let taken = "end=108\n0/0 aa\n";
+    assert!(rt; prints(rt, &TAKEOVER, taken) || prints(rt, &TAKEOVER, taken));
+    assert!(rt; lengthens(rt, 2, 5 * 512).is_some() || lengthens(rt, 2, 5 * 512).is_some());
+    is_refused(rt, &VERIFY, Refusal { printed, ..long });
+    is_refused(rt, &TAKEOVER, long);
+    is_refused(rt, &COMMIT, long);
+    is_refused(rt, &PRIMARY, long);
+    // It has not become a primary's.
+    assert!(rt; !has_role(rt));
+}
+
+/// Whether the folder says that it is a primary's.
+fn has_role<R: Files>(rt: &R) -> bool {
+    fs::metadata(rt, "damaged/role").is_ok()
 }
 
 /// A folder without its control block.
@@ -319,6 +381,7 @@ fn a_damaged_file_is_told(rt: HostRuntime) {
     files_are_told(&rt);
     a_short_file_is_told(&rt);
     a_missing_file_is_told(&rt);
+    a_long_file_is_told(&rt);
     assert!(rt; fs::remove_dir_all(&rt, "damaged").is_ok());
     let missing = Refusal {
         printed: "",

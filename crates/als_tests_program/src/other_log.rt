@@ -16,6 +16,15 @@ const FILES: [&str; 3] = ["other/log.blk", "other/control.blk", "other/pages.blk
 /// The bytes of the question which log a primary has.
 const QUESTION: usize = 45;
 
+/// The bytes of a request for the log, of a node without a takeover.
+const REQUEST: usize = 29;
+
+/// The history of one takeover, which was sealed where the log ends.
+const HISTORY: [u8; 13] = [b'E', 0, 0, 0, 1, 0, 0, 0, 0, 0, 0, 0, 108];
+
+/// The role of a primary.
+const ROLE: &str = "other/role";
+
 /// The answer that it is another one.
 const OTHER: [u8; 2] = [b'V', 1];
 
@@ -27,8 +36,19 @@ const GAP: &str = "als: refused 40 Gap\n";
 
 /// What is printed of another one.
 const TOLD: &str = "als: refused 50 OtherLog
-als: other: the node that serves has another log: both have bytes at one offset, and they differ. One of the two lost what it had not forced, or was restored from a copy. Nothing of this folder's log has changed: keep it. Find the log that is right, by sha256= of als verify of both; then follow that one with an empty folder, or take over from this one
+als: other: the node that serves has another log: both have bytes at one offset, and they differ. One of the two lost what it had not forced, or was restored from a copy. Nothing of this folder's log has changed: keep it. Find the log that is right, by sha256= of als verify of both; then follow that one with an empty folder, or with this one once als rewind took it back to where both are the same; or take over from this one
 ";
+
+/// Tells its history to one who asks for the log. Returns whether the request came.
+fn greets(listener: &TcpListener) -> bool {
+    let Ok((mut stream, _)) = listener.accept() else {
+        return false;
+    };
+    let mut request = [0; REQUEST];
+    stream.read_exact(&mut request).is_ok()
+        && request[0] == b'Q'
+        && stream.write_all(&HISTORY).is_ok()
+}
 
 /// Answers one who asks. Returns whether the question came.
 fn answers(listener: TcpListener, answer: [u8; 2]) -> bool {
@@ -80,16 +100,21 @@ fn holds<R: AllocGlobal + Files<File = File>>(rt: &R) -> bool {
 }
 
 /// A primary that has another log ends a standby that is kept, and it is said what to do. One that has less
-/// of one gets no session. The folder stays as it was.
+/// of one gets no session. The log stays as it was. A folder that was a primary's gives its role up to who took
+/// over, and asks before its first session too.
 #[test]
 fn another_log_is_told(rt: HostRuntime) {
     let rt = &rt;
     assert!(rt; lays_out(rt));
     let rounds = [
-        (OTHER, ["--keep", "--explain"], TOLD),
-        (SHORTER, ["--serve", "127.0.0.1:0"], GAP),
+        (false, OTHER, ["--keep", "--explain"], TOLD),
+        (false, SHORTER, ["--serve", "127.0.0.1:0"], GAP),
+        (true, OTHER, ["--keep", "--explain"], TOLD),
     ];
-    for (answer, more, printed) in rounds {
+    for (is_primary, answer, more, printed) in rounds {
+        if is_primary {
+            assert!(rt; fs::write(rt, ROLE, "primary epoch=0\n").is_ok());
+        }
         let listener = TcpListener::bind(rt, SocketAddr::from((Ipv4Addr::LOCALHOST, 0)));
         let listener = listener.expect(rt, "a port");
         let addr = listener.local_addr().expect(rt, "an address");
@@ -97,11 +122,12 @@ fn another_log_is_told(rt: HostRuntime) {
         let addr = addr.as_str();
         let (asked, told) = thread::join(
             rt,
-            move || answers(listener, answer),
+            move || (!is_primary || greets(&listener)) && answers(listener, answer),
             move || is_refused(rt, addr, more, printed),
         );
         assert!(rt; asked && told);
         assert!(rt; holds(rt));
+        assert!(rt; fs::metadata(rt, ROLE).is_err());
     }
     assert!(rt; fs::remove_dir_all(rt, "other").is_ok());
 }

@@ -136,9 +136,16 @@ fn a_long_redo_is_told(rt: HostRuntime) {
     let long = made(&rt, 100_000).expect(&rt, "a log");
     let told = says(&rt, long.as_slice(), true).expect(&rt, "a takeover");
     let told = told.as_slice();
-    assert!(rt; told.starts_with(b"als: redo: 100000 changes wait\nals: redo: 9"));
     assert!(rt; told.ends_with(b" a second\n"));
-    let lines = told.iter().filter(|b| **b == b'\n').count();
+    // On a busy machine there are lines of other work too.
+    let mut lines: u32 = 0;
+    for line in told.split(|b| *b == b'\n') {
+        if line.starts_with(b"als: redo: ") {
+            assert!(rt; lines != 0 || line.starts_with(b"als: redo: 100000 changes wait"));
+            assert!(rt; lines != 1 || line.starts_with(b"als: redo: 9"));
+            lines = lines.saturating_add(1);
+        }
+    }
     assert!(rt; (5..=22).contains(&lines), "{lines} lines");
     let silent = says(&rt, long.as_slice(), false).expect(&rt, "a takeover");
     assert!(rt; silent.is_empty());

@@ -27,6 +27,33 @@ const GET: [&str; 5] = ["als", "get", "rebuilt", "0", "0"];
 
 const TAKEOVER: [&str; 4] = ["als", "takeover", "--dir", "rebuilt"];
 
+const COMMIT: [&str; 4] = ["als", "commit", "--dir", "rebuilt"];
+
+const RESOLVE: [&str; 7] = [
+    "als", "resolve", "--dir", "rebuilt", "--trans", "1", "--commit",
+];
+
+const PRIMARY: [&str; 6] = [
+    "als",
+    "primary",
+    "--dir",
+    "rebuilt",
+    "--serve",
+    "127.0.0.1:0",
+];
+
+/// A primary of which a number is out of its range.
+const NO_PRIMARY: [&str; 8] = [
+    "als",
+    "primary",
+    "--dir",
+    "rebuilt",
+    "--serve",
+    "127.0.0.1:0",
+    "--connections",
+    "0",
+];
+
 /// What a folder with a page that is none of its log's is refused by.
 const BAD: &str = "als: refused 33 BadPage 0\n";
 
@@ -103,6 +130,11 @@ fn pages_are_made_anew(rt: HostRuntime) {
     let printed = "unsound lsn=0 33 BadPage 0\n";
     assert!(rt; refuses(&rt, &VERIFY, printed, BAD) || refuses(&rt, &VERIFY, printed, BAD));
     assert!(rt; refuses(&rt, &TAKEOVER, "", BAD) || refuses(&rt, &TAKEOVER, "", BAD));
+    assert!(rt; refuses(&rt, &COMMIT, "", BAD) || refuses(&rt, &COMMIT, "", BAD));
+    assert!(rt; refuses(&rt, &RESOLVE, "", BAD) || refuses(&rt, &RESOLVE, "", BAD));
+    assert!(rt; refuses(&rt, &PRIMARY, "", BAD) || refuses(&rt, &PRIMARY, "", BAD));
+    let range = "als: refused 37 BadConfig\n";
+    assert!(rt; refuses(&rt, &NO_PRIMARY, "", range) || refuses(&rt, &NO_PRIMARY, "", range));
     rebuilt(&rt);
     // A folder without its pages, with the left of a stop.
     assert!(rt; fs::remove_file(&rt, FILES[2]).is_ok());

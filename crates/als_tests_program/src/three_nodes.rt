@@ -119,7 +119,7 @@ struct Session<'a> {
 const DIVERGED: &str = "als: refused 42 Diverged 144\n";
 
 const PARTED: &str = "als: refused 42 Diverged 144
-als: node-c: the two logs parted at offset 144: the node that serves goes on from a takeover that was sealed there, and this log goes past it. What it holds past 144 is not in that node's log: als rewind --to 144 keeps that in a file beside the folder, which follows on then; or keep the folder, and follow with an empty one
+als: node-c: the two logs parted at offset 144: the node that serves goes on from a takeover that was sealed there, and this log goes past it. What it holds past 144 is not in that node's log: als rewind --dir node-c --to 144 keeps that in a file beside the folder, which follows on then; or keep the folder, and follow with an empty one
 ";
 
 /// Two standbys of one primary, and one of its longer log. Then the first is taken over: the second goes

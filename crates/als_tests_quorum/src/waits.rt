@@ -30,7 +30,9 @@ fn made<R: Wait + Clock>(rt: &R, alloc: Global) -> Option<Quorum> {
 
 /// Waits for two followers, at most this many milliseconds.
 fn wait_for_two<R: Wait + Clock>(rt: &R, quorum: &Quorum, millis: u64) -> bool {
-    quorum.wait_for(rt, 2, Lsn(108), Duration::from_millis(millis))
+    quorum
+        .wait_for(rt, 2, Lsn(108), Duration::from_millis(millis))
+        .is_enough
 }
 
 /// Acknowledges in both seats, one after another.
@@ -52,9 +54,9 @@ fn a_leader_is_woken(rt: HostRuntime) -> Result<(), Fail> {
         move || acknowledge_both(rt, quorum),
     );
     assert!(rt; found);
-    assert!(rt; quorum.wait_for(rt, 2, Lsn(108), NONE));
-    assert!(rt; quorum.wait_for(rt, 0, Lsn(1_000), NONE));
-    assert!(rt; !quorum.wait_for(rt, 2, Lsn(109), NONE));
+    assert!(rt; quorum.wait_for(rt, 2, Lsn(108), NONE).is_enough);
+    assert!(rt; quorum.wait_for(rt, 0, Lsn(1_000), NONE).is_enough);
+    assert!(rt; !quorum.wait_for(rt, 2, Lsn(109), NONE).is_enough);
     Ok(())
 }
 

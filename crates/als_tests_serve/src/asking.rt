@@ -4,7 +4,7 @@ use crate::written::{Change, transaction};
 use als_http::{Answering, Hosts, config};
 use als_published_log::PublishedLog;
 use als_record::{Key, Lsn};
-use als_report::{Follower, MOST_FOLLOWERS, Report, Reports, State, Work};
+use als_report::{Follower, MOST_FOLLOWERS, Refusals, Report, Reports, State, Work};
 use als_view::Reader;
 use arrayvec::ArrayVec;
 use http_server::{Connection, serve};
@@ -45,6 +45,10 @@ impl Reports for Fixed {
             in_doubt: 3,
             sync: 1,
             followers: followers_of(self.0),
+            refusals: Refusals {
+                count: 6,
+                last: Some(29),
+            },
         }
     }
 }

@@ -1,5 +1,5 @@
 use als_record::Lsn;
-use als_report::{Board, Follower, FollowerRow, Report, Reports, State, Watch, Work};
+use als_report::{Board, Follower, FollowerRow, Refusals, Report, Reports, State, Watch, Work};
 use arrayvec::ArrayVec;
 use std::io;
 use std::net::{IpAddr, Ipv4Addr, Ipv6Addr};
@@ -54,6 +54,7 @@ fn a_board_tells_what_was_last_seen(rt: HostRuntime) -> Result<(), Fail> {
         in_doubt: 0,
         sync: 0,
         followers: ArrayVec::new(),
+        refusals: Refusals::NOTHING,
     };
     assert!(rt; watch.report() == wanted);
     for state in [
@@ -119,6 +120,14 @@ fn a_board_has_the_work_of_a_primary(rt: HostRuntime) -> Result<(), Fail> {
     };
     let found = watch.report();
     assert!(rt; found.work == wanted && found.sync == 2 && found.in_doubt == 5);
+    // A refusal without a number leaves the last number.
+    board.note_refusal(Some(29));
+    board.note_refusal(None);
+    let wanted = Refusals {
+        count: 2,
+        last: Some(29),
+    };
+    assert!(rt; watch.report().refusals == wanted);
     Ok(())
 }
 

@@ -16,6 +16,9 @@ mod primary;
 // Threads that serve a listener of the loopback.
 #[cfg(test)]
 mod loopback;
+// Guests of threads that commit.
+#[cfg(test)]
+mod guests;
 // Transactions, spelled.
 #[cfg(test)]
 mod written;

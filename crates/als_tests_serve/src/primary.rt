@@ -7,13 +7,13 @@ use std::test::*;
 /// What every node's status has, and behind it what a node has that takes commits.
 const STATUS: &str =
     "HTTP/1.1 200 OK\r\ncontent-type: application/json\r\ncache-control: no-store\r\n\
-    content-length: 432\r\n\r\n{\"state\":\"committing\",\"end\":108,\"acknowledged\":80,\"pending\":5,\
+    content-length: 462\r\n\r\n{\"state\":\"committing\",\"end\":108,\"acknowledged\":80,\"pending\":5,\
     \"leases\":1,\"commits\":1,\"seconds_since_last_frame\":2,\"capacity\":1024,\"left\":916,\
     \"transactions\":9,\"groups\":4,\"force_microseconds\":1500007,\"in_doubt\":3,\"sync\":1,\"followers\":[\
     {\"address\":\"127.0.0.1\",\"acknowledged\":80,\"behind\":0,\"seconds_behind\":0,\
     \"connected\":70,\"counts\":true},\
     {\"address\":\"::1\",\"acknowledged\":52,\"behind\":28,\"seconds_behind\":7,\
-    \"connected\":60,\"counts\":false}]}";
+    \"connected\":60,\"counts\":false}],\"refused\":6,\"last_refusal\":29}";
 
 #[test]
 fn a_primary_reports_its_followers(rt: HostRuntime) -> Result<(), Fail> {
@@ -46,6 +46,8 @@ fn a_primary_has_metrics_of_its_followers(rt: HostRuntime) -> Result<(), Fail> {
         "\n# TYPE als_force_seconds_total counter\nals_force_seconds_total 1.500007\n",
         "\n# TYPE als_in_doubt gauge\nals_in_doubt 3\n",
         "\nals_sync_followers 1\n",
+        "\n# TYPE als_refused_total counter\nals_refused_total 6\n",
+        "\nals_last_refusal 29\n",
         "\nals_follower_connected_seconds{follower=\"127.0.0.1\",seat=\"0\"} 70\n",
         "\nals_follower_acknowledged_bytes{follower=\"::1\",seat=\"1\"} 52\n",
         "\nals_follower_behind_bytes{follower=\"127.0.0.1\",seat=\"0\"} 0\n",
@@ -74,6 +76,8 @@ fn a_standby_has_no_metrics_of_commits(rt: HostRuntime) -> Result<(), Fail> {
         "als_force",
         "als_in_doubt",
         "als_sync",
+        "als_refused",
+        "als_last_refusal",
         "als_follower",
     ] {
         assert!(rt; !text.contains(name), "{name}");

@@ -11,6 +11,8 @@ mod calls;
 mod losing;
 // Two folders with names of one file.
 mod locking;
+// The names of files that are open.
+mod names;
 // The file that makes a folder a primary's.
 mod roles;
 

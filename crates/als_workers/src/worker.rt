@@ -1,3 +1,12 @@
+//! A worker: a thread that redoes leases outside the engine's lock.
+//!
+//! A lease is in the queue, with a worker, or given back. A worker takes one, redoes a turn of it on its
+//! own copy of the page, and gives it if it is finished; else the lease goes to the end of the queue.
+//!
+//! 1. Redo needs no lock: nobody else changes the page while it is lent.
+//! 2. A turn is short, so that a page with many changes does not keep others waiting.
+//! 3. A worker makes one event, `give`, and no other. `Ended` says why it ends: a stop in the queue, a
+//!    closed queue, its gate, or want of memory. A lease that it has taken is given or put back.
 ghost use Rattle.std.specs.Prelude.{◌≡◌, ◌<◌, [], ◌∷◌, ◌++◌, Some, None, true, false};
 ghost use Rattle.crossbeam_channel.specs.Claims.{view};
 ghost use Rattle.als_engine.specs.declared.event.Event.TheVariants as event;

@@ -1,7 +1,8 @@
 use Rattle.std.proofs.Common.{refl, ◌∙◌}
-use Rattle.als_lead.specs.Confirming.{IsConfirmedOf, IsCarriedOut}
+use Rattle.als_lead.specs.Confirming.{IsConfirmedOf, IsCarriedOut, IsExcusedOf}
 use Rattle.als_lead.proofs.Rounds.{leads_none, leads_both}
 use Rattle.als_lead.proofs.Confirms.{told_none, told_confirmed_both, told_works_both, shown_refl, shown_both}
+use Rattle.als_lead.proofs.Excuses.{told_excused_both}
 use Rattle.als_lead.proofs.leading.lead.Goals as goal
 
 pub loop-init : goal.loop-init
@@ -9,6 +10,7 @@ loop-init g c = record {
   leads = leads_none g.E.Events.alone (g.E.Events.machine c.args.engine.now) (g.C.Clients.taken c.args.clients.now) (g.C.Clients.told c.args.clients.now);
   confirmed = λ a. told_none (IsConfirmedOf (g.U.Upkeep.confirmed c.args.upkeep.now) (g.E.Events.machine c.args.engine.now)) (g.C.Clients.told c.args.clients.now) (g.C.Clients.told c.args.clients.now) refl;
   works = told_none (IsCarriedOut (g.U.Upkeep.missed c.args.upkeep.now)) (g.C.Clients.told c.args.clients.now) (g.C.Clients.told c.args.clients.now) refl;
+  known = λ a. told_none (IsExcusedOf (g.U.Upkeep.missed c.args.upkeep.now) g.E.Events.machine (g.E.Events.machine c.args.engine.now)) (g.C.Clients.told c.args.clients.now) (g.C.Clients.told c.args.clients.now) refl;
   shown = λ a. shown_refl (g.U.Upkeep.confirmed c.args.upkeep.now) (g.E.Events.machine c.args.engine.now);
   empty = c.in_ok-queue.ensures.items;
   bounds = c.in_ok-changes.ensures.bounds;
@@ -26,6 +28,9 @@ loop-preserved g c = record {
   works = told_works_both (g.U.Upkeep.missed c.loop.upkeep) (g.U.Upkeep.missed c.round.new.upkeep)
       (g.C.Clients.told c.args.clients.now) (g.C.Clients.told c.loop.clients) (g.C.Clients.told c.round.new.clients)
       c.round.ensures.misses c.loop.invariant.works c.in_ok-goes_on.ensures.works;
+  known = λ a. told_excused_both (g.U.Upkeep.missed c.loop.upkeep) (g.U.Upkeep.missed c.round.new.upkeep) g.E.Events.machine (g.E.Events.machine c.loop.engine) (g.E.Events.machine c.round.new.engine)
+      (g.C.Clients.told c.args.clients.now) (g.C.Clients.told c.loop.clients) (g.C.Clients.told c.round.new.clients)
+      (c.round.ensures.leads.grows a) c.round.ensures.misses (c.loop.invariant.known a) (c.in_ok-goes_on.ensures.known a);
   shown = λ a. shown_both (g.U.Upkeep.confirmed c.loop.upkeep) (g.U.Upkeep.confirmed c.round.new.upkeep) (g.E.Events.machine c.args.engine.now) (g.E.Events.machine c.loop.engine) (g.E.Events.machine c.round.new.engine)
       (c.round.ensures.leads.commits a).added (c.round.ensures.leads.commits a).commits c.round.ensures.keeps (c.loop.invariant.shown a) (c.round.ensures.shown a);
   empty = c.round.ensures.emptied;
@@ -90,3 +95,9 @@ returns-then-not-goes_on-clause-works g c =
     told_works_both (g.U.Upkeep.missed c.loop.upkeep) (g.U.Upkeep.missed c.round.new.upkeep)
     (g.C.Clients.told c.args.clients.now) (g.C.Clients.told c.loop.clients) (g.C.Clients.told c.round.new.clients)
     c.round.ensures.misses c.loop.invariant.works c.in_ok-goes_on.ensures.works
+
+pub returns-then-not-goes_on-clause-known : goal.returns-then-not-goes_on-clause-known
+returns-then-not-goes_on-clause-known g c a =
+    told_excused_both (g.U.Upkeep.missed c.loop.upkeep) (g.U.Upkeep.missed c.round.new.upkeep) g.E.Events.machine (g.E.Events.machine c.loop.engine) (g.E.Events.machine c.round.new.engine)
+    (g.C.Clients.told c.args.clients.now) (g.C.Clients.told c.loop.clients) (g.C.Clients.told c.round.new.clients)
+    (c.round.ensures.leads.grows a) c.round.ensures.misses (c.loop.invariant.known a) (c.in_ok-goes_on.ensures.known a)

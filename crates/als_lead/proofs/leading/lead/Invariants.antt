@@ -1,7 +1,7 @@
 use Rattle.std.specs.Prelude.{◌≡◌, []}
 use Rattle.als_writer.specs.Changes.{AreBounds}
 use Rattle.als_lead.specs.Leading.{Leads, AllTold}
-use Rattle.als_lead.specs.Confirming.{IsShown, IsConfirmedOf, IsCarriedOut}
+use Rattle.als_lead.specs.Confirming.{IsShown, IsConfirmedOf, IsCarriedOut, IsExcusedOf}
 use Rattle.als_lead.proofs.leading.lead.Given as goal
 
 abbrev pub invariant-loop : goal.invariant-loop
@@ -9,6 +9,7 @@ invariant-loop g l = record {
   leads : Leads g.E.Events.alone (g.E.Events.machine l.fn.engine) (g.E.Events.machine l.engine) (g.C.Clients.taken l.fn.clients) (g.C.Clients.taken l.clients) (g.C.Clients.told l.fn.clients) (g.C.Clients.told l.clients);
   confirmed : g.E.Events.alone → AllTold (IsConfirmedOf (g.U.Upkeep.confirmed l.upkeep) (g.E.Events.machine l.engine)) (g.C.Clients.told l.fn.clients) (g.C.Clients.told l.clients);
   works : AllTold (IsCarriedOut (g.U.Upkeep.missed l.upkeep)) (g.C.Clients.told l.fn.clients) (g.C.Clients.told l.clients);
+  known : g.E.Events.alone → AllTold (IsExcusedOf (g.U.Upkeep.missed l.upkeep) g.E.Events.machine (g.E.Events.machine l.engine)) (g.C.Clients.told l.fn.clients) (g.C.Clients.told l.clients);
   shown : g.E.Events.alone → IsShown (g.U.Upkeep.confirmed l.upkeep) (g.E.Events.machine l.fn.engine) (g.E.Events.machine l.engine);
   empty : l.queue.items ≡ [];
   bounds : g.E.Events.alone → AreBounds l.changes (g.E.Events.machine l.engine).held.pages (g.E.Events.machine l.engine).held.log;

@@ -2,9 +2,10 @@ use Rattle.std.proofs.Common.{ℕ, List, refl}
 use Rattle.als_engine.specs.Machine.{Machine}
 use Rattle.als_lead.specs.declared.told.Told.{Told}
 use Rattle.als_lead.specs.Leading.{Leads, AllTold}
-use Rattle.als_lead.specs.Confirming.{IsShown, IsConfirmedOf, IsCarriedOut}
+use Rattle.als_lead.specs.Confirming.{IsShown, IsConfirmedOf, IsCarriedOut, IsExcusedOf}
 use Rattle.als_lead.proofs.Rounds.{leads_same, leads_waited, leads_both, leads_rest}
 use Rattle.als_lead.proofs.Confirms.{on_ok_any, told_from, told_confirmed_on, told_works_on, shown_both, shown_stays}
+use Rattle.als_lead.proofs.Excuses.{told_excused_on}
 use Rattle.als_lead.proofs.leading.round.Goals as goal
 
 pub returns-in_err-serve-in-Asks-clause-leads : goal.returns-in_err-serve-in-Asks-clause-leads
@@ -68,6 +69,19 @@ returns-in_ok-serve-in-Asks-clause-works g c =
     on_ok_any (AllTold (IsCarriedOut missed_now) told told_now) c.rest-in-Asks.result
     (told_works_on missed missed_now told told_now c.rest-in-Asks.ensures.misses
     (told_from (IsCarriedOut missed) told (g.C.Clients.told c.wait.new.self) told_now c.wait.ensures.told c.in_ok-serve-in-Asks.ensures.works))
+
+pub returns-in_ok-serve-in-Asks-clause-known : goal.returns-in_ok-serve-in-Asks-clause-known
+returns-in_ok-serve-in-Asks-clause-known g c =
+    let alone = g.E.Events.alone in
+    let served : Machine = g.E.Events.machine c.serve.new.engine in
+    let new : Machine = g.E.Events.machine c.rest-in-Asks.new.engine in
+    let missed : ℕ → Type 0 = g.U.Upkeep.missed c.serve.new.upkeep in
+    let missed_now : ℕ → Type 0 = g.U.Upkeep.missed c.rest-in-Asks.new.upkeep in
+    let told : List Told = g.C.Clients.told c.args.clients.now in
+    let told_now : List Told = g.C.Clients.told c.serve.new.clients in
+    on_ok_any (alone → AllTold (IsExcusedOf missed_now g.E.Events.machine new) told told_now) c.rest-in-Asks.result
+    (λ a. told_excused_on missed missed_now g.E.Events.machine served new told told_now (c.rest-in-Asks.ensures.stays a).grows c.rest-in-Asks.ensures.misses
+    (told_from (IsExcusedOf missed g.E.Events.machine served) told (g.C.Clients.told c.wait.new.self) told_now c.wait.ensures.told (c.in_ok-serve-in-Asks.ensures.known a)))
 
 pub returns-in_ok-serve-in-Asks-clause-shown : goal.returns-in_ok-serve-in-Asks-clause-shown
 returns-in_ok-serve-in-Asks-clause-shown g c a =

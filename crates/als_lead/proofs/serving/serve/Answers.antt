@@ -4,10 +4,11 @@ use Rattle.als_lead.specs.declared.told.Told.{Told}
 use Rattle.als_lead.specs.Going.{Grows}
 use Rattle.als_lead.specs.Groups.{Fills, DoesAll, all_after}
 use Rattle.als_lead.specs.Leading.{AllTold}
-use Rattle.als_lead.specs.Confirming.{GoesOn, IsBegunOf, IsCarriedOut}
+use Rattle.als_lead.specs.Confirming.{GoesOn, IsBegunOf, IsCarriedOut, IsExcusedOf}
 use Rattle.als_lead.proofs.Going.{same_bounds, stays_bounds}
 use Rattle.als_lead.proofs.Rounds.{does_forced, held_shown, leads_group, group_once}
 use Rattle.als_lead.proofs.Confirms.{both_ok, ok_then, holds_by, misses_by, stable_by, grows_in, same_in, stable_in, shown_in, shown_from, confirmed_group, works_group}
+use Rattle.als_lead.proofs.Excuses.{excused_group}
 use Rattle.als_lead.proofs.serving.serve.Goals as goal
 
 pub returns-clause-leads : goal.returns-clause-leads
@@ -80,6 +81,42 @@ returns-clause-works g c =
     (misses_by (g.U.Upkeep.confirmed c.confirmed-forced.new.upkeep) (g.U.Upkeep.missed c.confirmed-forced.new.upkeep) missed_now durable result c.confirmed-forced.ensures.by c.show-shown.ensures.misses)
     (subst (λ (q : List Told). AllTold IsBegunOf q queued) c.requires.empty
     (ok_then (AllTold IsBegunOf c.args.queue.now.items queued) c.fill-filled.result filled c.fill-filled.ensures.begun))
+    (c.end_group-ended.ensures.told ∙ c.tell_all-told.ensures.told ∙ ap (λ (q : List Told). q ++ all_after result queued) c.fill-filled.ensures.told))
+
+pub returns-clause-known : goal.returns-clause-known
+returns-clause-known g c =
+    let alone = g.E.Events.alone in
+    let old : Machine = g.E.Events.machine c.args.engine.now in
+    let filled : Machine = g.E.Events.machine c.fill-filled.new.engine in
+    let tidied : Machine = g.E.Events.machine c.tidy_owed.new.engine in
+    let forced : Machine = g.E.Events.machine c.make_durable-durable.new.engine in
+    let new : Machine = g.E.Events.machine c.show-shown.new.engine in
+    let durable = c.make_durable-durable.result in
+    let result = c.confirmed-forced.result in
+    let taken = g.C.Clients.taken c.args.clients.now in
+    let taken_mid = g.C.Clients.taken c.fill-filled.new.clients in
+    let queued : List Told = c.fill-filled.new.queue.items in
+    let told : List Told = g.C.Clients.told c.args.clients.now in
+    let told_now : List Told = g.C.Clients.told c.end_group-ended.new.self in
+    let confirmed : ℕ → Type 0 = g.U.Upkeep.confirmed c.confirmed-forced.new.upkeep in
+    let missed : ℕ → Type 0 = g.U.Upkeep.missed c.confirmed-forced.new.upkeep in
+    let missed_now : ℕ → Type 0 = g.U.Upkeep.missed c.show-shown.new.upkeep in
+    let fills : Fills alone old filled taken taken_mid [] queued =
+    subst (λ (q : List Told). Fills alone old filled taken taken_mid q queued) c.requires.empty c.fill-filled.ensures.fills in
+    both_ok (alone → AllTold (IsExcusedOf missed_now g.E.Events.machine new) told told_now) c.first-3.result c.first.result c.fill-filled.result c.show-shown.result
+    c.first-3.ensures.earlier c.first.ensures.earlier c.first.ensures.later
+    (λ filled_ok shown_ok a.
+    let grows : Grows forced new = grows_in result forced new (c.show-shown.ensures.publishes a) in
+    let same : new.held.log ≡ forced.held.log = same_in result forced new (c.show-shown.ensures.publishes a) in
+    let does : DoesAll old queued forced =
+    does_forced alone old filled tidied forced taken taken_mid queued fills c.tidy_owed.ensures.tidies c.make_durable-durable.ensures.stays a in
+    excused_group missed_now g.E.Events.machine c.show-shown.new.engine result told told_now queued
+    (ok_then (GoesOn result) c.show-shown.result shown_ok c.show-shown.ensures.goes_on)
+    (misses_by confirmed missed missed_now durable result c.confirmed-forced.ensures.by c.show-shown.ensures.misses)
+    (stable_in result forced new grows same (stable_by alone confirmed missed forced durable result c.confirmed-forced.ensures.by c.make_durable-durable.ensures.stable a))
+    (subst (λ (q : List Told). AllTold IsBegunOf q queued) c.requires.empty
+    (ok_then (AllTold IsBegunOf c.args.queue.now.items queued) c.fill-filled.result filled_ok c.fill-filled.ensures.begun))
+    (held_shown forced new queued grows same does.held)
     (c.end_group-ended.ensures.told ∙ c.tell_all-told.ensures.told ∙ ap (λ (q : List Told). q ++ all_after result queued) c.fill-filled.ensures.told))
 
 pub returns-clause-shown : goal.returns-clause-shown

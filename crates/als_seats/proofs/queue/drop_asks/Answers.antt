@@ -1,4 +1,4 @@
-use Rattle.std.proofs.Common.{rules, ◌≡◌}
+use Rattle.std.proofs.Common.{rules}
 use Rattle.std.proofs.lemmas.Fn.{filter_same}
 use Rattle.als_seats.specs.Asks.{is_of_other}
 use Rattle.als_seats.proofs.queue.drop_asks.Goals as goal

@@ -1,5 +1,4 @@
-use Rattle.std.proofs.Common.{rules, ◌≡◌, ◌≤◌, ◌++◌, ◌+◌, ◌<◌, length, [], ◌∷◌, List, sym, ap, ◌∙◌, append_assoc, arith}
-use Rattle.als_seats.specs.Asks.{asks_of}
+use Rattle.std.proofs.Common.{rules, ◌≡◌, ◌++◌, [], ◌∷◌, List, sym, ap, ◌∙◌, append_assoc, arith}
 use Rattle.std.proofs.lemmas.List.{length_push}
 use Rattle.als_seats.proofs.Asks.{put-more}
 use Rattle.als_seats.proofs.queue.push_all.Goals as goal

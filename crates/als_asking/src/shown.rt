@@ -1,9 +1,9 @@
 use std::sync::atomic::{AtomicBool, Ordering};
 
-/// Whether the log with which a primary began is confirmed. The leader says so once, and each thread that
+/// Whether the log with which a primary began is confirmed. Its leader says so once, and each thread that
 /// serves requests sees it.
 #[derive(Drop)]
-pub(crate) struct Shown {
+pub struct Shown {
     is_confirmed: AtomicBool,
 }
 
