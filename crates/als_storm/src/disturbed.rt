@@ -13,6 +13,9 @@ use std::thread::Threads;
 /// cut.
 const ENDINGS: [u32; 2] = [30, 43];
 
+/// Threads that have not started after so many tries, of a second each, never start.
+const TRIES: u32 = 60;
+
 /// What disturbs a session.
 #[derive(Clone, Copy)]
 pub struct Disturbance<'a> {
@@ -94,19 +97,7 @@ fn session<R: Threads + Wait + Sync>(
     }
     let sent = frames(alloc, text, engine.status().end.0)?;
     let stream = sent.as_slice().get(..by.stream).unwrap_or(sent.as_slice());
-    let told = Vec::new(alloc);
-    let Followed {
-        engine,
-        reader: _,
-        writer: told,
-        ended,
-    } = follow_with(rt, alloc, engine, by.workers, stream, told);
-    let fault = match ended {
-        // Its threads had not started in time on a busy machine: nothing was read or written.
-        None => return Ok((engine, false)),
-        Some(Ok(())) => 0,
-        Some(Err(fault)) => fault.number(),
-    };
+    let (engine, told, fault) = follow_once_started(rt, alloc, engine, by.workers, stream)?;
     let status = engine.status();
     if last_answer(told.as_slice()) > status.acknowledged.0 {
         return Err(Trouble::Lost("an answer is not acknowledged"));
@@ -126,6 +117,35 @@ fn session<R: Threads + Wait + Sync>(
         return Err(Trouble::Lost("a session is refused by another fault than 30 and 43"));
     }
     Ok((engine, false))
+}
+
+/// Follows a stream: the engine, what was answered, and the number of the fault that ended it, 0 for none.
+/// Where its threads do not start in time, as on a busy machine, nothing was read or written, and it is
+/// tried again.
+fn follow_once_started<R: Threads + Wait + Sync>(
+    rt: &R,
+    alloc: Global,
+    engine: Engine<Disk>,
+    workers: usize,
+    stream: &[u8],
+) -> Result<(Engine<Disk>, Vec<u8>, u32), Trouble> {
+    let mut engine = engine;
+    for _ in 0..TRIES {
+        let followed = follow_with(rt, alloc, engine, workers, stream, Vec::new(alloc));
+        let Followed {
+            engine: left,
+            reader: _,
+            writer: told,
+            ended,
+        } = followed;
+        engine = left;
+        match ended {
+            Some(Ok(())) => return Ok((engine, told, 0)),
+            Some(Err(fault)) => return Ok((engine, told, fault.number())),
+            None => {}
+        }
+    }
+    Err(Trouble::Lost("the threads of a session never start"))
 }
 
 /// The last acknowledged offset that was told; 0: none was. An answer has a tag and eight bytes, and
