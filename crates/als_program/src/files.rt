@@ -96,6 +96,7 @@ pub fn refused<R: AllocGlobal + Files<File = File>, O: Write, E: Write>(
     let status = failure.report(errors);
     match refusal.trouble {
         Some(trouble) => explain(rt, path, trouble, errors),
+        None if lacks_pages(command, refusal.kind) => explain_pages(path, errors),
         None => explain_path(rt, path, refusal.kind, errors),
     }
     if matches!(command, Command::Standby { .. }) {
@@ -103,6 +104,24 @@ pub fn refused<R: AllocGlobal + Files<File = File>, O: Write, E: Write>(
         let _ = partings::tell(errors, path, refusal.kind);
     }
     Ok(status)
+}
+
+/// Whether a page count was left out, and what was asked for refused for its numbers.
+fn lacks_pages(command: Command, kind: FaultKind) -> bool {
+    let is_left_out = matches!(
+        command,
+        Command::Primary { pages: None, .. } | Command::Commit { pages: None, .. }
+    );
+    is_left_out && kind == FaultKind::BadConfig
+}
+
+/// Says what a new database needs.
+fn explain_pages<E: Write>(path: &str, errors: &mut E) {
+    // Where it can't be said, the status has to do.
+    let _ = writeln!(
+        errors,
+        "als: {path}: a folder without a database needs --pages N, 1 to 4096"
+    );
 }
 
 /// Says what is wrong with a path, where nobody looked at its files.

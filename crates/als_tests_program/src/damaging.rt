@@ -392,6 +392,27 @@ fn a_damaged_file_is_told(rt: HostRuntime) {
     is_refused(&rt, &STANDBY, missing);
 }
 
+#[test]
+fn a_new_folder_wants_its_pages(rt: HostRuntime) {
+    assert!(rt; fs::create_dir(&rt, "without_pages").is_ok());
+    let told = Refusal {
+        printed: "",
+        refusal: "als: refused 37 BadConfig\n",
+        explained: "als: without_pages: a folder without a database needs --pages N, 1 to 4096\n",
+    };
+    let primary = [
+        "als",
+        "primary",
+        "--dir",
+        "without_pages",
+        "--serve",
+        "127.0.0.1:0",
+    ];
+    is_refused(&rt, &primary, told);
+    is_refused(&rt, &["als", "commit", "--dir", "without_pages"], told);
+    assert!(rt; fs::remove_dir(&rt, "without_pages").is_ok());
+}
+
 /// A log file has no name but its path.
 #[test]
 fn a_damaged_log_file_is_told(rt: HostRuntime) {
