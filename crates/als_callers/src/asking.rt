@@ -17,7 +17,8 @@ const LOOK: u64 = 20;
 /// The most callers that may be about to ask. Where more come, the first one is hung up on.
 const ASKERS: usize = 64;
 
-/// A caller: its stream, its address, and when it connected by the clock.
+/// A caller: its stream, its address, and when it connected by the clock. An IPv4-mapped address is given as
+/// its IPv4 address.
 #[derive(Drop)]
 pub struct Came<S> {
     pub stream: S,
@@ -114,7 +115,7 @@ impl<'a, L: OpenListener<Stream = S>, S: OpenStream + Drop, C: Clock> Asking<'a,
         if stream.set_nonblocking(true).is_ok() {
             let came = Came {
                 stream,
-                peer: addr.ip(),
+                peer: addr.ip().to_canonical(),
                 at: self.clock.monotonic()?,
             };
             // Without memory for it, it is hung up on.

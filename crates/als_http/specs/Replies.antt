@@ -42,8 +42,8 @@ fields_of_wrong Host = []
 
 -- what is wrong with a request, in words
 abbrev pub why_wrong : Wrong → List ℕ
-why_wrong Path = codes "no such path: /, /keys/P/S, /status, /metrics, /health"
-why_wrong Method = codes "GET and HEAD alone are answered"
+why_wrong Path = codes "no such path: /, /keys/P/S, /status, /metrics, /health, and /in-doubt of a primary"
+why_wrong Method = codes "GET and HEAD are answered, and POST of /commit, /prepare and /decide by a primary"
 why_wrong Number = codes "a page and a slot are decimal numbers below 2^32"
 why_wrong Lsn = codes "Als-At-Least is one decimal number below 2^64"
 why_wrong Host = codes "this node has no such host: localhost, 127.0.0.1, [::1]"

@@ -33,7 +33,6 @@ told asked.Nothing lsn = Refused Path
 
 -- by a method that reads, or none
 unfoldable pub allowed : List ℕ → Query → Query
-allowed method (Refused Path) = Refused Path
 allowed method q = if bytes_eq method (codes "GET") || bytes_eq method (codes "HEAD") then q else Refused Method
 
 abbrev pub query_by : List ℕ → List ℕ → List FieldValue → Query

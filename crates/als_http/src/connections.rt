@@ -12,9 +12,10 @@ pub struct Connections {
     peers: Vec<AtomicU64>,
 }
 
-/// The number of a peer, never 0: one for each IPv4 address, and one for each /64 network of IPv6.
+/// The number of a peer, never 0: one for each IPv4 address, mapped into IPv6 or not, and one for each /64
+/// network of IPv6.
 pub(crate) fn peer_of(addr: &SocketAddr) -> u64 {
-    match addr.ip() {
+    match addr.ip().to_canonical() {
         IpAddr::V4(ip) => u64::from(u32::from_be_bytes(ip.octets())) | 1 << 63,
         IpAddr::V6(ip) => {
             let [a, b, c, d, e, f, g, h, ..] = ip.octets();

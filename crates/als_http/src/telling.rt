@@ -81,9 +81,6 @@ fn directed(is_own: bool, query: Query) -> Query
 fn allowed(method: &str, query: Query) -> Query
     ensures { result ≡ allowed method.now query }
 {
-    if let Query::Refused(Wrong::Path) = query {
-        return query;
-    }
     if method == "GET" || method == "HEAD" {
         query
     } else {

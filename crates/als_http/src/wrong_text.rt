@@ -19,8 +19,10 @@ fn why_wrong(why: Wrong) -> &'static str
     ensures { result.now ≡ why_wrong why }
 {
     match why {
-        Wrong::Path => "no such path: /, /keys/P/S, /status, /metrics, /health",
-        Wrong::Method => "GET and HEAD alone are answered",
+        Wrong::Path =>
+            "no such path: /, /keys/P/S, /status, /metrics, /health, and /in-doubt of a primary",
+        Wrong::Method =>
+            "GET and HEAD are answered, and POST of /commit, /prepare and /decide by a primary",
         Wrong::Number => "a page and a slot are decimal numbers below 2^32",
         Wrong::Lsn => "Als-At-Least is one decimal number below 2^64",
         Wrong::Host => "this node has no such host: localhost, 127.0.0.1, [::1]",

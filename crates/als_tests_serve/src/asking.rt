@@ -223,8 +223,8 @@ fn each_refusal_is_answered(rt: HostRuntime) -> Result<(), Fail> {
             "HTTP/1.1 404 ",
         ),
         (
-            "POST /page HTTP/1.1\r\nHost: a\r\ncontent-length: 1\r\n\r\nx",
-            "HTTP/1.1 404 ",
+            "POST /decide HTTP/1.1\r\nHost: a\r\ncontent-length: 1\r\n\r\nx",
+            "HTTP/1.1 405 ",
         ),
         (
             "POST / HTTP/1.1\r\nHost: a\r\ncontent-length: 1\r\n\r\nx",
