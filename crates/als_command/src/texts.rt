@@ -181,9 +181,9 @@ pub const TAKEOVER_ABOUT: &str = "Makes a primary of the standby of a folder";
 
 pub const TAKEOVER_HELP: &str =
     "Needs DIR, the folder of a standby that does not run. See first that the old primary
-writes no more: nothing here can do that.
-Redoes what was not redone, seals the log at its end, undoes each transaction that was not
-committed, and ends the takeover. From then on the folder follows no primary.
+writes no more: nothing here can do that. A primary's own folder begins its next epoch, of 32.
+Redoes what was not redone, seals the log at its end, undoes each transaction that is neither
+committed nor in doubt, and ends the takeover. From then on the folder follows no primary.
 Where DIR adopted a takeover that its log never reached, that takeover is dropped first, and a line
 on standard error says so.
 Writes standard output: `end=E`, where the log ends, and a line `P/S VALUE` for each record
@@ -214,7 +214,8 @@ Reads standard input: a transaction a line, in JSON:
    \"set\":[{\"key\":[P,S],\"to\":\"cd\"},{\"key\":[P,S],\"to\":null}]}
 on one line. A key is page P, slot S (0 to 14); a value is up to 31 bytes in hexadecimal, null is
 none. All comparisons of `if` hold and all of `set` is written, or nothing is; `if` may be left
-out. `unchanged_since` asks that no commit above LSN L wrote the key.
+out. `unchanged_since` asks that no commit above LSN L wrote the key: after a start, and after a
+decision to commit, each key counts as written by the last commit. `if` and `set` have up to 600 each.
 With \"prepare\":true beside, the transaction is prepared: it holds its keys, and survives crashes and
 takeovers, until a line {\"decide\":{\"trans\":T,\"commit\":true}} commits it, or one with false rolls it back.
 Writes standard output: for each line, in order, once it is durable,
@@ -238,7 +239,7 @@ Exit statuses: 0 done, 2 a fault of the command line or a line that is no transa
   21  a takeover of DIR is not at its end: `als takeover` goes on with it
   30  DIR or a file of it failed, or another program has DIR; or control.blk is missing,
       but log.blk or pages.blk has data: nothing was touched
-  33, 34, 1 to 16 a file of it is damaged
+  33, 34, 1 to 16 a file of it is damaged; 34 also: the database has another number of pages than N
   37  N is missing for a new database or not 1 to 4,096, B not 1 to 4,194,304, or L not 1 to
       1,000; no file was touched
   44  standard input or output failed
@@ -255,7 +256,8 @@ Redoes what was not redone, undoes what a crash left in mid-transaction, and ans
     {\"if\":[{\"key\":[P,S],\"is\":\"ab\"},{\"key\":[P,S],\"unchanged_since\":L}],
      \"set\":[{\"key\":[P,S],\"to\":\"cd\"},{\"key\":[P,S],\"to\":null}]}
     A key is page P, slot S (0 to 14); a value is up to 31 bytes in hexadecimal, null is none.
-    All comparisons hold and all is set, or nothing is; `if` may be left out.
+    All comparisons hold and all is set, or nothing is; `if` may be left out. Each has up to 600.
+    `unchanged_since` is as of `als commit`.
     200 {\"trans\":T,\"lsn\":L}: it is durable. 409: a comparison does not hold, or another
     transaction holds a key. 400, 413: no transaction. 408, 503: nothing was written, ask again;
     408: the request was not whole after 5 s. 504: it may be written or not. 507: the log has no
@@ -292,10 +294,10 @@ Exit statuses: 2 a fault of the command line, of FILE or of ADDR without it, 3
   21  a takeover of DIR is not at its end: `als takeover` goes on with it
   30  DIR or a file of it failed, or another program has DIR; or control.blk is missing,
       but log.blk or pages.blk has data: nothing was touched
-  33, 34, 1 to 16 a file of it is damaged
-  37  N is missing for a new database or not 1 to 4,096, B not 1 to 4,194,304, C not 1 to 64,
-      SECONDS not 1 to 3,600, K over 8 or without --listen, W not 1 to 64, or ADDRS no addresses;
-      no file was touched
+  33, 34, 1 to 16 a file of it is damaged; 34 also: the database has another number of pages than N
+  37  N is missing for a new database or not 1 to 4,096, B not 1 to 4,194,304, C not 1 to 64, the
+      SECONDS of --commit-timeout not 1 to 3,600 or those of --timeout over 3,600, K over 8 or
+      without --listen, W not 1 to 64, or ADDRS no addresses; no file was touched
   44  ADDR or HOST:PORT can't be listened at
   46  DIR is the folder of a standby: `als takeover` first, where its primary is gone";
 

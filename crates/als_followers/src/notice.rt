@@ -18,6 +18,8 @@ pub enum What {
     Ended,
     /// Its session ended early.
     Went(Fault),
+    /// It asked for the log, and its session was refused before it followed.
+    Refused(Fault),
     /// Its address may not come. It was hung up on.
     Stranger,
     /// As many sessions as may be go on. It was hung up on.

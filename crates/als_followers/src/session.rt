@@ -59,15 +59,19 @@ pub(crate) fn serve<R: Wait + Clock, O: Serves, S: Read + Write + OpenStream + D
     let served = send(rt, alloc, common, &mut seated, stream, &pace);
     let has_begun = seated.has_begun();
     seated.leave();
-    if !has_begun {
-        // Whoever did not ask for the log is no follower, as one who only asked what log it is.
-        return;
-    }
     let what = match served {
-        Ok(()) => What::Ended,
-        Err(fault) => What::Went(fault),
+        Ok(()) if has_begun => What::Ended,
+        Err(fault) if has_begun => What::Went(fault),
+        Err(fault) if is_refusal(fault) => What::Refused(fault),
+        // Whoever did not ask for the log is no follower, as one who only asked what log it is.
+        Ok(()) | Err(_) => return,
     };
     common.notices.put(rt, Notice { peer, what });
+}
+
+/// Whether a session ended by what it was asked, and not because its peer or its stream went.
+fn is_refusal(fault: Fault) -> bool {
+    !matches!(fault, Fault::Cut | Fault::Stream | Fault::Memory)
 }
 
 /// Sends the log over a stream.

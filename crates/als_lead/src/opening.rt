@@ -37,13 +37,14 @@ type Opened = (Engine<FileDisk>, Vec<Reader>);
 /// Opens the folder of a primary, or makes a new database in it.
 ///
 /// BadConfig: there is no database, and no page count for a new one, or a number is out of its range.
-/// NotPrimary: it is a standby's folder. Sealed: a takeover has not finished. Device: the folder or one of
+/// BadControl: the database has another number of pages than is given. NotPrimary: it is a standby's folder. Sealed: a takeover has not finished. Device: the folder or one of
 /// its files failed, or another program has it. Memory: allocation failed. Else as for `Engine::open`.
 pub fn open<R: AllocGlobal + Files<File = File> + Wait, P: Progress>(
     rt: &R,
     database: Database<'_>,
     progress: &mut P,
 ) -> Result<Primary, Fault> {
+    check_numbers(database)?;
     let folder = Folder::hold(rt, database.dir)?;
     match open_in(rt, &folder, database, progress) {
         Ok((engine, readers)) => Ok(Primary {
@@ -81,6 +82,7 @@ fn open_or_begin<R: AllocGlobal + Files<File = File> + Wait>(
     match folder.find(rt)? {
         Found::Kept => {
             check_pages_fit(rt, folder)?;
+            check_pages_given(rt, folder, database.pages)?;
             follow_own_log(rt, folder)?;
             open_devices(rt, folder, database.readers)
         }
@@ -91,22 +93,49 @@ fn open_or_begin<R: AllocGlobal + Files<File = File> + Wait>(
     }
 }
 
-/// The configuration of a new database. BadConfig: a number is out of its range, or there is no page
-/// count.
-fn config_of(database: Database<'_>) -> Result<Config, Fault> {
-    let Some(pages) = database.pages else {
-        return Err(Fault::Refused(EngineFault::BadConfig));
+/// Refuses numbers that are out of range, before a file is touched: BadConfig.
+fn check_numbers(database: Database<'_>) -> Result<(), Fault> {
+    let pages = database.pages.unwrap_or(1);
+    let has_blocks = (1..=LOG_BLOCK_LIMIT).contains(&database.log_blocks);
+    if has_blocks && config_with(database, pages).is_valid() {
+        Ok(())
+    } else {
+        Err(Fault::Refused(EngineFault::BadConfig))
+    }
+}
+
+/// Refuses a page count that is not that of the folder's log: BadControl. Where the log's header can't be read, it
+/// is refused later.
+fn check_pages_given<R: AllocGlobal + Files<File = File>>(
+    rt: &R,
+    folder: &Folder,
+    given: Option<u64>,
+) -> Result<(), Fault> {
+    let (Some(given), Some(extent)) = (given, extent_of(rt, folder)?) else {
+        return Ok(());
     };
-    let config = Config {
+    if u64::from(extent.pages) == given {
+        Ok(())
+    } else {
+        Err(Fault::Refused(EngineFault::BadControl))
+    }
+}
+
+/// The configuration of a new database. BadConfig: there is no page count.
+fn config_of(database: Database<'_>) -> Result<Config, Fault> {
+    match database.pages {
+        Some(pages) => Ok(config_with(database, pages)),
+        None => Err(Fault::Refused(EngineFault::BadConfig)),
+    }
+}
+
+/// The configuration of a database with this many pages.
+fn config_with(database: Database<'_>, pages: u64) -> Config {
+    Config {
         pages,
         frames: pages,
         pending: PENDING,
         readers: database.readers,
-    };
-    if config.is_valid() && (1..=LOG_BLOCK_LIMIT).contains(&database.log_blocks) {
-        Ok(config)
-    } else {
-        Err(Fault::Refused(EngineFault::BadConfig))
     }
 }
 

@@ -9,6 +9,8 @@ pub enum BadToken {
     Short,
     /// It has more than 4,096 bytes.
     Long,
+    /// It has a byte that no request can bring: a blank, a line end, or one that is not printed.
+    Unsendable,
     /// There is no memory for it.
     Memory,
 }

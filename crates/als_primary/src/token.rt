@@ -36,6 +36,9 @@ pub(crate) fn read_token<R: AllocGlobal + Files<File = File>>(
     if token.len() > LONGEST {
         return Err(BadToken::Long);
     }
+    if token.iter().any(|byte| *byte <= b' ' || *byte >= 0x7f) {
+        return Err(BadToken::Unsendable);
+    }
     Ok(token)
 }
 

@@ -96,7 +96,9 @@ pub fn refused<R: AllocGlobal + Files<File = File>, O: Write, E: Write>(
     let status = failure.report(errors);
     match refusal.trouble {
         Some(trouble) => explain(rt, path, trouble, errors),
-        None if lacks_pages(command, refusal.kind) => explain_pages(path, errors),
+        None if lacks_pages(command, refusal.kind) && log_sizes::is_vacant(rt, path) => {
+            explain_pages(path, errors)
+        }
         None => explain_path(rt, path, refusal.kind, errors),
     }
     if matches!(command, Command::Standby { .. }) {
@@ -136,6 +138,10 @@ fn explain_path<R: AllocGlobal + Files<File = File>, E: Write>(
         FaultKind::Stream if fs::metadata(rt, path).is_err() => {
             writeln!(errors, "als: {path}: it is missing, or may not be read")
         }
+        FaultKind::BadConfig => writeln!(
+            errors,
+            "als: a number is missing or out of its range: the lines of 37 in --help have the ranges"
+        ),
         FaultKind::NotPrimary => writeln!(
             errors,
             "als: {path}: it is the folder of a standby, or a primary decides there: see als status; als takeover makes a standby a primary, once its own is gone"
@@ -304,6 +310,9 @@ fn follow<
         return Ok(());
     };
     contradict(rt, dir, log_blocks, errors);
+    if keep {
+        check_port(from, errors)?;
+    }
     let following = Following {
         dir,
         from,
@@ -344,6 +353,28 @@ pub fn contradict<R: AllocGlobal + Files<File = File>, E: Write>(
 ) {
     if let Some(asked) = log_blocks {
         log_sizes::tell(rt, dir, asked, errors);
+    }
+}
+
+/// Refuses an address of a primary that names no port, which would be asked for ever: no later try reaches
+/// it either.
+fn check_port<E: Write>(from: &str, errors: &mut E) -> Result<(), Refusal> {
+    if names_port(from) {
+        return Ok(());
+    }
+    // Where it can't be said, the status has to do.
+    let _ = writeln!(errors, "als: --from {from} names no port: it is HOST:PORT");
+    Err(Refusal {
+        kind: FaultKind::Stream,
+        trouble: None,
+    })
+}
+
+/// Whether an address is a host, a colon and the number of a port.
+fn names_port(addr: &str) -> bool {
+    match addr.rsplit_once(':') {
+        Some((host, port)) => !host.is_empty() && port.parse::<u16>().is_ok(),
+        None => false,
     }
 }
 

@@ -25,6 +25,11 @@ pub fn tell<R: AllocGlobal + Files<File = File>, E: Write>(
     }
 }
 
+/// Whether a folder has no database.
+pub fn is_vacant<R: AllocGlobal + Files<File = File>>(rt: &R, dir: &str) -> bool {
+    matches!(blocks_of(rt, dir), Ok(None))
+}
+
 /// How many blocks the log of a folder's database has. None: it has no database.
 fn blocks_of<R: AllocGlobal + Files<File = File>>(
     rt: &R,

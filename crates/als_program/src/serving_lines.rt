@@ -60,6 +60,7 @@ impl<W: Write, C: Clock> Announces for ServingLines<'_, W, C> {
             What::Came(lsn) => writeln!(errors, "als: {peer} follows from {}", lsn.0),
             What::Ended => writeln!(errors, "als: {peer} follows no more"),
             What::Went(fault) => writeln!(errors, "als: {peer} follows no more: {fault}"),
+            What::Refused(fault) => writeln!(errors, "als: {peer} was refused: {fault}"),
             What::Stranger => writeln!(errors, "als: {peer} may not follow"),
             What::Crowded => writeln!(errors, "als: {peer} was hung up on: 8 standbys follow"),
         };
@@ -98,6 +99,9 @@ fn words_of(why: BadToken) -> &'static str {
         BadToken::Shared => "others may read or write the file of the token: chmod 600 it",
         BadToken::Short => "the token has fewer than 16 bytes",
         BadToken::Long => "the token has more than 4096 bytes",
+        BadToken::Unsendable => {
+            "the token has a blank, a line end or another byte that no request can bring"
+        }
         BadToken::Memory => "there is no memory for the token",
     }
 }

@@ -27,7 +27,7 @@ fn say<W: Write>(errors: &mut W, trouble: Trouble) -> io::Result<()> {
         Wrong::NoFolder => "this is no folder",
         Wrong::Denied => "it may not be opened or written",
         Wrong::Locked if of_folder => {
-            "another program has the folder; a standby with --serve answers GET /status and /keys/P/S"
+            "another program has the folder; one with --serve answers GET /status and /keys/P/S, and of a primary POST /commit"
         }
         Wrong::Locked => "another program has the file, by a name in another folder",
         Wrong::ReadOnly => "its file system is read-only",
@@ -64,12 +64,12 @@ fn say<W: Write>(errors: &mut W, trouble: Trouble) -> io::Result<()> {
         Wrong::BadRole =>
             "it does not say which epoch a primary writes: move it away, and see als status",
         Wrong::OfPrimary => {
-            "the folder is a primary's, and nobody took over from it: als commit writes it, als ship --dir serves it"
+            "the folder is a primary's, and nobody took over from it: als primary serves it, als commit writes it, als ship --dir ships it"
         }
         Wrong::BadPage { page } => {
             return writeln!(
                 errors,
-                "the block of page {page} is damaged, or is not what the log makes of the page: als rebuild-pages makes the file anew"
+                "the block of page {page} is damaged, or is not what log.blk makes of it: compare the log with another node's (als cut), then als rebuild-pages"
             );
         }
     };

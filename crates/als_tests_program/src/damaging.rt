@@ -200,7 +200,7 @@ fn files_are_told<
     let page = Refusal {
         printed: "unsound lsn=0 33 BadPage 3\n",
         refusal: "als: refused 33 BadPage 3\n",
-        explained: "als: damaged/pages.blk: the block of page 3 is damaged, or is not what the log makes of the page: als rebuild-pages makes the file anew\n",
+        explained: "als: damaged/pages.blk: the block of page 3 is damaged, or is not what log.blk makes of it: compare the log with another node's (als cut), then als rebuild-pages\n",
     };
     is_refused(rt, &VERIFY, page);
     is_refused(
@@ -322,6 +322,38 @@ fn a_long_file_is_told<
     is_refused(rt, &TAKEOVER, long);
     is_refused(rt, &COMMIT, long);
     is_refused(rt, &PRIMARY, long);
+    // A page count that is given has to be that of the database.
+    assert!(rt; lengthens(rt, 2, 4 * 512).is_some() || lengthens(rt, 2, 4 * 512).is_some());
+    let other = Refusal {
+        explained: "als: damaged/control.blk: the control block or the checkpoint is damaged, or that of another log or page count\n",
+        ..long
+    };
+    is_refused(
+        rt,
+        &["als", "commit", "--dir", "damaged", "--pages", "8"],
+        other,
+    );
+    let primary = [
+        "als",
+        "primary",
+        "--dir",
+        "damaged",
+        "--serve",
+        "127.0.0.1:0",
+        "--pages",
+        "8",
+    ];
+    is_refused(rt, &primary, other);
+    let beyond = Refusal {
+        refusal: "als: refused 37 BadConfig\n",
+        explained: "als: a number is missing or out of its range: the lines of 37 in --help have the ranges\n",
+        ..long
+    };
+    is_refused(
+        rt,
+        &["als", "commit", "--dir", "damaged", "--pages", "4097"],
+        beyond,
+    );
     // It has not become a primary's.
     assert!(rt; !has_role(rt));
 }

@@ -203,7 +203,15 @@ fn follows_no_more<
         + 'static,
 >(rt: &R, option: &str) -> bool {
     let words = [
-        "als", "standby", "--dir", "followed", "--from", "nowhere", "--pages", "4", option,
+        "als",
+        "standby",
+        "--dir",
+        "followed",
+        "--from",
+        "nowhere:1",
+        "--pages",
+        "4",
+        option,
     ];
     refuses(rt, &words, "", "als: refused 21 Sealed\n")
 }
@@ -323,11 +331,25 @@ fn standbys_that_are_refused(rt: HostRuntime) {
     ];
     for (flag, name, number) in goes_on {
         let words = [
-            "als", "standby", "--dir", "missing", "--from", "nowhere", "--pages", "4", flag, name,
+            "als",
+            "standby",
+            "--dir",
+            "missing",
+            "--from",
+            "nowhere:1",
+            "--pages",
+            "4",
+            flag,
+            name,
             number,
         ];
         assert!(rt; refuses(&rt, &words, "", bad) || refuses(&rt, &words, "", bad));
     }
+    let portless = "als: --from nowhere names no port: it is HOST:PORT\nals: refused 44 Stream\n";
+    let words = [
+        "als", "standby", "--dir", "missing", "--from", "nowhere", "--pages", "4", "--keep",
+    ];
+    assert!(rt; refuses(&rt, &words, "", portless) || refuses(&rt, &words, "", portless));
     let failed = "als: refused 30 Device\n";
     let words = [
         "als", "standby", "--dir", "missing", "--from", "nowhere", "--pages", "4",
