@@ -3,15 +3,18 @@ use als_drive::Progress;
 use als_followers::{Notice, What};
 use als_primary::{Announces, BadToken, Refusal, Serving};
 use als_record::Lsn;
+use als_ship::Fault as SessionFault;
 use std::alloc::{AllocError, Global};
 use std::io::Write;
-use std::net::SocketAddr;
+use std::net::{IpAddr, SocketAddr};
 use std::time::Clock;
 
 /// What a primary says to who runs it.
 #[derive(Drop)]
 pub struct ServingLines<'a, W: Write, C> {
     redo: RedoLines<'a, W, C>,
+    /// Which follower was refused last, and why. It asks again and again; the same is printed once.
+    refused: Option<(IpAddr, SessionFault)>,
 }
 
 impl<'a, W: Write, C: Clock> ServingLines<'a, W, C> {
@@ -19,6 +22,7 @@ impl<'a, W: Write, C: Clock> ServingLines<'a, W, C> {
     pub fn new(errors: W, clock: &'a C, seen: bool) -> ServingLines<'a, W, C> {
         ServingLines {
             redo: RedoLines::new(errors, clock, seen, false),
+            refused: None,
         }
     }
 }
@@ -55,6 +59,14 @@ impl<W: Write, C: Clock> Announces for ServingLines<'_, W, C> {
 
     fn follower(&mut self, notice: Notice) {
         let peer = notice.peer;
+        let refused = match notice.what {
+            What::Refused(fault) => Some((peer, fault)),
+            _ => None,
+        };
+        if refused.is_some() && refused == self.refused {
+            return;
+        }
+        self.refused = refused;
         let errors = self.redo.errors();
         let _ = match notice.what {
             What::Came(lsn) => writeln!(errors, "als: {peer} follows from {}", lsn.0),
