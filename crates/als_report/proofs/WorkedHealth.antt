@@ -1,8 +1,8 @@
 -- Where a standby is never healthy.
-use Rattle.std.specs.Prelude.{◌≡◌, Some, true, false}
+use Rattle.std.specs.Prelude.{◌≡◌, None, Some, true, false}
 use Rattle.std.proofs.Common.{refl}
-use Rattle.als_report.specs.declared.state.State.TheVariants.{Waiting, Refusing, Primary, Stopped, Committing, Unconfirmed}
-use Rattle.als_report.specs.Health.{is_sent_to, is_at_work, is_prompt, takes_commits, has_few}
+use Rattle.als_report.specs.declared.state.State.TheVariants.{Waiting, Following, Refusing, Primary, Stopped, Committing, Unconfirmed}
+use Rattle.als_report.specs.Health.{is_sent_to, is_at_work, is_heard, is_prompt, takes_commits, has_few}
 
 stopped_is_not : is_sent_to Stopped ≡ false
 stopped_is_not = refl
@@ -29,6 +29,19 @@ unconfirmed_takes = refl
 
 primary_takes_none : takes_commits Primary ≡ false
 primary_takes_none = refl
+
+-- a primary that sent something thirty seconds ago was heard lately, one that sent nothing since is not; a primary is sent nothing
+thirty_are_few : is_heard Following (Some 30) ≡ true
+thirty_are_few = refl
+
+more_are_not : is_heard Following (Some 31) ≡ false
+more_are_not = refl
+
+never_is_not : is_heard Following None ≡ false
+never_is_not = refl
+
+a_primary_hears_nobody : is_heard Committing None ≡ true
+a_primary_hears_nobody = refl
 
 -- a frame that waits for ten seconds is in time, one that waits for eleven is not
 ten_is_prompt : is_prompt (Some 10) ≡ true

@@ -1,5 +1,5 @@
 -- Whether a standby is healthy, and how much log it still takes, by what it tells of itself.
-use Rattle.std.specs.Prelude.{ℕ, ◌-◌, Bool, true, false, ◌&&◌, ◌||◌, nat_le, Option, Some, None, is_some}
+use Rattle.std.specs.Prelude.{ℕ, ◌-◌, Bool, true, false, not, ◌&&◌, ◌||◌, nat_le, Option, Some, None, is_some}
 use Rattle.als_report.specs.declared.report.Report.{Report}
 use Rattle.als_report.specs.declared.state.State.{State}
 use Rattle.als_report.specs.declared.state.State.TheVariants.{Recovering, Waiting, Following, Refusing, Sealed, Primary, Stopped, Committing, Unconfirmed}
@@ -31,6 +31,15 @@ takes_commits s = false
 abbrev pub is_at_work : State → Bool
 is_at_work s = is_sent_to s || is_committing s
 
+-- the last acknowledged frame came at most thirty seconds ago
+abbrev pub is_recent : Option ℕ → Bool
+is_recent None = false
+is_recent (Some seconds) = nat_le seconds 30
+
+-- the primary that sends to it was heard lately; to a node that commits for clients none sends
+abbrev pub is_heard : State → Option ℕ → Bool
+is_heard state silence = not (is_sent_to state) || is_recent silence
+
 -- no frame waits for its acknowledgement for longer than ten seconds
 abbrev pub is_prompt : Option ℕ → Bool
 is_prompt None = true
@@ -40,10 +49,10 @@ is_prompt (Some seconds) = nat_le seconds 10
 abbrev pub has_few : ℕ → Bool
 has_few in_doubt = nat_le in_doubt 199
 
--- A primary sends to it or it commits for clients, each frame is acknowledged in time, readers see a list of commits, and few transactions
--- are in doubt.
+-- A primary sends to it and was heard lately, or it commits for clients; each frame is acknowledged in time, readers see a list of commits, and
+-- few transactions are in doubt.
 abbrev pub is_healthy : Report → Option ℕ → Bool
-is_healthy r commits = has_few r.in_doubt && (is_at_work r.state && is_prompt r.waiting && is_some commits)
+is_healthy r commits = has_few r.in_doubt && (is_heard r.state r.silence && (is_at_work r.state && is_prompt r.waiting && is_some commits))
 
 -- so many bytes are left below a capacity
 abbrev pub room_below : Option ℕ → ℕ → Option ℕ

@@ -1,5 +1,5 @@
 ghost use Rattle.std.specs.Prelude.{◌≡◌};
-ghost use Rattle.als_report.specs.Health.{is_prompt, is_healthy, room_of};
+ghost use Rattle.als_report.specs.Health.{is_recent, is_heard, is_prompt, is_healthy, room_of};
 
 use crate::follower::Follower;
 use crate::refusals::Refusals;
@@ -10,6 +10,10 @@ use arrayvec::ArrayVec;
 
 /// Seconds for which a frame may wait for its acknowledgement before the node is not healthy.
 pub const PATIENCE: u64 = 10;
+
+/// Seconds for which a primary may send nothing before its standby is not healthy. One that goes on sends
+/// something each ten seconds at least.
+pub const QUIET: u64 = 30;
 
 /// The most transactions that may be in doubt in a healthy primary. At 256 it takes no more.
 pub const MOST_IN_DOUBT: u64 = 199;
@@ -54,16 +58,27 @@ pub struct Report {
 }
 
 impl Report {
-    /// Whether the node is healthy: a primary sends to it or it commits for clients, no frame has waited
-    /// for longer than `PATIENCE`, readers see a list of commits, and at most `MOST_IN_DOUBT` transactions
-    /// are in doubt.
+    /// Whether the node is healthy: a primary sends to it and was heard within `QUIET`, or it commits for
+    /// clients; no frame has waited for longer than `PATIENCE`, readers see a list of commits, and at most
+    /// `MOST_IN_DOUBT` transactions are in doubt.
     pub fn is_healthy(&self, commits: Option<u64>) -> bool
         ensures { result ≡ is_healthy self.now commits }
     {
         if self.in_doubt > MOST_IN_DOUBT {
             return false;
         }
+        if !self.is_heard() {
+            return false;
+        }
         self.state.is_at_work() && is_prompt(self.waiting) && commits.is_some()
+    }
+
+    /// Whether the primary that sends to it was heard within `QUIET`. Of a node to which none sends it is
+    /// true.
+    fn is_heard(&self) -> bool
+        ensures { result ≡ is_heard self.now.state self.now.silence }
+    {
+        !self.state.is_sent_to() || is_recent(self.silence)
     }
 
     /// The bytes that the log can still take. None: not known yet.
@@ -74,6 +89,16 @@ impl Report {
             Some(capacity) => Some(capacity.saturating_sub(self.end.0)),
             None => None,
         }
+    }
+}
+
+/// Whether the last acknowledged frame came within `QUIET`.
+fn is_recent(silence: Option<u64>) -> bool
+    ensures { result ≡ is_recent silence }
+{
+    match silence {
+        Some(seconds) => seconds <= QUIET,
+        None => false,
     }
 }
 

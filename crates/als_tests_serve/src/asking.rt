@@ -53,6 +53,25 @@ impl Reports for Fixed {
     }
 }
 
+/// The same, where the last acknowledged frame came this long ago.
+struct Heard(Fixed, Option<u64>);
+
+impl Drop for Heard {
+    fn drop(self) {
+        let Heard(fixed, _) = self;
+        drop(fixed);
+    }
+}
+
+impl Reports for Heard {
+    fn report(&self) -> Report {
+        Report {
+            silence: self.1,
+            ..self.0.report()
+        }
+    }
+}
+
 /// Those of a node that takes commits; nobody follows another one.
 fn followers_of(state: State) -> ArrayVec<Follower, MOST_FOLLOWERS> {
     match state {
@@ -289,15 +308,14 @@ fn metrics_and_health_are_answered(rt: HostRuntime) -> Result<(), Fail> {
     Ok(())
 }
 
-/// What `/health` answers of a standby in this state, where a frame waits for so long.
-fn health_of(
+/// What `/health` answers of a node that reports this.
+fn health_of<S: Reports + Drop>(
     alloc: Global,
     keys: RandomState,
     reader: Reader,
-    state: State,
-    waiting: Option<u64>,
+    reports: S,
 ) -> Option<Vec<u8>> {
-    let mut answering = Answering::new(alloc, reader, Fixed(state, waiting));
+    let mut answering = Answering::new(alloc, reader, reports);
     answered(
         alloc,
         keys,
@@ -328,13 +346,35 @@ fn health_is_of_a_session_that_goes_on(rt: HostRuntime) -> Result<(), Fail> {
     ];
     for (state, waiting, is_healthy) in table {
         let reader = readers.pop().ok_or("a reader")?;
-        let answer = health_of(alloc, keys, reader, state, waiting).ok_or("an answer")?;
+        let answer = health_of(alloc, keys, reader, Fixed(state, waiting)).ok_or("an answer")?;
         let front: &[u8] = if is_healthy {
             b"HTTP/1.1 200 "
         } else {
             b"HTTP/1.1 503 "
         };
         assert!(rt; answer.as_slice().starts_with(front), "{}", state.name());
+    }
+    log.close(&rt);
+    Ok(())
+}
+
+#[test]
+fn a_standby_of_a_frozen_primary_is_not_healthy(rt: HostRuntime) -> Result<(), Fail> {
+    let alloc = rt.alloc();
+    let keys = RandomState::new(&rt)?;
+    let (log, mut readers) = published(&rt, alloc, 4).ok_or("memory")?;
+    let table = [
+        (State::Following, Some(30), "HTTP/1.1 200 "),
+        (State::Following, Some(31), "HTTP/1.1 503 "),
+        (State::Following, None, "HTTP/1.1 503 "),
+        // Nobody sends to a primary.
+        (State::Committing, None, "HTTP/1.1 200 "),
+    ];
+    for (state, silence, front) in table {
+        let reader = readers.pop().ok_or("a reader")?;
+        let reports = Heard(Fixed(state, None), silence);
+        let answer = health_of(alloc, keys, reader, reports).ok_or("an answer")?;
+        assert!(rt; answer.as_slice().starts_with(front.as_bytes()), "{}", state.name());
     }
     log.close(&rt);
     Ok(())
