@@ -46,6 +46,8 @@ mod seats;
 mod service;
 // Who follows it, for its board.
 mod onlookers;
+// Whether its own primary sends to it.
+mod sent_to;
 // The sessions of its own followers.
 mod shipping;
 // The folder of a standby, held.
