@@ -18,6 +18,8 @@ mod reporting;
 mod heard;
 // What is answered to a primary.
 mod answered;
+// What of a session is a sign of its primary.
+mod signs;
 // How long is waited before a primary is asked again.
 mod pause;
 // Receives why a standby waits.
