@@ -14,6 +14,8 @@
 //! 4. A session asks for the end of the log first, and for the number of the era before it writes. What was
 //!    acknowledged before the number was read was acknowledged before another adoption, so no byte of a
 //!    new epoch is sent as one of the old.
+//! 5. A session with a follower that has all of it beats only while the standby's own primary sends, and ends
+//!    else: so a follower is healthy only while the standby is sent to.
 #![tactic(auto)]
 
 // The history that a standby adopted last.

@@ -1,6 +1,6 @@
 use crate::era::Era;
 use crate::under_era::UnderEra;
-use als_followers::{NodeSource, Serves, Tail};
+use als_followers::{NodeSource, Pulse, Serves, Tail};
 use als_sending::Marks;
 use als_ship::Fault;
 use std::alloc::Global;
@@ -9,52 +9,57 @@ use std::io::{Read, Write};
 use std::sync::{Arc, Wait};
 use std::time::Clock;
 
-/// What sessions send a standby's log from: its file, the tail and the era.
-pub struct StandbySource<R> {
+/// What sessions send a standby's log from: its file, the tail and the era; and by which pulse they beat.
+pub struct StandbySource<R, P> {
     rt: R,
     file: File,
     tail: Arc<Tail, Global>,
     era: Arc<Era, Global>,
+    pulse: Arc<P, Global>,
     timeout: u64,
 }
 
-impl<R: Drop> Drop for StandbySource<R> {
+impl<R: Drop, P: Drop> Drop for StandbySource<R, P> {
     fn drop(self) {
         let StandbySource {
             rt,
             file,
             tail,
             era,
+            pulse,
             timeout: _,
         } = self;
         drop(rt);
         drop(file);
         drop(tail);
         drop(era);
+        drop(pulse);
     }
 }
 
-impl<R> StandbySource<R> {
-    /// The log in this file, up to its tail, under the history of its era. A peer may be silent for so many
-    /// seconds; 0: as long as it likes.
+impl<R, P> StandbySource<R, P> {
+    /// The log in this file, up to its tail, under the history of its era. Its sessions beat by this pulse. A
+    /// peer may be silent for so many seconds; 0: as long as it likes.
     pub fn new(
         rt: R,
         file: File,
         tail: Arc<Tail, Global>,
         era: Arc<Era, Global>,
+        pulse: Arc<P, Global>,
         timeout: u64,
-    ) -> StandbySource<R> {
+    ) -> StandbySource<R, P> {
         StandbySource {
             rt,
             file,
             tail,
             era,
+            pulse,
             timeout,
         }
     }
 }
 
-impl<R: Wait + Clock + Clone + Drop> Serves for StandbySource<R> {
+impl<R: Wait + Clock + Clone + Drop, P: Pulse + Drop> Serves for StandbySource<R, P> {
     // Stream also where the last adoption is not durable.
     fn serve<M: Marks, I: Read, W: Write>(
         &self,
@@ -68,11 +73,12 @@ impl<R: Wait + Clock + Clone + Drop> Serves for StandbySource<R> {
             return Err(Fault::Stream);
         };
         let file = self.file.try_clone()?;
-        let source = NodeSource::new(
+        let source = NodeSource::under(
             self.rt.clone()?,
             alloc,
             file,
             Arc::try_clone(&self.tail)?,
+            Arc::try_clone(&self.pulse)?,
             adopted.history,
             self.timeout,
         )?;

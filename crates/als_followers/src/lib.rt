@@ -15,6 +15,8 @@
 
 // A node's log, read from its file.
 mod node_log;
+// Whether the sessions of a log beat.
+mod pulse;
 // A log that is sent to one follower after another.
 mod serves;
 // A follower's seat in the quorum.
@@ -37,5 +39,6 @@ pub use als_quorum::{Quorum, Row, Tail};
 pub use followers::Followers;
 pub use node_log::{NodeLog, NodeSource};
 pub use notice::{Notice, What};
+pub use pulse::{Always, Pulse};
 pub use serves::Serves;
 pub use session::Terms;

@@ -1,6 +1,7 @@
 ghost use Rattle.std.specs.Prelude.{◌≡◌, IfOk};
 ghost use Rattle.als_wire.specs.Reading.{IsHeader};
 
+use crate::pulse::{Always, Pulse};
 use crate::serves::Serves;
 use als_comparing::serve_log;
 use als_epochs::History;
@@ -20,10 +21,11 @@ const LONGEST: u64 = 10;
 /// The log of a node whose file its leader writes. Offset o of the log is offset o of the file, and below
 /// the tail each byte is durable and stays as it is. That a read of the file there gives these bytes is
 /// a premise: no clause can say it of a file.
-pub struct NodeLog<R, F> {
+pub struct NodeLog<R, F, P = Always> {
     rt: R,
     file: Arc<F, Global>,
     tail: Arc<Tail, Global>,
+    pulse: Arc<P, Global>,
     header: LogHeader,
     history: History,
     /// For how long it is waited for at most.
@@ -35,12 +37,13 @@ pub struct NodeLog<R, F> {
     ghost range: { IsHeader header },
 }
 
-impl<R: Drop, F: Drop> Drop for NodeLog<R, F> {
+impl<R: Drop, F: Drop, P: Drop> Drop for NodeLog<R, F, P> {
     fn drop(self) {
         let NodeLog {
             rt,
             file,
             tail,
+            pulse,
             header: _,
             history: _,
             beat: _,
@@ -50,11 +53,12 @@ impl<R: Drop, F: Drop> Drop for NodeLog<R, F> {
         drop(rt);
         drop(file);
         drop(tail);
+        drop(pulse);
         drop(account);
     }
 }
 
-impl<R: Wait + Clock, F: FileExt + Drop> Growing for NodeLog<R, F> {
+impl<R: Wait + Clock, F: FileExt + Drop, P: Pulse + Drop> Growing for NodeLog<R, F, P> {
     ghost use Rattle.als_sending.specs.Accounts.{reads_of};
 
     ghost reads = { λ log. reads_of log.account };
@@ -91,6 +95,10 @@ impl<R: Wait + Clock, F: FileExt + Drop> Growing for NodeLog<R, F> {
         Ok(grown)
     }
 
+    fn beats(&self) -> bool {
+        self.pulse.beats()
+    }
+
     fn read_at(&mut self, at: u64, buf: &mut [u8]) -> Result<(), Fault> {
         match self.file.read_exact_at(buf, at) {
             Ok(()) => {
@@ -103,22 +111,24 @@ impl<R: Wait + Clock, F: FileExt + Drop> Growing for NodeLog<R, F> {
 }
 
 /// What sessions read a node's log from: its file, which they share, and its tail.
-pub struct NodeSource<R, F> {
+pub struct NodeSource<R, F, P = Always> {
     rt: R,
     file: Arc<F, Global>,
     tail: Arc<Tail, Global>,
+    pulse: Arc<P, Global>,
     header: LogHeader,
     history: History,
     beat: Duration,
     ghost range: { IsHeader header },
 }
 
-impl<R: Drop, F: Drop> Drop for NodeSource<R, F> {
+impl<R: Drop, F: Drop, P: Drop> Drop for NodeSource<R, F, P> {
     fn drop(self) {
         let NodeSource {
             rt,
             file,
             tail,
+            pulse,
             header: _,
             history: _,
             beat: _,
@@ -126,6 +136,7 @@ impl<R: Drop, F: Drop> Drop for NodeSource<R, F> {
         drop(rt);
         drop(file);
         drop(tail);
+        drop(pulse);
     }
 }
 
@@ -143,6 +154,26 @@ impl<R: Drop, F: FileExt + Drop> NodeSource<R, F> {
         history: History,
         timeout: u64,
     ) -> Result<NodeSource<R, F>, Fault> {
+        let Ok(always) = Arc::new(alloc, Always) else {
+            return Err(Fault::Memory);
+        };
+        NodeSource::under(rt, alloc, file, tail, always, history, timeout)
+    }
+}
+
+impl<R: Drop, F: FileExt + Drop, P: Pulse + Drop> NodeSource<R, F, P> {
+    /// The same log, whose sessions beat by this pulse. Where it does not, a session ends in place of a beat.
+    ///
+    /// As `new` says.
+    pub fn under(
+        rt: R,
+        alloc: Global,
+        file: F,
+        tail: Arc<Tail, Global>,
+        pulse: Arc<P, Global>,
+        history: History,
+        timeout: u64,
+    ) -> Result<NodeSource<R, F, P>, Fault> {
         let header = header_of(&file)?;
         let Ok(file) = Arc::new(alloc, file) else {
             return Err(Fault::Memory);
@@ -151,6 +182,7 @@ impl<R: Drop, F: FileExt + Drop> NodeSource<R, F> {
             rt,
             file,
             tail,
+            pulse,
             header,
             history,
             beat: beat_for(timeout),
@@ -179,13 +211,14 @@ fn beat_for(timeout: u64) -> Duration {
     Duration::from_millis((timeout.saturating_mul(1_000) / 3).min(LONGEST * 1_000))
 }
 
-impl<R: Wait + Clock + Clone + Drop, F: FileExt + Drop> NodeSource<R, F> {
+impl<R: Wait + Clock + Clone + Drop, F: FileExt + Drop, P: Pulse + Drop> NodeSource<R, F, P> {
     /// The log, for one session.
-    fn open(&self) -> Result<NodeLog<R, F>, Fault> {
+    fn open(&self) -> Result<NodeLog<R, F, P>, Fault> {
         Ok(NodeLog {
             rt: self.rt.clone()?,
             file: Arc::try_clone(&self.file)?,
             tail: Arc::try_clone(&self.tail)?,
+            pulse: Arc::try_clone(&self.pulse)?,
             header: self.header,
             history: self.history,
             beat: self.beat,
@@ -195,7 +228,8 @@ impl<R: Wait + Clock + Clone + Drop, F: FileExt + Drop> NodeSource<R, F> {
     }
 }
 
-impl<R: Wait + Clock + Clone + Drop, F: FileExt + Drop> Serves for NodeSource<R, F> {
+impl<R: Wait + Clock + Clone + Drop, F: FileExt + Drop, P: Pulse + Drop> Serves
+    for NodeSource<R, F, P> {
     fn serve<M: Marks, I: Read, W: Write>(
         &self,
         alloc: Global,

@@ -49,6 +49,13 @@ pub trait Growing {
         ensures pages { pages self.new ≡ pages self.old }
         ensures fails { IfErr result (λ f. f ≡ fault.Stream) };
 
+    /// Whether a follower that has all of it is sent a byte that it has, as a sign that there is more to come. A
+    /// session with one that has all of a log which does not beat ends after a beat in which nothing came.
+    /// Each log beats, unless it says otherwise.
+    fn beats(&self) -> bool {
+        true
+    }
+
     /// Fills the buffer with the bytes from an offset on. Stream: the log failed.
     fn read_at(&mut self, at: u64, buf: &mut [u8]) -> Result<(), Fault>
         requires { at + length buf.old ≤ shown self.old }

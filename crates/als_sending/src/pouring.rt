@@ -49,7 +49,7 @@ pub(crate) fn pour<G: Growing, M: Marks, R: Read, W: Write>(
 }
 
 /// Where there is nothing new for the follower, it is sent a byte that it has, so that it is answered
-/// at once.
+/// at once. A log that does not beat sends nothing, and is waited for.
 fn greet<G: Growing, W: Write>(
     log: &mut G,
     way: &mut Way,
@@ -71,7 +71,7 @@ fn greet<G: Growing, W: Write>(
     ensures pages { G.pages log.new ≡ G.pages log.old }
     ensures fails { IfErr result (λ f. f ≡ fault.Stream) }
 {
-    if way.at < way.end {
+    if way.at < way.end || !log.beats() {
         return Ok(());
     }
     beat(log, way, room, writer)?;

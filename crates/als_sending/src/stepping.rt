@@ -138,7 +138,8 @@ fn take_answer<M: Marks, R: Read>(marks: &mut M, way: &mut Way, reader: &mut R) 
     Ok(())
 }
 
-/// Waits for the log to grow. Answers whether more of it may come.
+/// Waits for the log to grow. Answers whether more of it may come: none does where it ends, nor where it did not
+/// grow for a beat and does not beat.
 fn wait<G: Growing, W: Write>(
     log: &mut G,
     way: &mut Way,
@@ -166,11 +167,11 @@ fn wait<G: Growing, W: Write>(
             way.end = log.end()?;
             Ok(true)
         }
-        Grown::Beat => {
+        Grown::Beat if log.beats() => {
             beat(log, way, room, writer)?;
             Ok(true)
         }
-        Grown::Ends => Ok(false),
+        Grown::Beat | Grown::Ends => Ok(false),
     }
 }
 

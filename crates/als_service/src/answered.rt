@@ -1,35 +1,34 @@
 ghost use Rattle.std.specs.Prelude.{◌≡◌};
 
-use als_report::Board;
+use crate::signs::Signs;
 use std::io;
 use std::io::Write;
 
-/// What is answered to a primary. The board records that a frame was acknowledged: the question of a session is
-/// before any frame, and whatever is written after one is its acknowledgement.
+/// What is answered to a primary: the question of a session, and acknowledgements.
 pub(crate) struct Answered<'a, O> {
     stream: O,
-    board: &'a Board,
+    signs: &'a Signs<'a>,
 }
 
 impl<O: Drop> Drop for Answered<'_, O> {
     fn drop(self) {
-        let Answered { stream, board: _ } = self;
+        let Answered { stream, signs: _ } = self;
         drop(stream);
     }
 }
 
 impl<'a, O> Answered<'a, O> {
-    pub fn new(stream: O, board: &'a Board) -> Answered<'a, O>
+    pub fn new(stream: O, signs: &'a Signs<'a>) -> Answered<'a, O>
         ensures { result.stream ≡ stream }
     {
-        Answered { stream, board }
+        Answered { stream, signs }
     }
 
     /// The stream.
     pub fn end(self) -> O
         ensures { result ≡ self.entry.stream }
     {
-        let Answered { stream, board: _ } = self;
+        let Answered { stream, signs: _ } = self;
         stream
     }
 }
@@ -40,7 +39,7 @@ impl<O: Write> Write for Answered<'_, O> {
 
     fn write(&mut self, bytes: &[u8]) -> io::Result<usize> {
         let written = self.stream.write(bytes)?;
-        self.board.note_answer();
+        self.signs.answered();
         Ok(written)
     }
 

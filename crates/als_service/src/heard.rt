@@ -2,7 +2,7 @@ ghost use Rattle.std.specs.Prelude.{◌≡◌};
 
 use crate::notices::Notices;
 use crate::outages::Outages;
-use als_report::Board;
+use crate::signs::Signs;
 use std::io;
 use std::io::Read;
 use std::time::Clock;
@@ -12,21 +12,18 @@ use std::time::Clock;
 /// is nearly full is reported here too: a session may last for days.
 pub(crate) struct Heard<'a, I, C, N: Drop> {
     stream: I,
-    board: &'a Board,
+    signs: &'a Signs<'a>,
     clock: &'a C,
     notices: Notices<N>,
-    /// Nothing came yet.
-    is_silent: bool,
 }
 
 impl<I: Drop, C, N: Drop> Drop for Heard<'_, I, C, N> {
     fn drop(self) {
         let Heard {
             stream,
-            board: _,
+            signs: _,
             clock: _,
             notices,
-            is_silent: _,
         } = self;
         drop(stream);
         drop(notices);
@@ -36,32 +33,30 @@ impl<I: Drop, C, N: Drop> Drop for Heard<'_, I, C, N> {
 impl<'a, I, C, N: Drop> Heard<'a, I, C, N> {
     pub fn new(
         stream: I,
-        board: &'a Board,
+        signs: &'a Signs<'a>,
         clock: &'a C,
         notices: Notices<N>,
     ) -> Heard<'a, I, C, N> {
         Heard {
             stream,
-            board,
+            signs,
             clock,
             notices,
-            is_silent: true,
         }
     }
 
     /// Whether nothing came.
     pub fn is_silent(&self) -> bool {
-        self.is_silent
+        self.signs.is_silent()
     }
 
     /// The stream, and who prints.
     pub fn end(self) -> (I, Notices<N>) {
         let Heard {
             stream,
-            board: _,
+            signs: _,
             clock: _,
             notices,
-            is_silent: _,
         } = self;
         (stream, notices)
     }
@@ -71,13 +66,13 @@ impl<I: Read, C: Clock, N: Outages + Drop> Read for Heard<'_, I, C, N> {
     ghost remaining = { λ heard. I.remaining heard.stream };
 
     fn read(&mut self, into: &mut [u8]) -> io::Result<usize> {
+        self.signs.waited_for();
         match self.stream.read(into) {
             Ok(count) => {
                 if count > 0 {
-                    self.is_silent = false;
                     self.notices.bytes_came();
-                    let board = self.board;
-                    board.note_frame(self.clock);
+                    self.signs.came(self.clock);
+                    let board = self.signs.board();
                     self.notices.room(self.clock, board.end(), board.capacity());
                 }
                 Ok(count)

@@ -18,6 +18,8 @@ mod reporting;
 mod heard;
 // What is answered to a primary.
 mod answered;
+// What of a session is a sign of its primary.
+mod signs;
 // How long is waited before a primary is asked again.
 mod pause;
 // Receives why a standby waits.
@@ -46,6 +48,8 @@ mod seats;
 mod service;
 // Who follows it, for its board.
 mod onlookers;
+// Whether its own primary sends to it.
+mod sent_to;
 // The sessions of its own followers.
 mod shipping;
 // The folder of a standby, held.

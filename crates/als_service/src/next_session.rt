@@ -10,6 +10,7 @@ use crate::keeping::Pace;
 use crate::notices::Notices;
 use crate::outages::Outages;
 use crate::primaries::Primaries;
+use crate::signs::Signs;
 use als_engine::{Events, State as EngineState};
 use als_follow::{Followed, follow_beside};
 use als_operate::Fault;
@@ -67,6 +68,7 @@ pub(crate) fn follow_next<
     let mut notices = notices;
     make_ready(rt, &mut events);
     let begun = moment(rt);
+    let signs = Signs::new(board);
     match primaries.next() {
         Ok((reader, writer)) => {
             tell_uncompared(primaries, &mut notices);
@@ -81,8 +83,8 @@ pub(crate) fn follow_next<
                 events,
                 pace.workers,
                 pace.each,
-                Heard::new(reader, board, rt, notices),
-                Answered::new(writer, board),
+                Heard::new(reader, &signs, rt, notices),
+                Answered::new(writer, &signs),
             );
             let is_silent = reader.is_silent();
             board.set_epoch(u64::from(engine.history().epoch()));

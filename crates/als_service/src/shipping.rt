@@ -1,5 +1,6 @@
 use crate::cascade::Cascade;
 use crate::onlookers::Onlookers;
+use crate::sent_to::SentTo;
 use crate::service::Service;
 use als_cascade::StandbySource;
 use als_engine::Fault as EngineFault;
@@ -8,7 +9,7 @@ use als_followers::{Allowed, Block, Followers, Quorum, Terms};
 use als_http::listen;
 use als_operate::{Fault, silence};
 use als_quorum::SEATS;
-use als_report::Board;
+use als_report::{Board, Watch};
 use als_sending::WINDOW_LIMIT;
 use std::alloc::{AllocError, Global};
 use std::fs::File;
@@ -88,8 +89,8 @@ fn new_quorum(alloc: Global) -> Result<Arc<Quorum, Global>, AllocError> {
 }
 
 /// The sessions of a standby's own followers, and the thread that writes on its board who follows.
-pub(crate) struct Cascading<R> {
-    followers: Followers<StandbySource<R>>,
+pub(crate) struct Cascading<R: Clock> {
+    followers: Followers<StandbySource<R, SentTo<R>>>,
     onlookers: JoinHandle<()>,
 }
 
@@ -105,7 +106,10 @@ pub(crate) fn ship<R: AllocGlobal + Threads + Wait + Clock + Clone + Send + Sync
 ) -> Result<Cascading<R>, Fault> {
     let Shipping { listener, allowed } = shipping;
     let alloc = rt.alloc();
-    let source = StandbySource::new(rt.clone()?, file, cascade.tail()?, cascade.era()?, timeout);
+    let pulse = SentTo::new(Watch::new(Arc::try_clone(board)?, rt.clone()?));
+    let pulse = Arc::new(alloc, pulse)?;
+    let (tail, era) = (cascade.tail()?, cascade.era()?);
+    let source = StandbySource::new(rt.clone()?, file, tail, era, pulse, timeout);
     let terms = Terms::new(window, silence(timeout));
     let quorum = new_quorum(alloc)?;
     let onlookers = Onlookers {
@@ -141,7 +145,10 @@ fn watch<R: Threads + Wait + Clock + Send + Drop + 'static>(
 }
 
 /// Ends the sessions, if there are any.
-pub(crate) fn end_sessions<R: Threads + Wait + Drop>(rt: &R, cascading: Option<Cascading<R>>) {
+pub(crate) fn end_sessions<R: Threads + Wait + Clock + Drop>(
+    rt: &R,
+    cascading: Option<Cascading<R>>,
+) {
     if let Some(
         Cascading {
             followers,

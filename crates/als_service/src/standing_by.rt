@@ -12,6 +12,7 @@ use crate::reporting::{BoardReporter, Reported};
 use crate::seats::{new_board, serve_reads};
 use crate::service::Service;
 use crate::shipping::{Cascading, Shipping, end_sessions, log_file, ship, shipping_of};
+use crate::signs::Signs;
 use als_disk::FileDisk;
 use als_drive::{Progress, recover_telling};
 use als_engine::{Engine, Events, Reader};
@@ -332,8 +333,9 @@ fn follow_once<
         }
     };
     tell_uncompared(primaries, &mut notices);
-    let heard = Heard::new(reader, board, rt, notices);
-    let answered = Answered::new(writer, board);
+    let signs = Signs::new(board);
+    let heard = Heard::new(reader, &signs, rt, notices);
+    let answered = Answered::new(writer, &signs);
     let Followed {
         mut engine,
         mut reader,

@@ -30,6 +30,7 @@ pub struct Log {
     account: Account,
     /// Reads fail from here on.
     pub fails_from: u64,
+    pub beats: bool,
 }
 
 impl Drop for Log {
@@ -42,6 +43,7 @@ impl Drop for Log {
             script: _,
             account: _,
             fails_from: _,
+            beats: _,
         } = self;
         drop(bytes);
     }
@@ -76,6 +78,7 @@ impl Log {
             script,
             account: Account::Nothing,
             fails_from: u64::MAX,
+            beats: true,
         }
     }
 }
@@ -118,6 +121,10 @@ impl Growing for Log {
             }
             Step::Beats => Ok(Grown::Beat),
         }
+    }
+
+    fn beats(&self) -> bool {
+        self.beats
     }
 
     fn read_at(&mut self, at: u64, buf: &mut [u8]) -> Result<(), Fault> {

@@ -184,3 +184,40 @@ fn a_follower_with_nothing_new_is_answered_at_once(rt: HostRuntime) {
     let alloc = rt.alloc();
     assert!(rt; greets(&rt, alloc).is_some() || greets(&rt, alloc).is_some());
 }
+
+/// A log that does not beat, before a follower that holds so much of it. `None`: allocation failed.
+fn does_not_beat(
+    rt: &impl Abort,
+    alloc: Global,
+    from: u64,
+    parts: &[(usize, usize)],
+    answers: &[u64],
+) -> Option<()> {
+    let script = &[Step::Grows(216), Step::Beats, Step::Grows(300)];
+    let mut log = Log::new(text(alloc, 300)?, 116, script);
+    log.beats = false;
+    let told = told(alloc, from, HEADER, &sealed(), answers)?;
+    let done = session(alloc, &mut log, 4, told.as_slice())?;
+    let wanted = frames(alloc, text(alloc, 300)?.as_slice(), parts)?;
+    assert!(rt; done.answer == Ok(216_u64.saturating_sub(from)));
+    assert!(rt; done.sent.as_slice() == wanted.as_slice());
+    assert!(rt; done.last == Some(Lsn(216)));
+    Some(())
+}
+
+// What comes behind the beat is for the next session.
+#[test]
+fn a_log_that_does_not_beat_is_sent_and_ends(rt: HostRuntime) {
+    let alloc = rt.alloc();
+    let parts = [(100, 116), (116, 216), (216, 216)];
+    let answers = [116, 216, 216];
+    assert!(rt;
+        does_not_beat(&rt, alloc, 100, &parts, &answers).is_some()
+            || does_not_beat(&rt, alloc, 100, &parts, &answers).is_some()
+    );
+    // Nor is it greeted.
+    assert!(rt;
+        does_not_beat(&rt, alloc, 116, &parts[1..], &answers[1..]).is_some()
+            || does_not_beat(&rt, alloc, 116, &parts[1..], &answers[1..]).is_some()
+    );
+}

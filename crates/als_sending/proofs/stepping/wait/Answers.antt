@@ -4,8 +4,13 @@ use Rattle.als_sending.specs.declared.way.Way.{Way}
 use Rattle.als_sending.proofs.Going.{goes_look, stops_look}
 use Rattle.als_sending.proofs.stepping.wait.Goals as goal
 
-pub returns-in-Ends-clause-goes : goal.returns-in-Ends-clause-goes
-returns-in-Ends-clause-goes g c = λ heard asked.
+pub returns-in-Beat-2-clause-goes : goal.returns-in-Beat-2-clause-goes
+returns-in-Beat-2-clause-goes g c = λ heard asked.
+    let w : Way = c.args.way.now in
+    goes_look w w (g.G.Growing.reads c.args.log.now) (g.G.Growing.reads c.wait_past.new.self) heard asked (g.W.Write.contents c.args.writer.now) c.wait_past.ensures.reads refl refl refl refl
+
+pub returns-in-Beat-2-2-clause-goes : goal.returns-in-Beat-2-2-clause-goes
+returns-in-Beat-2-2-clause-goes g c = λ heard asked.
     let w : Way = c.args.way.now in
     goes_look w w (g.G.Growing.reads c.args.log.now) (g.G.Growing.reads c.wait_past.new.self) heard asked (g.W.Write.contents c.args.writer.now) c.wait_past.ensures.reads refl refl refl refl
 
