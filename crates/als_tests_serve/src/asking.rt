@@ -374,7 +374,11 @@ fn a_standby_of_a_frozen_primary_is_not_healthy(rt: HostRuntime) -> Result<(), F
         let reader = readers.pop().ok_or("a reader")?;
         let reports = Heard(Fixed(state, None), silence);
         let answer = health_of(alloc, keys, reader, reports).ok_or("an answer")?;
-        assert!(rt; answer.as_slice().starts_with(front.as_bytes()), "{}", state.name());
+        assert!(rt;
+            answer.as_slice().starts_with(front.as_bytes()),
+            "{}",
+            state.name()
+        );
     }
     log.close(&rt);
     Ok(())
