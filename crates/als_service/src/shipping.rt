@@ -82,9 +82,9 @@ pub(crate) fn log_file<R: AllocGlobal + Files<File = File>>(
     }
 }
 
-/// A seat for each follower.
-fn new_quorum(alloc: Global) -> Result<Arc<Quorum, Global>, AllocError> {
-    Ok(Arc::new(alloc, Quorum::new(alloc, SEATS)?)?)
+/// A seat for each follower that may come.
+fn new_quorum(alloc: Global, allowed: Allowed) -> Result<Arc<Quorum, Global>, AllocError> {
+    Ok(Arc::new(alloc, Quorum::new(alloc, SEATS, allowed)?)?)
 }
 
 /// The sessions of a standby's own followers, and the thread that writes on its board who follows.
@@ -107,7 +107,7 @@ pub(crate) fn ship<R: AllocGlobal + Threads + Wait + Clock + Clone + Send + Sync
     let alloc = rt.alloc();
     let source = StandbySource::new(rt.clone()?, file, cascade.tail()?, cascade.era()?, timeout);
     let terms = Terms::new(window, silence(timeout));
-    let quorum = new_quorum(alloc)?;
+    let quorum = new_quorum(alloc, allowed)?;
     let onlookers = Onlookers {
         rt: rt.clone()?,
         board: Arc::try_clone(board)?,
@@ -115,7 +115,7 @@ pub(crate) fn ship<R: AllocGlobal + Threads + Wait + Clock + Clone + Send + Sync
         quorum: Arc::try_clone(&quorum)?,
     };
     let tail = cascade.tail()?;
-    let followers = Followers::start(rt, alloc, listener, source, tail, quorum, allowed, terms)?;
+    let followers = Followers::start(rt, alloc, listener, source, tail, quorum, terms)?;
     match watch(rt, onlookers) {
         Ok(onlookers) => Ok(Cascading {
             followers,
