@@ -1,7 +1,5 @@
-ghost use Rattle.std.specs.Prelude.{◌≡◌, ◌++◌, ◌∷◌, ◌⊎◌, [], true, false, OnOk, OnErr};
-ghost use Rattle.std.specs.List.{All, Contains};
-ghost use Rattle.als_callers.specs.Members.{Has, Lacks};
-ghost use Rattle.als_callers.specs.declared.block.Block.{Block as AnyBlock};
+ghost use Rattle.std.specs.Prelude.{◌≡◌, ◌++◌, ◌∷◌, ◌↔◌, [], IsTrue, OnOk, OnErr};
+ghost use Rattle.als_callers.specs.Members.{Admits, OneHas};
 
 use crate::block::Block;
 use std::alloc::{AllocError, Global};
@@ -40,10 +38,7 @@ impl Allowed {
 
     /// Whether an address may come: no block is named, or one contains it.
     pub fn admits(&self, peer: IpAddr) -> bool
-        ensures yes { result ≡ true → (self.now.blocks.items ≡ [])
-            ⊎ ((block : AnyBlock) × Contains self.now.blocks.items block × Has block peer) }
-        ensures no { result ≡ false → ¬ (self.now.blocks.items ≡ [])
-            × All (λ block. Lacks block peer) self.now.blocks.items }
+        ensures { IsTrue result ↔ Admits self.now.blocks.items peer }
     {
         let blocks = self.blocks.as_slice();
         blocks.is_empty() || has_any(blocks, peer)
@@ -52,8 +47,7 @@ impl Allowed {
 
 /// Whether one of the blocks contains an address.
 fn has_any(blocks: &[Block], peer: IpAddr) -> bool
-    ensures yes { result ≡ true → (block : AnyBlock) × Contains blocks.now block × Has block peer }
-    ensures no { result ≡ false → All (λ block. Lacks block peer) blocks.now }
+    ensures { IsTrue result ↔ OneHas blocks.now peer }
 {
     for block in blocks {
         if block.has(peer) {

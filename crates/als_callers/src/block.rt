@@ -43,8 +43,8 @@ impl Block {
 
     /// Whether the block contains an address. An IPv4-mapped address counts as its IPv4 address.
     pub fn has(&self, peer: IpAddr) -> bool
-        ensures { (own : AnyIpAddr) × IsCanonical peer own
-            × (IsTrue result ↔ HaveSameFront self.now.bits self.now.addr own) }
+        ensures { IsTrue result ↔ ((own : AnyIpAddr) × IsCanonical peer own
+            × HaveSameFront self.now.bits self.now.addr own) }
     {
         have_same_front(self.bits, self.addr, peer.to_canonical())
     }

@@ -92,9 +92,9 @@ fn start<
 >(rt: &R, listener: TcpListener, source: S, terms: Terms) -> io::Result<Followers<S>> {
     let alloc = rt.alloc();
     let tail = Arc::new(alloc, Tail::new(Lsn(0)))?;
-    let quorum = Arc::new(alloc, Quorum::new(alloc, FOLLOWERS)?)?;
     let anybody = Allowed::new(alloc);
-    Followers::start(rt, alloc, listener, source, tail, quorum, anybody, terms)
+    let quorum = Arc::new(alloc, Quorum::new(alloc, FOLLOWERS, anybody)?)?;
+    Followers::start(rt, alloc, listener, source, tail, quorum, terms)
 }
 
 /// Prints how sessions came out, until one ends the shipper.

@@ -1,6 +1,6 @@
 use crate::notices::Notices;
 use crate::session::Terms;
-use als_callers::{Allowed, Came, Closing, Desk};
+use als_callers::{Came, Closing, Desk};
 use als_quorum::{Quorum, Tail};
 use std::alloc::Global;
 use std::net::TcpStream;
@@ -11,8 +11,8 @@ pub(crate) struct Common<O> {
     /// What each of them reads the log from.
     pub source: O,
     pub tail: Arc<Tail, Global>,
+    /// What they acknowledged, and who may come.
     pub quorum: Arc<Quorum, Global>,
-    pub allowed: Allowed,
     pub terms: Terms,
     pub closing: Closing,
     pub desk: Desk<Came<TcpStream>>,
@@ -25,7 +25,6 @@ impl<O: Drop> Drop for Common<O> {
             source,
             tail,
             quorum,
-            allowed,
             terms: _,
             closing,
             desk,
@@ -34,7 +33,6 @@ impl<O: Drop> Drop for Common<O> {
         drop(source);
         drop(tail);
         drop(quorum);
-        drop(allowed);
         drop(closing);
         drop(desk);
         drop(notices);

@@ -4,7 +4,7 @@ use crate::notices::Notices;
 use crate::serves::Serves;
 use crate::session::Terms;
 use crate::work::{Porter, Server, Work};
-use als_callers::{Allowed, Closing, Desk};
+use als_callers::{Closing, Desk};
 use als_quorum::{Quorum, SEATS, Tail};
 use std::alloc::Global;
 use std::net::{OpenListener, TcpListener};
@@ -29,7 +29,8 @@ impl<O: Drop> Drop for Followers<O> {
 }
 
 impl<O: Serves + Send + Sync + Drop + 'static> Followers<O> {
-    /// Starts eight threads for followers, and one that takes in those who connect to the listener.
+    /// Starts eight threads for followers, and one that takes in those who connect to the listener. Those may
+    /// come whose word counts in the quorum.
     ///
     /// An error: allocation failed, or the system refused a thread or the listener. Then none goes on.
     pub fn start<R: Threads + Wait + Clock + Clone + Send + Drop + 'static>(
@@ -39,7 +40,6 @@ impl<O: Serves + Send + Sync + Drop + 'static> Followers<O> {
         source: O,
         tail: Arc<Tail, Global>,
         quorum: Arc<Quorum, Global>,
-        allowed: Allowed,
         terms: Terms,
     ) -> io::Result<Followers<O>> {
         listener.set_nonblocking(true)?;
@@ -47,7 +47,6 @@ impl<O: Serves + Send + Sync + Drop + 'static> Followers<O> {
             source,
             tail,
             quorum,
-            allowed,
             terms,
             closing: Closing::new(),
             desk: Desk::new(alloc, SEATS as usize)?,

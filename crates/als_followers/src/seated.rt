@@ -1,4 +1,4 @@
-ghost use Rattle.std.specs.Prelude.{◌≡◌, ◌++◌, ◌∷◌, ℕ, List, [], Option, Some};
+ghost use Rattle.std.specs.Prelude.{◌≡◌, ◌≢◌, ◌↔◌, ◌++◌, ◌∷◌, ℕ, List, [], Option, Some, None, IsTrue};
 ghost use Rattle.als_sending.specs.Accounts.{heard_of, begun_of};
 
 use crate::notice::{Notice, What};
@@ -17,8 +17,6 @@ pub(crate) struct Seated<'a, R> {
     quorum: &'a Quorum,
     notices: &'a Notices,
     peer: IpAddr,
-    /// Whether what it acknowledges counts.
-    counts: bool,
     seat: Option<u32>,
     heard: Heard,
 }
@@ -31,7 +29,6 @@ impl<R> Drop for Seated<'_, R> {
             quorum: _,
             notices: _,
             peer: _,
-            counts: _,
             seat: _,
             heard,
         } = self;
@@ -47,7 +44,6 @@ impl<'a, R: Wait + Clock> Seated<'a, R> {
         quorum: &'a Quorum,
         notices: &'a Notices,
         peer: IpAddr,
-        counts: bool,
     ) -> Seated<'a, R> {
         Seated {
             rt,
@@ -55,19 +51,33 @@ impl<'a, R: Wait + Clock> Seated<'a, R> {
             quorum,
             notices,
             peer,
-            counts,
             seat: None,
             heard: Heard::Nothing,
         }
     }
 
     /// Whether it was admitted.
-    pub fn has_begun(&self) -> bool {
+    pub fn has_begun(&self) -> bool
+        ensures { IsTrue result ↔ (self.now.seat ≢ None) }
+    {
         self.seat.is_some()
     }
 
+    /// Takes a seat, unless it has one.
+    fn sit(&mut self)
+        ensures once { self.old.seat ≢ None → self.new.seat ≡ self.old.seat }
+        ensures same { self.new.heard ≡ self.old.heard }
+    {
+        if self.seat.is_none() {
+            self.seat = self.quorum.join(self.rt, self.peer);
+        }
+    }
+
     /// Frees its seat: what it acknowledged counts no more.
-    pub fn leave(&mut self) {
+    pub fn leave(&mut self)
+        ensures left { self.new.seat ≡ None }
+        ensures same { self.new.heard ≡ self.old.heard }
+    {
         if let Some(seat) = self.seat {
             self.quorum.leave(self.rt, seat);
         }
@@ -85,9 +95,7 @@ impl<R: Wait + Clock> Marks for Seated<'_, R> {
 
     fn begin(&mut self, from: Lsn) {
         self.heard.begin(from);
-        if self.seat.is_none() {
-            self.seat = self.quorum.join(self.rt, self.peer, self.counts);
-        }
+        self.sit();
         let came = Notice {
             peer: self.peer,
             what: What::Came(from),

@@ -46,15 +46,7 @@ pub(crate) fn serve<R: Wait + Clock, O: Serves, S: Read + Write + OpenStream + D
     came: Came<S>,
 ) {
     let Came { stream, peer, at } = came;
-    let counts = common.allowed.admits(peer);
-    let mut seated = Seated::new(
-        rt,
-        &common.tail,
-        &common.quorum,
-        &common.notices,
-        peer,
-        counts,
-    );
+    let mut seated = Seated::new(rt, &common.tail, &common.quorum, &common.notices, peer);
     let pace = Pace::new(&common.closing, common.terms.limit, at);
     let served = send(rt, alloc, common, &mut seated, stream, &pace);
     let has_begun = seated.has_begun();

@@ -14,10 +14,11 @@ use std::sync::Wait;
 use std::thread::Threads;
 use std::time::Clock;
 
-/// The listener of followers, and who may follow.
+/// Where followers connect, and who may and counts.
 #[derive(Drop)]
 pub(crate) struct Shipping {
-    pub listener: TcpListener,
+    /// None: nobody may connect.
+    pub listener: Option<TcpListener>,
     pub allowed: Allowed,
 }
 
@@ -51,11 +52,11 @@ pub(crate) fn follow<
     folder: &Folder,
     engine: &Engine<FileDisk>,
     others: &Others<'_, R>,
-    shipping: Option<Shipping>,
+    listener: Option<TcpListener>,
     serving: Serving<'_>,
     lines: &mut P,
 ) -> Result<Option<Followers<NodeSource<R, File>>>, Fault> {
-    let Some(Shipping { listener, allowed }) = shipping else {
+    let Some(listener) = listener else {
         return Ok(None);
     };
     let alloc = rt.alloc();
@@ -72,7 +73,7 @@ pub(crate) fn follow<
     let terms = Terms::new(serving.window, silence(serving.timeout));
     let tail = others.tail()?;
     let quorum = others.quorum()?;
-    let followers = Followers::start(rt, alloc, listener, source, tail, quorum, allowed, terms)?;
+    let followers = Followers::start(rt, alloc, listener, source, tail, quorum, terms)?;
     lines.listens(addr, serving.sync);
     Ok(Some(followers))
 }

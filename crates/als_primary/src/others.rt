@@ -1,7 +1,9 @@
-ghost use Rattle.std.specs.Prelude.{◌≡◌, ℕ, true, false};
-ghost use Rattle.als_primary.specs.Others.{IsConfirmed, IsMissed};
+ghost use Rattle.std.specs.Prelude.{◌≡◌, ℕ, List, IfOk, true, false};
+ghost use Rattle.als_callers.specs.declared.block.Block.{Block};
+ghost use Rattle.als_primary.specs.Others.{blocks_of, IsConfirmed, IsMissed};
 
 use crate::answers::Answers;
+use als_followers::Allowed;
 use als_quorum::{Quorum, SEATS, Tail};
 use als_record::Lsn;
 use als_report::Board;
@@ -35,17 +37,22 @@ impl<R> Drop for Others<'_, R> {
 }
 
 impl<'a, R: Wait + Clock> Others<'a, R> {
-    /// `count` followers have to acknowledge a commit. The log is durable up to `end`.
+    /// `count` followers at these addresses have to acknowledge a commit. The log is durable up to `end`.
     pub fn new(
         rt: &'a R,
         alloc: Global,
         count: u32,
+        allowed: Allowed,
         end: Lsn,
-    ) -> Result<Others<'a, R>, AllocError> {
+    ) -> Result<Others<'a, R>, AllocError>
+        ensures count { IfOk result (λ others. others.count ≡ count) }
+        ensures whose { IfOk result (λ others. blocks_of others.quorum.value
+            ≡ allowed.blocks.items) }
+    {
         Ok(Others {
             rt,
             tail: Arc::new(alloc, Tail::new(end))?,
-            quorum: Arc::new(alloc, Quorum::new(alloc, SEATS)?)?,
+            quorum: Arc::new(alloc, Quorum::new(alloc, SEATS, allowed)?)?,
             count,
             answers: Answers::Nothing,
         })
@@ -76,12 +83,16 @@ impl<'a, R: Wait + Clock> Others<'a, R> {
     /// Waits, at most this long, until enough followers have acknowledged the log up to there. Returns
     /// whether they have.
     pub fn ask(&mut self, end: Lsn, at_most: Duration) -> bool
-        ensures confirms { result ≡ true → IsConfirmed self.old.count self.new.answers end.0 }
-        ensures fails { result ≡ false → IsMissed self.old.count self.new.answers end.0 }
-        ensures keeps { (k n : ℕ) → IsConfirmed k self.old.answers n
-            → IsConfirmed k self.new.answers n }
-        ensures misses { (k n : ℕ) → IsMissed k self.old.answers n → IsMissed k self.new.answers n }
+        ensures confirms { result ≡ true
+            → IsConfirmed (blocks_of self.old.quorum.value) self.old.count self.new.answers end.0 }
+        ensures fails { result ≡ false
+            → IsMissed (blocks_of self.old.quorum.value) self.old.count self.new.answers end.0 }
+        ensures keeps { (blocks : List Block) (k n : ℕ) → IsConfirmed blocks k self.old.answers n
+            → IsConfirmed blocks k self.new.answers n }
+        ensures misses { (blocks : List Block) (k n : ℕ) → IsMissed blocks k self.old.answers n
+            → IsMissed blocks k self.new.answers n }
         ensures same { self.new.count ≡ self.old.count }
+        ensures whose { self.new.quorum ≡ self.old.quorum }
     {
         let tally = self.quorum.wait_for(self.rt, self.count, end, at_most);
         self.answers.note(&tally);
@@ -90,6 +101,6 @@ impl<'a, R: Wait + Clock> Others<'a, R> {
 
     /// Writes the followers onto the board.
     pub fn note(&self, board: &Board) {
-        board.set_seats(&self.quorum.rows(self.rt));
+        board.set_seats(&self.quorum.members(self.rt));
     }
 }

@@ -131,18 +131,18 @@ fn names_of<R: AllocGlobal>(rt: &R, folder: &Folder) -> Result<NameWatch, Fault>
     Ok(folder.names(rt)?)
 }
 
-/// The listener of followers, and who may follow. None: nobody may.
+/// Where followers connect, and who may and counts.
 fn shipping_of<R: AllocGlobal + Net<Listener = TcpListener, Stream = TcpStream>>(
     rt: &R,
     serving: Serving<'_>,
-) -> Result<Option<Shipping>, Fault> {
+) -> Result<Shipping, Fault> {
     let alloc = rt.alloc();
     let allowed = allowed_of(alloc, serving.followers)?;
-    let Some(addr) = serving.listen else {
-        return Ok(None);
+    let listener = match serving.listen {
+        Some(addr) => Some(listen(rt, alloc, addr)?),
+        None => None,
     };
-    let listener = listen(rt, alloc, addr)?;
-    Ok(Some(Shipping { listener, allowed }))
+    Ok(Shipping { listener, allowed })
 }
 
 /// The token that a client has to send to commit. None: no token is wanted.
@@ -188,7 +188,7 @@ fn stand<
     engine: &mut Engine<FileDisk>,
     names: &NameWatch,
     begun: Begun,
-    shipping: Option<Shipping>,
+    shipping: Shipping,
     capacity: Option<u64>,
     serving: Serving<'_>,
     lines: &mut P,
@@ -204,8 +204,9 @@ fn stand<
     let noted = Arc::try_clone(&doubts)?;
     let status = engine.status();
     board.set_sync(u64::from(serving.sync));
-    let others = Others::new(rt, rt.alloc(), serving.sync, status.acknowledged)?;
-    let followers = follow(rt, folder, engine, &others, shipping, serving, lines)?;
+    let Shipping { listener, allowed } = shipping;
+    let others = Others::new(rt, rt.alloc(), serving.sync, allowed, status.acknowledged)?;
+    let followers = follow(rt, folder, engine, &others, listener, serving, lines)?;
     let mut watching = Watching {
         upkeep: PrimaryUpkeep::new(rt, CHECKPOINT_BYTES, status.end),
         board: &*board,

@@ -1,6 +1,7 @@
-ghost use Rattle.std.specs.Prelude.{◌≡◌, ℕ, true, false};
+ghost use Rattle.std.specs.Prelude.{◌≡◌, ℕ, List, true, false};
+ghost use Rattle.als_callers.specs.declared.block.Block.{Block};
 ghost use Rattle.als_lead.specs.Going.{Stays};
-ghost use Rattle.als_primary.specs.Others.{IsConfirmed, IsMissed};
+ghost use Rattle.als_primary.specs.Others.{blocks_of, IsConfirmed, IsMissed};
 
 use crate::announcing::Announces;
 use crate::delay::Delay;
@@ -64,15 +65,18 @@ impl<R: Wait + Clock + Drop, A: Announces> Watching<'_, R, A> {
     /// Waits a moment until enough followers have acknowledged the log up to there. Returns whether they
     /// have.
     fn ask(&mut self, end: Lsn) -> bool
-        ensures confirms { result ≡ true
-            → IsConfirmed self.new.others.count self.new.others.answers end.0 }
-        ensures fails { result ≡ false
-            → IsMissed self.new.others.count self.new.others.answers end.0 }
-        ensures keeps { (k n : ℕ) → IsConfirmed k self.old.others.answers n
-            → IsConfirmed k self.new.others.answers n }
-        ensures misses { (k n : ℕ) → IsMissed k self.old.others.answers n
-            → IsMissed k self.new.others.answers n }
+        ensures confirms { result ≡ true → IsConfirmed (blocks_of self.new.others.quorum.value)
+            self.new.others.count self.new.others.answers end.0 }
+        ensures fails { result ≡ false → IsMissed (blocks_of self.new.others.quorum.value)
+            self.new.others.count self.new.others.answers end.0 }
+        ensures keeps { (blocks : List Block) (k n : ℕ)
+            → IsConfirmed blocks k self.old.others.answers n
+            → IsConfirmed blocks k self.new.others.answers n }
+        ensures misses { (blocks : List Block) (k n : ℕ)
+            → IsMissed blocks k self.old.others.answers n
+            → IsMissed blocks k self.new.others.answers n }
         ensures same { self.new.others.count ≡ self.old.others.count }
+        ensures whose { self.new.others.quorum ≡ self.old.others.quorum }
     {
         let is_enough = self.others.ask(end, Duration::from_millis(MOMENT));
         if is_enough {
@@ -96,15 +100,18 @@ impl<R: Wait + Clock + Drop, A: Announces> Watching<'_, R, A> {
 
     /// Does the same for as many moments as a group may wait.
     fn ask_long(&mut self, end: Lsn) -> bool
-        ensures confirms { result ≡ true
-            → IsConfirmed self.new.others.count self.new.others.answers end.0 }
-        ensures fails { result ≡ false
-            → IsMissed self.new.others.count self.new.others.answers end.0 }
-        ensures keeps { (k n : ℕ) → IsConfirmed k self.old.others.answers n
-            → IsConfirmed k self.new.others.answers n }
-        ensures misses { (k n : ℕ) → IsMissed k self.old.others.answers n
-            → IsMissed k self.new.others.answers n }
+        ensures confirms { result ≡ true → IsConfirmed (blocks_of self.new.others.quorum.value)
+            self.new.others.count self.new.others.answers end.0 }
+        ensures fails { result ≡ false → IsMissed (blocks_of self.new.others.quorum.value)
+            self.new.others.count self.new.others.answers end.0 }
+        ensures keeps { (blocks : List Block) (k n : ℕ)
+            → IsConfirmed blocks k self.old.others.answers n
+            → IsConfirmed blocks k self.new.others.answers n }
+        ensures misses { (blocks : List Block) (k n : ℕ)
+            → IsMissed blocks k self.old.others.answers n
+            → IsMissed blocks k self.new.others.answers n }
         ensures same { self.new.others.count ≡ self.old.others.count }
+        ensures whose { self.new.others.quorum ≡ self.old.others.quorum }
     {
         for _ in 1..self.moments {
             if self.ask(end) {
@@ -178,13 +185,15 @@ fn waits_out(short: &mut u32, met: &Result<(), Fault>) -> bool {
 }
 
 impl<R: Wait + Clock + Files<File = File> + Drop, A: Announces> Upkeep for Watching<'_, R, A> {
-    ghost use Rattle.als_primary.specs.Others.{IsConfirmed, IsMissed};
+    ghost use Rattle.als_primary.specs.Others.{blocks_of, IsConfirmed, IsMissed};
 
-    // The quorum answered that enough followers have acknowledged it.
-    ghost confirmed = { λ watching n. IsConfirmed watching.others.count watching.others.answers n };
+    // The quorum answered that enough followers whose addresses count have acknowledged it.
+    ghost confirmed = { λ watching n. IsConfirmed (blocks_of watching.others.quorum.value)
+        watching.others.count watching.others.answers n };
 
     // The quorum answered that too few have.
-    ghost missed = { λ watching n. IsMissed watching.others.count watching.others.answers n };
+    ghost missed = { λ watching n. IsMissed (blocks_of watching.others.quorum.value)
+        watching.others.count watching.others.answers n };
 
     // If memory is refused, readers see the rest before the next group. The list of transactions in doubt is
     // up to date before a group is answered.

@@ -3,6 +3,7 @@ use Rattle.std.proofs.Common.{◌≡◌, ◌≤◌, ◌+◌, ◌∙◌, ℕ, zer
 use Rattle.std.proofs.lemmas.List.{length-map, take_more}
 use Rattle.std.proofs.lemmas.List.Elements.{Contains-append_left, Contains-push, Contains-push_cases}
 use Rattle.std.specs.declared.net.ip_addr.IpAddr.{IpAddr}
+use Rattle.als_callers.specs.declared.block.Block.{Block}
 use Rattle.als_quorum.specs.declared.row.Row.{Row}
 use Rattle.als_quorum.specs.Enough.{Vouches, IsVouched, AreDifferent, AreVouchers, HasEnough}
 use Rattle.als_quorum.proofs.Members.{Among, among_of, contains_of, among_map, among_from_map, length-different}
@@ -12,21 +13,21 @@ abbrev pub peer_of : Row → IpAddr
 peer_of row = row.peer
 
 -- each row that vouches is of the address of a chosen one
-abbrev pub Covers : List (Option Row) → ℕ → List Row → Type 0
-Covers rows lsn chosen = (row : Row) → Contains rows (Some row) → Vouches lsn row → Among (map peer_of chosen) row.peer
+abbrev pub Covers : List Block → List (Option Row) → ℕ → List Row → Type 0
+Covers blocks rows lsn chosen = (row : Row) → Contains rows (Some row) → Vouches blocks lsn row → Among (map peer_of chosen) row.peer
 
 -- so many rows are chosen of these seats, and no address is left out
-abbrev pub IsChoice : List (Option Row) → ℕ → ℕ → Type 0
-IsChoice rows lsn count = (chosen : List Row) × (length chosen ≡ count) × AreVouchers rows lsn chosen × Covers rows lsn chosen
+abbrev pub IsChoice : List Block → List (Option Row) → ℕ → ℕ → Type 0
+IsChoice blocks rows lsn count = (chosen : List Row) × (length chosen ≡ count) × AreVouchers blocks rows lsn chosen × Covers blocks rows lsn chosen
 
-pub choice-none : (lsn : ℕ) → IsChoice [] lsn 0
-choice-none lsn = ([], refl, (λ row h. absurd (among_of [] row h), tt), λ row h v. absurd (among_of [] (Some row) h))
+pub choice-none : (blocks : List Block) (lsn : ℕ) → IsChoice blocks [] lsn 0
+choice-none blocks lsn = ([], refl, (λ row h. absurd (among_of [] row h), tt), λ row h v. absurd (among_of [] (Some row) h))
 
 -- a seat more, of which no row is chosen: free, silent, or of an address that is chosen already
-pub choice-kept : (rows : List (Option Row)) (next : Option Row) (lsn count : ℕ)
-    → ((own : Row) → next ≡ Some own → Vouches lsn own → IsVouched rows lsn own.peer)
-    → IsChoice rows lsn count → IsChoice (rows ++ next ∷ []) lsn count
-choice-kept rows next lsn count known c = (
+pub choice-kept : (blocks : List Block) (rows : List (Option Row)) (next : Option Row) (lsn count : ℕ)
+    → ((own : Row) → next ≡ Some own → Vouches blocks lsn own → IsVouched blocks rows lsn own.peer)
+    → IsChoice blocks rows lsn count → IsChoice blocks (rows ++ next ∷ []) lsn count
+choice-kept blocks rows next lsn count known c = (
   c.0,
   c.1,
   (λ row h. let m = c.2.0 row h in (Contains-append_left rows (next ∷ []) (Some row) m.0, m.1), c.2.1),
@@ -36,11 +37,11 @@ choice-kept rows next lsn count known c = (
 )
 
 -- a seat more whose row is chosen: it vouches, and none before it is of its address
-pub choice-more : (rows : List (Option Row)) (own : Row) (lsn count : ℕ) → Vouches lsn own → (IsVouched rows lsn own.peer → ⊥)
-    → IsChoice rows lsn count → IsChoice (rows ++ Some own ∷ []) lsn (count + 1)
-choice-more rows own lsn count vouches first c =
-    let members : (row : Row) → Contains (own ∷ c.0) row → Contains (rows ++ Some own ∷ []) (Some row) × Vouches lsn row = λ row h.
-    ⊎_elim (λ e. (subst (λ (r : Row). Contains (rows ++ Some own ∷ []) (Some r)) e (Contains-push rows (Some own)), subst (Vouches lsn) e vouches))
+pub choice-more : (blocks : List Block) (rows : List (Option Row)) (own : Row) (lsn count : ℕ) → Vouches blocks lsn own → (IsVouched blocks rows lsn own.peer → ⊥)
+    → IsChoice blocks rows lsn count → IsChoice blocks (rows ++ Some own ∷ []) lsn (count + 1)
+choice-more blocks rows own lsn count vouches first c =
+    let members : (row : Row) → Contains (own ∷ c.0) row → Contains (rows ++ Some own ∷ []) (Some row) × Vouches blocks lsn row = λ row h.
+    ⊎_elim (λ e. (subst (λ (r : Row). Contains (rows ++ Some own ∷ []) (Some r)) e (Contains-push rows (Some own)), subst (Vouches blocks lsn) e vouches))
     (λ m. let old = c.2.0 row (contains_of c.0 row m) in (Contains-append_left rows (Some own ∷ []) (Some row) old.0, old.1))
     (among_of (own ∷ c.0) row h) in
     let apart : Contains (map peer_of c.0) own.peer → ⊥ = λ h.
@@ -57,8 +58,8 @@ choice-more rows own lsn count vouches first c =
     same_row own row e = cc
 
 -- no choice of a roll has more rows
-pub choice-most : (rows : List (Option Row)) (lsn count : ℕ) (other : List Row) → IsChoice rows lsn count → AreVouchers rows lsn other → length other ≤ count
-choice-most rows lsn count other c a =
+pub choice-most : (blocks : List Block) (rows : List (Option Row)) (lsn count : ℕ) (other : List Row) → IsChoice blocks rows lsn count → AreVouchers blocks rows lsn other → length other ≤ count
+choice-most blocks rows lsn count other c a =
     let short : length (map peer_of other) ≤ length (map peer_of c.0) = length-different (map peer_of other) (map peer_of c.0) a.1
     (λ x m. let w = among_from_map peer_of other x m in
     let row = a.0 w.0 (contains_of other w.0 w.1) in
@@ -82,8 +83,8 @@ few_different (y ∷ ys) (suc k) d = (
 )
 
 -- where there are more, there are so many
-pub enough-fewer : (rows : List (Option Row)) (lsn count k : ℕ) → k ≤ count → HasEnough rows count lsn → HasEnough rows k lsn
-enough-fewer rows lsn count k le e =
+pub enough-fewer : (blocks : List Block) (rows : List (Option Row)) (lsn count k : ℕ) → k ≤ count → HasEnough blocks rows count lsn → HasEnough blocks rows k lsn
+enough-fewer blocks rows lsn count k le e =
     let short : k ≤ length e.0 = let long = e.1 in omega arith in (
       take k e.0,
       length-take-le k e.0 short,
@@ -94,17 +95,17 @@ enough-fewer rows lsn count k le e =
     )
 
 -- the same two, of the seat at an index
-pub choice-next-kept : (rows : List (Option Row)) (at : ℕ) (lsn count : ℕ) → at < length rows
-    → ((own : Row) → get_or rows at None ≡ Some own → Vouches lsn own → IsVouched (take at rows) lsn own.peer)
-    → IsChoice (take at rows) lsn count → IsChoice (take (at + 1) rows) lsn count
-choice-next-kept rows at lsn count lt known c =
-    subst (λ (l : List (Option Row)). IsChoice l lsn count) (sym (take_more rows at None lt))
-    (choice-kept (take at rows) (get_or rows at None) lsn count known c)
+pub choice-next-kept : (blocks : List Block) (rows : List (Option Row)) (at : ℕ) (lsn count : ℕ) → at < length rows
+    → ((own : Row) → get_or rows at None ≡ Some own → Vouches blocks lsn own → IsVouched blocks (take at rows) lsn own.peer)
+    → IsChoice blocks (take at rows) lsn count → IsChoice blocks (take (at + 1) rows) lsn count
+choice-next-kept blocks rows at lsn count lt known c =
+    subst (λ (l : List (Option Row)). IsChoice blocks l lsn count) (sym (take_more rows at None lt))
+    (choice-kept blocks (take at rows) (get_or rows at None) lsn count known c)
 
-pub choice-next-more : (rows : List (Option Row)) (at : ℕ) (own : Row) (lsn count : ℕ) → at < length rows → get_or rows at None ≡ Some own
-    → Vouches lsn own → (IsVouched (take at rows) lsn own.peer → ⊥)
-    → IsChoice (take at rows) lsn count → IsChoice (take (at + 1) rows) lsn (count + 1)
-choice-next-more rows at own lsn count lt is vouches first c =
-    subst (λ (l : List (Option Row)). IsChoice l lsn (count + 1)) (sym (take_more rows at None lt))
-    (subst (λ (o : Option Row). IsChoice (take at rows ++ o ∷ []) lsn (count + 1)) (sym is)
-    (choice-more (take at rows) own lsn count vouches first c))
+pub choice-next-more : (blocks : List Block) (rows : List (Option Row)) (at : ℕ) (own : Row) (lsn count : ℕ) → at < length rows → get_or rows at None ≡ Some own
+    → Vouches blocks lsn own → (IsVouched blocks (take at rows) lsn own.peer → ⊥)
+    → IsChoice blocks (take at rows) lsn count → IsChoice blocks (take (at + 1) rows) lsn (count + 1)
+choice-next-more blocks rows at own lsn count lt is vouches first c =
+    subst (λ (l : List (Option Row)). IsChoice blocks l lsn (count + 1)) (sym (take_more rows at None lt))
+    (subst (λ (o : Option Row). IsChoice blocks (take at rows ++ o ∷ []) lsn (count + 1)) (sym is)
+    (choice-more blocks (take at rows) own lsn count vouches first c))

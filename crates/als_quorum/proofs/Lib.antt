@@ -1,3 +1,4 @@
-mod Members
 mod Choosing
+mod Members
+mod Seats
 mod Tallies

@@ -1,15 +1,17 @@
 -- What a tally of a roll says.
 use Rattle.std.proofs.Common.{◌≡◌, ◌∙◌, ◌↔◌, ℕ, true, false, IsTrue, List, Option, sym, subst}
+use Rattle.als_callers.specs.declared.block.Block.{Block}
 use Rattle.als_quorum.specs.declared.row.Row.{Row}
 use Rattle.als_quorum.specs.declared.tally.Tally.{Tally}
 use Rattle.als_quorum.specs.Enough.{HasEnough}
 use Rattle.als_quorum.specs.Tallies.{rows_of, IsTallyOf}
 
-pub tally_of : (tally : Tally) (rows : List (Option Row)) (k lsn : ℕ) → rows_of tally ≡ rows → (IsTrue tally.is_enough ↔ HasEnough rows k lsn) → IsTallyOf k lsn tally
-tally_of tally rows k lsn same h = (
-  (λ yes. subst (λ (r : List (Option Row)). HasEnough r k lsn) (sym same) (h.0 yes)),
+pub tally_of : (blocks : List Block) (tally : Tally) (rows : List (Option Row)) (k lsn : ℕ)
+    → rows_of tally ≡ rows → (IsTrue tally.is_enough ↔ HasEnough blocks rows k lsn) → IsTallyOf blocks k lsn tally
+tally_of blocks tally rows k lsn same h = (
+  (λ yes. subst (λ (r : List (Option Row)). HasEnough blocks r k lsn) (sym same) (h.0 yes)),
   λ no enough.
-      let yes : tally.is_enough ≡ true = h.1 (subst (λ (r : List (Option Row)). HasEnough r k lsn) same enough) in
+      let yes : tally.is_enough ≡ true = h.1 (subst (λ (r : List (Option Row)). HasEnough blocks r k lsn) same enough) in
       let both : true ≡ false = sym yes ∙ no in
       cc both,
 )

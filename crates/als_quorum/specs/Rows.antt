@@ -1,9 +1,9 @@
 -- What becomes of the rows of a roll.
-use Rattle.std.specs.Prelude.{◌≡◌, ◌≢◌, ℕ, Bool, max, List, Option, Some, None, length, slice_index_or}
+use Rattle.std.specs.Prelude.{◌≡◌, ◌≢◌, ℕ, max, List, Option, Some, None, length, slice_index_or}
 use Rattle.std.specs.declared.time.Duration.{Duration}
 use Rattle.std.specs.declared.net.ip_addr.IpAddr.{IpAddr}
-use Rattle.std.specs.Net.Addr.{MatchIp, IsCanonicalOf}
 use Rattle.als_record.specs.declared.lsn.Lsn.{Lsn}
+use Rattle.als_callers.specs.Blocks.{IsCanonical}
 use Rattle.als_quorum.specs.declared.row.Row.{Row}
 
 -- the row of a seat, where it is taken
@@ -14,13 +14,9 @@ row_of rows seat = slice_index_or rows seat None
 abbrev pub ChangesRow : List (Option Row) → List (Option Row) → ℕ → Option Row → Type 0
 ChangesRow old new seat row = (row_of new seat ≡ row) × ((other : ℕ) → other ≢ seat → row_of new other ≡ row_of old other) × (length new ≡ length old)
 
--- an address as a roll has it: the IPv4 address in place of an IPv4-mapped one
-abbrev pub IsCanonical : IpAddr → IpAddr → Type 0
-IsCanonical peer own = MatchIp peer (λ _. own ≡ peer) (λ mapped. IsCanonicalOf mapped own)
-
--- the row of a follower that has just come: it has acknowledged nothing
-abbrev pub IsNew : IpAddr → Bool → Duration → Row → Type 0
-IsNew peer counts now row = IsCanonical peer row.peer × (row.counts ≡ counts) × (row.acknowledged.0 ≡ 0) × (row.connected ≡ now) × (row.heard ≡ None)
+-- the row of a follower that has just come: its address is in one form, and it has acknowledged nothing
+abbrev pub IsNew : IpAddr → Duration → Row → Type 0
+IsNew peer now row = IsCanonical peer row.peer × (row.acknowledged.0 ≡ 0) × (row.connected ≡ now) × (row.heard ≡ None)
 
 -- a row once its follower has acknowledged this LSN
 abbrev pub raised : Lsn → Duration → Row → Row

@@ -1,8 +1,12 @@
+ghost use Rattle.std.specs.Prelude.{◌≡◌, ◌↔◌, IsTrue, IfOk};
+ghost use Rattle.als_callers.specs.Members.{Admits};
 ghost use Rattle.als_quorum.specs.Tallies.{IsTallyOf};
 
+use crate::member::Member;
 use crate::roll::{Roll, SEATS};
 use crate::row::Row;
 use crate::tally::Tally;
+use als_callers::Allowed;
 use als_record::Lsn;
 use std::alloc::{AllocError, Global};
 use std::net::IpAddr;
@@ -24,43 +28,60 @@ impl Drop for Held {
 
 impl Held {
     /// Whether a leader that wants `count` acknowledgements goes on waiting.
-    fn is_awaited(&self, count: u32, lsn: Lsn) -> bool {
-        !self.is_closed && !self.roll.has_enough(count, lsn)
+    fn is_awaited(&self, allowed: &Allowed, count: u32, lsn: Lsn) -> bool {
+        !self.is_closed && !self.roll.has_enough(allowed, count, lsn)
     }
 }
 
-/// The roll under its lock, which sessions and a leader share.
+/// The roll under its lock, which sessions and a leader share, and whose word counts.
 pub struct Quorum {
+    /// The addresses that count. They never change, so no lock hides them.
+    allowed: Allowed,
     held: Mutex<Held>,
     changed: Condvar,
 }
 
 impl Drop for Quorum {
     fn drop(self) {
-        let Quorum { held, changed: _ } = self;
+        let Quorum {
+            allowed,
+            held,
+            changed: _,
+        } = self;
+        drop(allowed);
         drop(held);
     }
 }
 
 impl Quorum {
-    /// A quorum with this many free seats, at most eight.
-    pub fn new(alloc: Global, seats: u32) -> Result<Quorum, AllocError> {
+    /// A quorum with this many free seats, at most eight, where these addresses count.
+    pub fn new(alloc: Global, seats: u32, allowed: Allowed) -> Result<Quorum, AllocError>
+        ensures { IfOk result (λ quorum. quorum.allowed ≡ allowed) }
+    {
         let roll = Roll::new(alloc, seats)?;
         let held = Held {
             roll,
             is_closed: false,
         };
         Ok(Quorum {
+            allowed,
             held: Mutex::new(held),
             changed: Condvar::new(),
         })
     }
 
+    /// Whether what a follower at this address acknowledges counts.
+    pub fn admits(&self, peer: IpAddr) -> bool
+        ensures { IsTrue result ↔ Admits self.now.allowed.blocks.items peer }
+    {
+        self.allowed.admits(peer)
+    }
+
     /// Takes a free seat for the follower of a session, which has acknowledged nothing yet. None: no seat
     /// is free.
-    pub fn join<R: Wait + Clock>(&self, rt: &R, peer: IpAddr, counts: bool) -> Option<u32> {
+    pub fn join<R: Wait + Clock>(&self, rt: &R, peer: IpAddr) -> Option<u32> {
         let now = now_of(rt);
-        self.held.lock(rt).roll.join(peer, counts, now)
+        self.held.lock(rt).roll.join(peer, now)
     }
 
     /// The follower of a seat has acknowledged the log up to there.
@@ -85,16 +106,19 @@ impl Quorum {
         lsn: Lsn,
         at_most: Duration,
     ) -> Tally
-        ensures { IsTallyOf count lsn.0 result }
+        ensures { IsTallyOf self.now.allowed.blocks.items count lsn.0 result }
     {
         let held = self.held.lock(rt);
-        if !held.is_awaited(count, lsn) {
-            return Tally::of(&held.roll, count, lsn);
+        if !held.is_awaited(&self.allowed, count, lsn) {
+            return Tally::of(&held.roll, &self.allowed, count, lsn);
         }
-        let (held, _) = self
-            .changed
-            .wait_timeout_while(rt, held, at_most, |held| held.is_awaited(count, lsn));
-        Tally::of(&held.roll, count, lsn)
+        let (held, _) = self.changed.wait_timeout_while(
+            rt,
+            held,
+            at_most,
+            |held| held.is_awaited(&self.allowed, count, lsn),
+        );
+        Tally::of(&held.roll, &self.allowed, count, lsn)
     }
 
     /// Wakes all waiting threads. Nothing waits any more.
@@ -103,20 +127,23 @@ impl Quorum {
         self.changed.notify_all();
     }
 
-    /// A copy of the rows, by seat.
-    pub fn rows<R: Wait>(&self, rt: &R) -> [Option<Row>; SEATS as usize] {
-        let mut rows = [None; SEATS as usize];
+    /// Those who have a seat, by seat.
+    pub fn members<R: Wait>(&self, rt: &R) -> [Option<Member>; SEATS as usize] {
+        let mut members = [None; SEATS as usize];
         let held = self.held.lock(rt);
-        copy_rows(held.roll.rows(), &mut rows);
-        rows
+        copy_rows(held.roll.rows(), &self.allowed, &mut members);
+        members
     }
 }
 
 /// Copies as many rows as fit.
-fn copy_rows(from: &[Option<Row>], into: &mut [Option<Row>; SEATS as usize]) {
+fn copy_rows(from: &[Option<Row>], allowed: &Allowed, into: &mut [Option<Member>; SEATS as usize]) {
     for (at, row) in from.iter().enumerate() {
         if at < into.len() {
-            into[at] = *row;
+            into[at] = match row {
+                Some(row) => Some(Member::of(*row, allowed)),
+                None => None,
+            };
         }
     }
 }

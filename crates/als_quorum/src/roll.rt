@@ -6,6 +6,7 @@ ghost use Rattle.als_quorum.specs.declared.row.Row.{Row as AnyRow};
 
 use crate::counting::count_addresses;
 use crate::row::Row;
+use als_callers::Allowed;
 use als_record::Lsn;
 use std::alloc::{AllocError, Global};
 use std::net::IpAddr;
@@ -47,9 +48,9 @@ impl Roll {
 
     /// Takes a free seat for a follower with this address, which has acknowledged nothing yet. None: no seat
     /// is free.
-    pub fn join(&mut self, peer: IpAddr, counts: bool, now: Duration) -> Option<u32>
+    pub fn join(&mut self, peer: IpAddr, now: Duration) -> Option<u32>
         ensures joins { IfSome result (λ seat. (row_of self.old.rows.items seat ≡ None)
-            × ((row : AnyRow) × IsNew peer counts now row
+            × ((row : AnyRow) × IsNew peer now row
             × ChangesRow self.old.rows.items self.new.rows.items seat (Some row))) }
         ensures full { IfNone result ((seat : ℕ) → seat < length self.old.rows.items
             → row_of self.old.rows.items seat ≢ None) }
@@ -58,7 +59,6 @@ impl Roll {
         let at = first_free(self.rows.as_slice())?;
         self.rows[at] = Some(Row {
             peer: peer.to_canonical(),
-            counts,
             acknowledged: Lsn(0),
             connected: now,
             heard: None,
@@ -91,12 +91,13 @@ impl Roll {
         }
     }
 
-    /// Whether `count` followers with different addresses, each of which counts, have acknowledged the log
-    /// up to there.
-    pub fn has_enough(&self, count: u32, lsn: Lsn) -> bool
-        ensures { IsTrue result ↔ HasEnough self.now.rows.items count lsn.0 }
+    /// Whether `count` followers with different addresses, each of them one of these, have acknowledged the
+    /// log up to there.
+    pub fn has_enough(&self, allowed: &Allowed, count: u32, lsn: Lsn) -> bool
+        ensures { IsTrue result
+            ↔ HasEnough allowed.now.blocks.items self.now.rows.items count lsn.0 }
     {
-        count_addresses(self.rows.as_slice(), lsn) >= count as usize
+        count_addresses(self.rows.as_slice(), allowed, lsn) >= count as usize
     }
 }
 

@@ -2,6 +2,7 @@ ghost use Rattle.std.specs.Prelude.{◌≡◌, ◌≤◌, ◌↔◌, IsTrue};
 ghost use Rattle.als_quorum.specs.Enough.{Vouches};
 ghost use Rattle.als_quorum.specs.Rows.{raised};
 
+use als_callers::Allowed;
 use als_record::Lsn;
 use std::net::IpAddr;
 use std::time::Duration;
@@ -11,8 +12,6 @@ use std::time::Duration;
 pub struct Row {
     /// Its address. An IPv4-mapped one is stored as its IPv4 address.
     pub peer: IpAddr,
-    /// Whether what it acknowledges counts.
-    pub counts: bool,
     /// The greatest LSN that it acknowledged. 0: none.
     pub acknowledged: Lsn,
     /// When it connected, by the clock.
@@ -33,10 +32,10 @@ impl Row {
         }
     }
 
-    /// Whether it counts and has acknowledged the log up to there.
-    pub fn vouches(self, lsn: Lsn) -> bool
-        ensures { IsTrue result ↔ Vouches lsn.0 self }
+    /// Whether its address is one of those that count, and it has acknowledged the log up to there.
+    pub fn vouches(self, allowed: &Allowed, lsn: Lsn) -> bool
+        ensures { IsTrue result ↔ Vouches allowed.now.blocks.items lsn.0 self }
     {
-        self.counts && self.acknowledged.0 >= lsn.0
+        self.acknowledged.0 >= lsn.0 && allowed.admits(self.peer)
     }
 }

@@ -2,6 +2,7 @@ ghost use Rattle.std.specs.Prelude.{◌≡◌};
 ghost use Rattle.als_quorum.specs.Tallies.{IsTallyOf, rows_of};
 
 use crate::roll::Roll;
+use als_callers::Allowed;
 use als_record::Lsn;
 use std::snapshot::Snapshot;
 
@@ -14,14 +15,14 @@ pub struct Tally {
 }
 
 impl Tally {
-    /// Whether `count` followers with different addresses, each of which counts, have acknowledged the log
-    /// up to there.
-    pub fn of(roll: &Roll, count: u32, lsn: Lsn) -> Tally
-        ensures enough { IsTallyOf count lsn.0 result }
+    /// Whether `count` followers with different addresses, each of them one of these, have acknowledged the
+    /// log up to there.
+    pub fn of(roll: &Roll, allowed: &Allowed, count: u32, lsn: Lsn) -> Tally
+        ensures enough { IsTallyOf allowed.now.blocks.items count lsn.0 result }
         ensures rows { rows_of result ≡ roll.now.rows.items }
     {
         Tally {
-            is_enough: roll.has_enough(count, lsn),
+            is_enough: roll.has_enough(allowed, count, lsn),
             roll: Snapshot::of(roll),
         }
     }

@@ -8,7 +8,7 @@ use crate::report::{MOST_FOLLOWERS, Report};
 use crate::reports::Reports;
 use crate::state::State;
 use crate::work_cells::WorkCells;
-use als_quorum::Row;
+use als_quorum::Member;
 use als_record::Lsn;
 use arrayvec::ArrayVec;
 use std::alloc::Global;
@@ -173,7 +173,7 @@ impl Board {
     }
 
     /// Sets the followers to those of a quorum, by seat. One thread at a time may call this.
-    pub fn set_seats(&self, seats: &[Option<Row>; MOST_FOLLOWERS]) {
+    pub fn set_seats(&self, seats: &[Option<Member>; MOST_FOLLOWERS]) {
         let mut rows = [FollowerRow::default(); MOST_FOLLOWERS];
         let count = fill(seats, &mut rows);
         self.set_followers(&rows[..count]);
@@ -181,14 +181,14 @@ impl Board {
 }
 
 /// Copies the rows of taken seats to the front, in the order of seats. Returns how many.
-fn fill(seats: &[Option<Row>; MOST_FOLLOWERS], rows: &mut [FollowerRow; MOST_FOLLOWERS]) -> usize
+fn fill(seats: &[Option<Member>; MOST_FOLLOWERS], rows: &mut [FollowerRow; MOST_FOLLOWERS]) -> usize
     ensures { result ≤ 8 }
 {
     let mut count = 0;
-    for row in seats {
-        if let Some(row) = row {
+    for member in seats {
+        if let Some(member) = member {
             if count < rows.len() {
-                rows[count] = FollowerRow::of(row);
+                rows[count] = FollowerRow::of(member);
                 count += 1;
             }
         }

@@ -1,6 +1,6 @@
 ghost use Rattle.std.specs.Prelude.{◌≡◌};
 
-use als_quorum::Row;
+use als_quorum::Member;
 use als_record::Lsn;
 use std::net::{IpAddr, Ipv4Addr};
 
@@ -35,11 +35,12 @@ impl Default for FollowerRow {
 
 impl FollowerRow {
     /// The row of a follower of a quorum.
-    pub fn of(row: &Row) -> FollowerRow
-        ensures peer { result.peer ≡ row.now.peer }
-        ensures acknowledged { result.acknowledged ≡ row.now.acknowledged }
-        ensures counts { result.counts ≡ row.now.counts }
+    pub fn of(member: &Member) -> FollowerRow
+        ensures peer { result.peer ≡ member.now.row.peer }
+        ensures acknowledged { result.acknowledged ≡ member.now.row.acknowledged }
+        ensures counts { result.counts ≡ member.now.counts }
     {
+        let row = &member.row;
         let connected = row.connected.as_secs();
         FollowerRow {
             peer: row.peer,
@@ -49,7 +50,7 @@ impl FollowerRow {
                 Some(heard) => heard.as_secs(),
                 None => connected,
             },
-            counts: row.counts,
+            counts: member.counts,
         }
     }
 }

@@ -34,7 +34,7 @@ impl<R: Wait + Clock> Onlookers<R> {
     /// Writes them now and then. No log reaches the offset that is waited for.
     pub fn run(&mut self) {
         for _ in self.rt.forever() {
-            self.board.set_seats(&self.quorum.rows(&self.rt));
+            self.board.set_seats(&self.quorum.members(&self.rt));
             let moment = Duration::from_millis(MOMENT);
             if self.tail.wait_past(&self.rt, u64::MAX, moment).is_closed {
                 break;

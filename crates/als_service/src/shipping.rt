@@ -83,9 +83,9 @@ pub(crate) fn log_file<R: AllocGlobal + Files<File = File>>(
     }
 }
 
-/// A seat for each follower.
-fn new_quorum(alloc: Global) -> Result<Arc<Quorum, Global>, AllocError> {
-    Ok(Arc::new(alloc, Quorum::new(alloc, SEATS)?)?)
+/// A seat for each follower that may come.
+fn new_quorum(alloc: Global, allowed: Allowed) -> Result<Arc<Quorum, Global>, AllocError> {
+    Ok(Arc::new(alloc, Quorum::new(alloc, SEATS, allowed)?)?)
 }
 
 /// The sessions of a standby's own followers, and the thread that writes on its board who follows.
@@ -111,7 +111,7 @@ pub(crate) fn ship<R: AllocGlobal + Threads + Wait + Clock + Clone + Send + Sync
     let (tail, era) = (cascade.tail()?, cascade.era()?);
     let source = StandbySource::new(rt.clone()?, file, tail, era, pulse, timeout);
     let terms = Terms::new(window, silence(timeout));
-    let quorum = new_quorum(alloc)?;
+    let quorum = new_quorum(alloc, allowed)?;
     let onlookers = Onlookers {
         rt: rt.clone()?,
         board: Arc::try_clone(board)?,
@@ -119,7 +119,7 @@ pub(crate) fn ship<R: AllocGlobal + Threads + Wait + Clock + Clone + Send + Sync
         quorum: Arc::try_clone(&quorum)?,
     };
     let tail = cascade.tail()?;
-    let followers = Followers::start(rt, alloc, listener, source, tail, quorum, allowed, terms)?;
+    let followers = Followers::start(rt, alloc, listener, source, tail, quorum, terms)?;
     match watch(rt, onlookers) {
         Ok(onlookers) => Ok(Cascading {
             followers,

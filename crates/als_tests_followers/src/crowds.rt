@@ -1,12 +1,13 @@
 use crate::made::{Made, follow, make, next, notice};
 use als_followers::What;
+use als_record::Lsn;
 use std::alloc::Global;
 use std::io::Read;
 use std::net::{Net, TcpStream};
 use std::sync::Wait;
 use std::test::Fail;
 use std::thread::Threads;
-use std::time::Clock;
+use std::time::{Clock, Duration};
 
 /// Whether one who says nothing holds up nobody, eight are served at once, and a ninth is hung up on. None:
 /// something failed.
@@ -47,12 +48,19 @@ fn a_ninth_is_hung_up_on(rt: HostRuntime) -> Result<(), Fail> {
     Ok(())
 }
 
-/// Whether a stranger is hung up on. None: something failed.
+/// Whether a stranger is hung up on, and has no word in the quorum, in whose seat it may be. None: something
+/// failed.
 fn turn_away<
     R: Net<Stream = TcpStream> + Threads + Wait + Clock + Clone + Send + Sync + Drop + 'static,
 >(rt: &R, made: Made<R>) -> Option<bool> {
     let away = follow(rt, made.at, 16).is_none();
     let told = matches!(notice(rt, &made.followers)?, What::Stranger);
+    let seat = made.quorum.join(rt, made.at.ip())?;
+    made.quorum.acknowledge(rt, seat, Lsn(116));
+    let silent = !made
+        .quorum
+        .wait_for(rt, 1, Lsn(16), Duration::ZERO)
+        .is_enough;
     let Made {
         followers,
         tail: _,
@@ -60,7 +68,7 @@ fn turn_away<
         at: _,
     } = made;
     followers.close(rt);
-    Some(away && told)
+    Some(away && told && silent)
 }
 
 #[test]

@@ -70,16 +70,16 @@ pub fn make<
     let listener = TcpListener::bind(rt, "127.0.0.1:0")?;
     let at = listener.local_addr()?;
     let tail = Arc::new(alloc, Tail::new(Lsn(116)))?;
-    let quorum = Arc::new(alloc, Quorum::new(alloc, 8)?)?;
+    let mut allowed = Allowed::new(alloc);
+    if let Some(block) = Block::parse(block) {
+        allowed.add(block)?;
+    }
+    let quorum = Arc::new(alloc, Quorum::new(alloc, 8, allowed)?)?;
     let tail_too = Arc::try_clone(&tail)?;
     let Ok(source) = NodeSource::new(rt.clone()?, alloc, Endless, tail_too, History::empty(), 30)
     else {
         return Err(io::ErrorKind::OutOfMemory.into());
     };
-    let mut allowed = Allowed::new(alloc);
-    if let Some(block) = Block::parse(block) {
-        allowed.add(block)?;
-    }
     let followers = Followers::start(
         rt,
         alloc,
@@ -87,7 +87,6 @@ pub fn make<
         source,
         Arc::try_clone(&tail)?,
         Arc::try_clone(&quorum)?,
-        allowed,
         Terms::new(16, Some(Duration::from_secs(30))),
     )?;
     Ok(Made {

@@ -152,8 +152,7 @@ fn ship<
     let terms = Terms::new(16, Some(Duration::from_secs(SILENCE)));
     let tail = Arc::try_clone(tail).ok()?;
     let quorum = Arc::try_clone(quorum).ok()?;
-    let anybody = Allowed::new(alloc);
-    Followers::start(rt, alloc, listener, source, tail, quorum, anybody, terms).ok()
+    Followers::start(rt, alloc, listener, source, tail, quorum, terms).ok()
 }
 
 /// A new primary in a folder, whose followers connect to the listener. None: something failed.
@@ -183,7 +182,8 @@ fn start<
     } = open(rt, database, &mut Silent).ok()?;
     drop(readers);
     let tail = Arc::new(alloc, Tail::new(engine.status().acknowledged)).ok()?;
-    let quorum = Arc::new(alloc, Quorum::new(alloc, 8).ok()?).ok()?;
+    let anybody = Allowed::new(alloc);
+    let quorum = Arc::new(alloc, Quorum::new(alloc, 8, anybody).ok()?).ok()?;
     let followers = ship(rt, listener, &folder, &engine, &tail, &quorum)?;
     Some(Shipping {
         folder,

@@ -1,3 +1,4 @@
+use als_callers::{Allowed, Block};
 use als_quorum::Roll;
 use als_record::Lsn;
 use std::alloc::Global;
@@ -40,11 +41,11 @@ fn seats_are_taken(alloc: Global) -> Option<bool> {
     let mut roll = roll(alloc, 9)?;
     let mut right = true;
     for seat in 0..8 {
-        right = right && roll.join(v4(1), true, at(1)) == Some(seat);
+        right = right && roll.join(v4(1), at(1)) == Some(seat);
     }
-    right = right && roll.join(v4(2), true, at(1)).is_none();
+    right = right && roll.join(v4(2), at(1)).is_none();
     roll.leave(3);
-    Some(right && roll.join(v4(2), true, at(1)) == Some(3))
+    Some(right && roll.join(v4(2), at(1)) == Some(3))
 }
 
 #[test]
@@ -59,8 +60,8 @@ fn a_ninth_finds_no_seat(rt: HostRuntime) -> Result<(), Fail> {
 fn marks_rise(alloc: Global) -> Option<[Option<u64>; 5]> {
     let mut roll = roll(alloc, 2)?;
     let mut seen = [None; 5];
-    let one = roll.join(v4(1), true, at(1))?;
-    let two = roll.join(v4(2), true, at(1))?;
+    let one = roll.join(v4(1), at(1))?;
+    let two = roll.join(v4(2), at(1))?;
     roll.acknowledge(one, Lsn(108), at(2));
     seen[0] = acknowledged(&roll, 0);
     roll.acknowledge(one, Lsn(52), at(3));
@@ -70,7 +71,7 @@ fn marks_rise(alloc: Global) -> Option<[Option<u64>; 5]> {
     roll.acknowledge(one, Lsn(108), at(4));
     seen[3] = acknowledged(&roll, 0);
     roll.acknowledge(two, Lsn(16), at(4));
-    roll.join(v4(1), true, at(5))?;
+    roll.join(v4(1), at(5))?;
     seen[4] = acknowledged(&roll, 0);
     Some(seen)
 }
@@ -84,36 +85,54 @@ fn a_mark_never_falls_but_with_its_session(rt: HostRuntime) -> Result<(), Fail> 
     Ok(())
 }
 
-/// The most of 0, 1, 2, 3 followers that are enough, once these three have joined and acknowledged 108.
-fn enough(alloc: Global, peers: [IpAddr; 3], counts: bool) -> Option<u32> {
+/// The addresses of one block. None: allocation failed.
+fn block(alloc: Global, text: &str) -> Option<Allowed> {
+    let mut allowed = Allowed::new(alloc);
+    allowed.add(Block::parse(text)?).ok()?;
+    Some(allowed)
+}
+
+/// The most of 0, 1, 2, 3 followers that are enough, once these three have joined and acknowledged 108, where
+/// the addresses of this block count.
+fn enough(alloc: Global, peers: [IpAddr; 3], counts: &str) -> Option<u32> {
+    let allowed = block(alloc, counts)?;
     let mut roll = roll(alloc, 8)?;
     for peer in peers {
-        let seat = roll.join(peer, counts, at(1))?;
+        let seat = roll.join(peer, at(1))?;
         roll.acknowledge(seat, Lsn(108), at(2));
     }
     let mut most = 0;
     for count in 0..4 {
-        if roll.has_enough(count, Lsn(108)) {
+        if roll.has_enough(&allowed, count, Lsn(108)) {
             most = count;
         }
     }
-    if roll.has_enough(1, Lsn(109)) {
+    if roll.has_enough(&allowed, 1, Lsn(109)) {
         return None;
     }
     Some(most)
 }
 
 /// The same, tried twice.
-fn most(alloc: Global, peers: [IpAddr; 3], counts: bool) -> Option<u32> {
+fn most(alloc: Global, peers: [IpAddr; 3], counts: &str) -> Option<u32> {
     enough(alloc, peers, counts).or(enough(alloc, peers, counts))
 }
 
 #[test]
 fn an_address_counts_once(rt: HostRuntime) -> Result<(), Fail> {
     let alloc = rt.alloc();
-    assert!(rt; most(alloc, [v4(1), v4(2), v4(3)], true) == Some(3));
-    assert!(rt; most(alloc, [v4(1), v4(2), v4(1)], true) == Some(2));
-    assert!(rt; most(alloc, [v4(1), mapped(1), v4(1)], true) == Some(1));
-    assert!(rt; most(alloc, [v4(1), v4(2), v4(3)], false) == Some(0));
+    let near = "10.0.0.0/24";
+    assert!(rt; most(alloc, [v4(1), v4(2), v4(3)], near) == Some(3));
+    assert!(rt; most(alloc, [v4(1), v4(2), v4(1)], near) == Some(2));
+    assert!(rt; most(alloc, [v4(1), mapped(1), v4(1)], near) == Some(1));
+    Ok(())
+}
+
+#[test]
+fn a_stranger_does_not_count(rt: HostRuntime) -> Result<(), Fail> {
+    let alloc = rt.alloc();
+    assert!(rt; most(alloc, [v4(1), v4(2), v4(3)], "10.0.1.0/24") == Some(0));
+    assert!(rt; most(alloc, [v4(1), v4(2), v4(3)], "10.0.0.2/31") == Some(2));
+    assert!(rt; most(alloc, [v4(1), mapped(2), v4(3)], "10.0.0.2") == Some(1));
     Ok(())
 }

@@ -1,3 +1,4 @@
+use als_callers::{Allowed, Block};
 use als_quorum::Quorum;
 use als_record::Lsn;
 use std::alloc::Global;
@@ -17,9 +18,9 @@ fn v4(last: u8) -> IpAddr {
 
 /// A quorum with a follower at each of two addresses, in seats 0 and 1. None: allocation failed.
 fn two<R: Wait + Clock>(rt: &R, alloc: Global) -> Option<Quorum> {
-    let quorum = Quorum::new(alloc, 8).ok()?;
-    quorum.join(rt, v4(1), true)?;
-    quorum.join(rt, v4(2), true)?;
+    let quorum = Quorum::new(alloc, 8, Allowed::new(alloc)).ok()?;
+    quorum.join(rt, v4(1))?;
+    quorum.join(rt, v4(2))?;
     Some(quorum)
 }
 
@@ -96,11 +97,39 @@ fn a_close_wakes_who_waits(rt: HostRuntime) -> Result<(), Fail> {
 fn rows_are_copied(rt: HostRuntime) -> Result<(), Fail> {
     let quorum = made(&rt, rt.alloc()).ok_or("memory")?;
     quorum.acknowledge(&rt, 1, Lsn(108));
-    let [one, two, three, ..] = quorum.rows(&rt);
+    let [one, two, three, ..] = quorum.members(&rt);
     assert!(rt; three.is_none());
-    assert!(rt; one.map(|row| row.acknowledged.0) == Some(0));
-    assert!(rt; two.map(|row| row.acknowledged.0) == Some(108));
-    assert!(rt; one.map(|row| row.heard.is_some()) == Some(false));
-    assert!(rt; two.map(|row| row.heard.is_some()) == Some(true));
+    assert!(rt; one.map(|member| member.row.acknowledged.0) == Some(0));
+    assert!(rt; two.map(|member| member.row.acknowledged.0) == Some(108));
+    assert!(rt; one.map(|member| member.row.heard.is_some()) == Some(false));
+    assert!(rt; two.map(|member| member.row.heard.is_some()) == Some(true));
+    assert!(rt; two.map(|member| member.counts) == Some(true));
+    Ok(())
+}
+
+/// A quorum where one address counts, with a stranger in seat 0 and a follower at that address in seat 1. None:
+/// allocation failed.
+fn one_and_a_stranger<R: Wait + Clock>(rt: &R, alloc: Global) -> Option<Quorum> {
+    let mut allowed = Allowed::new(alloc);
+    allowed.add(Block::parse("10.0.0.2")?).ok()?;
+    let quorum = Quorum::new(alloc, 8, allowed).ok()?;
+    quorum.join(rt, v4(9))?;
+    quorum.join(rt, v4(2))?;
+    Some(quorum)
+}
+
+#[test]
+fn a_stranger_confirms_nothing(rt: HostRuntime) -> Result<(), Fail> {
+    let alloc = rt.alloc();
+    let made = one_and_a_stranger(&rt, alloc).or(one_and_a_stranger(&rt, alloc));
+    let quorum = made.ok_or("memory")?;
+    quorum.acknowledge(&rt, 0, Lsn(108));
+    assert!(rt; !quorum.wait_for(&rt, 1, Lsn(108), NONE).is_enough);
+    quorum.acknowledge(&rt, 1, Lsn(108));
+    assert!(rt; quorum.wait_for(&rt, 1, Lsn(108), NONE).is_enough);
+    assert!(rt; !quorum.wait_for(&rt, 2, Lsn(108), NONE).is_enough);
+    let [stranger, follower, ..] = quorum.members(&rt);
+    assert!(rt; stranger.map(|member| member.counts) == Some(false));
+    assert!(rt; follower.map(|member| member.counts) == Some(true));
     Ok(())
 }

@@ -6,5 +6,5 @@ use Rattle.als_quorum.proofs.counting.count_addresses.Given as goal
 abbrev pub invariant-loop-at : goal.invariant-loop-at
 invariant-loop-at l = record {
   few : l.count ≤ l.at;
-  choice : IsChoice (take l.at l.rows) l.lsn.0 l.count;
+  choice : IsChoice l.allowed.blocks.items (take l.at l.rows) l.lsn.0 l.count;
 }

@@ -5,4 +5,4 @@ use Rattle.als_quorum.proofs.counting.is_vouched.Given as goal
 
 -- no row before this one is of the address and vouches
 abbrev pub invariant-loop-row : goal.invariant-loop-row
-invariant-loop-row l = (k : ℕ) → k < l.row-index → (own : Row) → get_or l.rows k None ≡ Some own → Vouches l.lsn.0 own → own.peer ≡ l.peer → ⊥
+invariant-loop-row l = (k : ℕ) → k < l.row-index → (own : Row) → get_or l.rows k None ≡ Some own → Vouches l.allowed.blocks.items l.lsn.0 own → own.peer ≡ l.peer → ⊥
