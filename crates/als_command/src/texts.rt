@@ -370,7 +370,8 @@ Exit statuses: 0 done, 2 a fault of the command line, 3 `als: refused N Name`.";
 pub const VERIFY_ABOUT: &str = "Tells whether a log file or a node is sound";
 
 pub const VERIFY_HELP: &str =
-    "Reads PATH and changes nothing: a log file, or the folder of a node that does not run.
+    "Reads PATH and changes nothing: a log file, or the folder of a node that does not run. The log.blk
+of a folder is no log file: it has zeros behind its log.
 Of a log each record has to be one, and has to follow those in front of it. Of a folder the
 control block, the checkpoint and the pages are read too, as a restart does, and each page is
 compared with what the log makes of it: `als rebuild-pages` mends one that differs (33).
@@ -390,10 +391,10 @@ pub const STATUS_HELP: &str =
 it for /status.
 Writes standard output: a line
   phase=F pages=N end=E ack=A checkpoint=Q behind=B transactions=T capacity=C left=L
-with F Following, Sealed or Primary; E, where the held log ends; A, up to where no crash can
-lose it; Q, where the log ended at the last checkpoint, 0 without one; B, the bytes of log that
-a restart redoes; C, the bytes that the log takes at most; and L, those that are left, with the room
-that is kept for a takeover.
+with F Following (a primary's too, which has a line `role`), Sealed or Primary (taken over, and not
+written since); E, where the held log ends; A, up to where no crash can lose it; Q, where the log
+ended at the last checkpoint, 0 without one; B, the bytes of log that a restart redoes; C, the bytes
+that the log takes at most; and L, those that are left, with the room that is kept for a takeover.
 After takeovers a line `epoch N seals S ..`; of a primary's folder a line `role primary epoch=N`.
 Then a line for each unended transaction, in rising TransID:
   trans T STATE last=L undo=U      (STATE active, prepared, committed or rollback)
@@ -516,21 +517,23 @@ Exit statuses: 0 done, 2 a fault of the command line, 3 `als: refused N Name`:
   37  LSN is within the header or past the end, or no record ends there: standard error has the
       nearest end below it. Nothing was written
   44  the file beside DIR can't be written, its disk has no room, or it is there with something
-      else: the node is as it was; or standard output failed: the node was taken back";
+      else: the node is as it was; or standard output failed: the node was taken back. Standard
+      error says which";
 
 pub const GROW_ABOUT: &str = "Gives a node's log device more blocks";
 
 pub const GROW_HELP: &str =
     "Needs DIR, the folder of a node that does not run, for itself alone. Writes zeros behind
 the last block of log.blk, and syncs it, until it has B blocks of 512 bytes. Killed at any time
-it leaves a node, maybe with some more blocks than before: run it again. Nothing of what the files
-hold is looked at: see `als verify`.
+it leaves a node, maybe with some more blocks than before: run it again. Of what the files hold
+only this is looked at: that log.blk was not cut below what is acknowledged. Else see `als verify`.
 
 Example:
   als grow --dir standby --log-blocks 1048576
 
 Exit statuses: 0 done, 2 a fault of the command line, 3 `als: refused N Name`:
   30  DIR or a file of it failed, its disk has no room, it has no database, or it is in use
+  34  log.blk was cut below what is acknowledged (30 where it is empty): zeros would hide that
   37  the log has more than B blocks (standard error says how many), or B is over 4,194,304";
 
 pub const GET_ABOUT: &str = "Prints what the committed transactions left at a key";

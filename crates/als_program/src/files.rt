@@ -13,11 +13,11 @@ use als_drive::Progress;
 use als_engine::Decision;
 use als_fanout::{Lasting, ship_node_on, ship_on};
 use als_fault::FaultKind;
-use als_folder::Trouble;
+use als_folder::{Part, Trouble, Wrong};
 use als_inspect::{Wanted, dump, get, status, verify_telling};
 use als_lookback::{
-    Fault as LookFault, Until, commit_of, commits, cut, get as get_at, grow, show,
-    status as status_at,
+    Fault as LookFault, Until, commit_of, commits, cut, get as get_at, grow, open as open_log,
+    show, status as status_at,
 };
 use als_operate::{Following, TakenOver, Verdict, forget, resolve, standby, takeover};
 use als_progress::Advance;
@@ -101,6 +101,10 @@ pub fn refused<R: AllocGlobal + Files<File = File>, O: Write, E: Write>(
         }
         None => explain_path(rt, path, refusal.kind, errors),
     }
+    explain_file(rt, path, errors);
+    if refusal.kind == FaultKind::Stream {
+        explain_addresses(command, errors);
+    }
     if matches!(command, Command::Standby { .. }) {
         // Where it can't be said, the status has to do.
         let _ = partings::tell(errors, path, refusal.kind);
@@ -147,6 +151,67 @@ fn explain_path<R: AllocGlobal + Files<File = File>, E: Write>(
             "als: {path}: it is the folder of a standby, or a primary decides there: see als status; als takeover makes a standby a primary, once its own is gone"
         ),
         _ => Ok(()),
+    };
+}
+
+/// Says what stands at a path in place of a log text, where that can be seen without reading it: a pipe or a
+/// device, or a file of a node's folder, whose log has zeros behind it.
+fn explain_file<R: AllocGlobal + Files<File = File>, E: Write>(rt: &R, path: &str, errors: &mut E) {
+    let Ok(found) = fs::metadata(rt, path) else {
+        return;
+    };
+    // Where it can't be said, the status has to do.
+    let _ = if found.is_dir() {
+        Ok(())
+    } else if !found.is_file() {
+        writeln!(
+            errors,
+            "als: {path}: it is no file, but a pipe or a device: write what comes out of it to a file, and name that"
+        )
+    } else if is_of_folder(path) {
+        writeln!(
+            errors,
+            "als: {path}: a file of a node's folder is no log text, and log.blk has zeros behind its log: name the folder"
+        )
+    } else {
+        Ok(())
+    };
+}
+
+/// Whether a path ends with the name of a file of a node's folder.
+fn is_of_folder(path: &str) -> bool {
+    let name = match path.rsplit_once('/') {
+        Some((_, name)) => name,
+        None => path,
+    };
+    name == Part::Log.file_name()
+        || name == Part::Control.file_name()
+        || name == Part::Pages.file_name()
+}
+
+/// Says which addresses of a command may have failed.
+fn explain_addresses<E: Write>(command: Command, errors: &mut E) {
+    let (serve, listen) = match command {
+        Command::Primary { serve, listen, .. } => (Some(serve), listen),
+        Command::Standby { serve, listen, .. } => (serve, listen),
+        Command::ShipNode { listen, .. } => (None, Some(listen)),
+        _ => (None, None),
+    };
+    // Where it can't be said, the status has to do.
+    let _ = match (serve, listen) {
+        (Some(serve), Some(listen)) => writeln!(
+            errors,
+            "als: 44 may be of --serve {serve} or --listen {listen}: an address in use, or none of this machine's"
+        ),
+        (Some(serve), None) => writeln!(
+            errors,
+            "als: 44 may be of --serve {serve}: an address in use, or none of this machine's"
+        ),
+        (None, Some(listen)) => writeln!(
+            errors,
+            "als: 44 may be of --listen {listen}: an address in use, or none of this machine's"
+        ),
+        (None, None) => Ok(()),
     };
 }
 
@@ -445,12 +510,14 @@ fn renew<R: AllocGlobal + Files<File = File> + Wait + Clock, O: Write, E: Write>
             }
         }
         Command::Rewind { dir, lsn, .. } => {
-            let outcome = rewind(rt, dir, Lsn(lsn), &mut lines, output);
+            let mut printed: Vec<u8> = Vec::new(rt.alloc());
+            let outcome = rewind(rt, dir, Lsn(lsn), &mut lines, &mut printed);
             drop(lines);
             if let Err(fault) = outcome {
                 tell_boundary(lsn, fault, errors);
                 return Err(Refusal::from(fault));
             }
+            tell_rewound(dir, printed.as_slice(), output, errors)?;
         }
         _ => {}
     }
@@ -469,14 +536,36 @@ fn tell_doubt<E: Write>(path: &str, fault: RenewFault, errors: &mut E) {
     }
 }
 
-/// Says where a record ends, where none ends at the LSN that was asked for.
+/// Prints what a node that was taken back prints. Where that fails, the node was taken back all the same.
+fn tell_rewound<O: Write, E: Write>(
+    dir: &str,
+    printed: &[u8],
+    output: &mut O,
+    errors: &mut E,
+) -> Result<(), Refusal> {
+    if output.write_all(printed).is_ok() && output.flush().is_ok() {
+        return Ok(());
+    }
+    // Where it can't be said, `als status` can.
+    let _ = writeln!(errors, "als: {dir} was taken back; standard output failed");
+    Err(Refusal {
+        kind: FaultKind::Stream,
+        trouble: None,
+    })
+}
+
+/// Says where a record ends, where none ends at the LSN that was asked for, and what else refuses a node that
+/// is to be taken back.
 fn tell_boundary<E: Write>(lsn: u64, fault: RewindFault, errors: &mut E) {
     if let RewindFault::Look(fault) = fault {
         tell_look(fault, errors);
-        return;
     }
     // Where it can't be said, `als dump` has the LSNs.
     let _ = match fault {
+        RewindFault::Look(LookFault::Stream) => writeln!(
+            errors,
+            "als: log.blk can't be read, or the file beside the folder that is to keep what lies behind {lsn} can't be written: the node is as it was"
+        ),
         RewindFault::NoBoundary { below } => writeln!(
             errors,
             "als: no record ends at {lsn}; the last one below it ends at {}",
@@ -571,11 +660,32 @@ fn look_in<R: AllocGlobal + Files<File = File>, A: Advance, O: Write>(
             log_blocks,
             ..
         } => {
+            check_uncut(rt, dir)?;
             let _ = grow(rt, dir, log_blocks, advance)?;
         }
         _ => {}
     }
     Ok(())
+}
+
+/// Refuses a log that ends in front of what is acknowledged: zeros in place of what it lost would look like
+/// damaged records. Of a folder that can't be read otherwise nothing is said here.
+fn check_uncut<R: AllocGlobal + Files<File = File>>(rt: &R, dir: &str) -> Result<(), LookFault> {
+    match open_log(rt, dir) {
+        Err(fault) if is_cut(fault) => Err(fault),
+        Ok(_) | Err(_) => Ok(()),
+    }
+}
+
+/// Whether a log ends in front of what is acknowledged.
+fn is_cut(fault: LookFault) -> bool {
+    matches!(
+        fault.trouble(),
+        Some(Trouble {
+            part: Part::Log,
+            wrong: Wrong::Short
+        })
+    )
 }
 
 /// Says why a look back is refused, where its number has several causes.
