@@ -88,6 +88,16 @@ fn new_quorum(alloc: Global, allowed: Allowed) -> Result<Arc<Quorum, Global>, Al
     Ok(Arc::new(alloc, Quorum::new(alloc, SEATS, allowed)?)?)
 }
 
+/// By which the sessions of a standby's own followers beat.
+fn pulse_of<R: Clock + Clone + Drop>(
+    rt: &R,
+    alloc: Global,
+    board: &Arc<Board, Global>,
+) -> Result<Arc<SentTo<R>, Global>, AllocError> {
+    let watch = Watch::new(Arc::try_clone(board)?, rt.clone()?);
+    Ok(Arc::new(alloc, SentTo::new(watch))?)
+}
+
 /// The sessions of a standby's own followers, and the thread that writes on its board who follows.
 pub(crate) struct Cascading<R: Clock> {
     followers: Followers<StandbySource<R, SentTo<R>>>,
@@ -106,8 +116,7 @@ pub(crate) fn ship<R: AllocGlobal + Threads + Wait + Clock + Clone + Send + Sync
 ) -> Result<Cascading<R>, Fault> {
     let Shipping { listener, allowed } = shipping;
     let alloc = rt.alloc();
-    let pulse = SentTo::new(Watch::new(Arc::try_clone(board)?, rt.clone()?));
-    let pulse = Arc::new(alloc, pulse)?;
+    let pulse = pulse_of(rt, alloc, board)?;
     let (tail, era) = (cascade.tail()?, cascade.era()?);
     let source = StandbySource::new(rt.clone()?, file, tail, era, pulse, timeout);
     let terms = Terms::new(window, silence(timeout));

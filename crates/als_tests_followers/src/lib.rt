@@ -10,6 +10,9 @@ mod made;
 // Sessions over the loopback.
 #[cfg(test)]
 mod sessions;
+// Sessions of which some beat.
+#[cfg(test)]
+mod pulses;
 // Who is hung up on.
 #[cfg(test)]
 mod crowds;
