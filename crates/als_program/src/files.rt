@@ -41,6 +41,9 @@ use std::time::Clock;
 /// The most threads that redo pages beside the one that follows.
 const WORKER_LIMIT: u64 = 8;
 
+/// The bytes of a log's header.
+const HEADER: u64 = 16;
+
 /// The log blocks of a new database, where the command line does not say.
 pub const LOG_BLOCKS: u64 = 2_048;
 
@@ -693,6 +696,11 @@ fn tell_look<E: Write>(fault: LookFault, errors: &mut E) {
     // Where it can't be said, the page of help has the causes.
     let _ = match fault {
         LookFault::InHeader => writeln!(errors, "als: an LSN below 16 is within the log's header"),
+        LookFault::PastEnd { end } if end.0 < HEADER => writeln!(
+            errors,
+            "als: it has {} bytes, and the header of a log alone has {HEADER}: this is no log",
+            end.0
+        ),
         LookFault::PastEnd { end } => writeln!(errors, "als: the log ends at {}", end.0),
         LookFault::NoCommit => writeln!(errors, "als: the log has no commit of this transaction"),
         LookFault::NotLonger { blocks } => writeln!(errors, "als: the log has {blocks} blocks"),
