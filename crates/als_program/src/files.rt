@@ -163,10 +163,11 @@ fn explain_file<R: AllocGlobal + Files<File = File>, E: Write>(rt: &R, path: &st
     let Ok(found) = fs::metadata(rt, path) else {
         return;
     };
+    if found.is_dir() {
+        return;
+    }
     // Where it can't be said, the status has to do.
-    let _ = if found.is_dir() {
-        Ok(())
-    } else if !found.is_file() {
+    let _ = if !found.is_file() {
         writeln!(
             errors,
             "als: {path}: it is no file, but a pipe or a device: write what comes out of it to a file, and name that"
