@@ -41,6 +41,9 @@ use std::time::Clock;
 /// The most threads that redo pages beside the one that follows.
 const WORKER_LIMIT: u64 = 8;
 
+/// The bytes of a log's header.
+const HEADER: u64 = 16;
+
 /// The log blocks of a new database, where the command line does not say.
 pub const LOG_BLOCKS: u64 = 2_048;
 
@@ -160,10 +163,11 @@ fn explain_file<R: AllocGlobal + Files<File = File>, E: Write>(rt: &R, path: &st
     let Ok(found) = fs::metadata(rt, path) else {
         return;
     };
+    if found.is_dir() {
+        return;
+    }
     // Where it can't be said, the status has to do.
-    let _ = if found.is_dir() {
-        Ok(())
-    } else if !found.is_file() {
+    let _ = if !found.is_file() {
         writeln!(
             errors,
             "als: {path}: it is no file, but a pipe or a device: write what comes out of it to a file, and name that"
@@ -693,6 +697,11 @@ fn tell_look<E: Write>(fault: LookFault, errors: &mut E) {
     // Where it can't be said, the page of help has the causes.
     let _ = match fault {
         LookFault::InHeader => writeln!(errors, "als: an LSN below 16 is within the log's header"),
+        LookFault::PastEnd { end } if end.0 < HEADER => writeln!(
+            errors,
+            "als: it has {} bytes, and the header of a log alone has {HEADER}: this is no log",
+            end.0
+        ),
         LookFault::PastEnd { end } => writeln!(errors, "als: the log ends at {}", end.0),
         LookFault::NoCommit => writeln!(errors, "als: the log has no commit of this transaction"),
         LookFault::NotLonger { blocks } => writeln!(errors, "als: the log has {blocks} blocks"),
