@@ -11,8 +11,8 @@ crate="$top/crates/als_cli"
 program="$crate/out/als_cli"
 stamp="$crate/out/als.built"          # as old as the start of the last build that succeeded
 shares="$top/bench/shares"            # processor seconds of each crate's proof, as they were measured
-quiet=30                              # minutes of a first build on 4 cores with nothing beside it
-busy=130                              # and on a host that was busy with other work
+quiet=60                              # minutes of a first build on 4 cores with nothing beside it, reckoned by bench/shares
+busy=150                              # and on a host that was busy with other work, as it was measured
 wanted=16                             # GB of free memory for a fast build: rt takes fewer jobs where it is less
 
 is_stale() {
