@@ -2,7 +2,7 @@
 # Runs the program als with the given arguments and standard input, from any folder; first builds it where a source
 # is newer than the last build. A build proves what has changed, so the first one takes minutes.
 # The pages of docs/help and the version are printed without a build; ./check compares both with what the program prints.
-# Help of a command that has no page ends with 2, also without a build.
+# A command that has no page, and its help, end with 2 without a build.
 # Status and streams are the program's own; a build that fails ends with 1.
 set -euo pipefail
 
@@ -11,8 +11,8 @@ crate="$top/crates/als_cli"
 program="$crate/out/als_cli"
 stamp="$crate/out/als.built"          # as old as the start of the last build that succeeded
 shares="$top/bench/shares"            # processor seconds of each crate's proof, as they were measured
-quiet=30                              # minutes of a first build on 4 cores with nothing beside it
-busy=130                              # and on a host that was busy with other work
+quiet=60                              # minutes of a first build on 4 cores with nothing beside it, reckoned by bench/shares
+busy=150                              # and on a host that was busy with other work, as it was measured
 wanted=16                             # GB of free memory for a fast build: rt takes fewer jobs where it is less
 
 is_stale() {
@@ -153,6 +153,7 @@ if is_stale; then
     if tell "$@"; then
         exit 0
     fi
+    refuse_unknown "$1"
     build
 fi
 exec "$program" "$@"
