@@ -1,7 +1,7 @@
 -- What an engine tells of a key, and what is known of all keys of a transaction.
 use Rattle.std.proofs.Common.{◌≡◌, ℕ, ◌==◌, Bool, true, false, not, ◌&&◌, List, [], ◌∷◌, find, Option, None, Some, option_map, Result, Ok, Err, refl, sym, subst, ◌∙◌}
-use Rattle.std.proofs.Common.{◌<◌, length, get_or, inl, inr}
-use Rattle.std.specs.Prelude.{MatchOption, Contains}
+use Rattle.std.proofs.Common.{inl, inr}
+use Rattle.std.specs.Prelude.{MatchOption}
 use Rattle.std.specs.List.{list_any}
 use Rattle.std.proofs.lemmas.Bool.{not_from_false}
 use Rattle.als_record.specs.declared.key.Key.{Key}
@@ -22,8 +22,9 @@ use Rattle.als_writer.specs.declared.refusal.Refusal.{Refusal}
 use Rattle.als_writer.specs.declared.refusal.Refusal.TheVariants.{Invalid, State, Untidy, Held, NotAsAsked, NumbersSpent, TooMany, LogFull, Memory, Unplanned}
 use Rattle.als_writer.specs.declared.transaction.Transaction.{Transaction}
 use Rattle.als_writer.specs.declared.ask.Ask.{Ask}
+use Rattle.als_writer.specs.declared.unmet.Unmet.{Unmet}
 use Rattle.als_writer.specs.Asking.{IsHeldBy, IsFreeNow}
-use Rattle.als_writer.specs.Refused.{KeyRefused, LookRefused, TidyRefused, PlanRefused}
+use Rattle.als_writer.specs.Refused.{KeyRefused, LookRefused, TidyRefused, PlanRefused, ShowsFailing}
 
 -- ---- a key that nobody holds is free
 
@@ -83,7 +84,7 @@ look_known m key (State f) k is = k is
 look_known m key (Held other by) k is = k.1
 look_known m key (Invalid flaw) k is = absurd k
 look_known m key Untidy k is = absurd k
-look_known m key (NotAsAsked other now) k is = absurd k
+look_known m key (NotAsAsked failing) k is = absurd k
 look_known m key NumbersSpent k is = absurd k
 look_known m key TooMany k is = absurd k
 look_known m key LogFull k is = absurd k
@@ -96,7 +97,7 @@ look_planned m t (Held key by) k = k
 look_planned m t (Memory owed) k = k
 look_planned m t (Invalid flaw) k = absurd k
 look_planned m t Untidy k = absurd k
-look_planned m t (NotAsAsked key now) k = absurd k
+look_planned m t (NotAsAsked failing) k = absurd k
 look_planned m t NumbersSpent k = absurd k
 look_planned m t TooMany k = absurd k
 look_planned m t LogFull k = absurd k
@@ -108,11 +109,22 @@ tidy_planned m t Untidy k = k
 tidy_planned m t (Held key by) k = absurd k
 tidy_planned m t (Memory owed) k = absurd k
 tidy_planned m t (Invalid flaw) k = absurd k
-tidy_planned m t (NotAsAsked key now) k = absurd k
+tidy_planned m t (NotAsAsked failing) k = absurd k
 tidy_planned m t NumbersSpent k = absurd k
 tidy_planned m t TooMany k = absurd k
 tidy_planned m t LogFull k = absurd k
 tidy_planned m t (Unplanned f) k = absurd k
 
-pub Contains-at : (asks : List Ask) (i : ℕ) (ask : Ask) → i < length asks → ask ≡ get_or asks i ask → Contains asks ask
-Contains-at asks i ask lt e = (i, lt, sym e)
+-- ---- a refusal for another cause shows no ask
+
+pub other_shown : (log : List Record) (asks : List Ask) (r : Refusal) → ((failing : List Unmet) → r ≡ NotAsAsked failing → ⊥) → ShowsFailing log asks r
+other_shown log asks (NotAsAsked failing) other = absurd (other failing refl)
+other_shown log asks (Invalid flaw) other = tt
+other_shown log asks (State f) other = tt
+other_shown log asks Untidy other = tt
+other_shown log asks (Held key by) other = tt
+other_shown log asks NumbersSpent other = tt
+other_shown log asks TooMany other = tt
+other_shown log asks LogFull other = tt
+other_shown log asks (Memory owed) other = tt
+other_shown log asks (Unplanned f) other = tt

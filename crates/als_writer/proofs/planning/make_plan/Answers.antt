@@ -9,17 +9,12 @@ use Rattle.als_writing.specs.Writing.{updates, room_for, is_free}
 use Rattle.als_writing.proofs.Going.{IsNew-is_new}
 use Rattle.als_writer.specs.declared.closing.Closing.{Closing}
 use Rattle.als_writer.specs.Closing.{records_for}
-use Rattle.als_writer.specs.Asking.{AreFreeNow, IsTold}
+use Rattle.als_writer.specs.Asking.{AreFreeNow}
 use Rattle.als_writer.specs.Checking.{AreApart}
 use Rattle.als_writer.specs.Placing.{AreBefores}
 use Rattle.als_writer.specs.Planning.{IsStart}
 use Rattle.als_writer.proofs.Fitting.{all_writes}
 use Rattle.als_writer.proofs.planning.make_plan.Goals as goal
-
-pub returns-in-Some-unmet-clause-refused : goal.returns-in-Some-unmet-clause-refused
-returns-in-Some-unmet-clause-refused g c a =
-    subst (λ o. IsTold (g.E.Events.machine c.args.engine.now).held.log c.args.transaction.now.asks.items o) c.in-Some-unmet.is
-    (subst (λ xs. IsTold (g.E.Events.machine c.args.engine.now).held.log xs c.in_ok-unmet.unmet) c.deref.ensures.value (c.in_ok-unmet.ensures.told a))
 
 pub returns-in-Ok-clause-planned : goal.returns-in-Ok-clause-planned
 returns-in-Ok-clause-planned g c a =
