@@ -185,7 +185,7 @@ value_tokens now = key (codes "value") ∷ image_token now ∷ []
 
 -- a comparison that fails: its key, and the value of that now
 abbrev pub unmet_tokens : Unmet → List Token
-unmet_tokens u = (begin_object ∷ []) ++ (key_tokens u.key ++ (value_tokens u.now ++ (end_object ∷ [])))
+unmet_tokens u = (begin_object ∷ []) ++ (key_tokens u.key ++ (value_tokens u.image ++ (end_object ∷ [])))
 
 -- those that fail, in order
 abbrev pub failing_tokens : List Unmet → List Token

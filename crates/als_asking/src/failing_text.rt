@@ -50,7 +50,7 @@ fn write_unmet(alloc: Global, text: &mut Writer, unmet: &Unmet) -> Result<(), Al
 {
     text.begin_object()?;
     key(text, unmet.key)?;
-    value(alloc, text, &unmet.now)?;
+    value(alloc, text, &unmet.image)?;
     text.end_object()?;
     Ok(())
 }

@@ -61,7 +61,7 @@ fn print_failing<O: Write>(failing: &Failing, output: &mut O) -> io::Result<()> 
     write!(output, "not as asked")?;
     for unmet in failing.shown() {
         let key = unmet.key;
-        let image = unmet.now.image();
+        let image = unmet.image.image();
         let value = ShownImage(&image);
         write!(output, " [{},{}]={value}", key.page, key.slot)?;
     }

@@ -74,7 +74,7 @@ fn what_is_in_the_log_is_answered(rt: HostRuntime) -> Result<(), Fail> {
 fn unmet(slot: u8, bytes: Option<&[u8]>) -> Unmet {
     Unmet {
         key: Key { page: 1, slot },
-        now: KeptImage::of(&ImageView { bytes }),
+        image: KeptImage::of(&ImageView { bytes }),
     }
 }
 

@@ -84,9 +84,9 @@ next_is bounds log asks i ask met next failing shown lt at is told so_far more =
 pub now_asked : (log : List Record) (ask : Ask) (key : Key) (now : Image) → key ≡ key_asked ask → now ≡ image_now log key → now ≡ image_now log (key_asked ask)
 now_asked log ask key now asks told = told ∙ ap (image_now log) asks
 
-pub next_told : (log : List Record) (ask : Ask) (key : Key) (now : Image) → key ≡ key_asked ask → now ≡ image_now log key → (let next : Unmet = record { key = key; now = now } in next) ≡ unmet_of log ask
-next_told log ask key now asks told = ap (λ (k : Key). let next : Unmet = record { key = k; now = now } in next) asks
-    ∙ ap (λ (image : Image). let next : Unmet = record { key = key_asked ask; now = image } in next) (now_asked log ask key now asks told)
+pub next_told : (log : List Record) (ask : Ask) (key : Key) (now : Image) → key ≡ key_asked ask → now ≡ image_now log key → (let next : Unmet = record { key = key; image = now } in next) ≡ unmet_of log ask
+next_told log ask key now asks told = ap (λ (k : Key). let next : Unmet = record { key = k; image = now } in next) asks
+    ∙ ap (λ (image : Image). let next : Unmet = record { key = key_asked ask; image = image } in next) (now_asked log ask key now asks told)
 
 -- ---- all asks
 
@@ -116,11 +116,11 @@ are_unmet bounds log asks failing some' is =
       failed = unmet_failed bounds log (get_or (filter fails asks) i d) (not-true (is_met bounds log (get_or (filter fails asks) i d)) (filter_passes fails asks i d lt));
       now_is = refl;
     } in
-    let shown : All (λ u. IsUnmet log asks u.key u.now) (take 8 (unmet_by bounds log asks)) =
-    All-take (λ u. IsUnmet log asks u.key u.now) 8 (unmet_by bounds log asks) (All-map (λ u. IsUnmet log asks u.key u.now) (unmet_of log) (filter fails asks) each) in
+    let shown : All (λ u. IsUnmet log asks u.key u.image) (take 8 (unmet_by bounds log asks)) =
+    All-take (λ u. IsUnmet log asks u.key u.image) 8 (unmet_by bounds log asks) (All-map (λ u. IsUnmet log asks u.key u.image) (unmet_of log) (filter fails asks) each) in
     record {
       some = some';
-      each = subst (All (λ u. IsUnmet log asks u.key u.now)) (sym is) shown;
+      each = subst (All (λ u. IsUnmet log asks u.key u.image)) (sym is) shown;
     }
 
 pub are_failing : (bounds : List ℕ) (pages : ℕ) (log : List Record) (asks : List Ask) (failing : List Unmet) → AreBounds bounds pages log → AreAskedIn pages asks → failing ≡ take 8 (unmet_by bounds log asks)

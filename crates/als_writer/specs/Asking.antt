@@ -57,11 +57,11 @@ pub record IsUnmet (log : List Record) (asks : List Ask) (key : Key) (now : Imag
 -- asks do not hold, and these are the keys of some and what those have
 pub record AreUnmet (log : List Record) (asks : List Ask) (failing : List Unmet) : Type 0 where
   pub some : 0 < length failing
-  pub each : All (λ u. IsUnmet log asks u.key u.now) failing
+  pub each : All (λ u. IsUnmet log asks u.key u.image) failing
 
 -- what is shown of an ask: its key, and what that has
 abbrev pub unmet_of : List Record → Ask → Unmet
-unmet_of log ask = record { key = key_asked ask; now = image_now log (key_asked ask) }
+unmet_of log ask = record { key = key_asked ask; image = image_now log (key_asked ask) }
 
 -- The first eight of the asks that do not hold, in their order, and all where they are fewer: each other ask holds.
 pub record AreFailing (log : List Record) (asks : List Ask) (failing : List Unmet) : Type 0 where

@@ -5,7 +5,7 @@ use Rattle.als_writer.specs.declared.unmet.Unmet.{Unmet}
 
 -- what a place has that shows none
 abbrev pub nothing : Unmet
-nothing = record { key = record { page = 0; slot = 0 }; now = None }
+nothing = record { key = record { page = 0; slot = 0 }; image = None }
 
 -- the eight places: these, and nothing behind them
 abbrev pub kept_of : List Unmet → List Unmet

@@ -61,7 +61,7 @@ pub(crate) fn failing_of<E: Writes>(
         let key = asked(ask);
         let now = look(engine, key)?;
         let met = holds(changes, ask, &now);
-        show_next(&mut failing, met, Unmet { key, now });
+        show_next(&mut failing, met, Unmet { key, image: now });
     }
     Ok(failing)
 }

@@ -81,7 +81,7 @@ fn no_asks() -> [Unmet; FAILING_LIMIT]
 {
     let unmet = Unmet {
         key: Key { page: 0, slot: 0 },
-        now: KeptImage::absent(),
+        image: KeptImage::absent(),
     };
     [unmet; FAILING_LIMIT]
 }
