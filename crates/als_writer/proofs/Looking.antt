@@ -12,6 +12,7 @@ use Rattle.als_record.specs.Spelling.{Image, IsKey}
 use Rattle.als_record.specs.Transactions.{has_begun, is_open, all_surviving}
 use Rattle.als_record.specs.Images.{is_update_at}
 use Rattle.als_record.specs.Validity.{held_by}
+use Rattle.als_record.specs.Commits.{Write}
 use Rattle.als_writing.specs.Writing.{is_free}
 use Rattle.als_store.specs.WritingOwn.{KeyNow, TellsOfOwnKey}
 use Rattle.als_engine.specs.declared.fault.Fault.{Fault}
@@ -24,7 +25,8 @@ use Rattle.als_writer.specs.declared.transaction.Transaction.{Transaction}
 use Rattle.als_writer.specs.declared.ask.Ask.{Ask}
 use Rattle.als_writer.specs.declared.unmet.Unmet.{Unmet}
 use Rattle.als_writer.specs.Asking.{IsHeldBy, IsFreeNow}
-use Rattle.als_writer.specs.Refused.{KeyRefused, LookRefused, TidyRefused, PlanRefused, ShowsFailing}
+use Rattle.als_writer.specs.Committing.{FeedRefused}
+use Rattle.als_writer.specs.Refused.{KeyRefused, LookRefused, TidyRefused, StartRefused, PlanRefused, ShowsFailing}
 
 -- ---- a key that nobody holds is free
 
@@ -117,7 +119,7 @@ tidy_planned m t (Unplanned f) k = absurd k
 
 -- ---- a refusal for another cause shows no ask
 
-pub other_shown : (log : List Record) (asks : List Ask) (r : Refusal) → ((failing : List Unmet) → r ≡ NotAsAsked failing → ⊥) → ShowsFailing log asks r
+other_shown : (log : List Record) (asks : List Ask) (r : Refusal) → ((failing : List Unmet) → r ≡ NotAsAsked failing → ⊥) → ShowsFailing log asks r
 other_shown log asks (NotAsAsked failing) other = absurd (other failing refl)
 other_shown log asks (Invalid flaw) other = tt
 other_shown log asks (State f) other = tt
@@ -128,3 +130,15 @@ other_shown log asks TooMany other = tt
 other_shown log asks LogFull other = tt
 other_shown log asks (Memory owed) other = tt
 other_shown log asks (Unplanned f) other = tt
+
+pub look_shown : (m : Machine) (log : List Record) (asks : List Ask) (r : Refusal) → LookRefused m r → ShowsFailing log asks r
+look_shown m log asks r k = other_shown log asks r (λ failing e. subst (LookRefused m) e k)
+
+pub tidy_shown : (m : Machine) (log : List Record) (asks : List Ask) (r : Refusal) → TidyRefused m r → ShowsFailing log asks r
+tidy_shown m log asks r k = other_shown log asks r (λ failing e. subst (TidyRefused m) e k)
+
+pub start_shown : (extra : ℕ) (m : Machine) (ws : List Write) (log : List Record) (asks : List Ask) (r : Refusal) → StartRefused extra m ws r → ShowsFailing log asks r
+start_shown extra m ws log asks r k = other_shown log asks r (λ failing e. subst (StartRefused extra m ws) e k)
+
+pub fed_shown : (old : Machine) (t : Transaction) (new : Machine) (log : List Record) (asks : List Ask) (r : Refusal) → FeedRefused old t r new → ShowsFailing log asks r
+fed_shown old t new log asks r k = other_shown log asks r (λ failing e. subst (λ (q : Refusal). FeedRefused old t q new) e k)
