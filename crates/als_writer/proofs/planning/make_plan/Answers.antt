@@ -1,5 +1,4 @@
 use Rattle.std.proofs.Common.{◌≡◌, ℕ, ◌+◌, ◌*◌, ◌<◌, ◌≤◌, true, List, ◌++◌, length, take, sym, subst, ◌∙◌, arith}
-use Rattle.std.proofs.lemmas.Bool.{not-true, not-false}
 use Rattle.std.proofs.lemmas.Result.{err_from_is_err_and}
 use Rattle.std.specs.List.{AllByRecursion}
 use Rattle.als_record.specs.declared.record.Record.{Record as AnyRecord}
@@ -28,7 +27,7 @@ returns-then-not-is_empty-clause-refused g c a =
     let failing : List Unmet = c.in_ok-failing.failing in
     let first : failing ≡ take 8 (unmet_by c.args.changes.now log c.args.transaction.now.asks.items) =
     subst (λ (asks : List Ask). failing ≡ take 8 (unmet_by c.args.changes.now log asks)) c.deref.ensures.value (c.in_ok-failing.ensures.first a) in
-    are_unmet c.args.changes.now log c.args.transaction.now.asks.items failing (some_shown failing (sym c.is_empty.ensures ∙ not-true c.is_empty.result c.if-not-is_empty.true)) first
+    are_unmet c.args.changes.now log c.args.transaction.now.asks.items failing (some_shown failing (sym c.is_empty.ensures ∙ c.if-not-is_empty.true)) first
 
 pub returns-then-not-is_empty-clause-shown : goal.returns-then-not-is_empty-clause-shown
 returns-then-not-is_empty-clause-shown g c a bounds =
@@ -48,7 +47,7 @@ returns-in-Ok-clause-asked g c a bounds =
     let first : failing ≡ take 8 (unmet_by c.args.changes.now log c.args.transaction.now.asks.items) =
     subst (λ (asks : List Ask). failing ≡ take 8 (unmet_by c.args.changes.now log asks)) c.deref.ensures.value (c.in_ok-failing.ensures.first a) in
     let keys : AreAskedIn m.held.pages c.args.transaction.now.asks.items = subst (λ (n : ℕ). AreAskedIn n c.args.transaction.now.asks.items) (c.pages.ensures.pages a) c.in_default.ensures.asked in
-    all_asked c.args.changes.now m.held.pages log c.args.transaction.now.asks.items failing bounds keys first (none_shown failing (sym c.is_empty.ensures ∙ not-false c.is_empty.result c.if-not-is_empty.false))
+    all_asked c.args.changes.now m.held.pages log c.args.transaction.now.asks.items failing bounds keys first (none_shown failing (sym c.is_empty.ensures ∙ c.if-not-is_empty.false))
 
 pub returns-in_err-place-clause-shown : goal.returns-in_err-place-clause-shown
 returns-in_err-place-clause-shown g c =
