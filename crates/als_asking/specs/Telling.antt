@@ -23,6 +23,7 @@ use Rattle.als_writer.specs.declared.flaw.Flaw.{Flaw}
 use Rattle.als_writer.specs.declared.flaw.Flaw.TheVariants.{NoSet, TooLong, KeyTwice, NoSuchKey}
 use Rattle.als_writer.specs.declared.refusal.Refusal.{Refusal}
 use Rattle.als_writer.specs.declared.refusal.Refusal.TheVariants.{Invalid, State, Untidy, Held, NotAsAsked, NumbersSpent, TooMany, LogFull, Memory, Unplanned}
+use Rattle.als_writer.specs.declared.unmet.Unmet.{Unmet}
 use Rattle.als_writer.specs.declared.written.Written.{Written}
 use Rattle.als_asking.specs.declared.outcome.Outcome.{Outcome}
 use Rattle.als_asking.specs.declared.outcome.Outcome.TheVariants.{Committed, Prepared, Decided, Refused, NotDecided, Unknown, NotBegun, Lost}
@@ -41,7 +42,7 @@ status_of_refusal (Invalid flaw) = 400
 status_of_refusal (State f) = 503
 status_of_refusal Untidy = 503
 status_of_refusal (Held k by) = 409
-status_of_refusal (NotAsAsked k now) = 409
+status_of_refusal (NotAsAsked failing) = 409
 status_of_refusal NumbersSpent = 503
 status_of_refusal TooMany = 503
 status_of_refusal LogFull = 507
@@ -182,10 +183,13 @@ flaw_tokens f = string_tokens (codes "error") (why_flaw f) ++ flaw_key f
 abbrev pub value_tokens : Image → List Token
 value_tokens now = key (codes "value") ∷ image_token now ∷ []
 
--- the key whose comparison fails, and its value now
-abbrev pub unmet_tokens : Key → Image → List Token
-unmet_tokens k now =
-    (key (codes "not_as_asked") ∷ begin_array ∷ begin_object ∷ []) ++ (key_tokens k ++ (value_tokens now ++ (end_object ∷ end_array ∷ [])))
+-- a comparison that fails: its key, and the value of that now
+abbrev pub unmet_tokens : Unmet → List Token
+unmet_tokens u = (begin_object ∷ []) ++ (key_tokens u.key ++ (value_tokens u.image ++ (end_object ∷ [])))
+
+-- those that fail, in order
+abbrev pub failing_tokens : List Unmet → List Token
+failing_tokens us = (key (codes "not_as_asked") ∷ begin_array ∷ []) ++ (flat_map unmet_tokens us ++ (end_array ∷ []))
 
 -- the fault of a refusal; the log that is not tidy is not drained
 abbrev pub kind_or : Option Fault → FaultKind
@@ -195,7 +199,7 @@ kind_or (Some f) = kind_of f
 abbrev pub refusal_tokens : Refusal → List Token
 refusal_tokens (Invalid flaw) = flaw_tokens flaw
 refusal_tokens (Held k by) = number_tokens (codes "held_by") by.0
-refusal_tokens (NotAsAsked k now) = unmet_tokens k now
+refusal_tokens (NotAsAsked failing) = failing_tokens failing
 refusal_tokens r = fault_tokens (kind_or (fault_of r))
 
 -- that a restart may find it or not

@@ -46,6 +46,7 @@ mod decision_text;
 mod doubt_text;
 mod filling;
 mod members;
+mod failing_text;
 mod outcome_text;
 mod told_text;
 // The service of a thread.

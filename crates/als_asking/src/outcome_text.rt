@@ -1,15 +1,14 @@
-ghost use Rattle.std.specs.Prelude.{◌≡◌, OnOk, ◌++◌, ◌∷◌, [], codes};
-ghost use Rattle.json.specs.Token.{begin_array, begin_object, end_array, end_object, key};
+ghost use Rattle.std.specs.Prelude.{◌≡◌, OnOk, ◌++◌};
 ghost use Rattle.als_asking.specs.Telling.{written_tokens, fault_tokens, flaw_tokens, flaw_key, why_flaw};
-ghost use Rattle.als_asking.specs.Telling.{unmet_tokens, kind_or, refusal_tokens, unknown_tokens};
+ghost use Rattle.als_asking.specs.Telling.{kind_or, refusal_tokens, unknown_tokens};
 ghost use Rattle.als_asking.specs.Telling.{not_begun_tokens};
 ghost use Rattle.als_asking.specs.Telling.{outcome_tokens};
 ghost use Rattle.als_writer.specs.Refusing.{fault_of, fault_undecided};
 
-use crate::members::{key, number, string, truth, value};
+use crate::failing_text::failing_members;
+use crate::members::{key, number, string, truth};
 use crate::outcome::Outcome;
 use als_fault::FaultKind;
-use als_record::{KeptImage, Key};
 use als_writer::{Flaw, NotDecided, Refusal, Written};
 use json::Writer;
 use std::alloc::{AllocError, Global};
@@ -78,7 +77,7 @@ fn refusal_members(alloc: Global, text: &mut Writer, refusal: &Refusal) -> Resul
     match refusal {
         Refusal::Invalid(flaw) => flaw_members(text, *flaw)?,
         Refusal::Held { by, .. } => number(text, "held_by", u64::from(by.0))?,
-        Refusal::NotAsAsked { key, now } => unmet_members(alloc, text, *key, now)?,
+        Refusal::NotAsAsked { failing } => failing_members(alloc, text, failing)?,
         _ => fault_members(text, kind_of(refusal))?,
     }
     Ok(())
@@ -146,43 +145,5 @@ fn flaw_key(text: &mut Writer, flaw: Flaw) -> Result<(), AllocError>
         Flaw::NoSet | Flaw::TooLong => {}
         Flaw::KeyTwice { key: at } | Flaw::NoSuchKey { key: at } => key(text, at)?,
     }
-    Ok(())
-}
-
-/// Writes the key whose comparison failed, and its value now.
-fn unmet_members(
-    alloc: Global,
-    text: &mut Writer,
-    at: Key,
-    now: &KeptImage,
-) -> Result<(), AllocError>
-    ensures tokens { OnOk result (text.new.tokens ≡ text.old.tokens ++ unmet_tokens at now.now) }
-    ensures before { OnOk result (text.new.before ≡ text.old.before) }
-{
-    begin_unmet(text)?;
-    key(text, at)?;
-    value(alloc, text, now)?;
-    end_unmet(text)?;
-    Ok(())
-}
-
-/// Writes what precedes a failed comparison.
-fn begin_unmet(text: &mut Writer) -> Result<(), AllocError>
-    ensures tokens { OnOk result (text.new.tokens ≡ text.old.tokens ++ key (codes "not_as_asked") ∷ begin_array ∷ begin_object ∷ []) }
-    ensures before { OnOk result (text.new.before ≡ text.old.before) }
-{
-    text.key("not_as_asked")?;
-    text.begin_array()?;
-    text.begin_object()?;
-    Ok(())
-}
-
-/// Writes what follows it.
-fn end_unmet(text: &mut Writer) -> Result<(), AllocError>
-    ensures tokens { OnOk result (text.new.tokens ≡ text.old.tokens ++ end_object ∷ end_array ∷ []) }
-    ensures before { OnOk result (text.new.before ≡ text.old.before) }
-{
-    text.end_object()?;
-    text.end_array()?;
     Ok(())
 }

@@ -222,8 +222,8 @@ Writes standard output: for each line, in order, once it is durable,
   lsn=L trans=T           it committed; L is its commit record, T its number
   prepared trans=T lsn=L  it is in doubt; L is its prepare record
   committed trans=T lsn=L, rolled back trans=T lsn=L, not in doubt trans=T  of a decision
-  not as asked [P,S]=VALUE  the first comparison that fails, and what the key has (`-` none,
-                          `.` the empty value)
+  not as asked [P,S]=VALUE ..  the first eight comparisons that fail, and what each key has
+                          (`-` none, `.` the empty value)
   refused N Name          nothing was written; the next line may be
 A line that is no transaction ends it: `line N: ` and what is wrong go to standard error; the
 lines in front of it stay written. With --skip-bad it goes on.

@@ -2,7 +2,7 @@ use als_engine::{Decision, Fault};
 use als_fault::FaultKind;
 use als_lead::Answer;
 use als_text::ShownImage;
-use als_writer::{NotDecided, Refusal, Work, Written};
+use als_writer::{Failing, NotDecided, Refusal, Work, Written};
 use std::io;
 use std::io::Write;
 
@@ -43,11 +43,7 @@ fn word_for(work: &Work) -> &'static str {
 /// Prints the line of a refusal after which the writer goes on.
 fn print_refusal<O: Write>(refusal: &Refusal, output: &mut O) -> io::Result<()> {
     match refusal {
-        Refusal::NotAsAsked { key, now } => {
-            let image = now.image();
-            let value = ShownImage(&image);
-            writeln!(output, "not as asked [{},{}]={value}", key.page, key.slot)
-        }
+        Refusal::NotAsAsked { failing } => print_failing(failing, output),
         Refusal::Held { .. }
         | Refusal::NumbersSpent
         | Refusal::TooMany
@@ -58,6 +54,18 @@ fn print_refusal<O: Write>(refusal: &Refusal, output: &mut O) -> io::Result<()> 
         }
         Refusal::Invalid(_) | Refusal::State(_) | Refusal::Untidy | Refusal::Unplanned(_) => Ok(()),
     }
+}
+
+/// Prints the line of the comparisons that failed: each key, and what it has.
+fn print_failing<O: Write>(failing: &Failing, output: &mut O) -> io::Result<()> {
+    write!(output, "not as asked")?;
+    for unmet in failing.shown() {
+        let key = unmet.key;
+        let image = unmet.image.image();
+        let value = ShownImage(&image);
+        write!(output, " [{},{}]={value}", key.page, key.slot)?;
+    }
+    writeln!(output)
 }
 
 /// Prints the line of a decision that was not made, after which the writer goes on.

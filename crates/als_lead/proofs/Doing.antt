@@ -16,6 +16,7 @@ use Rattle.als_writer.specs.declared.transaction.Transaction.{Transaction}
 use Rattle.als_writer.specs.declared.work.Work.{Work}
 use Rattle.als_writer.specs.declared.work.Work.TheVariants as work
 use Rattle.als_writer.specs.declared.written.Written.{Written}
+use Rattle.als_writer.specs.Refused.{ShowsFailing}
 use Rattle.als_writer.specs.Committing.{Commits, IsCut, NotWritten}
 use Rattle.als_writer.specs.Preparing.{Prepares, NotPrepared}
 use Rattle.als_writer.specs.Deciding.{deciding, commits_by, Decides, DecisionRefused}
@@ -118,7 +119,7 @@ written_none old t (Invalid flaw) new n = inr n.0
 written_none old t (State fault) new n = inr n.0
 written_none old t Untidy new n = inr n.0
 written_none old t (Held key by) new n = inr n.0
-written_none old t (NotAsAsked key now) new n = inr n.0
+written_none old t (NotAsAsked failing) new n = inr n.0
 written_none old t NumbersSpent new n = inr n.0
 written_none old t TooMany new n = inr n.0
 written_none old t LogFull new n = inr n.0
@@ -131,7 +132,7 @@ prepared_none old t (Invalid flaw) new n = inr n.0
 prepared_none old t (State fault) new n = inr n.0
 prepared_none old t Untidy new n = inr n.0
 prepared_none old t (Held key by) new n = inr n.0
-prepared_none old t (NotAsAsked key now) new n = inr n.0
+prepared_none old t (NotAsAsked failing) new n = inr n.0
 prepared_none old t NumbersSpent new n = inr n.0
 prepared_none old t TooMany new n = inr n.0
 prepared_none old t LogFull new n = inr n.0
@@ -163,15 +164,15 @@ does_refuse old asked r new n commits shown k = record {
   published = shown;
 }
 
-pub does_not_commit : (old : Machine) (t : Transaction) (r : Refusal) (new : Machine) → NotWritten old t r new → Keeps old new → Does old (work.Commit t) (Refused r) new
-does_not_commit old t r new n k =
+pub does_not_commit : (old : Machine) (t : Transaction) (r : Refusal) (new : Machine) → NotWritten old t r new → ShowsFailing old.held.log t.asks.items r → Keeps old new → Does old (work.Commit t) (Refused r) new
+does_not_commit old t r new n shown k =
     let none : IsCut old t new ⊎ (new ≡ old) = written_none old t r new n in
-    does_refuse old (work.Commit t) r new n (none_commits old t new none) (none_shown old t new none) k
+    does_refuse old (work.Commit t) r new (n, shown) (none_commits old t new none) (none_shown old t new none) k
 
-pub does_not_prepare : (old : Machine) (t : Transaction) (r : Refusal) (new : Machine) → NotPrepared old t r new → Keeps old new → Does old (work.Prepare t) (Refused r) new
-does_not_prepare old t r new n k =
+pub does_not_prepare : (old : Machine) (t : Transaction) (r : Refusal) (new : Machine) → NotPrepared old t r new → ShowsFailing old.held.log t.asks.items r → Keeps old new → Does old (work.Prepare t) (Refused r) new
+does_not_prepare old t r new n shown k =
     let none : IsCut old t new ⊎ (new ≡ old) = prepared_none old t r new n in
-    does_refuse old (work.Prepare t) r new n (none_commits old t new none) (none_shown old t new none) k
+    does_refuse old (work.Prepare t) r new (n, shown) (none_commits old t new none) (none_shown old t new none) k
 
 pub does_not_decide : (old : Machine) (trans : TransId) (verdict : Decision) (r : Undecided) (new : Machine) → DecisionRefused old trans r → new ≡ old → Keeps old new → Does old (work.Decide trans verdict) (NotDecided r) new
 does_not_decide old trans verdict r new refused same k = record {
@@ -193,7 +194,7 @@ commit_not_begun t r u = record { held = held; adds = λ log. refl }
   where
     held : (m : Machine) → IsHeld m (work.Commit t) (Refused r)
     held m = elim u [
-      | inl e ↦ inl (same_was m (work.Commit t) (Refused r) (subst (λ (q : Refusal). NotWritten m t q m) (sym e) (refl, refl)))
+      | inl e ↦ inl (same_was m (work.Commit t) (Refused r) (subst (λ (q : Refusal). NotWritten m t q m × ShowsFailing m.held.log t.asks.items q) (sym e) ((refl, refl), tt)))
       | inr ended ↦ inr ended
     ]
 
@@ -202,7 +203,7 @@ prepare_not_begun t r u = record { held = held; adds = λ log. refl }
   where
     held : (m : Machine) → IsHeld m (work.Prepare t) (Refused r)
     held m = elim u [
-      | inl e ↦ inl (same_was m (work.Prepare t) (Refused r) (subst (λ (q : Refusal). NotPrepared m t q m) (sym e) (refl, refl)))
+      | inl e ↦ inl (same_was m (work.Prepare t) (Refused r) (subst (λ (q : Refusal). NotPrepared m t q m × ShowsFailing m.held.log t.asks.items q) (sym e) ((refl, refl), tt)))
       | inr ended ↦ inr ended
     ]
 

@@ -17,6 +17,7 @@ use Rattle.als_writer.specs.declared.work.Work.{Work}
 use Rattle.als_writer.specs.declared.work.Work.TheVariants as work
 use Rattle.als_writer.specs.declared.written.Written.{Written}
 use Rattle.als_writer.specs.Asking.{IsAsked}
+use Rattle.als_writer.specs.Refused.{ShowsFailing}
 use Rattle.als_writer.specs.Committing.{NotWritten}
 use Rattle.als_writer.specs.Preparing.{NotPrepared}
 use Rattle.als_writer.specs.Deciding.{deciding, commits_by, DecisionRefused}
@@ -115,10 +116,10 @@ Adds log (x ∷ xs) commits = (these : List Commit) × (those : List Commit) × 
 
 -- ---- what is not written
 
--- what a refusal leaves of a transaction that commits or prepares, and of a decision
+-- what a refusal leaves of a transaction that commits or prepares, of whose asks it shows the first that failed, and of a decision
 abbrev pub IsNotDone : Machine → Work → Answer → Machine → Type 0
-IsNotDone old (work.Commit t) (Refused r) new = NotWritten old t r new
-IsNotDone old (work.Prepare t) (Refused r) new = NotPrepared old t r new
+IsNotDone old (work.Commit t) (Refused r) new = NotWritten old t r new × ShowsFailing old.held.log t.asks.items r
+IsNotDone old (work.Prepare t) (Refused r) new = NotPrepared old t r new × ShowsFailing old.held.log t.asks.items r
 IsNotDone old (work.Decide trans verdict) (NotDecided r) new = (new ≡ old) × DecisionRefused old trans r
 IsNotDone old _ _ new = ⊥
 

@@ -2,7 +2,7 @@ use crate::acting::gives;
 use als_asking::{Guard, Outcome};
 use als_engine::Fault;
 use als_record::{ImageView, KeptImage, Key, Lsn, TransId};
-use als_writer::{Flaw, Refusal, Written};
+use als_writer::{Failing, Flaw, Refusal, Unmet, Written};
 use std::alloc::Global;
 use std::hash::RandomState;
 use std::test::*;
@@ -70,26 +70,43 @@ fn what_is_in_the_log_is_answered(rt: HostRuntime) -> Result<(), Fail> {
     Ok(())
 }
 
+/// A slot of page 1 for which a comparison failed, with its value.
+fn unmet(slot: u8, bytes: Option<&[u8]>) -> Unmet {
+    Unmet {
+        key: Key { page: 1, slot },
+        image: KeptImage::of(&ImageView { bytes }),
+    }
+}
+
+/// The refusal of a transaction of which these comparisons failed.
+fn not_as_asked(unmet: &[Unmet]) -> Refusal {
+    let mut failing = Failing::none();
+    for one in unmet {
+        failing.push(*one);
+    }
+    Refusal::NotAsAsked { failing }
+}
+
 #[test]
 fn what_was_refused_is_answered(rt: HostRuntime) -> Result<(), Fail> {
     let alloc = rt.alloc();
     let keys = RandomState::new(&rt)?;
-    let now = KeptImage::of(&ImageView {
-        bytes: Some(&[0xcd]),
-    });
     let table = [
         (
-            Refusal::NotAsAsked { key: KEY, now },
+            not_as_asked(&[unmet(3, Some(&[0xcd]))]),
             "HTTP/1.1 409 Conflict\r\ncontent-type: application/json\r\ncache-control: no-store\r\n\
             content-length: 45\r\n\r\n{\"not_as_asked\":[{\"key\":[1,3],\"value\":\"cd\"}]}",
         ),
         (
-            Refusal::NotAsAsked {
-                key: KEY,
-                now: KeptImage::absent(),
-            },
+            not_as_asked(&[unmet(3, None)]),
             "HTTP/1.1 409 Conflict\r\ncontent-type: application/json\r\ncache-control: no-store\r\n\
             content-length: 45\r\n\r\n{\"not_as_asked\":[{\"key\":[1,3],\"value\":null}]}",
+        ),
+        (
+            not_as_asked(&[unmet(5, Some(&[0xab])), unmet(3, None)]),
+            "HTTP/1.1 409 Conflict\r\ncontent-type: application/json\r\ncache-control: no-store\r\n\
+            content-length: 72\r\n\r\n{\"not_as_asked\":[{\"key\":[1,5],\"value\":\"ab\"},\
+            {\"key\":[1,3],\"value\":null}]}",
         ),
         (
             Refusal::Held {

@@ -26,7 +26,7 @@ const LINES: (&str, &str) = (
 {"if":[{"key":[0,0],"is":"aa"}],"set":[{"key":[1,3],"to":""}]}
 {"set":[{"key":[1,3],"to":""}],"if":[{"key":[1,3],"unchanged_since":0},{"key":[0,0],"is":null}]}
 {"if":[{"key":[0,0],"unchanged_since":52}],"set":[{"key":[1,3],"to":"00"}]}
-{"if":[{"key":[1,3],"is":null}],"set":[{"key":[1,3],"to":"00"}]}
+{"if":[{"key":[1,3],"is":null},{"key":[0,0],"is":null},{"key":[0,0],"is":"aa"}],"set":[{"key":[1,3],"to":"00"}]}
 {"set":[{"key":[2,0],"to":"00112233445566778899aabbccddeeff00112233445566778899aabbccddee"},{"key":[2,1],"to":"00112233445566778899aabbccddeeff00112233445566778899aabbccddee"}]}
 {"set":[{"key":[0,0],"to":"aa"}
 {"set":[{"key":[0,0],"to":"bb"}]}
@@ -36,7 +36,7 @@ lsn=144 trans=2
 not as asked [0,0]=-
 lsn=235 trans=3
 not as asked [0,0]=-
-not as asked [1,3]=.
+not as asked [1,3]=. [0,0]=-
 refused 29 LogFull
 ",
 );

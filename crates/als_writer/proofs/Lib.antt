@@ -10,6 +10,8 @@ pub mod Nexts
 pub mod Owing
 pub mod Doubts
 pub mod Looking
+pub mod Showing
+pub mod Collecting
 pub mod Below
 pub mod Fitting
 pub mod Starting

@@ -1,7 +1,7 @@
 -- What an engine tells of a key, and what is known of all keys of a transaction.
 use Rattle.std.proofs.Common.{◌≡◌, ℕ, ◌==◌, Bool, true, false, not, ◌&&◌, List, [], ◌∷◌, find, Option, None, Some, option_map, Result, Ok, Err, refl, sym, subst, ◌∙◌}
-use Rattle.std.proofs.Common.{◌<◌, length, get_or, inl, inr}
-use Rattle.std.specs.Prelude.{MatchOption, Contains}
+use Rattle.std.proofs.Common.{inl, inr}
+use Rattle.std.specs.Prelude.{MatchOption}
 use Rattle.std.specs.List.{list_any}
 use Rattle.std.proofs.lemmas.Bool.{not_from_false}
 use Rattle.als_record.specs.declared.key.Key.{Key}
@@ -12,6 +12,7 @@ use Rattle.als_record.specs.Spelling.{Image, IsKey}
 use Rattle.als_record.specs.Transactions.{has_begun, is_open, all_surviving}
 use Rattle.als_record.specs.Images.{is_update_at}
 use Rattle.als_record.specs.Validity.{held_by}
+use Rattle.als_record.specs.Commits.{Write}
 use Rattle.als_writing.specs.Writing.{is_free}
 use Rattle.als_store.specs.WritingOwn.{KeyNow, TellsOfOwnKey}
 use Rattle.als_engine.specs.declared.fault.Fault.{Fault}
@@ -22,8 +23,10 @@ use Rattle.als_writer.specs.declared.refusal.Refusal.{Refusal}
 use Rattle.als_writer.specs.declared.refusal.Refusal.TheVariants.{Invalid, State, Untidy, Held, NotAsAsked, NumbersSpent, TooMany, LogFull, Memory, Unplanned}
 use Rattle.als_writer.specs.declared.transaction.Transaction.{Transaction}
 use Rattle.als_writer.specs.declared.ask.Ask.{Ask}
+use Rattle.als_writer.specs.declared.unmet.Unmet.{Unmet}
 use Rattle.als_writer.specs.Asking.{IsHeldBy, IsFreeNow}
-use Rattle.als_writer.specs.Refused.{KeyRefused, LookRefused, TidyRefused, PlanRefused}
+use Rattle.als_writer.specs.Committing.{FeedRefused}
+use Rattle.als_writer.specs.Refused.{KeyRefused, LookRefused, TidyRefused, StartRefused, PlanRefused, ShowsFailing}
 
 -- ---- a key that nobody holds is free
 
@@ -83,7 +86,7 @@ look_known m key (State f) k is = k is
 look_known m key (Held other by) k is = k.1
 look_known m key (Invalid flaw) k is = absurd k
 look_known m key Untidy k is = absurd k
-look_known m key (NotAsAsked other now) k is = absurd k
+look_known m key (NotAsAsked failing) k is = absurd k
 look_known m key NumbersSpent k is = absurd k
 look_known m key TooMany k is = absurd k
 look_known m key LogFull k is = absurd k
@@ -96,7 +99,7 @@ look_planned m t (Held key by) k = k
 look_planned m t (Memory owed) k = k
 look_planned m t (Invalid flaw) k = absurd k
 look_planned m t Untidy k = absurd k
-look_planned m t (NotAsAsked key now) k = absurd k
+look_planned m t (NotAsAsked failing) k = absurd k
 look_planned m t NumbersSpent k = absurd k
 look_planned m t TooMany k = absurd k
 look_planned m t LogFull k = absurd k
@@ -108,11 +111,34 @@ tidy_planned m t Untidy k = k
 tidy_planned m t (Held key by) k = absurd k
 tidy_planned m t (Memory owed) k = absurd k
 tidy_planned m t (Invalid flaw) k = absurd k
-tidy_planned m t (NotAsAsked key now) k = absurd k
+tidy_planned m t (NotAsAsked failing) k = absurd k
 tidy_planned m t NumbersSpent k = absurd k
 tidy_planned m t TooMany k = absurd k
 tidy_planned m t LogFull k = absurd k
 tidy_planned m t (Unplanned f) k = absurd k
 
-pub Contains-at : (asks : List Ask) (i : ℕ) (ask : Ask) → i < length asks → ask ≡ get_or asks i ask → Contains asks ask
-Contains-at asks i ask lt e = (i, lt, sym e)
+-- ---- a refusal for another cause shows no ask
+
+other_shown : (log : List Record) (asks : List Ask) (r : Refusal) → ((failing : List Unmet) → r ≡ NotAsAsked failing → ⊥) → ShowsFailing log asks r
+other_shown log asks (NotAsAsked failing) other = absurd (other failing refl)
+other_shown log asks (Invalid flaw) other = tt
+other_shown log asks (State f) other = tt
+other_shown log asks Untidy other = tt
+other_shown log asks (Held key by) other = tt
+other_shown log asks NumbersSpent other = tt
+other_shown log asks TooMany other = tt
+other_shown log asks LogFull other = tt
+other_shown log asks (Memory owed) other = tt
+other_shown log asks (Unplanned f) other = tt
+
+pub look_shown : (m : Machine) (log : List Record) (asks : List Ask) (r : Refusal) → LookRefused m r → ShowsFailing log asks r
+look_shown m log asks r k = other_shown log asks r (λ failing e. subst (LookRefused m) e k)
+
+pub tidy_shown : (m : Machine) (log : List Record) (asks : List Ask) (r : Refusal) → TidyRefused m r → ShowsFailing log asks r
+tidy_shown m log asks r k = other_shown log asks r (λ failing e. subst (TidyRefused m) e k)
+
+pub start_shown : (extra : ℕ) (m : Machine) (ws : List Write) (log : List Record) (asks : List Ask) (r : Refusal) → StartRefused extra m ws r → ShowsFailing log asks r
+start_shown extra m ws log asks r k = other_shown log asks r (λ failing e. subst (StartRefused extra m ws) e k)
+
+pub fed_shown : (old : Machine) (t : Transaction) (new : Machine) (log : List Record) (asks : List Ask) (r : Refusal) → FeedRefused old t r new → ShowsFailing log asks r
+fed_shown old t new log asks r k = other_shown log asks r (λ failing e. subst (λ (q : Refusal). FeedRefused old t q new) e k)

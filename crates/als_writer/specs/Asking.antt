@@ -1,12 +1,12 @@
 -- What a transaction asks of the log, and what is known of a key that is free.
-use Rattle.std.specs.Prelude.{◌≡◌, ℕ, ◌<◌, ◌≤◌, true, false, List, length, Option, Some, None, MatchOption, All, Contains}
+use Rattle.std.specs.Prelude.{◌≡◌, ℕ, ◌<◌, ◌≤◌, Bool, true, false, not, List, [], ◌∷◌, ◌++◌, length, map, filter, take, Some, None, All, Contains, if◌then◌else◌}
 use Rattle.als_record.specs.declared.key.Key.{Key}
 use Rattle.als_record.specs.declared.trans_id.TransId.{TransId}
 use Rattle.als_record.specs.declared.record.Body.TheVariants.{Update}
 use Rattle.als_record.specs.declared.record.Record.{Record}
 use Rattle.als_record.specs.Spelling.{Image, IsKey}
 use Rattle.als_record.specs.Transactions.{has_begun}
-use Rattle.als_record.specs.Images.{image_now}
+use Rattle.als_record.specs.Images.{image_now, same_image}
 use Rattle.als_record.specs.Validity.{held_by}
 use Rattle.als_record.specs.Commits.{Write}
 use Rattle.als_writing.specs.Writing.{last_write, is_free}
@@ -15,6 +15,7 @@ use Rattle.als_engine.specs.Refusals.{feed_refusal}
 use Rattle.als_writer.specs.declared.ask.Ask.{Ask}
 use Rattle.als_writer.specs.declared.ask.Ask.TheVariants.{Is, Unchanged}
 use Rattle.als_writer.specs.declared.unmet.Unmet.{Unmet}
+use Rattle.als_writer.specs.Changes.{is_below}
 use Rattle.als_writer.specs.Checking.{key_asked}
 use Rattle.als_writer.specs.Placing.{AreBefores}
 
@@ -40,10 +41,6 @@ pub record AreFreeNow (m : Machine) (ws : List Write) (befores : List Image) : T
   pub now : AreBefores m.held.log ws befores
   pub free : (t : ℕ) → has_begun m.held.log t ≡ false → All (λ w. is_free m.held.log t w.key ≡ true) ws
 
--- each ask holds, or one does not, and its key has this image
-abbrev pub IsAnswer : List Record → List Ask → Option Unmet → Type 0
-IsAnswer log asks unmet = MatchOption unmet (All (λ a. IsAsked log a) asks) (λ u. u.now ≡ image_now log u.key)
-
 -- an ask does not hold of a log; of one for a key that is unchanged nothing is said, since a bound of its last commit was asked
 abbrev pub IsFailed : List Record → Ask → Type 0
 IsFailed log (Is key image) = image_now log key ≡ image → ⊥
@@ -57,6 +54,31 @@ pub record IsUnmet (log : List Record) (asks : List Ask) (key : Key) (now : Imag
   pub failed : IsFailed log ask
   pub now_is : now ≡ image_now log key
 
--- of an ask that does not hold its key and what that has are told
-abbrev pub IsTold : List Record → List Ask → Option Unmet → Type 0
-IsTold log asks unmet = MatchOption unmet (Unit {0}) (λ u. IsUnmet log asks u.key u.now)
+-- asks do not hold, and these are the keys of some and what those have
+pub record AreUnmet (log : List Record) (asks : List Ask) (failing : List Unmet) : Type 0 where
+  pub some : 0 < length failing
+  pub each : All (λ u. IsUnmet log asks u.key u.image) failing
+
+-- what is shown of an ask: its key, and what that has
+abbrev pub unmet_of : List Record → Ask → Unmet
+unmet_of log ask = record { key = key_asked ask; image = image_now log (key_asked ask) }
+
+-- The first eight of the asks that do not hold, in their order, and all where they are fewer: each other ask holds.
+pub record AreFailing (log : List Record) (asks : List Ask) (failing : List Unmet) : Type 0 where
+  pub fails : Ask → Bool
+  pub failed : (ask : Ask) → fails ask ≡ true → IsFailed log ask
+  pub asked : (ask : Ask) → Contains asks ask → fails ask ≡ false → IsAsked log ask
+  pub first : failing ≡ take 8 (map (unmet_of log) (filter fails asks))
+
+-- whether an ask is met, by these bounds of the last commits
+abbrev pub is_met : List ℕ → List Record → Ask → Bool
+is_met bounds log (Is key image) = same_image image (image_now log key)
+is_met bounds log (Unchanged key since) = is_below bounds key since
+
+-- what is shown of those that are not met by them
+abbrev pub unmet_by : List ℕ → List Record → List Ask → List Unmet
+unmet_by bounds log asks = map (unmet_of log) (filter (λ a. not (is_met bounds log a)) asks)
+
+-- the same, with one more ask, which is met or is shown
+abbrev pub with_next : Bool → Unmet → List Unmet → List Unmet
+with_next met next failing = if met then failing else take 8 (failing ++ next ∷ [])

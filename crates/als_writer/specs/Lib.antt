@@ -3,6 +3,7 @@ pub mod Closing
 pub mod Placing
 pub mod Changes
 pub mod Asking
+pub mod Failing
 pub mod Refusing
 pub mod Refused
 pub mod Planning

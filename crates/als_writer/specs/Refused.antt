@@ -1,6 +1,7 @@
 -- Why a transaction is refused before anything is fed.
 use Rattle.std.specs.Prelude.{◌≡◌, ℕ, ◌+◌, ◌*◌, ◌<◌, ◌≤◌, ◌^◌, ◌⊎◌, false, List, [], length, Some}
 use Rattle.als_record.specs.declared.key.Key.{Key}
+use Rattle.als_record.specs.declared.record.Record.{Record}
 use Rattle.als_record.specs.Spelling.{IsKey}
 use Rattle.als_record.specs.LogText.{end_of}
 use Rattle.als_record.specs.Transactions.{unended, greatest_trans}
@@ -11,11 +12,12 @@ use Rattle.als_store.specs.Takeover.{is_following}
 use Rattle.als_engine.specs.declared.fault.Fault.TheVariants.{Sealed}
 use Rattle.als_engine.specs.Machine.{Machine}
 use Rattle.als_engine.specs.Refusals.{feed_refusal}
+use Rattle.als_writer.specs.declared.ask.Ask.{Ask}
 use Rattle.als_writer.specs.declared.refusal.Refusal.{Refusal}
 use Rattle.als_writer.specs.declared.refusal.Refusal.TheVariants.{Invalid, State, Untidy, Held, NotAsAsked, NumbersSpent, TooMany, LogFull, Memory, Unplanned}
 use Rattle.als_writer.specs.declared.transaction.Transaction.{Transaction}
 use Rattle.als_writer.specs.Checking.{IsFlaw}
-use Rattle.als_writer.specs.Asking.{IsHeldBy, IsUnmet}
+use Rattle.als_writer.specs.Asking.{IsHeldBy, AreUnmet, AreFailing}
 
 -- a key is not looked at: the engine takes nothing, the database has no such key, or another transaction holds it
 abbrev pub KeyRefused : Machine → Key → Refusal → Type 0
@@ -48,7 +50,7 @@ PlanRefused m t (Invalid flaw) = IsFlaw m.held.pages t flaw
 PlanRefused m t (State f) = (feed_refusal m ≡ Some f) ⊎ ((f ≡ Sealed) × (is_following m.held ≡ false))
 PlanRefused m t Untidy = (m.partial ≡ [] → ⊥) ⊎ (tail_of m.held.log ≡ [] → ⊥)
 PlanRefused m t (Held key by) = IsHeldBy m.held.log key by
-PlanRefused m t (NotAsAsked key now) = IsUnmet m.held.log t.asks.items key now
+PlanRefused m t (NotAsAsked failing) = AreUnmet m.held.log t.asks.items failing
 PlanRefused m t NumbersSpent = greatest_trans m.held.log + 1 ≡ 2 ^ 32
 PlanRefused m t TooMany = 256 ≤ length (unended m.held.log)
 PlanRefused m t LogFull = IsFull m t.sets.items
@@ -59,6 +61,11 @@ PlanRefused m t (Unplanned f) = ⊥
 abbrev pub PlanRefusedBeside : ℕ → Machine → Transaction → Refusal → Type 0
 PlanRefusedBeside extra m t LogFull = IsFullBeside extra m t.sets.items
 PlanRefusedBeside extra m t refusal = PlanRefused m t refusal
+
+-- a refusal that shows asks shows the first eight that do not hold, and each other ask holds
+abbrev pub ShowsFailing : List Record → List Ask → Refusal → Type 0
+ShowsFailing log asks (NotAsAsked failing) = AreFailing log asks failing
+ShowsFailing log asks _ = Unit {0}
 
 -- records are owed or wait, or the log was sealed
 abbrev pub TidyRefused : Machine → Refusal → Type 0

@@ -1,16 +1,15 @@
-ghost use Rattle.std.specs.Prelude.{◌≡◌, ℕ, ◌+◌, ◌<◌, List, true, false, length, All, Contains, take, slice_index_or, IfOk, IfErr};
+ghost use Rattle.std.specs.Prelude.{◌≡◌, List, length, All, take, IfOk, IfErr};
 ghost use Rattle.als_record.specs.declared.record.Record.{Record as AnyRecord};
 ghost use Rattle.als_record.specs.Spelling.{IsKey};
 ghost use Rattle.als_record.specs.Images.{image_now};
-ghost use Rattle.als_writer.specs.declared.ask.Ask.{Ask as AnyAsk};
 ghost use Rattle.als_writer.specs.Checking.{key_asked, AreAskedIn};
-ghost use Rattle.als_writer.specs.Asking.{IsAsked, IsFailed, IsFreeNow, AreFreeNow, IsAnswer, IsTold};
-ghost use Rattle.als_writer.specs.Changes.{AreBounds};
+ghost use Rattle.als_writer.specs.Asking.{IsFreeNow, AreFreeNow, is_met, unmet_by, with_next};
 ghost use Rattle.als_writer.specs.Refused.{KeyRefused, LookRefused};
 
 use crate::ask::Ask;
 use crate::changes::Changes;
 use crate::checking::asked;
+use crate::failing::Failing;
 use crate::refusal::Refusal;
 use crate::set::Set;
 use crate::unmet::Unmet;
@@ -33,13 +32,11 @@ fn look<E: Writes>(engine: &E, key: Key) -> Result<KeptImage, Refusal>
     }
 }
 
-/// Whether an ask holds, where its key has this image.
+/// Whether an ask holds, where its key has this image. `false` of a key that is to be unchanged where
+/// that is not known.
 fn holds(changes: &Changes, ask: &Ask, now: &KeptImage) -> bool
-    ensures holds { (pages : ℕ) → (log : List AnyRecord) → AreBounds changes.now pages log
-        → IsKey pages (key_asked ask.now) → now.now ≡ image_now log (key_asked ask.now)
-        → result ≡ true → IsAsked log ask.now }
-    ensures failed { (log : List AnyRecord) → now.now ≡ image_now log (key_asked ask.now)
-        → result ≡ false → IsFailed log ask.now }
+    ensures { (log : List AnyRecord) → now.now ≡ image_now log (key_asked ask.now)
+        → result ≡ is_met changes.now log ask.now }
 {
     match ask {
         Ask::Is { image, .. } => now.is(&image.shown()),
@@ -47,49 +44,34 @@ fn holds(changes: &Changes, ask: &Ask, now: &KeptImage) -> bool
     }
 }
 
-/// The first ask that does not hold. Each key that is asked for has to be free.
-pub(crate) fn first_unmet<E: Writes>(
+/// The first eight asks that do not hold. Each key that is asked for has to be free.
+pub(crate) fn failing_of<E: Writes>(
     engine: &E,
     changes: &Changes,
     asks: &[Ask],
-) -> Result<Option<Unmet>, Refusal>
-    ensures answers { IfOk result (λ unmet. E.alone
-        → AreBounds changes.now (E.machine engine.now).held.pages (E.machine engine.now).held.log
-        → IsAnswer (E.machine engine.now).held.log asks.now unmet) }
-    ensures told { IfOk result (λ unmet. E.alone
-        → IsTold (E.machine engine.now).held.log asks.now unmet) }
+) -> Result<Failing, Refusal>
+    ensures first { IfOk result (λ failing. E.alone
+        → failing ≡ take 8 (unmet_by changes.now (E.machine engine.now).held.log asks.now)) }
     ensures refused { IfErr result (λ r. E.alone
         → AreAskedIn (E.machine engine.now).held.pages asks.now
         → LookRefused (E.machine engine.now) r) }
 {
-    let mut unmet = None;
+    let mut failing = Failing::none();
     for ask in asks {
         let key = asked(ask);
         let now = look(engine, key)?;
-        let held = holds(changes, ask, &now);
-        unmet = next_unmet(unmet, held, Unmet { key, now });
+        let met = holds(changes, ask, &now);
+        show_next(&mut failing, met, Unmet { key, image: now });
     }
-    Ok(unmet)
+    Ok(failing)
 }
 
-/// The first ask that does not hold, with one more ask, which holds or is this one.
-fn next_unmet(unmet: Option<Unmet>, held: bool, next: Unmet) -> Option<Unmet>
-    ensures told { (log : List AnyRecord) → (asks : List AnyAsk) → (ask : AnyAsk)
-        → Contains asks ask → key_asked ask ≡ next.key → (held ≡ false → IsFailed log ask)
-        → next.now ≡ image_now log next.key → IsTold log asks unmet → IsTold log asks result }
-    ensures answers { (log : List AnyRecord) → (asks : List AnyAsk) → (i : ℕ) → (ask : AnyAsk)
-        → i < length asks → ask ≡ slice_index_or asks i ask
-        → (held ≡ true → IsAsked log ask) → next.now ≡ image_now log next.key
-        → IsAnswer log (take i asks) unmet → IsAnswer log (take (i + 1) asks) result }
+/// Shows one more ask, where it is not met and there is a place for it.
+fn show_next(failing: &mut Failing, met: bool, next: Unmet)
+    ensures { failing.new ≡ with_next met next failing.old }
 {
-    match unmet {
-        Some(unmet) => Some(unmet),
-        None => {
-            if held {
-                return None;
-            }
-            Some(next)
-        }
+    if !met {
+        failing.push(next);
     }
 }
 

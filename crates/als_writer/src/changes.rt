@@ -1,4 +1,4 @@
-ghost use Rattle.std.specs.Prelude.{◌≡◌, ℕ, ◌<◌, ◌≤◌, true, List, ◌++◌, length, slice_set, slice_index_or, IfOk, IsTrue};
+ghost use Rattle.std.specs.Prelude.{◌≡◌, ℕ, ◌<◌, List, ◌++◌, length, slice_set, slice_index_or, IfOk, IsTrue};
 ghost use Rattle.std.specs.Prelude.{if◌then◌else◌};
 ghost use Rattle.std.specs.List.{list_any, AllByRecursion};
 ghost use Rattle.als_record.specs.declared.record.Record.{Record as AnyRecord};
@@ -11,7 +11,7 @@ ghost use Rattle.als_record.specs.Images.{same_key};
 ghost use Rattle.als_record.specs.Validity.{is_valid};
 ghost use Rattle.als_writing.specs.Writing.{last_write};
 ghost use Rattle.als_tables.specs.Counting.{last_commit};
-ghost use Rattle.als_writer.specs.Changes.{AreBounds, place_of};
+ghost use Rattle.als_writer.specs.Changes.{AreBounds, place_of, is_below};
 ghost use Rattle.als_writer.specs.Deciding.{commits_by};
 
 use crate::set::Set;
@@ -66,8 +66,7 @@ impl Changes {
 
     /// Whether no commit above this LSN wrote the key. `false` where that is not known.
     pub(crate) fn is_unchanged(&self, key: Key, since: Lsn) -> bool
-        ensures { (pages : ℕ) → (log : List AnyRecord) → AreBounds self.now pages log
-            → IsKey pages key → result ≡ true → last_write log key ≤ since.0 }
+        ensures { result ≡ is_below self.now key since }
     {
         match self.bounds.get(place(key)) {
             Some(bound) => *bound <= since.0,

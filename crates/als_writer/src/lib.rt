@@ -28,8 +28,9 @@ mod changes;
 // A transaction that is in the log, and why one is not.
 mod refusal;
 mod written;
-// What its keys have.
+// What its keys have, and the asks that do not hold.
 mod asking;
+mod failing;
 mod unmet;
 // How its records close.
 mod closing;
@@ -57,6 +58,7 @@ pub use ask::Ask;
 pub use changes::Changes;
 pub use checking::find_flaw;
 pub use deciding::decide;
+pub use failing::{FAILING_LIMIT, Failing};
 pub use flaw::Flaw;
 pub use not_decided::NotDecided;
 pub use preparing::prepare;
@@ -64,6 +66,7 @@ pub use refusal::Refusal;
 pub use set::Set;
 pub use tidying::tidy;
 pub use transaction::{LIMIT, Transaction};
+pub use unmet::Unmet;
 pub use work::Work;
 pub use writing::write;
 pub use written::Written;

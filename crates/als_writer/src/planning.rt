@@ -6,9 +6,9 @@ ghost use Rattle.als_writer.specs.Checking.{AreApart};
 ghost use Rattle.als_writer.specs.Placing.{AreBefores};
 ghost use Rattle.als_writer.specs.Planning.{IsTidy, IsStart, IsPlan};
 ghost use Rattle.als_writer.specs.Closing.{extra_of};
-ghost use Rattle.als_writer.specs.Refused.{TidyRefused, StartRefused, PlanRefusedBeside};
+ghost use Rattle.als_writer.specs.Refused.{TidyRefused, StartRefused, PlanRefusedBeside, ShowsFailing};
 
-use crate::asking::{befores_of, first_unmet};
+use crate::asking::{befores_of, failing_of};
 use crate::changes::Changes;
 use crate::checking::find_flaw;
 use crate::closing::Closing;
@@ -100,20 +100,19 @@ pub(crate) fn make_plan<E: Writes>(
         → All (λ a. IsAsked (E.machine engine.now).held.log a) transaction.now.asks.items) }
     ensures refused { IfErr result (λ r. E.alone
         → PlanRefusedBeside (extra_of closing) (E.machine engine.now) transaction.now r) }
+    ensures shown { IfErr result (λ r. E.alone
+        → AreBounds changes.now (E.machine engine.now).held.pages (E.machine engine.now).held.log
+        → ShowsFailing (E.machine engine.now).held.log transaction.now.asks.items r) }
 {
     if let Some(flaw) = find_flaw(transaction, engine.pages()) {
         return Err(Refusal::Invalid(flaw));
     }
     check_tidy(engine)?;
     let sets = transaction.sets.as_slice();
-    let unmet = first_unmet(engine, changes, &transaction.asks)?;
+    let failing = failing_of(engine, changes, &transaction.asks)?;
     let befores = befores_of(alloc, engine, sets)?;
-    if let Some(unmet) = unmet {
-        let now = unmet.now;
-        return Err(Refusal::NotAsAsked {
-            key: unmet.key,
-            now,
-        });
+    if !failing.is_empty() {
+        return Err(Refusal::NotAsAsked { failing });
     }
     let place = start(engine, sets, &befores, closing.extra())?;
     let trans = place.trans;

@@ -2,6 +2,7 @@ ghost use Rattle.std.specs.Prelude.{◌≡◌, IfOk, IfErr};
 ghost use Rattle.als_engine.specs.Machine.{Keeps};
 ghost use Rattle.als_writer.specs.Changes.{AreBounds};
 ghost use Rattle.als_writer.specs.Preparing.{Prepares, NotPrepared};
+ghost use Rattle.als_writer.specs.Refused.{ShowsFailing};
 
 use crate::changes::Changes;
 use crate::closing::Closing;
@@ -32,6 +33,11 @@ pub fn prepare<E: Writes>(
     // Nothing has changed, but for want of memory in the middle of the updates: `tidy` undoes them.
     ensures refused { IfErr result (λ r. E.alone
         → NotPrepared (E.machine engine.old) transaction.now r (E.machine engine.new)) }
+    // The asks that it shows are the first eight that did not hold of the old log, in their order; each
+    // other ask held.
+    ensures shown { IfErr result (λ r. E.alone
+        → AreBounds changes.now (E.machine engine.old).held.pages (E.machine engine.old).held.log
+        → ShowsFailing (E.machine engine.old).held.log transaction.now.asks.items r) }
     // What bounds the last commits still does.
     ensures bounds { E.alone
         → AreBounds changes.now (E.machine engine.old).held.pages (E.machine engine.old).held.log

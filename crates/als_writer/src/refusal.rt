@@ -1,9 +1,10 @@
 ghost use Rattle.std.specs.Prelude.{◌≡◌};
 ghost use Rattle.als_writer.specs.Refusing.{fault_of};
 
+use crate::failing::Failing;
 use crate::flaw::Flaw;
 use als_engine::Fault;
-use als_record::{KeptImage, Key, TransId};
+use als_record::{Key, TransId};
 
 /// Why a transaction is not written.
 #[derive(Clone, Copy)]
@@ -16,8 +17,8 @@ pub enum Refusal {
     Untidy,
     /// Another open transaction holds a key that is asked for or set.
     Held { key: Key, by: TransId },
-    /// An ask does not hold; the first such one. The key has this image now.
-    NotAsAsked { key: Key, now: KeptImage },
+    /// Asks do not hold: the first eight of them, each with what its key has now.
+    NotAsAsked { failing: Failing },
     /// The last TransID is used.
     NumbersSpent,
     /// 256 transactions are unended.

@@ -1,8 +1,8 @@
 use als_record::{KeptImage, Key};
 
-/// The first ask that does not hold: its key, and what the key has.
+/// An ask that does not hold: its key, and the image that this has now.
 #[derive(Clone, Copy)]
-pub(crate) struct Unmet {
+pub struct Unmet {
     pub key: Key,
-    pub now: KeptImage,
+    pub image: KeptImage,
 }

@@ -6,6 +6,7 @@ ghost use Rattle.als_writer.specs.declared.closing.Closing.TheVariants as closin
 ghost use Rattle.als_writer.specs.Planning.{IsPlan};
 ghost use Rattle.als_writer.specs.Committing.{Commits, NotWritten, IsInLog, FeedRefused};
 ghost use Rattle.als_writer.specs.Preparing.{IsPrepared};
+ghost use Rattle.als_writer.specs.Refused.{ShowsFailing};
 
 use crate::changes::Changes;
 use crate::closing::Closing;
@@ -35,6 +36,11 @@ pub fn write<E: Writes>(
     // old ones then, and `tidy` undoes what is held.
     ensures refused { IfErr result (λ r. E.alone
         → NotWritten (E.machine engine.old) transaction.now r (E.machine engine.new)) }
+    // The asks that it shows are the first eight that did not hold of the old log, in their order; each
+    // other ask held.
+    ensures shown { IfErr result (λ r. E.alone
+        → AreBounds changes.old (E.machine engine.old).held.pages (E.machine engine.old).held.log
+        → ShowsFailing (E.machine engine.old).held.log transaction.now.asks.items r) }
     ensures bounds { E.alone
         → AreBounds changes.old (E.machine engine.old).held.pages (E.machine engine.old).held.log
         → AreBounds changes.new (E.machine engine.new).held.pages (E.machine engine.new).held.log }

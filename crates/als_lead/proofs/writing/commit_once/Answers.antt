@@ -12,4 +12,4 @@ pub returns-in-Err-clause-does : goal.returns-in-Err-clause-does
 returns-in-Err-clause-does g c a =
     let old : Machine = g.E.Events.machine c.args.engine.now in
     let new : Machine = g.E.Events.machine c.write.new.engine in
-    does_not_commit old c.args.transaction.now c.in-Err.refusal new (c.in-Err.ensures.refused a) (c.write.ensures.keeps a)
+    does_not_commit old c.args.transaction.now c.in-Err.refusal new (c.in-Err.ensures.refused a) (c.in-Err.ensures.shown a (c.requires.bounded a)) (c.write.ensures.keeps a)

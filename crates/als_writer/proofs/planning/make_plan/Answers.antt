@@ -1,4 +1,5 @@
-use Rattle.std.proofs.Common.{◌≡◌, ℕ, ◌+◌, ◌*◌, ◌<◌, ◌≤◌, true, List, ◌++◌, length, sym, subst, arith}
+use Rattle.std.proofs.Common.{◌≡◌, ℕ, ◌+◌, ◌*◌, ◌<◌, ◌≤◌, true, List, ◌++◌, length, take, sym, subst, ◌∙◌, arith}
+use Rattle.std.proofs.lemmas.Result.{err_from_is_err_and}
 use Rattle.std.specs.List.{AllByRecursion}
 use Rattle.als_record.specs.declared.record.Record.{Record as AnyRecord}
 use Rattle.als_record.specs.Tail.{reserve_of}
@@ -9,17 +10,55 @@ use Rattle.als_writing.specs.Writing.{updates, room_for, is_free}
 use Rattle.als_writing.proofs.Going.{IsNew-is_new}
 use Rattle.als_writer.specs.declared.closing.Closing.{Closing}
 use Rattle.als_writer.specs.Closing.{records_for}
-use Rattle.als_writer.specs.Asking.{AreFreeNow, IsTold}
-use Rattle.als_writer.specs.Checking.{AreApart}
+use Rattle.als_writer.specs.declared.ask.Ask.{Ask}
+use Rattle.als_writer.specs.declared.unmet.Unmet.{Unmet}
+use Rattle.als_writer.specs.Asking.{AreFreeNow, unmet_by}
+use Rattle.als_writer.specs.Checking.{AreApart, AreAskedIn}
 use Rattle.als_writer.specs.Placing.{AreBefores}
 use Rattle.als_writer.specs.Planning.{IsStart}
+use Rattle.als_writer.proofs.Looking.{start_shown}
+use Rattle.als_writer.proofs.Collecting.{none_shown, some_shown, all_asked, are_unmet, are_failing}
 use Rattle.als_writer.proofs.Fitting.{all_writes}
 use Rattle.als_writer.proofs.planning.make_plan.Goals as goal
 
-pub returns-in-Some-unmet-clause-refused : goal.returns-in-Some-unmet-clause-refused
-returns-in-Some-unmet-clause-refused g c a =
-    subst (λ o. IsTold (g.E.Events.machine c.args.engine.now).held.log c.args.transaction.now.asks.items o) c.in-Some-unmet.is
-    (subst (λ xs. IsTold (g.E.Events.machine c.args.engine.now).held.log xs c.in_ok-unmet.unmet) c.deref.ensures.value (c.in_ok-unmet.ensures.told a))
+pub returns-then-not-is_empty-clause-refused : goal.returns-then-not-is_empty-clause-refused
+returns-then-not-is_empty-clause-refused g c a =
+    let log : List AnyRecord = (g.E.Events.machine c.args.engine.now).held.log in
+    let failing : List Unmet = c.in_ok-failing.failing in
+    let first : failing ≡ take 8 (unmet_by c.args.changes.now log c.args.transaction.now.asks.items) =
+    subst (λ (asks : List Ask). failing ≡ take 8 (unmet_by c.args.changes.now log asks)) c.deref.ensures.value (c.in_ok-failing.ensures.first a) in
+    are_unmet c.args.changes.now log c.args.transaction.now.asks.items failing (some_shown failing (sym c.is_empty.ensures ∙ c.if-not-is_empty.true)) first
+
+pub returns-then-not-is_empty-clause-shown : goal.returns-then-not-is_empty-clause-shown
+returns-then-not-is_empty-clause-shown g c a bounds =
+    let m = g.E.Events.machine c.args.engine.now in
+    let log : List AnyRecord = m.held.log in
+    let failing : List Unmet = c.in_ok-failing.failing in
+    let first : failing ≡ take 8 (unmet_by c.args.changes.now log c.args.transaction.now.asks.items) =
+    subst (λ (asks : List Ask). failing ≡ take 8 (unmet_by c.args.changes.now log asks)) c.deref.ensures.value (c.in_ok-failing.ensures.first a) in
+    let keys : AreAskedIn m.held.pages c.args.transaction.now.asks.items = subst (λ (n : ℕ). AreAskedIn n c.args.transaction.now.asks.items) (c.pages.ensures.pages a) c.in_default.ensures.asked in
+    are_failing c.args.changes.now m.held.pages log c.args.transaction.now.asks.items failing bounds keys first
+
+pub returns-in-Ok-clause-asked : goal.returns-in-Ok-clause-asked
+returns-in-Ok-clause-asked g c a bounds =
+    let m = g.E.Events.machine c.args.engine.now in
+    let log : List AnyRecord = m.held.log in
+    let failing : List Unmet = c.in_ok-failing.failing in
+    let first : failing ≡ take 8 (unmet_by c.args.changes.now log c.args.transaction.now.asks.items) =
+    subst (λ (asks : List Ask). failing ≡ take 8 (unmet_by c.args.changes.now log asks)) c.deref.ensures.value (c.in_ok-failing.ensures.first a) in
+    let keys : AreAskedIn m.held.pages c.args.transaction.now.asks.items = subst (λ (n : ℕ). AreAskedIn n c.args.transaction.now.asks.items) (c.pages.ensures.pages a) c.in_default.ensures.asked in
+    all_asked c.args.changes.now m.held.pages log c.args.transaction.now.asks.items failing bounds keys first (none_shown failing (sym c.is_empty.ensures ∙ c.if-not-is_empty.false))
+
+pub returns-in_err-place-clause-shown : goal.returns-in_err-place-clause-shown
+returns-in_err-place-clause-shown g c =
+    let p = err_from_is_err_and c.from_residual-in_err-place.result c.from_residual-in_err-place.ensures.1 in
+    rw (p.1, p.2) (λ a bounds.
+    let m = g.E.Events.machine c.args.engine.now in
+    let ss : List Write = c.as_slice-sets.result.now in
+    let apart : AreApart ss = subst AreApart (sym c.as_slice-sets.ensures.value) c.in_default.ensures.apart in
+    let free : AreFreeNow m ss c.in_ok-befores.befores.items = c.in_ok-befores.ensures.now a in
+    let now : AreBefores m.held.log ss c.deref-2.result.now = subst (λ (bs : List Image). AreBefores m.held.log ss bs) (sym c.deref-2.ensures.value) free.now in
+    start_shown c.extra.result m ss m.held.log c.args.transaction.now.asks.items c.in_err-place.field-0.0 (c.in_err-place.ensures.refused a now apart))
 
 pub returns-in-Ok-clause-planned : goal.returns-in-Ok-clause-planned
 returns-in-Ok-clause-planned g c a =

@@ -5,6 +5,7 @@ use Rattle.als_writer.specs.declared.closing.Closing.TheVariants as closing
 use Rattle.als_writer.specs.Changes.{AreBounds}
 use Rattle.als_writer.proofs.LastBounds.{AreBounds-same}
 use Rattle.als_writer.proofs.Bounding.{refused_bounds}
+use Rattle.als_writer.proofs.Looking.{fed_shown}
 use Rattle.als_writer.proofs.Closed.{fed_not_prepared}
 use Rattle.als_writer.proofs.preparing.prepare.Goals as goal
 
@@ -27,3 +28,11 @@ returns-clause-bounds g c a bounds =
     let d = c.in_ok-written.ensures.prepared a (c.in_ok-planned.ensures.planned a) in
     subst (λ (pages : ℕ). AreBounds c.args.changes.now pages new.held.log) (sym (ap (λ (x : Machine). x.held.pages) d.after))
     (AreBounds-same c.args.changes.now m.held.pages m.held.log new.held.log d.commits bounds)
+
+pub returns-in_err-written-clause-shown : goal.returns-in_err-written-clause-shown
+returns-in_err-written-clause-shown g c =
+    let p = err_from_is_err_and c.from_residual-in_err-written.result c.from_residual-in_err-written.ensures.1 in
+    rw (p.1, p.2) (λ a bounds.
+    let m : Machine = g.E.Events.machine c.args.engine.now in
+    fed_shown m c.args.transaction.now (g.E.Events.machine c.feed_plan.new.engine) m.held.log c.args.transaction.now.asks.items c.in_err-written.field-0.0
+    (c.in_err-written.ensures.refused a closing.Prepare (c.in_ok-planned.ensures.planned a)))

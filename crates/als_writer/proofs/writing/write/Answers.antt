@@ -11,6 +11,7 @@ use Rattle.als_writer.specs.declared.closing.Closing.TheVariants as closing
 use Rattle.als_writer.specs.Changes.{AreBounds}
 use Rattle.als_writer.proofs.LastBounds.{last_write-commit}
 use Rattle.als_writer.proofs.Bounding.{refused_bounds}
+use Rattle.als_writer.proofs.Looking.{fed_shown}
 use Rattle.als_writer.proofs.Closed.{fed_not_written}
 use Rattle.als_writer.proofs.writing.write.Goals as goal
 
@@ -39,4 +40,12 @@ pub returns-in_err-written-clause-refused : goal.returns-in_err-written-clause-r
 returns-in_err-written-clause-refused g c =
     let p = err_from_is_err_and c.from_residual-in_err-written.result c.from_residual-in_err-written.ensures.1 in
     rw (p.1, p.2) (λ a. fed_not_written (g.E.Events.machine c.args.engine.now) c.args.transaction.now c.in_err-written.field-0.0 (g.E.Events.machine c.feed_plan.new.engine)
+    (c.in_err-written.ensures.refused a closing.Commit (c.in_ok-planned.ensures.planned a)))
+
+pub returns-in_err-written-clause-shown : goal.returns-in_err-written-clause-shown
+returns-in_err-written-clause-shown g c =
+    let p = err_from_is_err_and c.from_residual-in_err-written.result c.from_residual-in_err-written.ensures.1 in
+    rw (p.1, p.2) (λ a bounds.
+    let m : Machine = g.E.Events.machine c.args.engine.now in
+    fed_shown m c.args.transaction.now (g.E.Events.machine c.feed_plan.new.engine) m.held.log c.args.transaction.now.asks.items c.in_err-written.field-0.0
     (c.in_err-written.ensures.refused a closing.Commit (c.in_ok-planned.ensures.planned a)))
