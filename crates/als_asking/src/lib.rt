@@ -44,9 +44,9 @@ mod deciding;
 // The response to that.
 mod decision_text;
 mod doubt_text;
+mod failing_text;
 mod filling;
 mod members;
-mod failing_text;
 mod outcome_text;
 mod told_text;
 // The service of a thread.
