@@ -116,8 +116,8 @@ impl<R: AllocGlobal + Wait + Clock> Shipping<R> {
 /// How many follow.
 fn count_followers<R: Wait>(rt: &R, quorum: &Quorum) -> u32 {
     let mut count: u32 = 0;
-    for row in quorum.rows(rt) {
-        if row.is_some() {
+    for member in quorum.members(rt) {
+        if member.is_some() {
             count = count.saturating_add(1);
         }
     }
