@@ -38,7 +38,6 @@ pub(crate) struct Turn<E, N: Drop> {
 /// Connects to the primary and follows one session. What was refused before is asked for again.
 // What calls it stays small: clang does not come to an end over both in one function.
 #[inline(never)]
-#[tactic(auto, using(crate::proofs::Chains::reaches_self, crate::proofs::Chains::reaches_both, crate::proofs::Chains::follows_both, crate::proofs::Vouched::vouches_last, crate::proofs::Vouched::vouches_nobody, crate::proofs::Endings::ends_one, crate::proofs::Endings::ends_unbegun))]
 pub(crate) fn follow_next<
     E: Counts + Send + Drop,
     R: Runtime + Clock,
@@ -64,11 +63,43 @@ pub(crate) fn follow_next<
     // It ended so.
     ensures ended { EndsOne result.ended (L.met primaries.old) (L.met primaries.new) }
 {
+    let signs = Signs::new(board);
+    let turn = follow_one(rt, alloc, events, pace, primaries, &signs, notices);
+    turn
+}
+
+/// The same, with the signs of a session that begins.
+#[inline(never)]
+#[tactic(auto, using(crate::proofs::Chains::reaches_self, crate::proofs::Chains::reaches_both, crate::proofs::Chains::follows_both, crate::proofs::Vouched::vouches_last, crate::proofs::Vouched::vouches_nobody, crate::proofs::Endings::ends_one, crate::proofs::Endings::ends_unbegun))]
+fn follow_one<
+    E: Counts + Send + Drop,
+    R: Runtime + Clock,
+    S: Read + Write + Drop,
+    L: Primaries<S>,
+    N: Outages + Drop,
+>(
+    rt: &R,
+    alloc: Global,
+    events: E,
+    pace: Pace,
+    primaries: &mut L,
+    signs: &Signs<'_>,
+    notices: Notices<N>,
+) -> Turn<E, N>
+    ensures reached { E.alone → Reaches (E.machine events) (E.machine result.events) }
+    ensures follows { E.alone → ReachesFollowing (E.machine events) (E.machine result.events) }
+    ensures book { E.book result.events ≡ E.book events }
+    // One session came, or there was no connection. Each LSN that its primary was answered is
+    // acknowledged then.
+    ensures vouched { E.alone → VouchesLast (acknowledged (E.machine result.events).held)
+        (L.met primaries.old) (L.met primaries.new) }
+    // It ended so.
+    ensures ended { EndsOne result.ended (L.met primaries.old) (L.met primaries.new) }
+{
     let mut events = events;
     let mut notices = notices;
     make_ready(rt, &mut events);
     let begun = moment(rt);
-    let signs = Signs::new(board);
     match primaries.next() {
         Ok((reader, writer)) => {
             tell_uncompared(primaries, &mut notices);
@@ -83,11 +114,11 @@ pub(crate) fn follow_next<
                 events,
                 pace.workers,
                 pace.each,
-                Heard::new(reader, &signs, rt, notices),
-                Answered::new(writer, &signs),
+                Heard::new(reader, signs, rt, notices),
+                Answered::new(writer, signs),
             );
             let is_silent = reader.is_silent();
-            board.set_epoch(u64::from(engine.history().epoch()));
+            signs.board().set_epoch(u64::from(engine.history().epoch()));
             let (reader, notices) = reader.end();
             primaries.part(reader, writer.end(), ended);
             Turn {

@@ -3,7 +3,7 @@ use Rattle.als_ship.specs.Vouching.{TellsVouched}
 use Rattle.als_store.specs.Stored.{acknowledged}
 use Rattle.als_service.proofs.Chains.{reaches_both, follows_both}
 use Rattle.als_service.proofs.Vouched.{vouches_last, vouches_nobody}
-use Rattle.als_service.proofs.next_session.follow_next.Goals as goal
+use Rattle.als_service.proofs.next_session.follow_one.Goals as goal
 
 pub returns-after-is_silent-clause-reached : goal.returns-after-is_silent-clause-reached
 returns-after-is_silent-clause-reached g c = λ alone.
