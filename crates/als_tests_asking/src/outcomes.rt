@@ -71,10 +71,10 @@ fn what_is_in_the_log_is_answered(rt: HostRuntime) -> Result<(), Fail> {
 }
 
 /// A slot of page 1 for which a comparison failed, with its value.
-fn unmet(slot: u8, bytes: Option<&[u8]>) -> Unmet {
+fn unmet(slot: u8, image: KeptImage) -> Unmet {
     Unmet {
         key: Key { page: 1, slot },
-        image: KeptImage::of(&ImageView { bytes }),
+        image,
     }
 }
 
@@ -91,19 +91,26 @@ fn not_as_asked(unmet: &[Unmet]) -> Refusal {
 fn what_was_refused_is_answered(rt: HostRuntime) -> Result<(), Fail> {
     let alloc = rt.alloc();
     let keys = RandomState::new(&rt)?;
+    let cd = KeptImage::of(&ImageView {
+        bytes: Some(&[0xcd]),
+    });
+    let absent = KeptImage::absent();
+    let ab = KeptImage::of(&ImageView {
+        bytes: Some(&[0xab]),
+    });
     let table = [
         (
-            not_as_asked(&[unmet(3, Some(&[0xcd]))]),
+            not_as_asked(&[unmet(3, cd)]),
             "HTTP/1.1 409 Conflict\r\ncontent-type: application/json\r\ncache-control: no-store\r\n\
             content-length: 45\r\n\r\n{\"not_as_asked\":[{\"key\":[1,3],\"value\":\"cd\"}]}",
         ),
         (
-            not_as_asked(&[unmet(3, None)]),
+            not_as_asked(&[unmet(3, absent)]),
             "HTTP/1.1 409 Conflict\r\ncontent-type: application/json\r\ncache-control: no-store\r\n\
             content-length: 45\r\n\r\n{\"not_as_asked\":[{\"key\":[1,3],\"value\":null}]}",
         ),
         (
-            not_as_asked(&[unmet(5, Some(&[0xab])), unmet(3, None)]),
+            not_as_asked(&[unmet(5, ab), unmet(3, absent)]),
             "HTTP/1.1 409 Conflict\r\ncontent-type: application/json\r\ncache-control: no-store\r\n\
             content-length: 72\r\n\r\n{\"not_as_asked\":[{\"key\":[1,5],\"value\":\"ab\"},\
             {\"key\":[1,3],\"value\":null}]}",
