@@ -94,7 +94,6 @@ fn what_was_refused_is_answered(rt: HostRuntime) -> Result<(), Fail> {
     let cd = KeptImage::of(&ImageView {
         bytes: Some(&[0xcd]),
     });
-    let absent = KeptImage::absent();
     let ab = KeptImage::of(&ImageView {
         bytes: Some(&[0xab]),
     });
@@ -105,12 +104,12 @@ fn what_was_refused_is_answered(rt: HostRuntime) -> Result<(), Fail> {
             content-length: 45\r\n\r\n{\"not_as_asked\":[{\"key\":[1,3],\"value\":\"cd\"}]}",
         ),
         (
-            not_as_asked(&[unmet(3, absent)]),
+            not_as_asked(&[unmet(3, KeptImage::absent())]),
             "HTTP/1.1 409 Conflict\r\ncontent-type: application/json\r\ncache-control: no-store\r\n\
             content-length: 45\r\n\r\n{\"not_as_asked\":[{\"key\":[1,3],\"value\":null}]}",
         ),
         (
-            not_as_asked(&[unmet(5, ab), unmet(3, absent)]),
+            not_as_asked(&[unmet(5, ab), unmet(3, KeptImage::absent())]),
             "HTTP/1.1 409 Conflict\r\ncontent-type: application/json\r\ncache-control: no-store\r\n\
             content-length: 72\r\n\r\n{\"not_as_asked\":[{\"key\":[1,5],\"value\":\"ab\"},\
             {\"key\":[1,3],\"value\":null}]}",
