@@ -26,6 +26,7 @@ pub enum Command<'a> {
         listen: &'a str,
         timeout: u64,
         keep: bool,
+        window: u32,
         explain: bool,
     },
     /// One session as the standby of a folder, or one after another.

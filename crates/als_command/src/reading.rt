@@ -138,6 +138,7 @@ fn ship<'a>(matches: &ArgMatches<'a>) -> Option<Command<'a>> {
         listen,
         timeout,
         keep,
+        window: matches.get_one("window").unwrap_or(WINDOW),
         explain,
     })
 }

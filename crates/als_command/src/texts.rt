@@ -97,8 +97,8 @@ read, standard error says so, and it ends with 44, with --keep too. One that is 
 largest log is served up to there.
 With --dir in place of --log it serves the log of the node in the folder DIR, as far as no crash
 can lose it, and tells the node's history: the takeovers before it. It holds DIR meanwhile. With
---keep it serves up to eight followers at once, and holds DIR while it serves any. --follow is of
-FILE alone.
+--keep it serves up to eight followers at once, W frames ahead of their acknowledgements, and
+holds DIR while it serves any. --follow is of FILE alone.
 
 Example:
   printf 'pages 4\\nu 1 0 0 - aa\\ncommit 1\\nend 1\\n' | als make > primary.log
@@ -107,7 +107,7 @@ Example:
 Exit statuses: 0 done, 2 a fault of the command line, 3 `als: refused N Name`:
   1   FILE has no header, or the follower has another database
   32  there was no memory for FILE
-  37  with --keep or --follow of FILE: W is not 1 to 64; no file was touched
+  37  with --keep, or --follow of FILE: W is not 1 to 64; no file was touched
   40  the follower holds more than there is
   41  what came is no frame of a follower
   42  the follower's log goes past the seal with which the history goes on
@@ -122,7 +122,8 @@ pub const STANDBY_ABOUT: &str = "Follows a primary's log as the standby of a fol
 pub const STANDBY_HELP: &str =
     "Needs DIR, a folder that is there, for itself alone. Opens the database in it: log.blk,
 control.blk and pages.blk. Where there is no control.blk, it lays out an empty database of
-N pages with a log of B blocks of 512 bytes, once the primary has answered.
+N pages with a log of B blocks of 512 bytes, once the primary has answered: with --keep its files
+are written before, as log.new, control.new and pages.new, and get their names then.
 Redoes what was not redone, connects to ADDR, where `als ship` serves the primary's log,
 and follows it: each piece is stored, synced, acknowledged and then redone, up to the end of
 the log. After M megabytes of log (0: never), and however the session ends, the pages and a
@@ -133,8 +134,9 @@ can lose it.
 To follow on, run it again: it goes on where it was left, also after a crash.
 With --keep it does so itself: after the end of the log, 43 or 44 it connects again, after a
 pause of at most 5 s, and after any other refusal, of which standard error tells, after a pause
-of 5 s to 60 s; only 21, 29, 30, 31, 33, 34, 42, 48 and 50 end it. With --explain, or on a
-terminal, standard error says once a minute at most that nothing comes.
+of 5 s to 60 s; once it follows, only 21, 29, 30, 31, 33, 34, 42, 48 and 50 end it. At its start it
+waits for a DIR that another program has, for up to a minute. With --explain, or on a terminal,
+standard error says once a minute at most that nothing comes.
 With --serve it answers over HTTP: GET /keys/P/S, /status, /metrics and /health. Nothing is
 encrypted, and nobody is asked who he is.
 With --keep, --serve or --listen one thread redoes at least: --workers 0 is 1.
@@ -161,9 +163,9 @@ Exit statuses: 0 done, 2 a fault of the command line, 3 `als: refused N Name`:
   30  DIR or a file of it failed, or another program has DIR; or control.blk is missing,
       but log.blk or pages.blk has data: nothing was touched
   34  DIR has a database of another number of pages, or a damaged one (1, 33 too)
-  37  N is not 1 to 4,096, B not 1 to 4,194,304, a number of workers not 0 to 8, or with --serve
-      of readers not 1 to 8, or with --listen a window not 1 to 64 or ADDRS no addresses; no file
-      was touched
+  37  N is not 1 to 4,096, B not 1 to 4,194,304, a number of workers not 0 to 8, a window not 1 to
+      64, or with --serve of readers not 1 to 8, or with --listen ADDRS no addresses; no file was
+      touched
   40, 41 what came is no frame that may come; 40 is also: the primary's log is shorter than that in
       DIR
   43  the primary went away; it does so too where it has another number of pages than N
@@ -206,9 +208,9 @@ pub const COMMIT_ABOUT: &str = "Writes transactions into the log of a primary";
 
 pub const COMMIT_HELP: &str =
     "Needs DIR, a folder that is there, for itself alone: an empty one (then give --pages: a new
-database of N pages with a log of B blocks of 512 bytes is laid out), one that `als commit`
-wrote before, or one that `als takeover` made a primary. The file `role` in it says that it is a
-primary's.
+database of N pages with a log of B blocks of 512 bytes is laid out), one that `als primary` or
+`als commit` wrote before, or one that `als takeover` made a primary. The file `role` in it says
+that it is a primary's.
 Reads standard input: a transaction a line, in JSON:
   {\"if\":[{\"key\":[P,S],\"is\":\"ab\"},{\"key\":[P,S],\"unchanged_since\":L}],
    \"set\":[{\"key\":[P,S],\"to\":\"cd\"},{\"key\":[P,S],\"to\":null}]}
@@ -261,7 +263,7 @@ Redoes what was not redone, undoes what a crash left in mid-transaction, and ans
     200 {\"trans\":T,\"lsn\":L}: it is durable. 409: a comparison does not hold, or another
     transaction holds a key. 400, 413: no transaction. 408, 503: nothing was written, ask again;
     408: the request was not whole after 5 s. 504: it may be written or not. 507: the log has no
-    room. A 409 shows the first comparison that does not hold.
+    room. A 409 shows the first eight comparisons that do not hold.
   POST /prepare           the same, but it is in doubt, and holds its keys, until it is decided
   POST /decide            {\"trans\":T,\"commit\":true} commits T, false rolls it back; 404: not in doubt
   GET /in-doubt           [{\"trans\":T,\"lsn\":L}]: the transactions in doubt

@@ -1,2 +1,3 @@
 pub mod Summed
 pub mod Answers
+pub mod Serving

@@ -1,7 +1,13 @@
-ghost use Rattle.std.specs.Prelude.{◌≡◌, ◌≤◌, ◌++◌, ◌⊎◌, ℕ, List, OnOk};
+ghost use Rattle.std.specs.Prelude.{◌≡◌, ◌≤◌, ◌++◌, ◌∷◌, ◌⊎◌, ℕ, List, [], Some, OnOk, IfOk, IfErr};
+ghost use Rattle.std.specs.Io.KnownBytes.{Consumes};
+ghost use Rattle.std.specs.Fmt.{option_append};
+ghost use Rattle.als_ship.specs.declared.fault.Fault.TheVariants.{Cut, Stream};
 ghost use Rattle.als_sending.specs.Reads.{Read as AnyRead, AreOf};
 ghost use Rattle.als_sending.specs.Sent.{SendsTrue};
+ghost use Rattle.als_sending.specs.Meeting.{FailsToSend};
+ghost use Rattle.als_sending.specs.Session.{Hears, KeepsWindow, Begins};
 ghost use Rattle.als_comparing.specs.Answers.{Answers};
+ghost use Rattle.als_comparing.specs.Serving.{IsAsked, IsServed, FailsToServe};
 
 use crate::answering::answer;
 use als_compare::{TAG, read_byte};
@@ -16,6 +22,7 @@ use std::io::{Read, Write};
 ///
 /// As `send_log` says; of a question Cut: the stream ended before it did. Stream: it failed, or the log did.
 /// Memory: there was none for a piece.
+#[tactic(auto, using(crate::proofs::Behind::known_again, crate::proofs::Behind::begins_question))]
 pub fn serve_log<G: Growing, M: Marks, R: Read, W: Write>(
     alloc: Global,
     log: &mut G,
@@ -33,17 +40,68 @@ pub fn serve_log<G: Growing, M: Marks, R: Read, W: Write>(
         (W.contents writer.new)
         ⊎ ((text : List ℕ) → AreOf text (G.reads log.new) → SendsTrue text (G.seals log.old)
         (W.contents writer.old) (W.contents writer.new))) }
+    // Whatever ends it: nothing was acknowledged, as a question began; or what was acknowledged are the
+    // answers that were read, at most `window` frames are without one, and what was sent are true frames.
+    ensures served { IsAsked (R.remaining reader.old) (M.heard marks.old) (M.heard marks.new)
+        (M.begun marks.old) (M.begun marks.new)
+        ⊎ IsServed window (G.pages log.old) (G.shown log.new) (G.seals log.old) (G.reads log.new)
+        (R.remaining reader.old) (M.heard marks.old) (M.heard marks.new) (M.begun marks.old)
+        (M.begun marks.new) (W.contents writer.old) (W.contents writer.new) }
     // What was read before stays.
     ensures reads { (more : List AnyRead) × (G.reads log.new ≡ G.reads log.old ++ more) }
     ensures rises { G.shown log.old ≤ G.shown log.new }
     ensures seals { G.seals log.new ≡ G.seals log.old }
     ensures pages { G.pages log.new ≡ G.pages log.old }
+    ensures fails { IfErr result (λ f. FailsToServe (G.pages log.old) (G.seals log.old)
+        (G.shown log.new) f (R.remaining reader.old)) }
 {
-    let first = read_byte(reader)?;
+    let first = first_byte(reader)?;
     if first == TAG {
         answer(alloc, log, reader, writer)?;
         return Ok(0);
     }
+    serve_behind(alloc, log, marks, window, first, reader, writer)
+}
+
+/// The first byte that comes. Cut: none did. Stream: the stream failed.
+fn first_byte<R: Read>(reader: &mut R) -> Result<u8, Fault>
+    ensures found { IfOk result (λ byte. Consumes (R.remaining reader.old) (R.remaining reader.new)
+        (byte ∷ [])) }
+    ensures fails { IfErr result (λ f. (f ≡ Cut) ⊎ (f ≡ Stream)) }
+{
+    Ok(read_byte(reader)?)
+}
+
+/// The same of a session, of whose question the first byte was read.
+fn serve_behind<G: Growing, M: Marks, R: Read, W: Write>(
+    alloc: Global,
+    log: &mut G,
+    marks: &mut M,
+    window: u32,
+    first: u8,
+    reader: &mut R,
+    writer: &mut W,
+) -> Result<u64, Fault>
+    requires some { 1 ≤ window }
+    requires few { window ≤ 64 }
+    ensures true_frames { (text : List ℕ) → AreOf text (G.reads log.new)
+        → SendsTrue text (G.seals log.old) (W.contents writer.old) (W.contents writer.new) }
+    ensures hears { Hears (G.pages log.old) (G.shown log.new) (G.seals log.old) (M.heard marks.old)
+        (M.heard marks.new) (option_append (Some (first ∷ [])) (R.remaining reader.old))
+        (W.contents writer.old) }
+    ensures keeps { KeepsWindow window (G.seals log.old) (M.heard marks.old) (M.heard marks.new)
+        (W.contents writer.old) (W.contents writer.new) }
+    ensures begins { Begins (G.pages log.old) (G.shown log.new) (G.seals log.old)
+        (M.begun marks.old) (M.begun marks.new) (M.heard marks.old) (M.heard marks.new)
+        (option_append (Some (first ∷ [])) (R.remaining reader.old)) (W.contents writer.old)
+        (W.contents writer.new) }
+    ensures reads { (more : List AnyRead) × (G.reads log.new ≡ G.reads log.old ++ more) }
+    ensures rises { G.shown log.old ≤ G.shown log.new }
+    ensures seals { G.seals log.new ≡ G.seals log.old }
+    ensures pages { G.pages log.new ≡ G.pages log.old }
+    ensures fails { IfErr result (λ f. FailsToSend (G.pages log.old) (G.seals log.old)
+        (G.shown log.new) f (option_append (Some (first ∷ [])) (R.remaining reader.old))) }
+{
     let front = [first];
     let mut reader = front.as_slice().chain(reader);
     send_log(alloc, log, marks, window, &mut reader, writer)

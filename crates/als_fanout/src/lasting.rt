@@ -229,9 +229,10 @@ fn keep_shipping<
 /// each in a thread of its own. The folder is held from the question of the first of them until none goes on,
 /// and is free between. So its log ends where it was acknowledged then. After each session that came to the
 /// end it prints `sent=N`, as `ship_on` does. What ends a session ends that one alone, and so does a folder
-/// that another program has.
+/// that another program has. So many frames of a session may be without an answer: 1 to 64.
 ///
-/// Stream: the address, a thread or the output failed. Memory: allocation failed.
+/// Stream: the address, a thread or the output failed. Memory: allocation failed. Refused BadConfig: the
+/// window is not 1 to 64; no file was touched.
 pub fn ship_node_on<
     R: AllocGlobal
         + Files<File = File>
@@ -246,9 +247,50 @@ pub fn ship_node_on<
         + 'static,
     M: Sessions,
     O: Write,
->(rt: &R, shipping: NodeShipping<'_>, meetings: &mut M, output: &mut O) -> Result<(), Fault>
-    ensures fails { IfErr result IsOfShipping }
+>(
+    rt: &R,
+    shipping: NodeShipping<'_>,
+    window: u32,
+    meetings: &mut M,
+    output: &mut O,
+) -> Result<(), Fault>
+    // A window out of its range is refused.
+    ensures refused { (window ≡ 0) ⊎ (64 < window) → result ≡ Err (Refused BadConfig) }
+    // Nothing else is refused: else a session, a stream or an allocation failed.
+    ensures fails { IfErr result (λ f. IsOfShipping f
+        ⊎ ((f ≡ Refused BadConfig) × ((window ≡ 0) ⊎ (64 < window)))) }
     // It goes on until it fails.
+    ensures never { OnOk result ⊥ }
+{
+    if window == 0 || window > WINDOW_LIMIT {
+        return Err(Fault::Refused(EngineFault::BadConfig));
+    }
+    keep_shipping_node(rt, shipping, window, meetings, output)
+}
+
+/// Serves up to eight at once, until the output failed.
+fn keep_shipping_node<
+    R: AllocGlobal
+        + Files<File = File>
+        + Net<Listener = TcpListener, Stream = TcpStream>
+        + Threads
+        + Wait
+        + Sync
+        + Clock
+        + Clone
+        + Send
+        + Drop
+        + 'static,
+    M: Sessions,
+    O: Write,
+>(
+    rt: &R,
+    shipping: NodeShipping<'_>,
+    window: u32,
+    meetings: &mut M,
+    output: &mut O,
+) -> Result<(), Fault>
+    ensures fails { IfErr result IsOfShipping }
     ensures never { OnOk result ⊥ }
 {
     let alloc = rt.alloc();
@@ -263,7 +305,7 @@ pub fn ship_node_on<
     };
     let node = NodeFolder::new(rt.clone()?, hold, outbox);
     let listener = TcpListener::bind(rt, shipping.listen)?;
-    let terms = Terms::new(WINDOW, silence(shipping.timeout));
+    let terms = Terms::new(window, silence(shipping.timeout));
     Err(serve_crowd(
         rt,
         listener,

@@ -1,5 +1,6 @@
-ghost use Rattle.std.specs.Prelude.{◌≡◌, IfOk};
+ghost use Rattle.std.specs.Prelude.{◌≡◌, ◌≤◌, IfOk};
 ghost use Rattle.als_wire.specs.Reading.{IsHeader};
+ghost use Rattle.als_followers.specs.Serving.{IsOfSession};
 
 use crate::pulse::{Always, Pulse};
 use crate::serves::Serves;
@@ -226,6 +227,27 @@ impl<R: Wait + Clock + Clone + Drop, F: FileExt + Drop, P: Pulse + Drop> NodeSou
             account: Account::Nothing,
         })
     }
+
+    /// Sends it to one who came, or answers what log it is.
+    #[tactic(auto, using(crate::proofs::Serving::session_of))]
+    fn send<M: Marks, I: Read, W: Write>(
+        &self,
+        alloc: Global,
+        marks: &mut M,
+        window: u32,
+        reader: &mut I,
+        writer: &mut W,
+    ) -> Result<u64, Fault>
+        requires some { 1 ≤ window }
+        requires few { window ≤ 64 }
+        // Whatever ends it, what was acknowledged are the answers that were read, and nothing else.
+        ensures session { IsOfSession window (I.remaining reader.old) (M.heard marks.old)
+            (M.heard marks.new) (M.begun marks.old) (M.begun marks.new) (W.contents writer.old)
+            (W.contents writer.new) }
+    {
+        let mut log = self.open()?;
+        serve_log(alloc, &mut log, marks, window, reader, writer)
+    }
 }
 
 impl<R: Wait + Clock + Clone + Drop, F: FileExt + Drop, P: Pulse + Drop> Serves
@@ -238,7 +260,6 @@ impl<R: Wait + Clock + Clone + Drop, F: FileExt + Drop, P: Pulse + Drop> Serves
         reader: &mut I,
         writer: &mut W,
     ) -> Result<u64, Fault> {
-        let mut log = self.open()?;
-        serve_log(alloc, &mut log, marks, window, reader, writer)
+        self.send(alloc, marks, window, reader, writer)
     }
 }

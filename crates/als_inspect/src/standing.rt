@@ -38,6 +38,23 @@ pub fn status<R: AllocGlobal + Files<File = File> + Wait, A: Advance, O: Write>(
     tell(rt.alloc(), &database, &engine, capacity, role, output)
 }
 
+/// Whether a folder's database follows its primary: it was not taken over. Its log is not read. A folder
+/// without a database follows too.
+///
+/// Else as `database_of` refuses the folder.
+pub fn is_following<R: AllocGlobal + Files<File = File>>(rt: &R, dir: &str) -> Result<bool, Fault> {
+    let folder = Folder::hold_to_read(rt, dir)?;
+    if !folder.is_kept(rt)? {
+        return Ok(true);
+    }
+    let files = folder.open_to_read(rt)?;
+    let database = database_of(rt.alloc(), &files)?;
+    match database.state.phase {
+        Phase::Following => Ok(true),
+        Phase::Sealed | Phase::Primary => Ok(false),
+    }
+}
+
 /// Prints the state of a standby and its open transactions.
 fn tell<E: Events, O: Write>(
     alloc: Global,

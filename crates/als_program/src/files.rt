@@ -3,9 +3,10 @@ ghost use Rattle.als_program.specs.Status.{IsStatus};
 
 use crate::failure::Failure;
 use crate::meeting_lines::MeetingLines;
+use crate::patience::stand_at_last;
 use crate::redo_lines::RedoLines;
 use crate::refusal::Refusal;
-use crate::sound_pages::check_sound;
+use crate::sound_pages::{check_followable, check_sound};
 use crate::terminals::Terminals;
 use crate::{log_sizes, partings, troubles};
 use als_command::Command;
@@ -322,6 +323,7 @@ fn serve_log<
             listen,
             timeout,
             keep,
+            window,
             explain,
         } => {
             let shipping = NodeShipping {
@@ -331,7 +333,7 @@ fn serve_log<
             };
             let mut lines = MeetingLines::new(errors, seen || explain);
             if keep {
-                ship_node_on(rt, shipping, &mut lines, output)?
+                ship_node_on(rt, shipping, window, &mut lines, output)?
             } else {
                 ship_node(rt, shipping, &mut lines, output)?
             }
@@ -394,7 +396,6 @@ fn follow<
     if forget_unreached {
         forget(rt, dir, &mut lines)?
     }
-    check_sound(rt, dir, &mut lines)?;
     if keep || serve.is_some() || listen.is_some() {
         let followers = named_in(rt.alloc(), followers)?;
         let service = Service {
@@ -406,10 +407,10 @@ fn follow<
             window,
             followers: followers.as_slice(),
         };
-        serve_standby(rt, following, service, &mut lines, output)?;
-        return Ok(());
+        return stand_at_last(rt, following, service, &mut lines, output);
     }
     lines.of_one_session();
+    check_followable(rt, dir, &mut lines)?;
     stand_by(rt, following, workers, &mut lines, output)
 }
 

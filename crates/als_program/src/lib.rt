@@ -15,6 +15,8 @@ mod troubles;
 mod redo_lines;
 // Each page is what the log makes of it.
 mod sound_pages;
+// A standby waits for its folder.
+mod patience;
 // A standby whose log parted from its primary's.
 mod partings;
 // Whom a shipper meets.

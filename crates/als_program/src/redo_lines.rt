@@ -112,6 +112,15 @@ impl<'a, W: Write, C: Clock> RedoLines<'a, W, C> {
         }
     }
 
+    /// Another program has a folder, and the standby waits for it.
+    pub fn waits_for(&mut self, dir: &str) {
+        // Where it can't be said, the standby waits all the same.
+        let _ = writeln!(
+            self.errors,
+            "als: {dir}: another program has the folder: als standby waits for it, for up to a minute"
+        );
+    }
+
     /// Where they are written.
     pub fn errors(&mut self) -> &mut W {
         &mut self.errors

@@ -1,5 +1,5 @@
 use als_fault::FaultKind;
-use als_folder::Trouble;
+use als_folder::{Part, Trouble, Wrong};
 use als_inspect::Fault as InspectFault;
 use als_lookback::Fault as LookFault;
 use als_operate::Fault as OperateFault;
@@ -14,6 +14,19 @@ pub struct Refusal {
     pub kind: FaultKind,
     /// What is wrong with the files, where that is known.
     pub trouble: Option<Trouble>,
+}
+
+impl Refusal {
+    /// Whether another program has the folder.
+    pub fn is_of_lock(self) -> bool {
+        matches!(
+            self.trouble,
+            Some(Trouble {
+                part: Part::Itself,
+                wrong: Wrong::Locked
+            })
+        )
+    }
 }
 
 impl From<OperateFault> for Refusal {

@@ -1,24 +1,48 @@
 use crate::redo_lines::RedoLines;
 use crate::refusal::Refusal;
 use als_fault::FaultKind;
-use als_inspect::check_pages;
+use als_inspect::{check_pages, is_following};
 use std::fs::File;
 use std::io::Write;
 use std::rt::Files;
 use std::time::Clock;
 
-/// Refuses a page that is not what its log makes of it, before anything is written. What else is wrong with the
-/// folder the command itself reports, in its own order. Behind it the command reads the log once more.
+/// Refuses a page that is not what its log makes of it, before anything is written. Refuses too where the
+/// check has no memory, or another program has the folder: no command goes on over pages that were not
+/// checked. What else is wrong with the folder the command itself reports, in its own order. Behind it the
+/// command reads the log once more.
 pub fn check_sound<R: AllocGlobal + Files<File = File>, W: Write, C: Clock>(
     rt: &R,
     dir: &str,
     lines: &mut RedoLines<'_, W, C>,
 ) -> Result<(), Refusal> {
     if let Err(fault) = check_pages(rt, dir, lines) {
-        if let FaultKind::BadPage { page: _ } = fault.kind() {
-            return Err(Refusal::from(fault));
+        let refusal = Refusal::from(fault);
+        if ends_check(refusal) {
+            return Err(refusal);
         }
     }
     lines.reads_again(dir);
     Ok(())
+}
+
+/// The same of a folder that a standby is to follow with. One that was taken over the standby itself refuses,
+/// at once: its log is not read for it.
+pub fn check_followable<R: AllocGlobal + Files<File = File>, W: Write, C: Clock>(
+    rt: &R,
+    dir: &str,
+    lines: &mut RedoLines<'_, W, C>,
+) -> Result<(), Refusal> {
+    match is_following(rt, dir) {
+        Ok(false) => Ok(()),
+        Ok(true) | Err(_) => check_sound(rt, dir, lines),
+    }
+}
+
+/// Whether a command behind the check may pass over what refused it.
+fn ends_check(refusal: Refusal) -> bool {
+    match refusal.kind {
+        FaultKind::BadPage { page: _ } | FaultKind::Memory => true,
+        _ => refusal.is_of_lock(),
+    }
 }

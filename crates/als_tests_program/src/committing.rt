@@ -68,6 +68,13 @@ line 10: no transaction: an object of "set", with "if" or without
 "#,
 );
 
+/// The same folder, for which another log is asked.
+const LONGER: [&str; 6] = ["als", "commit", "--dir", "committed", "--log-blocks", "2"];
+
+/// What is said of it.
+const OTHER_BLOCKS: &str =
+    "als: committed: the log of this database has 1 blocks; --log-blocks 2 is for a new one\n";
+
 /// A takeover of the folder, and the first transaction after it.
 const TAKEOVER: [&str; 4] = ["als", "takeover", "--dir", "committed"];
 
@@ -85,6 +92,7 @@ fn lines_are_written_or_refused_as_they_say(rt: HostRuntime) {
         &rt,
         Row::of(&SKIPPING, lines, "lsn=327 trans=4\n").failing(mistakes, 0),
     );
+    run_row(&rt, Row::of(&LONGER, "", "").failing(OTHER_BLOCKS, 0));
     run_row(&rt, Row::of(&TAKEOVER, "", "end=383\n0/0 bb\n1/3 .\n"));
     run_row(
         &rt,

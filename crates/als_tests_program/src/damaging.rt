@@ -358,6 +358,48 @@ fn a_long_file_is_told<
     assert!(rt; !has_role(rt));
 }
 
+/// Damages the block of page 3 of the folder.
+fn damages<R: AllocGlobal + Files<File = File>>(rt: &R) -> Option<()> {
+    let mut pages = fs::read(rt, FILES[2]).ok()?;
+    alter(&mut pages, Some(3 * 512));
+    fs::write(rt, FILES[2], pages.as_slice()).ok()
+}
+
+/// A folder that was taken over follows no more: that is said before its pages are looked at. A takeover of it
+/// looks at them.
+fn a_damaged_primary_is_told<
+    R: Abort
+        + AllocGlobal
+        + Files<File = File>
+        + Net<Listener = TcpListener, Stream = TcpStream>
+        + Threads
+        + Wait
+        + Sync
+        + Clock
+        + RandomSource
+        + Clone
+        + Send
+        + Drop
+        + 'static,
+>(rt: &R) {
+    laid_out(rt, [None, None, None]);
+    let taken = "end=108\n0/0 aa\n";
+    assert!(rt; prints(rt, &TAKEOVER, taken) || prints(rt, &TAKEOVER, taken));
+    assert!(rt; damages(rt).is_some());
+    let sealed = Refusal {
+        printed: "",
+        refusal: "als: refused 21 Sealed\n",
+        explained: "",
+    };
+    is_refused(rt, &STANDBY, sealed);
+    let page = Refusal {
+        printed: "",
+        refusal: "als: refused 33 BadPage 3\n",
+        explained: "als: damaged/pages.blk: the block of page 3 is damaged, or is not what log.blk makes of it: compare the log with another node's (als cut), then als rebuild-pages\n",
+    };
+    is_refused(rt, &TAKEOVER, page);
+}
+
 /// Whether the folder says that it is a primary's.
 fn has_role<R: Files>(rt: &R) -> bool {
     fs::metadata(rt, "damaged/role").is_ok()
@@ -414,6 +456,7 @@ fn a_damaged_file_is_told(rt: HostRuntime) {
     a_short_file_is_told(&rt);
     a_missing_file_is_told(&rt);
     a_long_file_is_told(&rt);
+    a_damaged_primary_is_told(&rt);
     assert!(rt; fs::remove_dir_all(&rt, "damaged").is_ok());
     let missing = Refusal {
         printed: "",

@@ -94,6 +94,9 @@ mod progressing;
 // `als commit`.
 #[cfg(test)]
 mod committing;
+// Who may commit to `als primary`.
+#[cfg(test)]
+mod guarding;
 // Looks back in a log.
 #[cfg(test)]
 mod looking_back;

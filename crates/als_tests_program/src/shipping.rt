@@ -53,3 +53,25 @@ fn ship_is_refused(rt: HostRuntime) {
     }
     assert!(rt; std::fs::remove_file(&rt, "no header").is_ok());
 }
+
+/// A window out of its range is refused before the file or the folder is looked at.
+#[test]
+fn a_window_has_its_range(rt: HostRuntime) {
+    let wanted = "als: refused 37 BadConfig\n";
+    for source in ["--log", "--dir"] {
+        for window in ["0", "65"] {
+            let words = [
+                "als",
+                "ship",
+                source,
+                "nowhere",
+                "--listen",
+                "127.0.0.1:0",
+                "--keep",
+                "--window",
+                window,
+            ];
+            assert!(rt; refuses(&rt, &words, wanted) || refuses(&rt, &words, wanted));
+        }
+    }
+}

@@ -1,0 +1,35 @@
+-- What a stream had before its first byte was read.
+use Rattle.std.proofs.Common.{◌≡◌, ◌⊎◌, ℕ, List, [], ◌∷◌, ◌++◌, Option, Some, None, IfSome, refl, ap, subst, sym, inl, inr}
+use Rattle.std.specs.Io.KnownBytes.{Consumes}
+use Rattle.std.specs.Fmt.{option_append}
+use Rattle.std.proofs.KnownBytes.{Keeps-refl, Appends-nil}
+use Rattle.als_ship.specs.declared.fault.Fault.{Fault}
+use Rattle.als_ship.specs.declared.fault.Fault.TheVariants.{Cut, Stream}
+use Rattle.als_sending.specs.Reads.{Read}
+use Rattle.als_sending.specs.Meeting.{FailsToSend}
+use Rattle.als_sending.specs.Session.{IsUnbegun}
+use Rattle.als_comparing.specs.Serving.{AreKnownAs, BeginsQuestion, IsServed, FailsToServe}
+
+-- what was read and what is left are what there was, where that is known
+pub known_again : (old mid : Option (List ℕ)) (bytes : List ℕ) → Consumes old mid bytes → AreKnownAs old (option_append (Some bytes) mid)
+known_again None mid bytes c = inl refl
+known_again (Some xs) None bytes c = absurd c
+known_again (Some xs) (Some ys) bytes c = inr (ap Some c)
+
+-- it began with V
+pub begins_question : (old mid : Option (List ℕ)) (byte : ℕ) → Consumes old mid (byte ∷ []) → byte ≡ 86 → BeginsQuestion old
+begins_question None mid byte c e = tt
+begins_question (Some xs) None byte c e = absurd c
+begins_question (Some xs) (Some ys) byte c e = (ys, subst (λ (b : ℕ). xs ≡ b ∷ ys) e c)
+
+-- nothing was read or sent
+pub not_served : (window pages end : ℕ) (own : List ℕ) (reads : List Read) (asked : Option (List ℕ)) (heard : List ℕ) (begun old : Option (List ℕ))
+    → IsServed window pages end own reads asked heard heard begun begun old old
+not_served window pages end own reads asked heard begun old =
+    let unbegun : IsUnbegun own begun begun heard heard old old = record { none = refl; kept = Keeps-refl begun; told = ([], _, refl, Appends-nil old) } in
+    (record { came = asked; known = inr refl; hears = inl refl; keeps = inl unbegun.told; begins = inl unbegun }, λ text are. inl unbegun.told)
+
+-- as the stream ended or failed before its first byte
+pub not_served_by : (pages end : ℕ) (own : List ℕ) (fault : Fault) (asked : Option (List ℕ)) → (fault ≡ Cut) ⊎ (fault ≡ Stream) → FailsToServe pages own end fault asked
+not_served_by pages end own fault asked (inl e) = inr (asked, inr refl, subst (λ (f : Fault). FailsToSend pages own end f asked) (sym e) tt)
+not_served_by pages end own fault asked (inr e) = inr (asked, inr refl, subst (λ (f : Fault). FailsToSend pages own end f asked) (sym e) tt)
