@@ -162,10 +162,11 @@ Exit statuses: 0 done, 2 a fault of the command line, 3 `als: refused N Name`:
       als begin makes a new log
   30  DIR or a file of it failed, or another program has DIR; or control.blk is missing,
       but log.blk or pages.blk has data: nothing was touched
+  32  there was no memory for what DIR holds: it may be run again
   34  DIR has a database of another number of pages, or a damaged one (1, 33 too)
-  37  N is not 1 to 4,096, B not 1 to 4,194,304, a number of workers not 0 to 8, a window not 1 to
-      64, or with --serve of readers not 1 to 8, or with --listen ADDRS no addresses; no file was
-      touched
+  37  N is not 1 to 4,096, B not 1 to 4,194,304, a number of workers not 0 to 8, with --keep,
+      --serve or --listen a window not 1 to 64, with --serve a number of readers not 1 to 8, or
+      with --listen ADDRS no addresses; no file was touched
   40, 41 what came is no frame that may come; 40 is also: the primary's log is shorter than that in
       DIR
   43  the primary went away; it does so too where it has another number of pages than N
@@ -198,6 +199,7 @@ Example:
 
 Exit statuses: 0 done, 2 a fault of the command line, 3 `als: refused N Name`:
   30  DIR or a file of it failed, it has no database, or another program has DIR
+  32  there was no memory for what DIR holds: it may be run again
   33, 34, 1 to 16 a file of it is damaged
   37  log.blk is longer than the largest log
   49  the history has no room for one more: where seals at the end of the log are of takeovers that
@@ -241,6 +243,7 @@ Exit statuses: 0 done, 2 a fault of the command line or a line that is no transa
   21  a takeover of DIR is not at its end: `als takeover` goes on with it
   30  DIR or a file of it failed, or another program has DIR; or control.blk is missing,
       but log.blk or pages.blk has data: nothing was touched
+  32  there was no memory for what DIR holds: it may be run again
   33, 34, 1 to 16 a file of it is damaged; 34 also: the database has another number of pages than N
   37  N is missing for a new database or not 1 to 4,096, B not 1 to 4,194,304, or L not 1 to
       1,000; no file was touched
@@ -296,6 +299,7 @@ Exit statuses: 2 a fault of the command line, of FILE or of ADDR without it, 3
   21  a takeover of DIR is not at its end: `als takeover` goes on with it
   30  DIR or a file of it failed, or another program has DIR; or control.blk is missing,
       but log.blk or pages.blk has data: nothing was touched
+  32  there was no memory for what DIR holds: it may be run again
   33, 34, 1 to 16 a file of it is damaged; 34 also: the database has another number of pages than N
   37  N is missing for a new database or not 1 to 4,096, B not 1 to 4,194,304, C not 1 to 64, the
       SECONDS of --commit-timeout not 1 to 3,600 or those of --timeout over 3,600, K over 8 or
@@ -320,6 +324,7 @@ Example:
 
 Exit statuses: 0 done, 2 a fault of the command line, 3 `als: refused N Name`:
   30  DIR or a file of it failed, it has no database, or another program has DIR
+  32  there was no memory for what DIR holds: it may be run again
   33, 34, 1 to 16 a file of it is damaged
   46  DIR was not taken over: `als takeover` does that; a primary's folder decides by POST /decide,
       or by a line {\"decide\":..} of `als commit`

@@ -39,9 +39,6 @@ pub struct Lasting {
     pub window: u32,
 }
 
-/// How many frames may be without an answer where nothing else is asked for.
-pub const WINDOW: u32 = 16;
-
 /// Receives the sessions of a shipper that goes on, one call at a time.
 pub trait Sessions: Meetings {
     /// A session ended early. The shipper goes on.

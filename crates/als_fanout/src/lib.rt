@@ -45,5 +45,5 @@ mod crowd;
 // A shipper that goes on.
 mod lasting;
 
-pub use lasting::{Lasting, Sessions, WINDOW, ship_node_on, ship_on};
+pub use lasting::{Lasting, Sessions, ship_node_on, ship_on};
 pub use strayed::Strayed;

@@ -393,9 +393,6 @@ fn follow<
         timeout,
     };
     let mut lines = RedoLines::new(errors, rt, seen, explain);
-    if forget_unreached {
-        forget(rt, dir, &mut lines)?
-    }
     if keep || serve.is_some() || listen.is_some() {
         let followers = named_in(rt.alloc(), followers)?;
         let service = Service {
@@ -407,7 +404,10 @@ fn follow<
             window,
             followers: followers.as_slice(),
         };
-        return stand_at_last(rt, following, service, &mut lines, output);
+        return stand_at_last(rt, following, service, forget_unreached, &mut lines, output);
+    }
+    if forget_unreached {
+        forget(rt, dir, &mut lines)?;
     }
     lines.of_one_session();
     check_followable(rt, dir, &mut lines)?;

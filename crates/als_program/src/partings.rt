@@ -12,7 +12,7 @@ pub fn tell<W: Write>(errors: &mut W, path: &str, kind: FaultKind) -> io::Result
         ),
         FaultKind::OtherEpoch { epoch } => writeln!(
             errors,
-            "als: {path}: the node that serves has epoch {epoch}, and its takeovers do not go on from those that this one knows. Follow the node that took over last, or keep this folder and follow with an empty one. Where that node is gone for good and this one never reached its takeover, als standby --forget-unreached drops it"
+            "als: {path}: the node that serves has epoch {epoch}, and its takeovers do not go on from those that this one knows. Follow the node that took over last, or keep this folder and follow with an empty one. Where the node that took over last is gone for good, and this folder never reached its takeover, als standby --forget-unreached drops that takeover"
         ),
         FaultKind::OtherLog => writeln!(
             errors,

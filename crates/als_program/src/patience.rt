@@ -1,7 +1,8 @@
 use crate::redo_lines::RedoLines;
 use crate::refusal::Refusal;
 use crate::sound_pages::check_followable;
-use als_operate::Following;
+use als_folder::Folder;
+use als_operate::{Fault as OperateFault, Following, forget};
 use als_service::{Service, standby};
 use std::fs::File;
 use std::io::Write;
@@ -18,9 +19,9 @@ const TRIES: u32 = 60;
 /// Before each of these a pause of so many milliseconds.
 const PAUSE: u64 = 1_000;
 
-/// Checks the pages of a folder, and is its standby. One that is kept waits at its start, for up to a minute,
-/// for a folder that another program has: `als status` and `als verify` have it while they read, and a unit
-/// does not start again after a refusal.
+/// Checks the pages of a folder, and is its standby; one that `forgets` drops first the takeovers that the
+/// folder never reached. One that is kept waits for a folder that another program has, for a minute each time:
+/// `als status` and `als verify` have it while they read, and a unit does not start again after a refusal.
 pub fn stand_at_last<
     R: AllocGlobal
         + Files<File = File>
@@ -40,21 +41,22 @@ pub fn stand_at_last<
     rt: &R,
     following: Following<'_>,
     service: Service<'_>,
+    forgets: bool,
     lines: &mut RedoLines<'_, E, R>,
     output: &mut O,
 ) -> Result<(), Refusal> {
-    for tried in 0..TRIES {
-        match stand(rt, following, service, lines, output) {
-            Err(refusal) if service.keep && refusal.is_of_lock() => {
-                if tried == 0 {
-                    lines.waits_for(following.dir);
-                }
-                thread::sleep(rt, Duration::from_millis(PAUSE));
-            }
+    if !service.keep {
+        return stand(rt, following, service, forgets, lines, output);
+    }
+    for _ in rt.forever() {
+        wait_for(rt, following.dir, lines)?;
+        match stand(rt, following, service, forgets, lines, output) {
+            // It was taken between two of these steps.
+            Err(refusal) if refusal.is_of_folder_lock() => pause(rt),
             outcome => return outcome,
         }
     }
-    stand(rt, following, service, lines, output)
+    unreachable!()
 }
 
 /// The same, where no other program has the folder.
@@ -77,10 +79,52 @@ fn stand<
     rt: &R,
     following: Following<'_>,
     service: Service<'_>,
+    forgets: bool,
     lines: &mut RedoLines<'_, E, R>,
     output: &mut O,
 ) -> Result<(), Refusal> {
+    if forgets {
+        forget(rt, following.dir, lines)?;
+    }
     check_followable(rt, following.dir, lines)?;
     standby(rt, following, service, lines, output)?;
     Ok(())
+}
+
+/// Waits until no other program has the folder, for a minute at most: then it is refused. What else is wrong
+/// with it is left to who takes it.
+fn wait_for<R: AllocGlobal + Files<File = File> + Clock, E: Write>(
+    rt: &R,
+    dir: &str,
+    lines: &mut RedoLines<'_, E, R>,
+) -> Result<(), Refusal> {
+    for tried in 0..TRIES {
+        if check_free(rt, dir).is_ok() {
+            return Ok(());
+        }
+        if tried == 0 {
+            lines.waits_for(dir);
+        }
+        pause(rt);
+    }
+    check_free(rt, dir)
+}
+
+/// Refuses a folder that another program has. Nothing of it is read.
+fn check_free<R: AllocGlobal + Files<File = File>>(rt: &R, dir: &str) -> Result<(), Refusal> {
+    match Folder::hold(rt, dir) {
+        Ok(folder) => drop(folder),
+        Err(fault) => {
+            let refusal = Refusal::from(OperateFault::from(fault));
+            if refusal.is_of_folder_lock() {
+                return Err(refusal);
+            }
+        }
+    }
+    Ok(())
+}
+
+/// A second.
+fn pause<C: Clock>(clock: &C) {
+    thread::sleep(clock, Duration::from_millis(PAUSE));
 }

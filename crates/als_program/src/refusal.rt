@@ -17,8 +17,19 @@ pub struct Refusal {
 }
 
 impl Refusal {
-    /// Whether another program has the folder.
+    /// Whether another program has the folder, or one of its files by a name in another folder.
     pub fn is_of_lock(self) -> bool {
+        matches!(
+            self.trouble,
+            Some(Trouble {
+                part: _,
+                wrong: Wrong::Locked
+            })
+        )
+    }
+
+    /// Whether another program has the folder itself.
+    pub fn is_of_folder_lock(self) -> bool {
         matches!(
             self.trouble,
             Some(Trouble {

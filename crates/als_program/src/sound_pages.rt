@@ -8,9 +8,8 @@ use std::rt::Files;
 use std::time::Clock;
 
 /// Refuses a page that is not what its log makes of it, before anything is written. Refuses too where the
-/// check has no memory, or another program has the folder: no command goes on over pages that were not
-/// checked. What else is wrong with the folder the command itself reports, in its own order. Behind it the
-/// command reads the log once more.
+/// check has no memory, or another program has the folder or one of its files. What else is wrong with the
+/// folder the command itself reports, in its own order. Behind it the command reads the log once more.
 pub fn check_sound<R: AllocGlobal + Files<File = File>, W: Write, C: Clock>(
     rt: &R,
     dir: &str,
@@ -26,8 +25,8 @@ pub fn check_sound<R: AllocGlobal + Files<File = File>, W: Write, C: Clock>(
     Ok(())
 }
 
-/// The same of a folder that a standby is to follow with. One that was taken over the standby itself refuses,
-/// at once: its log is not read for it.
+/// The same of a folder that a standby is to follow with. One that was taken over the standby itself refuses:
+/// its log is not judged for it.
 pub fn check_followable<R: AllocGlobal + Files<File = File>, W: Write, C: Clock>(
     rt: &R,
     dir: &str,

@@ -1,8 +1,8 @@
 use als_program::program;
-use std::fs::{File, OpenOptions};
+use std::fs::{File, OpenOptions, Permissions};
 use std::io::Write;
 use std::net::{Net, TcpListener, TcpStream};
-use std::os::unix::fs::OpenOptionsExt;
+use std::os::unix::fs::PermissionsExt;
 use std::process::Abort;
 use std::random::RandomSource;
 use std::rt::Files;
@@ -77,9 +77,10 @@ fn keeps<R: Files<File = File>>(rt: &R, token: &[u8], mode: u32) -> io::Result<(
     let mut file = OpenOptions::new()
         .write(true)
         .create_new(true)
-        .mode(mode)
         .open(rt, TOKEN)?;
-    file.write_all(token)
+    file.write_all(token)?;
+    // Beside a file's creation the mask of the process would take bits of it away.
+    fs::set_permissions(rt, TOKEN, Permissions::from_mode(mode))
 }
 
 /// A primary refuses this token, and says why.
