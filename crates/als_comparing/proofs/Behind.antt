@@ -1,14 +1,16 @@
 -- What a stream had before its first byte was read.
-use Rattle.std.proofs.Common.{◌≡◌, ◌⊎◌, ℕ, List, [], ◌∷◌, ◌++◌, Option, Some, None, IfSome, refl, ap, subst, sym, inl, inr}
+use Rattle.std.proofs.Common.{◌≡◌, ◌⊎◌, ℕ, List, [], ◌∷◌, Option, Some, None, refl, ap, subst, sym, inl, inr}
 use Rattle.std.specs.Io.KnownBytes.{Consumes}
 use Rattle.std.specs.Fmt.{option_append}
-use Rattle.std.proofs.KnownBytes.{Keeps-refl, Appends-nil}
+use Rattle.std.proofs.KnownBytes.{Keeps-refl, Appends-nil, Consumes-trans}
 use Rattle.als_ship.specs.declared.fault.Fault.{Fault}
 use Rattle.als_ship.specs.declared.fault.Fault.TheVariants.{Cut, Stream}
 use Rattle.als_sending.specs.Reads.{Read}
 use Rattle.als_sending.specs.Meeting.{FailsToSend}
 use Rattle.als_sending.specs.Session.{IsUnbegun}
-use Rattle.als_comparing.specs.Serving.{AreKnownAs, BeginsQuestion, IsServed, FailsToServe}
+use Rattle.als_compare.specs.Frames.{rest_bytes}
+use Rattle.als_comparing.specs.Answers.{Answers, AnswersRest}
+use Rattle.als_comparing.specs.Serving.{AreKnownAs, BeginsQuestion, IsAsked, IsServed, EndsWell, FailsToServe}
 
 -- what was read and what is left are what there was, where that is known
 pub known_again : (old mid : Option (List ℕ)) (bytes : List ℕ) → Consumes old mid bytes → AreKnownAs old (option_append (Some bytes) mid)
@@ -21,6 +23,26 @@ pub begins_question : (old mid : Option (List ℕ)) (byte : ℕ) → Consumes ol
 begins_question None mid byte c e = tt
 begins_question (Some xs) None byte c e = absurd c
 begins_question (Some xs) (Some ys) byte c e = (ys, subst (λ (b : ℕ). xs ≡ b ∷ ys) e c)
+
+-- the question is whole
+pub whole_question : (reads : List Read) (end : ℕ) (own : List ℕ) (asked mid behind old new : Option (List ℕ)) (byte : ℕ) → Consumes asked mid (byte ∷ []) → byte ≡ 86
+    → AnswersRest reads end own mid behind old new → Answers reads end own asked behind old new
+whole_question reads end own asked mid behind old new byte first is rest =
+    let v : Consumes asked mid (86 ∷ []) = subst (λ (b : ℕ). Consumes asked mid (b ∷ [])) is first in
+    record {
+      question = rest.question;
+      verdict = rest.verdict;
+      read = Consumes-trans asked mid behind (86 ∷ []) (rest_bytes rest.question) v rest.read;
+      written = rest.written;
+      right = rest.right;
+    }
+
+-- so it ended well, as a question
+pub ends_answered : (pages end : ℕ) (own : List ℕ) (reads reads_now : List Read) (asked mid behind : Option (List ℕ)) (heard : List ℕ) (begun old new : Option (List ℕ)) (byte : ℕ)
+    → Consumes asked mid (byte ∷ []) → byte ≡ 86 → AnswersRest reads_now end own mid behind old new → EndsWell pages end own reads reads_now asked behind heard heard begun begun old new 0
+ends_answered pages end own reads reads_now asked mid behind heard begun old new byte first is rest =
+    let asks : IsAsked asked heard heard begun begun = record { first = begins_question asked mid byte first is; none = refl; kept = Keeps-refl begun } in
+    inl (record { question = asks; answers = whole_question reads_now end own asked mid behind old new byte first is rest; none = refl })
 
 -- nothing was read or sent
 pub not_served : (window pages end : ℕ) (own : List ℕ) (reads : List Read) (asked : Option (List ℕ)) (heard : List ℕ) (begun old : Option (List ℕ))

@@ -1,13 +1,14 @@
-ghost use Rattle.std.specs.Prelude.{◌≡◌, ◌≤◌, ◌++◌, ◌∷◌, ◌⊎◌, ℕ, List, [], Some, OnOk, IfOk, IfErr};
+ghost use Rattle.std.specs.Prelude.{◌≡◌, ◌≤◌, ◌++◌, ◌∷◌, ◌⊎◌, ℕ, List, [], Option, Some};
+ghost use Rattle.std.specs.Prelude.{OnOk, IfOk, IfErr};
 ghost use Rattle.std.specs.Io.KnownBytes.{Consumes};
 ghost use Rattle.std.specs.Fmt.{option_append};
 ghost use Rattle.als_ship.specs.declared.fault.Fault.TheVariants.{Cut, Stream};
 ghost use Rattle.als_sending.specs.Reads.{Read as AnyRead, AreOf};
 ghost use Rattle.als_sending.specs.Sent.{SendsTrue};
 ghost use Rattle.als_sending.specs.Meeting.{FailsToSend};
-ghost use Rattle.als_sending.specs.Session.{Hears, KeepsWindow, Begins};
+ghost use Rattle.als_sending.specs.Session.{Hears, KeepsWindow, Begins, Sends};
 ghost use Rattle.als_comparing.specs.Answers.{Answers};
-ghost use Rattle.als_comparing.specs.Serving.{IsAsked, IsServed, FailsToServe};
+ghost use Rattle.als_comparing.specs.Serving.{IsAsked, IsServed, EndsWell, FailsToServe};
 
 use crate::answering::answer;
 use als_compare::{TAG, read_byte};
@@ -47,6 +48,12 @@ pub fn serve_log<G: Growing, M: Marks, R: Read, W: Write>(
         ⊎ IsServed window (G.pages log.old) (G.shown log.new) (G.seals log.old) (G.reads log.new)
         (R.remaining reader.old) (M.heard marks.old) (M.heard marks.new) (M.begun marks.old)
         (M.begun marks.new) (W.contents writer.old) (W.contents writer.new) }
+    // Where it ends well, a question was asked and answered; or all up to the end that the log told last was
+    // sent and answered, and so many log bytes were new.
+    ensures sent { IfOk result (λ n. EndsWell (G.pages log.old) (G.shown log.new) (G.seals log.old)
+        (G.reads log.old) (G.reads log.new) (R.remaining reader.old) (R.remaining reader.new)
+        (M.heard marks.old) (M.heard marks.new) (M.begun marks.old) (M.begun marks.new)
+        (W.contents writer.old) (W.contents writer.new) n) }
     // What was read before stays.
     ensures reads { (more : List AnyRead) × (G.reads log.new ≡ G.reads log.old ++ more) }
     ensures rises { G.shown log.old ≤ G.shown log.new }
@@ -95,6 +102,11 @@ fn serve_behind<G: Growing, M: Marks, R: Read, W: Write>(
         (M.begun marks.old) (M.begun marks.new) (M.heard marks.old) (M.heard marks.new)
         (option_append (Some (first ∷ [])) (R.remaining reader.old)) (W.contents writer.old)
         (W.contents writer.new) }
+    ensures sent { IfOk result (λ n. (left : Option (List ℕ)) × Sends (G.pages log.old)
+        (G.shown log.new) (G.seals log.old) (G.reads log.old) (G.reads log.new)
+        (M.heard marks.old) (M.heard marks.new)
+        (option_append (Some (first ∷ [])) (R.remaining reader.old)) left
+        (W.contents writer.old) (W.contents writer.new) n) }
     ensures reads { (more : List AnyRead) × (G.reads log.new ≡ G.reads log.old ++ more) }
     ensures rises { G.shown log.old ≤ G.shown log.new }
     ensures seals { G.seals log.new ≡ G.seals log.old }

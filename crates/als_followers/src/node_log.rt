@@ -1,6 +1,7 @@
 ghost use Rattle.std.specs.Prelude.{◌≡◌, ◌≤◌, IfOk};
 ghost use Rattle.als_wire.specs.Reading.{IsHeader};
-ghost use Rattle.als_followers.specs.Serving.{IsOfSession};
+ghost use Rattle.als_sending.specs.declared.account.Account.TheVariants as account;
+ghost use Rattle.als_followers.specs.Serving.{IsOfSession, EndsSession};
 
 use crate::pulse::{Always, Pulse};
 use crate::serves::Serves;
@@ -154,7 +155,9 @@ impl<R: Drop, F: FileExt + Drop> NodeSource<R, F> {
         tail: Arc<Tail, Global>,
         history: History,
         timeout: u64,
-    ) -> Result<NodeSource<R, F>, Fault> {
+    ) -> Result<NodeSource<R, F>, Fault>
+        ensures history { IfOk result (λ source. source.history ≡ history) }
+    {
         let Ok(always) = Arc::new(alloc, Always) else {
             return Err(Fault::Memory);
         };
@@ -174,7 +177,9 @@ impl<R: Drop, F: FileExt + Drop, P: Pulse + Drop> NodeSource<R, F, P> {
         pulse: Arc<P, Global>,
         history: History,
         timeout: u64,
-    ) -> Result<NodeSource<R, F, P>, Fault> {
+    ) -> Result<NodeSource<R, F, P>, Fault>
+        ensures history { IfOk result (λ source. source.history ≡ history) }
+    {
         let header = header_of(&file)?;
         let Ok(file) = Arc::new(alloc, file) else {
             return Err(Fault::Memory);
@@ -213,8 +218,12 @@ fn beat_for(timeout: u64) -> Duration {
 }
 
 impl<R: Wait + Clock + Clone + Drop, F: FileExt + Drop, P: Pulse + Drop> NodeSource<R, F, P> {
-    /// The log, for one session.
-    fn open(&self) -> Result<NodeLog<R, F, P>, Fault> {
+    /// The log, for one session: of the same header and history, and nothing of it was read.
+    fn open(&self) -> Result<NodeLog<R, F, P>, Fault>
+        ensures header { IfOk result (λ log. log.header ≡ self.now.header) }
+        ensures history { IfOk result (λ log. log.history ≡ self.now.history) }
+        ensures unread { IfOk result (λ log. log.account ≡ account.Nothing) }
+    {
         Ok(NodeLog {
             rt: self.rt.clone()?,
             file: Arc::try_clone(&self.file)?,
@@ -229,7 +238,6 @@ impl<R: Wait + Clock + Clone + Drop, F: FileExt + Drop, P: Pulse + Drop> NodeSou
     }
 
     /// Sends it to one who came, or answers what log it is.
-    #[tactic(auto, using(crate::proofs::Serving::session_of))]
     fn send<M: Marks, I: Read, W: Write>(
         &self,
         alloc: Global,
@@ -241,9 +249,15 @@ impl<R: Wait + Clock + Clone + Drop, F: FileExt + Drop, P: Pulse + Drop> NodeSou
         requires some { 1 ≤ window }
         requires few { window ≤ 64 }
         // Whatever ends it, what was acknowledged are the answers that were read, and nothing else.
-        ensures session { IsOfSession window (I.remaining reader.old) (M.heard marks.old)
+        ensures session { IsOfSession window self.now.header.pages self.now.history
+            (I.remaining reader.old) (M.heard marks.old) (M.heard marks.new) (M.begun marks.old)
+            (M.begun marks.new) (W.contents writer.old) (W.contents writer.new) }
+        // Where it ends well, a question was answered; or the log was sent from where the follower goes on
+        // up to some end, and each frame was answered.
+        ensures sent { IfOk result (λ n. EndsSession self.now.header.pages self.now.history
+            (I.remaining reader.old) (I.remaining reader.new) (M.heard marks.old)
             (M.heard marks.new) (M.begun marks.old) (M.begun marks.new) (W.contents writer.old)
-            (W.contents writer.new) }
+            (W.contents writer.new) n) }
     {
         let mut log = self.open()?;
         serve_log(alloc, &mut log, marks, window, reader, writer)
