@@ -140,8 +140,9 @@ fn a_guest_without_a_place_in_the_line_is_refused(rt: HostRuntime) -> Result<(),
         )
     );
     assert!(rt; took < Duration::from_millis(COMMITS / 2));
-    // Nothing of it was begun.
-    assert!(rt; begun.load(Ordering::SeqCst) == 1);
+    // Nothing of it was begun: at most the commit of the first guest, which may still be in the line.
+    thread::sleep(&rt, Duration::from_millis(300));
+    assert!(rt; begun.load(Ordering::SeqCst) <= 1);
     drop(many);
     drop(kept);
     servers.close(&rt);
